@@ -19,7 +19,7 @@ ghost use Rattle.alt_dispatch.specs.Settled.{Settles, Tells};
 ghost use Rattle.alt_request.specs.Carried.{Carries, IsPlain, Moves};
 ghost use Rattle.alt_tables.specs.Faults.{WantsMemory};
 ghost use Rattle.alt_tables.specs.Images.{Leaves};
-ghost use Rattle.alt_tables.specs.Stands.{AreReady, Reads, Stands, limits_of};
+ghost use Rattle.alt_tables.specs.Stands.{AreReady, Reads, Stands, bounds_of};
 ghost use Rattle.alt_shape.specs.Body.{body_json};
 
 use alt_disk::Disk;
@@ -110,7 +110,7 @@ pub fn answer<D: Disk>(
     ensures refused { IfOk result (λ reply. reply.status ≡ 400 → IsTrue (D.state disk.old).tells
         → Quiet (D.state disk.old) (D.state disk.new)) }
     ensures reads { OnlyReads operation → Reads (D.state disk.old) (D.state disk.new) }
-    ensures limits { limits_of tables.new ≡ limits_of tables.old }
+    ensures limits { bounds_of tables.new ≡ bounds_of tables.old }
     ensures goes { Goes (D.state disk.old) (D.state disk.new) }
     ensures cause { IsErrOf result TableFault.Failed
         → Rose (D.state disk.old).faults (D.state disk.new).faults }
@@ -146,7 +146,7 @@ fn respond<D: Disk>(
     requires ready { AreReady (D.state disk.old) tables.old }
     ensures carried { Carries (λ s. step s operation body.now moment)
         (Stands (D.state disk.old) tables.old) (Stands (D.state disk.new) tables.new) result }
-    ensures limits { limits_of tables.new ≡ limits_of tables.old }
+    ensures limits { bounds_of tables.new ≡ bounds_of tables.old }
     ensures moves { Moves (λ s. step s operation body.now moment)
         (Stands (D.state disk.old) tables.old) (D.state disk.old) (D.state disk.new) result }
     ensures reads { OnlyReads operation → Reads (D.state disk.old) (D.state disk.new) }
@@ -171,7 +171,7 @@ fn respond_to_put<D: Disk>(
     requires ready { AreReady (D.state disk.old) tables.old }
     ensures carried { Carries (λ s. with_body s Operation.PutItem moment (body_of body.now))
         (Stands (D.state disk.old) tables.old) (Stands (D.state disk.new) tables.new) result }
-    ensures limits { limits_of tables.new ≡ limits_of tables.old }
+    ensures limits { bounds_of tables.new ≡ bounds_of tables.old }
     ensures moves { Moves (λ s. with_body s Operation.PutItem moment (body_of body.now))
         (Stands (D.state disk.old) tables.old) (D.state disk.old) (D.state disk.new) result }
 {
@@ -196,7 +196,7 @@ fn respond_to<D: Disk>(
     requires ready { AreReady (D.state disk.old) tables.old }
     ensures carried { Carries (λ s. with_body s operation moment (body_of body.now))
         (Stands (D.state disk.old) tables.old) (Stands (D.state disk.new) tables.new) result }
-    ensures limits { limits_of tables.new ≡ limits_of tables.old }
+    ensures limits { bounds_of tables.new ≡ bounds_of tables.old }
     ensures moves { Moves (λ s. with_body s operation moment (body_of body.now))
         (Stands (D.state disk.old) tables.old) (D.state disk.old) (D.state disk.new) result }
     ensures reads { IsTrue (is_read operation) → Reads (D.state disk.old) (D.state disk.new) }
@@ -219,7 +219,7 @@ fn carry_out<D: Disk>(
     requires ready { AreReady (D.state disk.old) tables.old }
     ensures carried { Carries (λ s. operates s operation moment (members_view body.now.entries))
         (Stands (D.state disk.old) tables.old) (Stands (D.state disk.new) tables.new) result }
-    ensures limits { limits_of tables.new ≡ limits_of tables.old }
+    ensures limits { bounds_of tables.new ≡ bounds_of tables.old }
     ensures moves { Moves (λ s. operates s operation moment (members_view body.now.entries))
         (Stands (D.state disk.old) tables.old) (D.state disk.old) (D.state disk.new) result }
     ensures reads { IsTrue (is_read operation) → Reads (D.state disk.old) (D.state disk.new) }

@@ -31,6 +31,15 @@ next_file_of e = hand_file e.hand
 abbrev pub limits_of : Engine → Limits
 limits_of e = hand_limits e.hand
 
+-- What work goes by: these limits, and the number of the next file.
+pub record Bounds : Type 0 where
+  pub limits : Limits
+  pub file : ℕ
+
+-- Those of the engine.
+abbrev pub bounds_of : Engine → Bounds
+bounds_of e = record { limits = limits_of e; file = next_file_of e }
+
 -- The engine is that of this layout, as the disk reads.
 abbrev pub Reads : DiskState → Engine → Layout → Type 0
 Reads s e l = HandReads s e.hand l

@@ -152,3 +152,7 @@ IsNeeded Step live e fault = IsDueFor live (hand_of e) fault
     × IsSpentFor (next_file_of e + 1) fault)
 IsNeeded FlushAll live e fault = IsAllFor live (hand_of e) fault
 IsNeeded MergeAll live e fault = IsSpentFor (next_file_of e + length live) fault
+
+-- As many numbers of files as a task takes at most: one for each live family, and one for the log.
+abbrev pub most_files : List ℕ → ℕ
+most_files live = length live + 1

@@ -1,6 +1,6 @@
 //! Flushes and merges of all live families.
 
-ghost use Rattle.std.specs.Prelude.{◌≡◌, ◌≢◌, ⊤, ℕ, IfErr, IfOk, OnOk, IsErrOf, None, Some, true, false};
+ghost use Rattle.std.specs.Prelude.{◌≡◌, ◌≢◌, ◌≤◌, ◌+◌, ⊤, ℕ, IfErr, IfOk, OnOk, IsErrOf, None, Some, true, false};
 ghost use Rattle.alt_base.specs.Counts.{Rose};
 ghost use Rattle.alt_disk.specs.Disk.{IsTrusted, Goes};
 ghost use Rattle.alt_disk.specs.Runs.{Spans};
@@ -16,7 +16,7 @@ ghost use Rattle.alt_hand.specs.InHand.{Stands as HandStands, length_of};
 ghost use Rattle.alt_hand.specs.Opened.{IsUnspent};
 ghost use Rattle.alt_hand.specs.Working.{AreAllFlushed, AreLive, IsAllFor, IsFileSpent, IsNoDamage, Works, WorksIn};
 ghost use Rattle.alt_engine.specs.InHand.{Stands, hand_of, limits_of, merge_of, next_file_of, next_of};
-ghost use Rattle.alt_engine.specs.Working.{AllMerged, IsNeeded, KeepsMerge};
+ghost use Rattle.alt_engine.specs.Working.{AllMerged, IsNeeded, KeepsMerge, most_files};
 
 use crate::engine::Engine;
 use crate::work::{Task, Worked};
@@ -40,6 +40,8 @@ impl Engine {
             → (m : Layout) × Stands (D.state disk.new) self.new m × Works live.now l m) }
         ensures next { next_of self.new ≡ next_of self.old }
         ensures limits { limits_of self.new ≡ limits_of self.old }
+        ensures next_file { OnOk result (next_file_of self.new
+            ≤ next_file_of self.old + most_files live.now) }
         ensures idle { IfOk result (λ w. w ≡ Worked.Idle → length_of (hand_of self.old) ≡ 0) }
         ensures idle_disk { IfOk result (λ w. w ≡ Worked.Idle → D.state disk.new ≡ D.state disk.old) }
         ensures idle_engine { IfOk result (λ w. w ≡ Worked.Idle → self.new ≡ self.old) }
@@ -89,6 +91,8 @@ impl Engine {
             → (m : Layout) × Stands (D.state disk.new) self.new m × Works live.now l m) }
         ensures next { next_of self.new ≡ next_of self.old }
         ensures limits { limits_of self.new ≡ limits_of self.old }
+        ensures next_file { OnOk result (next_file_of self.new
+            ≤ next_file_of self.old + most_files live.now) }
         ensures idle { IfOk result (λ w. w ≡ Worked.Idle → IsTrusted (D.state disk.old)
             → (merge_of self.old ≡ None)
             × AllMerged (D.state disk.old) live.now (hand_of self.old)) }

@@ -13,7 +13,7 @@ ghost use Rattle.alt_manifest.specs.declared.version.Version.{Version};
 ghost use Rattle.alt_hand.specs.InHand.{IsSpentAt, batch_write, BeforeOrWith, IsWritten};
 ghost use Rattle.alt_hand.specs.Recovery.{ExplainsStore, HasNoLayout, IsNextFile, LeavesFiles, LeavesStore, LeftLike};
 ghost use Rattle.alt_hand.specs.Syncing.{AllSynced};
-ghost use Rattle.alt_engine.specs.InHand.{limits_of, next_file_of, next_of, Reads, Stands};
+ghost use Rattle.alt_engine.specs.InHand.{bounds_of, limits_of, next_file_of, next_of, Reads, Stands};
 
 use alt_cells::Batch;
 use alt_disk::Disk;
@@ -114,6 +114,7 @@ impl Engine {
         ensures number { IfOk result (λ n. n ≡ next_of self.old) }
         ensures next { OnOk result (next_of self.new ≡ next_of self.old + 1) }
         ensures limits { limits_of self.new ≡ limits_of self.old }
+        ensures bounds { bounds_of self.new ≡ bounds_of self.old }
 
         // A stop at any moment of the call, also one that fails, leaves the rows from before it or with the whole batch.
         ensures any_moment { IsTrusted (D.state disk.old) → (l : Layout)

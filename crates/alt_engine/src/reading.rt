@@ -10,7 +10,7 @@ ghost use Rattle.alt_families.specs.Reads.{most_reads};
 ghost use Rattle.alt_hand.specs.InHand.{file_rows};
 ghost use Rattle.alt_hand.specs.Merging.{files_at};
 ghost use Rattle.alt_hand.specs.Opened.{IsUndamaged, IsUnspent};
-ghost use Rattle.alt_engine.specs.InHand.{Reads, hand_of, limits_of, next_of};
+ghost use Rattle.alt_engine.specs.InHand.{Reads, bounds_of, hand_of, limits_of, next_of};
 ghost use Rattle.alt_engine.specs.Opened.{StaysOn};
 
 use crate::engine::Engine;
@@ -37,6 +37,7 @@ impl Engine {
             → StaysOn (D.state disk.old) (D.state disk.new) self.old self.new }
         ensures next { next_of self.new ≡ next_of self.old }
         ensures limits { limits_of self.new ≡ limits_of self.old }
+        ensures bounds { bounds_of self.new ≡ bounds_of self.old }
         ensures unspent { IfErr result IsUnspent }
         ensures quiet { IsTrue (D.state disk.old).tells
             → Quiet (D.state disk.old) (D.state disk.new) }
@@ -75,6 +76,7 @@ impl Engine {
             → StaysOn (D.state disk.old) (D.state disk.new) self.old self.new }
         ensures next { next_of self.new ≡ next_of self.old }
         ensures limits { limits_of self.new ≡ limits_of self.old }
+        ensures bounds { bounds_of self.new ≡ bounds_of self.old }
         ensures unspent { IfErr result IsUnspent }
         ensures quiet { IsTrue (D.state disk.old).tells
             → Quiet (D.state disk.old) (D.state disk.new) }
@@ -109,6 +111,7 @@ impl Engine {
             → StaysOn (D.state disk.old) (D.state disk.new) self.old self.new }
         ensures next { next_of self.new ≡ next_of self.old }
         ensures limits { limits_of self.new ≡ limits_of self.old }
+        ensures bounds { bounds_of self.new ≡ bounds_of self.old }
         ensures unspent { IfErr result IsUnspent }
         ensures quiet { IsTrue (D.state disk.old).tells
             → Quiet (D.state disk.old) (D.state disk.new) }

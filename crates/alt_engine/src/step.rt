@@ -1,6 +1,6 @@
 //! A step: the first flush that applies, and else the merge that is under way or the beginning of one.
 
-ghost use Rattle.std.specs.Prelude.{◌≡◌, ◌⊎◌, ◌+◌, ⊤, ℕ, None, IfErr, IfOk, OnOk, IsErrOf};
+ghost use Rattle.std.specs.Prelude.{◌≡◌, ◌⊎◌, ◌≤◌, ◌+◌, ⊤, ℕ, None, IfErr, IfOk, OnOk, IsErrOf};
 ghost use Rattle.alt_base.specs.Counts.{Rose};
 ghost use Rattle.alt_cells.specs.Walks.{RowList};
 ghost use Rattle.alt_disk.specs.Disk.{IsTrusted, Goes};
@@ -17,7 +17,7 @@ ghost use Rattle.alt_hand.specs.Opened.{IsUnspent};
 ghost use Rattle.alt_hand.specs.Working.{AreAllFlushed, AreLive, IsCalm, IsFileSpent, IsFlushDone, IsLong, IsNoDamage, IsShort, Works, WorksIn};
 ghost use Rattle.alt_merging.specs.Mergings.{MergingStands, family_of as merged_family};
 ghost use Rattle.alt_engine.specs.InHand.{IsFew, Stands, hand_of, limits_of, merge_of, next_file_of, next_of};
-ghost use Rattle.alt_engine.specs.Working.{Begins, Ended, Ends, Furthered, GoesOn, IsNeeded, KeepsMerge, NoneMany};
+ghost use Rattle.alt_engine.specs.Working.{Begins, Ended, Ends, Furthered, GoesOn, IsNeeded, KeepsMerge, NoneMany, most_files};
 
 use crate::engine::Engine;
 use crate::work::{Task, Worked};
@@ -42,6 +42,8 @@ impl Engine {
             → (m : Layout) × Stands (D.state disk.new) self.new m × Works live.now l m) }
         ensures next { next_of self.new ≡ next_of self.old }
         ensures limits { limits_of self.new ≡ limits_of self.old }
+        ensures next_file { OnOk result (next_file_of self.new
+            ≤ next_file_of self.old + most_files live.now) }
         ensures idle { IfOk result (λ w. w ≡ Worked.Idle → IsTrusted (D.state disk.old) → (l : Layout)
             → Stands (D.state disk.old) self.old l
             → (IsShort (hand_of self.old) × IsCalm live.now (hand_of self.old))
@@ -118,6 +120,7 @@ impl Engine {
             → (m : Layout) × Stands (D.state disk.new) self.new m × Works live.now l m) }
         ensures next { next_of self.new ≡ next_of self.old }
         ensures limits { limits_of self.new ≡ limits_of self.old }
+        ensures next_file { OnOk result (next_file_of self.new ≡ next_file_of self.old) }
         ensures length { length_of (hand_of self.new) ≡ length_of (hand_of self.old) }
         ensures busy { IfOk result (λ w. w ≡ Worked.Idle → ⊥) }
         ensures went { IfOk result (λ w. w ≡ Worked.Went → IsTrusted (D.state disk.old) → (l : Layout)
@@ -167,6 +170,7 @@ impl Engine {
             → Stands (D.state disk.old) self.old l → Stands (D.state disk.new) self.new l) }
         ensures next { next_of self.new ≡ next_of self.old }
         ensures limits { limits_of self.new ≡ limits_of self.old }
+        ensures next_file { OnOk result (next_file_of self.new ≤ next_file_of self.old + 1) }
         ensures length { length_of (hand_of self.new) ≡ length_of (hand_of self.old) }
         ensures idle { IfOk result (λ w. w ≡ Worked.Idle → IsTrusted (D.state disk.old) → (l : Layout)
             → Stands (D.state disk.old) self.old l → NoneMany live.now self.old) }

@@ -1,6 +1,6 @@
 //! Work between requests: flushes of families, one by one or of all, and merges of their files.
 
-ghost use Rattle.std.specs.Prelude.{◌≡◌, ◌≢◌, ◌⊎◌, ◌<◌, ◌*◌, ⊤, ℕ, Some, None, IfErr, IfOk, OnOk, OnErr, IsErrOf};
+ghost use Rattle.std.specs.Prelude.{◌≡◌, ◌≢◌, ◌⊎◌, ◌≤◌, ◌<◌, ◌+◌, ◌*◌, ⊤, ℕ, Some, None, IfErr, IfOk, OnOk, OnErr, IsErrOf};
 ghost use Rattle.alt_base.specs.Counts.{Rose};
 ghost use Rattle.alt_disk.specs.Disk.{IsTrusted, Goes};
 ghost use Rattle.alt_disk.specs.Runs.{Spans};
@@ -19,7 +19,7 @@ ghost use Rattle.alt_merging.specs.declared.merging.Merging.{Merging};
 ghost use Rattle.alt_hand.specs.Working.{AreLive, HasEntries, IsFileSpent, IsNoDamage, Works, WorksIn};
 ghost use Rattle.alt_engine.specs.InHand.{Stands, hand_of, limits_of, merge_of, next_file_of, next_of};
 ghost use Rattle.alt_engine.specs.Versions.{IsAfter};
-ghost use Rattle.alt_engine.specs.Working.{Did, IsIdle, IsMerged, IsNeeded, KeepsMerge, WasGivenUp, WasKept, Went};
+ghost use Rattle.alt_engine.specs.Working.{Did, IsIdle, IsMerged, IsNeeded, KeepsMerge, WasGivenUp, WasKept, Went, most_files};
 
 use crate::engine::Engine;
 use alt_disk::Disk;
@@ -65,6 +65,9 @@ impl Engine {
             → (m : Layout) × Stands (D.state disk.new) self.new m × Works live.now l m) }
         ensures next { next_of self.new ≡ next_of self.old }
         ensures limits { limits_of self.new ≡ limits_of self.old }
+        // It takes one number of a file for each live family at most, and one more.
+        ensures taken { OnOk result (next_file_of self.new
+            ≤ next_file_of self.old + most_files live.now) }
 
         // It is idle exactly where nothing applies, and then leaves all as it was, but for a merge that was given up.
         ensures idle { IfOk result (λ w. w ≡ Worked.Idle → IsTrusted (D.state disk.old) → (l : Layout)

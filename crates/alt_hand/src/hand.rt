@@ -8,7 +8,7 @@ ghost use Rattle.alt_layout.specs.Layout.{Layout};
 ghost use Rattle.alt_layout.specs.Writes.{with_write};
 ghost use Rattle.alt_hand.specs.Carrying.{Carries};
 ghost use Rattle.alt_hand.specs.Merging.{files_at};
-ghost use Rattle.alt_hand.specs.InHand.{limits_of, next_of, Reads, Stands, IsSpentAt, batch_write, BeforeOrWith, IsWritten};
+ghost use Rattle.alt_hand.specs.InHand.{limits_of, next_file_of, next_of, Reads, Stands, IsSpentAt, batch_write, BeforeOrWith, IsWritten};
 
 use crate::full::full_after;
 use alt_base::NoMemory;
@@ -118,6 +118,7 @@ impl Hand {
         ensures number { IfOk result (λ n. n ≡ next_of self.old) }
         ensures next { OnOk result (next_of self.new ≡ next_of self.old + 1) }
         ensures limits { limits_of self.new ≡ limits_of self.old }
+        ensures next_file { next_file_of self.new ≡ next_file_of self.old }
 
         // The files of each family stay, and a merge of them under way stays one.
         ensures files { OnOk result ((family : ℕ)

@@ -62,6 +62,8 @@ pub fn merge_each<D: Disk>(
     ensures missing { OnOk result (IsTrusted (D.state disk.old) → (l : Layout)
         → Stands (D.state disk.old) hand.old l
         → MakesNone (D.state disk.old) (D.state disk.new) (next_file_of hand.old)) }
+    ensures next_file { OnOk result (next_file_of hand.new
+        ≤ next_file_of hand.old + length live.now) }
     ensures length { length_of hand.new ≡ length_of hand.old }
     ensures next { next_of hand.new ≡ next_of hand.old }
     ensures limits { limits_of hand.new ≡ limits_of hand.old }

@@ -25,7 +25,7 @@ walk_start s e = record {
   goes = goes_refl s;
   quiet = λ tells. quiet_start s;
   same = λ tells. stays_still s e;
-  limits = refl;
+  bounds = refl;
 }
 
 -- one after the other
@@ -43,7 +43,7 @@ walk_then a b c e f h first then = record {
         reads = λ l reads. behind.reads l (before.reads l reads);
         stands = λ l stands. behind.stands l (before.stands l stands);
       };
-  limits = then.limits ∙ first.limits;
+  bounds = then.bounds ∙ first.bounds;
 }
 
 -- the engine reads as it read

@@ -6,7 +6,7 @@ use Rattle.alt_cells.specs.Keys.{key_cmp}
 use Rattle.alt_disk.specs.Disk.{DiskState, Goes}
 use Rattle.alt_disk.specs.Runs.{Quiet}
 use Rattle.alt_layout.specs.Layout.{Layout, shown, rows_between}
-use Rattle.alt_engine.specs.InHand.{limits_of}
+use Rattle.alt_engine.specs.InHand.{bounds_of}
 use Rattle.alt_engine.specs.Opened.{StaysOn}
 use Rattle.alt_engine.specs.declared.engine.Engine.{Engine}
 use Rattle.alt_machine.specs.Valid.{IsStored}
@@ -17,12 +17,13 @@ use Rattle.alt_opening.specs.Faults.{told_by_opening}
 use Rattle.alt_opening.specs.declared.faults.OpenFault.{OpenFault}
 use Rattle.alt_value.specs.Tree.{Pair}
 
--- calls that only read: where the disk tells them the files stay, and the engine is that of what it was that of; its limits stay on every disk
+-- calls that only read: where the disk tells them the files stay, and the engine is that of what it was that of; its limits and the number of
+-- its next file stay on every disk
 pub record Walked (old new : DiskState) (before after : Engine) : Type 0 where
   pub goes : Goes old new
   pub quiet : IsTrue old.tells → Quiet old new
   pub same : IsTrue old.tells → StaysOn old new before after
-  pub limits : limits_of after ≡ limits_of before
+  pub bounds : bounds_of after ≡ bounds_of before
 
 -- a fault of the device, or want of memory
 abbrev pub IsDeviceFault : OpenFault → Type 0

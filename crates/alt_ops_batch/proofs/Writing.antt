@@ -20,7 +20,7 @@ use Rattle.alt_schema.specs.declared.schema.TableSchema.{TableSchema}
 use Rattle.alt_tables.specs.Faults.{AreMade, BreakOff, WantsMemory}
 use Rattle.alt_tables.specs.Found.{IsFoundIn}
 use Rattle.alt_tables.specs.Images.{Leaves}
-use Rattle.alt_tables.specs.Stands.{AreReady, Reads, Stands, catalog_of, limits_of}
+use Rattle.alt_tables.specs.Stands.{AreReady, Reads, Stands, catalog_of, bounds_of}
 use Rattle.alt_tables.specs.declared.faults.TableFault.{TableFault}
 use Rattle.alt_tables.specs.declared.finding.Found.{Found}
 use Rattle.alt_tables.specs.declared.tables.Tables.{Tables}
@@ -96,7 +96,7 @@ pub record IsUnderWay (before : DiskState) (old : Tables) (after : DiskState) (n
     (moment : ℕ) (all rest : List Change) : Type 0 where
   pub goes : Goes before after
   pub catalog : catalog_of now ≡ catalog_of old
-  pub limits : limits_of now ≡ limits_of old
+  pub limits : bounds_of now ≡ bounds_of old
   pub ready : AreReady after now
   pub may : Every (MayWrite (catalog_of old)) (map written_at rest)
   pub apart : AreAllApart (map written_at rest)
@@ -166,7 +166,7 @@ module _ (before mid after : DiskState) (old now new : Tables) (moment : ℕ) (a
               (stay_found r moment (written_at c) rest so_far.apart.0 so.found.1);
         }
 
-    pub one_more : limits_of new ≡ limits_of now → IsUnderWay before old after new moment all rest
+    pub one_more : bounds_of new ≡ bounds_of now → IsUnderWay before old after new moment all rest
     one_more same = record {
       goes = goes_on before mid after so_far.goes goes;
       catalog = kept ∙ so_far.catalog;

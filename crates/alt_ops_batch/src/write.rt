@@ -16,7 +16,7 @@ ghost use Rattle.alt_shape.specs.Body.{body_json};
 ghost use Rattle.alt_shape.specs.Refusals.{answer_of};
 ghost use Rattle.alt_tables.specs.Faults.{IsFindFault, WantsMemory, Writes};
 ghost use Rattle.alt_tables.specs.Images.{Leaves};
-ghost use Rattle.alt_tables.specs.Stands.{AreReady, KeepsCatalog, Reads, Stands, catalog_of, limits_of};
+ghost use Rattle.alt_tables.specs.Stands.{AreReady, KeepsCatalog, Reads, Stands, catalog_of, bounds_of};
 
 use crate::asked_writes::writes_asked;
 use alt_disk::Disk;
@@ -51,7 +51,7 @@ pub fn batch_write_item<D: Disk>(
     ensures carried { Carries
         (λ s. machine.batch_write_item s moment (members_view body.now.entries))
         (Stands (D.state disk.old) tables.old) (Stands (D.state disk.new) tables.new) result }
-    ensures limits { limits_of tables.new ≡ limits_of tables.old }
+    ensures limits { bounds_of tables.new ≡ bounds_of tables.old }
     ensures moves { Moves (λ s. machine.batch_write_item s moment (members_view body.now.entries))
         (Stands (D.state disk.old) tables.old) (D.state disk.old) (D.state disk.new) result }
 {
@@ -162,7 +162,7 @@ fn write_all<D: Disk>(
         → Stands (D.state disk.old) tables.old s
         → WantsMemory (D.state disk.new) a_number s
         (writes_of_all s moment (each written_at changes.items)) }
-    ensures limits { limits_of tables.new ≡ limits_of tables.old }
+    ensures limits { bounds_of tables.new ≡ bounds_of tables.old }
     ensures goes { Goes (D.state disk.old) (D.state disk.new) }
     ensures cause { IsErrOf result TableFault.Failed
         → Rose (D.state disk.old).faults (D.state disk.new).faults }

@@ -8,7 +8,7 @@ ghost use Rattle.alt_machine.specs.declared.Operation.TheVariants.{PutItem};
 ghost use Rattle.alt_members.specs.Heeded.{heeded};
 ghost use Rattle.alt_readahead.specs.Direct.{IsReadAhead};
 ghost use Rattle.alt_request.specs.Carried.{Carries, Moves};
-ghost use Rattle.alt_tables.specs.Stands.{AreReady, Stands, limits_of};
+ghost use Rattle.alt_tables.specs.Stands.{AreReady, Stands, bounds_of};
 
 use crate::items::old_reply;
 use alt_disk::Disk;
@@ -92,7 +92,7 @@ pub fn put_item<D: Disk>(
     requires ready { AreReady (D.state disk.old) tables.old }
     ensures carried { Carries (λ s. put_item s moment (members_view body.now.entries))
         (Stands (D.state disk.old) tables.old) (Stands (D.state disk.new) tables.new) result }
-    ensures limits { limits_of tables.new ≡ limits_of tables.old }
+    ensures limits { bounds_of tables.new ≡ bounds_of tables.old }
     ensures moves { Moves (λ s. put_item s moment (members_view body.now.entries))
         (Stands (D.state disk.old) tables.old) (D.state disk.old) (D.state disk.new) result }
 {
@@ -113,7 +113,7 @@ pub fn put_item_ahead<D: Disk>(
     ensures carried { (ms : Members) → IsReadAhead (heeded PutItem) ms (members_view body.now.entries) item
         → Carries (λ s. put_item s moment ms)
         (Stands (D.state disk.old) tables.old) (Stands (D.state disk.new) tables.new) result }
-    ensures limits { limits_of tables.new ≡ limits_of tables.old }
+    ensures limits { bounds_of tables.new ≡ bounds_of tables.old }
     ensures moves { (ms : Members) → IsReadAhead (heeded PutItem) ms (members_view body.now.entries) item
         → Moves (λ s. put_item s moment ms)
         (Stands (D.state disk.old) tables.old) (D.state disk.old) (D.state disk.new) result }

@@ -22,7 +22,7 @@ ghost use Rattle.alt_schema.specs.declared.schema.TableSchema.{TableSchema};
 ghost use Rattle.alt_shape.specs.Body.{body_json};
 ghost use Rattle.alt_shape.specs.Refusals.{answer_of};
 ghost use Rattle.alt_tables.specs.Reading.{HasRowFiles, family_read};
-ghost use Rattle.alt_tables.specs.Stands.{AreReady, Reads, Stands, catalog_of, limits_of};
+ghost use Rattle.alt_tables.specs.Stands.{AreReady, Reads, Stands, catalog_of, bounds_of};
 
 use crate::asking::page_ask;
 use crate::replies::page_reply;
@@ -75,7 +75,7 @@ pub(crate) fn page_of_range<D: Disk>(
     ensures plain { IsPlain result }
     ensures disk { Reads (D.state disk.old) (D.state disk.new) }
     ensures failed { IfFailed result (Rose (D.state disk.old).faults (D.state disk.new).faults) }
-    ensures limits { limits_of tables.new ≡ limits_of tables.old }
+    ensures limits { bounds_of tables.new ≡ bounds_of tables.old }
 {
     let Expressions {
         condition,
@@ -121,7 +121,7 @@ fn page_of_ask<D: Disk>(
     ensures plain { IsPlain result }
     ensures disk { Reads (D.state disk.old) (D.state disk.new) }
     ensures failed { IfFailed result (Rose (D.state disk.old).faults (D.state disk.new).faults) }
-    ensures limits { limits_of tables.new ≡ limits_of tables.old }
+    ensures limits { bounds_of tables.new ≡ bounds_of tables.old }
 {
     let name = table_name(body);
     let mut filling = Filling {

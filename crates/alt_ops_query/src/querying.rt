@@ -15,7 +15,7 @@ ghost use Rattle.alt_ops_query.specs.PageReads.{ReadsQuery};
 ghost use Rattle.alt_ops_query.specs.private.Asked.{AreHeld, Asks, Places};
 ghost use Rattle.alt_request.specs.Carried.{Carries, Moves};
 ghost use Rattle.alt_request.specs.Steps.{Comes};
-ghost use Rattle.alt_tables.specs.Stands.{AreReady, Reads, Stands, limits_of};
+ghost use Rattle.alt_tables.specs.Stands.{AreReady, Reads, Stands, bounds_of};
 ghost use Rattle.alt_value.specs.Item.{at_name};
 ghost use Rattle.alt_value.specs.Stands.{tree_of};
 ghost use Rattle.alt_value.specs.Tree.{Pair};
@@ -60,7 +60,7 @@ pub fn query<D: Disk>(
     requires ready { AreReady (D.state disk.old) tables.old }
     ensures carried { Carries (λ s. query s (members_view body.now.entries))
         (Stands (D.state disk.old) tables.old) (Stands (D.state disk.new) tables.new) result }
-    ensures limits { limits_of tables.new ≡ limits_of tables.old }
+    ensures limits { bounds_of tables.new ≡ bounds_of tables.old }
     ensures moves { Moves (λ s. query s (members_view body.now.entries))
         (Stands (D.state disk.old) tables.old) (D.state disk.old) (D.state disk.new) result }
     ensures disk { Reads (D.state disk.old) (D.state disk.new) }

@@ -12,7 +12,7 @@ ghost use Rattle.alt_ops_query.specs.PageReads.{ReadsScan};
 ghost use Rattle.alt_ops_query.specs.private.Asked.{Segments};
 ghost use Rattle.alt_ops_query.specs.private.Tokens.{segment_in, first_token, token_bytes, end_token};
 ghost use Rattle.alt_request.specs.Carried.{Carries, Moves};
-ghost use Rattle.alt_tables.specs.Stands.{AreReady, Reads, Stands, limits_of};
+ghost use Rattle.alt_tables.specs.Stands.{AreReady, Reads, Stands, bounds_of};
 
 use crate::pages::page_of_range;
 use crate::places::{beyond, walk_start};
@@ -59,7 +59,7 @@ pub fn scan<D: Disk>(
     requires ready { AreReady (D.state disk.old) tables.old }
     ensures carried { Carries (λ s. scan s (members_view body.now.entries))
         (Stands (D.state disk.old) tables.old) (Stands (D.state disk.new) tables.new) result }
-    ensures limits { limits_of tables.new ≡ limits_of tables.old }
+    ensures limits { bounds_of tables.new ≡ bounds_of tables.old }
     ensures moves { Moves (λ s. scan s (members_view body.now.entries))
         (Stands (D.state disk.old) tables.old) (D.state disk.old) (D.state disk.new) result }
     ensures disk { Reads (D.state disk.old) (D.state disk.new) }

@@ -10,7 +10,7 @@ ghost use Rattle.alt_request.specs.Carried.{Carries, Moves};
 ghost use Rattle.alt_request.specs.Steps.{Tested};
 ghost use Rattle.alt_shape.specs.Body.{body_json};
 ghost use Rattle.alt_shape.specs.Refusals.{answer_of};
-ghost use Rattle.alt_tables.specs.Stands.{Stands, catalog_of, limits_of};
+ghost use Rattle.alt_tables.specs.Stands.{Stands, catalog_of, bounds_of};
 
 use alt_base::NoMemory;
 use alt_disk::Disk;
@@ -48,7 +48,7 @@ pub fn list_tables<D: Disk>(
 ) -> Result<Reply, Stop>
     ensures carried { Carries (λ s. list_tables s (members_view body.now.entries))
         (Stands (D.state disk.old) tables.old) (Stands (D.state disk.new) tables.new) result }
-    ensures limits { limits_of tables.new ≡ limits_of tables.old }
+    ensures limits { bounds_of tables.new ≡ bounds_of tables.old }
     ensures moves { Moves (λ s. list_tables s (members_view body.now.entries))
         (Stands (D.state disk.old) tables.old) (D.state disk.old) (D.state disk.new) result }
     ensures disk { D.state disk.new ≡ D.state disk.old }

@@ -22,7 +22,7 @@ ghost use Rattle.alt_schema.specs.declared.schema.TableSchema.{TableSchema};
 ghost use Rattle.alt_shape.specs.Body.{body_json};
 ghost use Rattle.alt_shape.specs.Refusals.{Answer, answer_of};
 ghost use Rattle.alt_shape.specs.declared.rule.Broken.{Broken};
-ghost use Rattle.alt_tables.specs.Stands.{AreReady, Reads, Stands, catalog_of, limits_of};
+ghost use Rattle.alt_tables.specs.Stands.{AreReady, Reads, Stands, catalog_of, bounds_of};
 ghost use Rattle.alt_value.specs.Tree.{Pair};
 
 use crate::body::{Rules, table_name};
@@ -78,7 +78,7 @@ pub fn read_table<R: TableRead, D: Disk>(
         (members_view body.now.entries)) s
         (members_view body.now.entries) (λ t. says (R.answer t.description)))
         (Stands (D.state disk.old) tables.old) (Stands (D.state disk.new) tables.new) result }
-    ensures limits { limits_of tables.new ≡ limits_of tables.old }
+    ensures limits { bounds_of tables.new ≡ bounds_of tables.old }
     ensures moves { Moves (λ s. on_table
         (machine.body_refusals (R.shape (members_view body.now.entries)) R.rules
         (members_view body.now.entries)) s
@@ -139,7 +139,7 @@ pub fn read_item<R: ItemRead, D: Disk>(
         (members_view body.now.entries)) Key R.texts s
         (members_view body.now.entries) (λ said key t place. finds R.answer said t place))
         (Stands (D.state disk.old) tables.old) (Stands (D.state disk.new) tables.new) result }
-    ensures limits { limits_of tables.new ≡ limits_of tables.old }
+    ensures limits { bounds_of tables.new ≡ bounds_of tables.old }
     ensures moves { Moves (λ s. on_item
         (machine.body_refusals (R.shape (members_view body.now.entries)) R.rules
         (members_view body.now.entries)) Key R.texts s
@@ -179,7 +179,7 @@ fn found_reply<R: ItemRead, D: Disk>(
         → map.get s.tables (table_name (members_view body.now.entries)) ≡ Some t
         → Does (Stands (D.state disk.new) tables.new) s (finds R.answer said.now t place) result }
     ensures plain { IsPlain result }
-    ensures limits { limits_of tables.new ≡ limits_of tables.old }
+    ensures limits { bounds_of tables.new ≡ bounds_of tables.old }
     ensures moves { (t : Table) → Moves (λ s. finds R.answer said.now t place)
         (λ s. Stands (D.state disk.old) tables.old s
         × (map.get s.tables (table_name (members_view body.now.entries)) ≡ Some t))

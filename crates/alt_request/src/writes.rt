@@ -17,7 +17,7 @@ ghost use Rattle.alt_request.specs.Steps.{Comes, IsMemory, Tested, rules_of};
 ghost use Rattle.alt_request.specs.Words.{texts_of};
 ghost use Rattle.alt_shape.specs.Body.{body_json};
 ghost use Rattle.alt_shape.specs.Refusals.{answer_of};
-ghost use Rattle.alt_tables.specs.Stands.{AreReady, Stands, catalog_of, limits_of};
+ghost use Rattle.alt_tables.specs.Stands.{AreReady, Stands, catalog_of, bounds_of};
 ghost use Rattle.alt_value.specs.Tree.{Pair};
 
 use crate::body::{Rules, table_name};
@@ -104,7 +104,7 @@ pub fn write_item<W: ItemWrite, D: Disk>(
     ensures carried { (ms : Members) → IsAsked W.says ms (members_view body.now.entries) ahead
         → Carries (λ s. writes_item W.says s moment ms)
         (Stands (D.state disk.old) tables.old) (Stands (D.state disk.new) tables.new) result }
-    ensures limits { limits_of tables.new ≡ limits_of tables.old }
+    ensures limits { bounds_of tables.new ≡ bounds_of tables.old }
     ensures moves { (ms : Members) → IsAsked W.says ms (members_view body.now.entries) ahead
         → Moves (λ s. writes_item W.says s moment ms)
         (Stands (D.state disk.old) tables.old) (D.state disk.old) (D.state disk.new) result }
@@ -161,7 +161,7 @@ fn write_at<W: ItemWrite, D: Disk>(
         (λ s. Stands (D.state disk.old) tables.old s
         × (map.get s.tables (table_name (members_view body.now.entries)) ≡ Some t))
         (Stands (D.state disk.new) tables.new) (D.state disk.old) (D.state disk.new) result }
-    ensures limits { limits_of tables.new ≡ limits_of tables.old }
+    ensures limits { bounds_of tables.new ≡ bounds_of tables.old }
 {
     let name = table_name(body);
     let found = match tables.find(disk, name, place) {

@@ -99,9 +99,10 @@ some_served r per count fault s es ms x = record {
 }
 
 -- and a trial
-some_tries : (a b : DiskState) (fault : RunFault) (s : State) (seed count : ℕ) (es : Log) (ms : List ℕ)
-    → TriesSome fault s seed count a b es ms → TriesSome why.NoMemory s seed count a b es ms
-some_tries a b fault s seed count es ms x = record {
+some_tries : (a b : DiskState) (fault : RunFault) (next : ℕ) (s : State) (seed count : ℕ) (es : Log)
+    (ms : List ℕ) → TriesSome fault next s seed count a b es ms
+    → TriesSome why.NoMemory next s seed count a b es ms
+some_tries a b fault next s seed count es ms x = record {
   said = x.said;
   rests = x.rests;
   unasked = x.unasked;
@@ -112,26 +113,30 @@ some_tries a b fault s seed count es ms x = record {
   leaves = x.leaves;
 }
 
-broken_memory : (job : Job) (fault : RunFault) (s : State) (a b : DiskState)
-    → Broken fault job s a b → Broken why.NoMemory job s a b
+broken_memory : (files : ℕ → Option (List ℕ)) (job : Job) (fault : RunFault) (s : State)
+    (a b : DiskState) → Broken files fault job s a b → Broken files why.NoMemory job s a b
 unfolding some_served
-broken_memory Replay fault s a b x = stretch_as a b {P = AnswersSome fault s}
+broken_memory files Replay fault s a b x = stretch_as a b {P = AnswersSome fault s}
     {Q = AnswersSome why.NoMemory s} (λ es ms within y. some_answers a b fault s es ms y) x
-broken_memory (Serve per count) fault s a b x = stretch_as a b
+broken_memory files (Serve per count) fault s a b x = stretch_as a b
     {P = ServedSomeOn rules per count fault s} {Q = ServedSomeOn rules per count why.NoMemory s}
     (λ es ms within y. (some_served rules per count fault s es ms y.0, y.1)) x
-broken_memory (Trial seed count) fault s a b x = stretch_as a b
-    {P = TriesSome fault s seed count} {Q = TriesSome why.NoMemory s seed count}
-    (λ es ms within y. some_tries a b fault s seed count es ms y) x
+broken_memory files (Trial seed count) fault s a b x = (
+  x.0,
+  x.1,
+  stretch_as a b {P = TriesSome fault x.0 s seed count}
+      {Q = TriesSome why.NoMemory x.0 s seed count}
+      (λ es ms within y. some_tries a b fault x.0 s seed count es ms y) x.2,
+)
 
-opened_memory : (a b : DiskState) (fault : RunFault) (job : Job) → Opened a b (Broken fault job)
-    → Opened a b (Broken why.NoMemory job)
+opened_memory : (a b : DiskState) (fault : RunFault) (job : Job)
+    → Opened a b (Broken a.file fault job) → Opened a b (Broken a.file why.NoMemory job)
 opened_memory a b fault job h = record {
   from = h.from;
   stood = h.stood;
   opened = h.opened;
   opening = h.opening;
-  behind = broken_memory job fault h.from h.opened b h.behind;
+  behind = broken_memory a.file job fault h.from h.opened b h.behind;
 }
 
 -- a disk that can be relied on is honest
@@ -237,9 +242,10 @@ module _ (b c : DiskState) (g : Grows b.beside c.beside [])
     last = last_behind (last_state s (as_turn s seed count).atoms) x.last;
   }
 
-  tries_some_behind : (a : DiskState) (fault : RunFault) (s : State) (seed count : ℕ) (es : Log)
-      (ms : List ℕ) → TriesSome fault s seed count a b es ms → TriesSome fault s seed count a c es ms
-  tries_some_behind a fault s seed count es ms x = record {
+  tries_some_behind : (a : DiskState) (fault : RunFault) (next : ℕ) (s : State) (seed count : ℕ)
+      (es : Log) (ms : List ℕ) → TriesSome fault next s seed count a b es ms
+      → TriesSome fault next s seed count a c es ms
+  tries_some_behind a fault next s seed count es ms x = record {
     said = x.said;
     rests = x.rests;
     unasked = x.unasked;
@@ -309,19 +315,23 @@ module _ (b c : DiskState) (g : Grows b.beside c.beside [])
   done_behind (Trial seed count) s o x = stretch_quiet o b c {P = Tries s seed count}
       (tries_behind o s seed count) x aside g m
 
-  broken_behind : (fault : RunFault) (job : Job) (s : State) (o : DiskState)
-      → Broken fault job s o b → Broken fault job s o c
-  broken_behind fault Replay s o x =
+  broken_behind : (files : ℕ → Option (List ℕ)) (fault : RunFault) (job : Job) (s : State)
+      (o : DiskState) → Broken files fault job s o b → Broken files fault job s o c
+  broken_behind files fault Replay s o x =
       stretch_quiet o b c {P = AnswersSome fault s} (some_behind o fault s) x aside g m
-  broken_behind fault (Serve per count) s o x = stretch_quiet o b c
+  broken_behind files fault (Serve per count) s o x = stretch_quiet o b c
       {P = ServedSomeOn rules per count fault s}
       (λ es ms y. (
         y.0,
         leaves-before-aside o b c (LeftAmong rules per s (y.0.all ++ y.0.last)) aside y.1,
       ))
       x aside g m
-  broken_behind fault (Trial seed count) s o x = stretch_quiet o b c
-      {P = TriesSome fault s seed count} (tries_some_behind o fault s seed count) x aside g m
+  broken_behind files fault (Trial seed count) s o x = (
+    x.0,
+    x.1,
+    stretch_quiet o b c {P = TriesSome fault x.0 s seed count}
+        (tries_some_behind o fault x.0 s seed count) x.2 aside g m,
+  )
 
   opened_behind : (a : DiskState) (P : State → DiskState → DiskState → Type 0)
       → ((s : State) (o : DiskState) → P s o b → P s o c) → Opened a b P → Opened a c P
@@ -337,7 +347,7 @@ module _ (b c : DiskState) (g : Grows b.beside c.beside [])
       → BreaksOff fault job a c
   breaks_behind a fault job h trusted = ⊎_elim
       (λ x. inl (opening_behind a x))
-      (λ x. inr (opened_behind a (Broken fault job) (broken_behind fault job) x))
+      (λ x. inr (opened_behind a (Broken a.file fault job) (broken_behind a.file fault job) x))
       (h trusted)
 
   damaged_behind : (a : DiskState) (fault : RunFault) → WasDamaged fault a b → WasDamaged fault a c
@@ -364,8 +374,8 @@ module _ (b c : DiskState) (g : Grows b.beside c.beside [])
   run_behind a job Memory h = breaks_behind a why.NoMemory job h
   run_behind a job (Spent number) h = (
     h.0,
-    λ trusted. opened_behind a (Broken (why.Spent number) job)
-        (broken_behind (why.Spent number) job) (h.1 trusted),
+    λ trusted. opened_behind a (Broken a.file (why.Spent number) job)
+        (broken_behind a.file (why.Spent number) job) (h.1 trusted),
   )
 
   -- what was done is still done behind the note

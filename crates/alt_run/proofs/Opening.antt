@@ -10,6 +10,7 @@ use Rattle.alt_shell.proofs.Telling.{Grows-nil}
 use Rattle.alt_faults.specs.Faults.{OnlyDamaged}
 use Rattle.alt_faults.proofs.Telling.{both-damaged, tells-more}
 use Rattle.alt_opening.specs.Faults.{told_by_opening}
+use Rattle.alt_talks.proofs.FileFaults.{file_work}
 use Rattle.alt_talks.specs.Faults.{IsCausedBy, IsWorkFault, told_by_run}
 use Rattle.alt_run.specs.Faults.{IsUnreadable}
 use Rattle.alt_talks.specs.declared.fault.RunFault.{RunFault}
@@ -20,6 +21,9 @@ use Rattle.alt_run.specs.Runs.{IsOpening, Opened}
 use Rattle.alt_run.specs.declared.words.Job.{Job}
 use Rattle.alt_run.specs.declared.words.Job.TheVariants.{Replay, Serve, Trial}
 use Rattle.alt_talks.specs.Stops.{AtEach}
+use Rattle.alt_run.specs.Trials.{Tries, TriesSome}
+use Rattle.alt_talks.specs.Runs.{Stretch}
+use Rattle.alt_tables.specs.FilesLeft.{IsFirstGiven}
 use Rattle.alt_tables.specs.Stands.{Stands}
 use Rattle.alt_tables.specs.Images.{StandsFor}
 use Rattle.alt_opening.specs.Recovery.{IsExplained, IsOfFiles, HasNoState, WasLeft}
@@ -81,22 +85,32 @@ readable_cause fault files s stands h =
     (λ d. IsOfFiles files d × ((t : State) → StandsFor files t → ⊥)) (λ d. ⊥) (λ n no. absurd no)
     (λ d both. both.1 s stands) (told_by_run fault) h
 
+-- a trial that broke off, by the number of the first file that was made
+pub tried_broken : (files : ℕ → Option (List ℕ)) (next seed count : ℕ) (s : State) (a d : DiskState)
+    → IsFirstGiven files next → (result : Result Unit RunFault)
+    → MatchResult result (λ _. Stretch a d (Tries s seed count))
+    (λ f. Stretch a d (TriesSome f next s seed count))
+    → MatchResult result (λ _. Done (Trial seed count) s a d)
+    (λ f. Broken files f (Trial seed count) s a d)
+tried_broken files next seed count s a d given (Ok done) h = h
+tried_broken files next seed count s a d given (Err fault) h = (next, given, h)
+
 -- however what was done behind the opening ended
 pub opened_result : (a b c : DiskState) (s : State) (job : Job) → StandsFor a.file s → Goes a b
     → AtEach a b (WasLeft a) → (result : Result Unit RunFault)
-    → MatchResult result (λ _. Done job s b c) (λ f. Broken f job s b c)
+    → MatchResult result (λ _. Done job s b c) (λ f. Broken a.file f job s b c)
     → MatchResult result (λ _. Opened a c (Done job))
-    (λ f. (IsOpening a c × IsUnreadable a.file f) ⊎ Opened a c (Broken f job))
+    (λ f. (IsOpening a c × IsUnreadable a.file f) ⊎ Opened a c (Broken a.file f job))
 opened_result a b c s job stood goes leaves (Ok done) h =
     opened_then a b c (Done job) s stood goes leaves h
 opened_result a b c s job stood goes leaves (Err fault) h =
-    inr (opened_then a b c (Broken fault job) s stood goes leaves h)
+    inr (opened_then a b c (Broken a.file fault job) s stood goes leaves h)
 
 -- numbers are never spent in the opening
 pub spent_done : (a b : DiskState) (job : Job) (fault : RunFault) (number : ℕ)
     → fault ≡ Spent number
     → (IsTrue a.tells → (IsOpening a b × IsUnreadable a.file fault) ⊎ IsReadable a.file)
-    → (IsTrusted a → (IsOpening a b × IsUnreadable a.file fault) ⊎ Opened a b (Broken fault job))
+    → (IsTrusted a → (IsOpening a b × IsUnreadable a.file fault) ⊎ Opened a b (Broken a.file fault job))
     → HasRun job (ending.Spent number) a b
 spent_done a b job fault number same readable answered = (
   λ tells. ⊎_elim
@@ -105,31 +119,32 @@ spent_done a b job fault number same readable answered = (
       (readable tells),
   λ trusted. ⊎_elim
       (λ x. absurd (subst (IsUnreadable a.file) same x.1))
-      (λ x. subst (λ (f : RunFault). Opened a b (Broken f job)) same x)
+      (λ x. subst (λ (f : RunFault). Opened a b (Broken a.file f job)) same x)
       (answered trusted),
 )
 
 -- a run that was broken off by this fault, in the opening or behind it
 pub breaks_done : (a b : DiskState) (job : Job) (fault why : RunFault) → fault ≡ why
-    → (IsTrusted a → (IsOpening a b × IsUnreadable a.file fault) ⊎ Opened a b (Broken fault job))
+    → (IsTrusted a → (IsOpening a b × IsUnreadable a.file fault) ⊎ Opened a b (Broken a.file fault job))
     → BreaksOff why job a b
 breaks_done a b job fault why same answered trusted = ⊎_elim
     (λ x. inl x.0)
-    (λ x. inr (subst (λ (f : RunFault). Opened a b (Broken f job)) same x))
+    (λ x. inr (subst (λ (f : RunFault). Opened a b (Broken a.file f job)) same x))
     (answered trusted)
 
 -- what has no cause among requests breaks off no run behind an opening
-broken_well : (job : Job) (fault : RunFault) (s : State) (b c : DiskState)
+broken_well : (files : ℕ → Option (List ℕ)) (job : Job) (fault : RunFault) (s : State)
+    (b c : DiskState)
     → ((lack : Option Lack) → IsCausedBy lack fault → ⊥) → (IsWorkFault fault → ⊥)
-    → Broken fault job s b c → ⊥
-broken_well Replay fault s b c never idle h = ⊎_elim (λ x. never _ x) (λ x. idle x.0)
+    → Broken files fault job s b c → ⊥
+broken_well files Replay fault s b c never idle h = ⊎_elim (λ x. never _ x) (λ x. idle x.0)
     h.holds.breaks.wants
-broken_well (Serve per count) fault s b c never idle h = ⊎_elim
+broken_well files (Serve per count) fault s b c never idle h = ⊎_elim
     (λ x. never None x.1)
     (λ x. ⊎_elim (λ y. never _ y) (λ y. idle y.0) x.2.some.wants)
     h.holds.0.some
-broken_well (Trial seed count) fault s b c never idle h = ⊎_elim (λ x. never _ x) (λ x. idle x.0)
-    h.holds.wants
+broken_well files (Trial seed count) fault s b c never idle h = ⊎_elim (λ x. never _ x)
+    (λ x. idle (file_work fault _ x.0)) h.2.holds.wants
 
 trusted_by : (a : DiskState) → IsTrue a.tells → a.honest ≡ true → IsTrusted a
 trusted_by a tells honest = grind (arith, tells, honest)
@@ -138,7 +153,7 @@ trusted_by a tells honest = grind (arith, tells, honest)
 pub damaged_done : (a b : DiskState) (job : Job) (fault why : RunFault) → fault ≡ why
     → ((lack : Option Lack) → IsCausedBy lack why → ⊥) → (IsWorkFault why → ⊥)
     → (IsTrue a.tells → (IsOpening a b × IsUnreadable a.file fault) ⊎ IsReadable a.file)
-    → (IsTrusted a → (IsOpening a b × IsUnreadable a.file fault) ⊎ Opened a b (Broken fault job))
+    → (IsTrusted a → (IsOpening a b × IsUnreadable a.file fault) ⊎ Opened a b (Broken a.file fault job))
     → WasDamaged why a b
 damaged_done a b job fault why same never idle readable answered tells =
     ⊎_elim opening (λ x. by_honest x a.honest refl) (readable tells)
@@ -151,6 +166,6 @@ damaged_done a b job fault why same never idle readable answered tells =
         → (IsOpening a b × IsUnreadable a.file why) ⊎ (IsReadable a.file × (a.honest ≡ false))
     by_honest stood false e = inr (stood, e)
     by_honest stood true e = ⊎_elim opening
-        (λ o. absurd (broken_well job why o.from o.opened b never idle
-        (subst (λ (f : RunFault). Broken f job o.from o.opened b) same o.behind)))
+        (λ o. absurd (broken_well a.file job why o.from o.opened b never idle
+        (subst (λ (f : RunFault). Broken a.file f job o.from o.opened b) same o.behind)))
         (answered (trusted_by a tells e))

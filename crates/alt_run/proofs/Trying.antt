@@ -1,9 +1,9 @@
 -- A trial: its requests, one after the other, and then its four lines.
-use Rattle.std.proofs.Common.{◌≡◌, ◌≤◌, ◌<◌, ◌+◌, ◌-◌, ◌⊎◌, ⊎_elim, ℕ, suc, inl, inr, List, [], ◌∷◌, ◌++◌, map, length, min, take, drop, replicate, cond, Bool, true, false, Option, Some, None, option_map, refl, sym, ap, subst, ◌∙◌, append_assoc, append-nil, arith, length-append, take-append-drop}
+use Rattle.std.proofs.Common.{◌≡◌, ◌≤◌, ◌<◌, ◌+◌, ◌*◌, ◌-◌, ◌⊎◌, ⊎_elim, ℕ, suc, inl, inr, List, [], ◌∷◌, ◌++◌, map, length, min, take, drop, replicate, cond, Bool, true, false, Option, Some, None, option_map, refl, sym, ap, subst, ◌∙◌, append_assoc, append-nil, arith, length-append, take-append-drop}
 use Rattle.std.specs.Prelude.{nat_le, nat_eq, ◌==◌, codes, filter}
 use Rattle.std.specs.Str.{bytes_eq}
 use Rattle.std.specs.List.{starts_with, before_first, after_first}
-use Rattle.std.proofs.lemmas.List.{map-append, take-append-le, length-replicate, replicate-append-replicate}
+use Rattle.std.proofs.lemmas.List.{length-map, map-append, take-append-le, length-replicate, replicate-append-replicate}
 use Rattle.std.proofs.lemmas.List.Elements.{filter-append}
 use Rattle.std.proofs.Math.Seq.{take-append-add, take-length}
 use Rattle.alt_base.specs.Prefix.{IsPrefix}
@@ -18,11 +18,12 @@ use Rattle.alt_machine.specs.Wanted.{Lack}
 use Rattle.alt_shell.specs.Calls.{Adds, Keeps, ShellCall, Untold}
 use Rattle.alt_shell.specs.Log.{Log, Grows, moments_of, until, entry, told_count, said, say_failed, says_failed, says_missed, said_in}
 use Rattle.alt_shell.proofs.Telling.{Grows-then, Grows-nil, Tells-nil}
+use Rattle.alt_tables.specs.FilesLeft.{most_files}
 use Rattle.alt_tables.specs.Images.{StandsFor}
-use Rattle.alt_tables.specs.Stands.{Stands}
+use Rattle.alt_tables.specs.Stands.{Stands, bounds_of}
 use Rattle.alt_tables.specs.declared.tables.Tables.{Tables}
 use Rattle.alt_tables.proofs.Left.{stands_left}
-use Rattle.alt_talks.specs.Faults.{IsCausedBy, IsWorkFault}
+use Rattle.alt_talks.specs.Faults.{IsCausedBy, IsFileFault}
 use Rattle.alt_talks.specs.Works.{Works}
 use Rattle.alt_talks.specs.Runs.{Stretch}
 use Rattle.alt_run.specs.Runs.{Rests}
@@ -34,6 +35,7 @@ use Rattle.alt_talks.specs.declared.fault.RunFault.{RunFault}
 use Rattle.alt_talks.specs.declared.fault.RunFault.TheVariants.{Failed, NoMemory}
 use Rattle.alt_run.specs.declared.tally.Tally.{Tally}
 use Rattle.alt_talks.proofs.Stopping.{atoms_of-append, last_state-append, after-atoms, one-by, until-before, take-within, trusts-kept, leaves-weaker, leaves-here, spans_two, keeps-spans, within-wider, stands_kept}
+use Rattle.alt_talks.proofs.FileFaults.{file_more}
 use Rattle.alt_run.proofs.TurnLaws.{requests-append, turns-append}
 use Rattle.alt_talks.proofs.TurnLaws.{after-append, wanted-append}
 
@@ -168,24 +170,27 @@ module _ (a b c : DiskState) (t1 : Tables) (s : State) (ls ks : List Asked) (x y
   wanted_begun begun = ap wanted (turns_then s ls begun)
       ∙ wanted-append (trial_turns s ls) (trial_turns (reached_by s ls) begun) p.enough
 
-  tries_for : (fault : RunFault) (begun : List Asked) → TriesFor fault (reached_by s ls) begun
-      → TriesFor fault s (ls ++ begun)
-  tries_for fault begun why = ⊎_elim
+  tries_for : (fault : RunFault) (next then : ℕ) → then ≤ next + length ls * most_files
+      → (begun : List Asked) → TriesFor fault then (reached_by s ls) begun
+      → TriesFor fault next s (ls ++ begun)
+  tries_for fault next then low begun why = ⊎_elim
       (λ cause. inl (subst (λ (w : Option Lack). IsCausedBy w fault) (sym (wanted_begun begun)) cause))
       (λ work. inr (
-        work.0,
+        file_more fault (then + length begun * most_files)
+            (next + length (ls ++ begun) * most_files)
+            (let l = length-append ls begun in omega (arith, l, low)) work.0,
         wanted_begun begun ∙ work.1,
         let l = length-append ls begun in let some = work.2 in omega (arith, l, some),
       ))
       why
 
-  pub counted_break : (fault : RunFault) → CountedSome fault (reached_by s ls) ks b c
-      → CountedSome fault s (ls ++ ks) a c
-  counted_break fault q = record {
+  pub counted_break : (fault : RunFault) (next then : ℕ) → then ≤ next + length ls * most_files
+      → CountedSome fault then (reached_by s ls) ks b c → CountedSome fault next s (ls ++ ks) a c
+  counted_break fault next then low q = record {
     begun = ls ++ q.begun;
     rest = q.rest;
     lines = ap (λ xs. ls ++ xs) q.lines ∙ sym (append_assoc ls q.begun q.rest);
-    wants = tries_for fault q.begun q.wants;
+    wants = tries_for fault next then low q.begun q.wants;
     leaves = leaves_both q.leaves;
   }
 
@@ -219,9 +224,10 @@ module _ (a b : DiskState) (s : State) (name body : List ℕ)
   }
 
   -- it broke off
-  pub one_broke : (fault : RunFault) → IsCausedBy (carried_out s name body trial_moment).lacks fault
-      → CountedSome fault s (request name body ∷ []) a b
-  one_broke fault cause = record {
+  pub one_broke : (fault : RunFault) (next : ℕ)
+      → IsCausedBy (carried_out s name body trial_moment).lacks fault
+      → CountedSome fault next s (request name body ∷ []) a b
+  one_broke fault next cause = record {
     begun = request name body ∷ [];
     rest = [];
     lines = refl;
@@ -258,20 +264,24 @@ module _ (a b c : DiskState) (t1 : Tables) (s : State) (name body : List ℕ) (x
   }
 
   -- or that broke off
-  pub one_worked_some : (fault : RunFault) → IsWorkFault fault
-      → CountedSome fault s (request name body ∷ []) a c
-  one_worked_some fault why = record {
+  pub one_worked_some : (fault : RunFault) (next : ℕ) → IsFileFault (next + most_files) fault
+      → CountedSome fault next s (request name body ∷ []) a c
+  one_worked_some fault next why = record {
     begun = request name body ∷ [];
     rest = [];
     lines = refl;
-    wants = inr (why, p.enough, omega arith);
+    wants = inr (
+      file_more fault (next + most_files) (next + 1 * most_files) (omega arith) why,
+      p.enough,
+      omega arith,
+    );
     leaves = leaves_worked;
   }
 
 -- none was begun for want of memory
-pub none_begun : (a : DiskState) (tables : Tables) (s : State) (ls : List Asked) → Stands a tables s
-    → CountedSome NoMemory s ls a a
-none_begun a tables s ls stands = record {
+pub none_begun : (a : DiskState) (tables : Tables) (next : ℕ) (s : State) (ls : List Asked)
+    → Stands a tables s → CountedSome NoMemory next s ls a a
+none_begun a tables next s ls stands = record {
   begun = [];
   rest = ls;
   lines = refl;
@@ -288,9 +298,9 @@ asked_parts g line is =
     ∙ sym (asked_next g)
 
 -- a break among requests is one among these and more
-counted_some_more : (a b : DiskState) (fault : RunFault) (s : State) (ls ks : List Asked)
-    → CountedSome fault s ls a b → CountedSome fault s (ls ++ ks) a b
-counted_some_more a b fault s ls ks q =
+counted_some_more : (a b : DiskState) (fault : RunFault) (next : ℕ) (s : State) (ls ks : List Asked)
+    → CountedSome fault next s ls a b → CountedSome fault next s (ls ++ ks) a b
+counted_some_more a b fault next s ls ks q =
     let us = trial_turns (after s (trial_turns s ls)) ks in
     record {
       begun = q.begun;
@@ -315,6 +325,8 @@ pub record Trying (a : DiskState) (t0 : Tables) (b : DiskState) (t1 : Tables) (b
   pub lines : all ≡ done ++ rest
   pub goes : Goes a b
   pub counted : (s : State) → Stands a t0 s → Counted s (map asked_by done) none behind a b t1
+  pub files : (s : State) → Stands a t0 s
+      → (bounds_of t1).file ≤ (bounds_of t0).file + length done * most_files
 
 -- at first none
 pub trying_none : (a : DiskState) (t0 : Tables) (tally : Tally) (all : List (List ℕ))
@@ -332,6 +344,7 @@ trying_none a t0 tally all empty = record {
     leaves = leaves-here a (λ _ image. IsAmong image s [])
         (λ trusted t image is_image. (0, stands_left a t0 s stands image is_image));
   };
+  files = λ s stands. omega arith;
 }
 
 -- the lines that are left, where there is one
@@ -346,8 +359,9 @@ module _ (a : DiskState) (t0 : Tables) (b : DiskState) (t1 : Tables) (y : Tally)
   -- one line more
   pub trying_line : (c : DiskState) (t2 : Tables) (z : Tally) → Goes b c
       → ((r : State) → Stands b t1 r → Counted r (asked_by line ∷ []) y z b c t2)
+      → ((r : State) → Stands b t1 r → (bounds_of t2).file ≤ (bounds_of t1).file + most_files)
       → Trying a t0 c t2 z all behind
-  trying_line c t2 z goes go = record {
+  trying_line c t2 z goes go more = record {
     none = p.none;
     empty = p.empty;
     done = p.done ++ line ∷ [];
@@ -359,21 +373,28 @@ module _ (a : DiskState) (t0 : Tables) (b : DiskState) (t1 : Tables) (y : Tally)
         (sym (map-append asked_by p.done (line ∷ [])))
         (counted_then a b c t1 s (map asked_by p.done) (asked_by line ∷ []) p.none y p.goes front t2 z
         (go (after s (trial_turns s (map asked_by p.done))) front.stands));
+    files = λ s stands.
+        let low = p.files s stands in
+        let one = more (after s (trial_turns s (map asked_by p.done))) (p.counted s stands).stands in
+        let l = length-append p.done (line ∷ []) in omega (arith, low, one, l);
   }
 
   -- it broke off
   pub trying_break : (c : DiskState) (fault : RunFault)
-      → ((r : State) → Stands b t1 r → CountedSome fault r (asked_by line ∷ []) b c)
-      → (s : State) → Stands a t0 s → CountedSome fault s (map asked_by all) a c
+      → ((r : State) → Stands b t1 r
+      → CountedSome fault (bounds_of t1).file r (asked_by line ∷ []) b c)
+      → (s : State) → Stands a t0 s
+      → CountedSome fault (bounds_of t0).file s (map asked_by all) a c
   trying_break c fault go s stands =
       let front = p.counted s stands in
       let r : State = after s (trial_turns s (map asked_by p.done)) in
-      subst (λ (ls : List Asked). CountedSome fault s ls a c)
+      subst (λ (ls : List Asked). CountedSome fault (bounds_of t0).file s ls a c)
       (sym (ap (map asked_by) (p.lines ∙ ap (λ ls. p.done ++ ls) first)
       ∙ map-append asked_by p.done (line ∷ behind)))
       (counted_break a b c t1 s (map asked_by p.done) (asked_by line ∷ map asked_by behind) p.none y
-      p.goes front fault
-      (counted_some_more b c fault r (asked_by line ∷ []) (map asked_by behind)
+      p.goes front fault (bounds_of t0).file (bounds_of t1).file
+      (let low = p.files s stands in let l = length-map p.done asked_by in omega (arith, low, l))
+      (counted_some_more b c fault (bounds_of t1).file r (asked_by line ∷ []) (map asked_by behind)
       (go r front.stands)))
 
 -- no line is left
@@ -438,10 +459,10 @@ module _ (old mid new : DiskState) (s : State) (t : Turn) (goes : Goes old mid)
       (λ u image from p. tried_whole s t (said_in (until u es)) image (front u) p)
 
 -- The requests of a trial broke off: nothing was said.
-pub trial_unsaid : (old mid : DiskState) (s : State) (seed count : ℕ) (fault : RunFault) → Goes old mid
-    → CountedSome fault s (trial_asks seed count) old mid
-    → Stretch old mid (TriesSome fault s seed count)
-trial_unsaid old mid s seed count fault goes p = record {
+pub trial_unsaid : (old mid : DiskState) (s : State) (seed count : ℕ) (fault : RunFault) (next : ℕ)
+    → Goes old mid → CountedSome fault next s (trial_asks seed count) old mid
+    → Stretch old mid (TriesSome fault next s seed count)
+trial_unsaid old mid s seed count fault next goes p = record {
   entries = [];
   told = [];
   grows = subst (λ (log : Log). Grows old.beside log []) (sym goes.beside) (Grows-nil old.beside);
@@ -464,8 +485,8 @@ trial_unsaid old mid s seed count fault goes p = record {
 module _ (old mid new : DiskState) (tables : Tables) (s : State) (seed count : ℕ) (none tally : Tally)
     (goes : Goes old mid) (p : Counted s (trial_asks seed count) none tally old mid tables) where
   -- memory was refused for the lines
-  pub trial_memory : Stretch old mid (TriesSome NoMemory s seed count)
-  trial_memory = trial_unsaid old mid s seed count NoMemory goes
+  pub trial_memory : (next : ℕ) → Stretch old mid (TriesSome NoMemory next s seed count)
+  trial_memory next = trial_unsaid old mid s seed count NoMemory next goes
       (record {
         begun = [];
         rest = trial_asks seed count;
@@ -526,8 +547,8 @@ module _ (old mid new : DiskState) (tables : Tables) (s : State) (seed count : �
       → IsPrefix (said_in es) (as_turn s seed count).text → Grows mid.beside new.beside es
       → AreWithin mid.moment new.moment es → ShellCall mid new false
       → moments_of new.beside ≡ moments_of mid.beside
-      → Stretch old new (TriesSome Failed s seed count)
-  cut es rests by some g within call m = record {
+      → (next : ℕ) → Stretch old new (TriesSome Failed next s seed count)
+  cut es rests by some g within call m next = record {
     entries = es;
     told = [];
     grows = Grows-then old.beside mid.beside new.beside [] es
@@ -553,8 +574,8 @@ module _ (old mid new : DiskState) (tables : Tables) (s : State) (seed count : �
       → moments_of new.beside ≡ moments_of mid.beside
       → (((n : ℕ) × Adds mid new (say_failed (take n bytes)))
       ⊎ Untold mid new says_failed says_missed)
-      → Stretch old new (TriesSome Failed s seed count)
-  trial_cut bytes e call m (inl part) =
+      → (next : ℕ) → Stretch old new (TriesSome Failed next s seed count)
+  trial_cut bytes e call m (inl part) next =
       let one : ℕ × List ℕ =
       entry new.moment (told_count mid.beside) (say_failed (take part.0 bytes)) in
       let some : IsPrefix (said_in (one ∷ [])) (as_turn s seed count).text = (
@@ -563,7 +584,7 @@ module _ (old mid new : DiskState) (tables : Tables) (s : State) (seed count : �
             ∙ ap (λ (bs : List ℕ). bs ++ drop part.0 bytes) (sym (append-nil (take part.0 bytes))),
       ) in
       cut (one ∷ []) (record { silent = refl; goes_on = refl; inside = refl }) (one-by one (as_turn s seed count).text some) some
-      part.1 (call.keeps.later, omega arith, tt) call m
-  trial_cut bytes e call m (inr untold) =
+      part.1 (call.keeps.later, omega arith, tt) call m next
+  trial_cut bytes e call m (inr untold) next =
       cut [] (record { silent = refl; goes_on = refl; inside = refl }) (λ u. ((as_turn s seed count).text, refl)) ((as_turn s seed count).text, refl)
-      untold.log tt call m
+      untold.log tt call m next

@@ -7,6 +7,7 @@ use Rattle.alt_disk.specs.Runs.{Quiet}
 use Rattle.alt_machine.specs.State.{State, start}
 use Rattle.alt_shell.specs.Log.{Log, Grows, StillGrows, notes_of, moments_of, taken, said_in, crosses}
 use Rattle.alt_run.specs.Faults.{IsUnreadable}
+use Rattle.alt_tables.specs.FilesLeft.{IsFirstGiven}
 use Rattle.alt_tables.specs.Images.{StandsFor}
 use Rattle.alt_talks.specs.Runs.{Stretch}
 use Rattle.alt_run.specs.Runs.{Answers, AnswersSome, IsOpening, Opened}
@@ -135,20 +136,24 @@ Done (Serve per connections) s opened new = Stretch opened new
 Done (Trial seed count) s opened new = Stretch opened new (Tries s seed count)
 
 -- What a job has done that was broken off behind the opening: what it said is a prefix of what there was to say, on each connection by
--- itself. For a number: the first that a request wanted and is never given out, or that of a file that work wanted.
-abbrev pub Broken : RunFault → Job → State → DiskState → DiskState → Type 0
-Broken why Replay s opened new = Stretch opened new (AnswersSome why s)
-Broken why (Serve per connections) s opened new = Stretch opened new
+-- itself. For a number: the first that a request wanted and is never given out, or that of a file that work wanted: in a trial, by the number of
+-- the first file that is made behind these.
+abbrev pub Broken : (ℕ → Option (List ℕ)) → RunFault → Job → State → DiskState → DiskState → Type 0
+Broken files why Replay s opened new = Stretch opened new (AnswersSome why s)
+Broken files why (Serve per connections) s opened new = Stretch opened new
     (ServedSomeOn rules per connections why s)
-Broken why (Trial seed count) s opened new = Stretch opened new (TriesSome why s seed count)
+Broken files why (Trial seed count) s opened new = (next : ℕ) × IsFirstGiven files next
+    × Stretch opened new (TriesSome why next s seed count)
 
 -- The store was opened, and the run broke off behind that for want of a number that is never given out.
 abbrev pub LacksNumber : Job → DiskState → DiskState → Type 0
-LacksNumber job old new = (number : ℕ) × Opened old new (Broken (fault.Spent number) job)
+LacksNumber job old new = (number : ℕ)
+    × Opened old new (Broken old.file (fault.Spent number) job)
 
 -- The run was broken off while the store was opened, or behind that.
 abbrev pub BreaksOff : RunFault → Job → DiskState → DiskState → Type 0
-BreaksOff why job old new = IsTrusted old → IsOpening old new ⊎ Opened old new (Broken why job)
+BreaksOff why job old new = IsTrusted old
+    → IsOpening old new ⊎ Opened old new (Broken old.file why job)
 
 -- The files stood for no state, as is told; or they stood for one, and the disk, which isn't honest, changed them since.
 abbrev pub WasDamaged : RunFault → DiskState → DiskState → Type 0
@@ -168,7 +173,7 @@ HasRun job (BadRow family key) old new = WasDamaged (fault.BadRow family key) ol
 HasRun job Device old new = Rose old.faults new.faults × BreaksOff fault.Failed job old new
 HasRun job Memory old new = BreaksOff fault.NoMemory job old new
 HasRun job (Spent number) old new = (IsTrue old.tells → IsReadable old.file)
-    × (IsTrusted old → Opened old new (Broken (fault.Spent number) job))
+    × (IsTrusted old → Opened old new (Broken old.file (fault.Spent number) job))
 
 -- ---- any run
 

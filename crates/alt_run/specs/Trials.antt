@@ -1,5 +1,5 @@
 -- What a trial says and leaves: the requests that a seed makes, carried out one after another as lines of an input are, each at one moment.
-use Rattle.std.specs.Prelude.{◌≡◌, ◌≤◌, ◌<◌, ◌⊎◌, ℕ, List, [], ◌∷◌, ◌++◌, map, length, filter, replicate, nat_eq, codes, decimal, None}
+use Rattle.std.specs.Prelude.{◌≡◌, ◌≤◌, ◌<◌, ◌+◌, ◌*◌, ◌⊎◌, ℕ, List, [], ◌∷◌, ◌++◌, map, length, filter, replicate, nat_eq, codes, decimal, None}
 use Rattle.std.specs.List.{starts_with}
 use Rattle.hex.specs.Hex.{encode_lower}
 use Rattle.sha2.specs.Hashers.{Holds256}
@@ -10,10 +10,11 @@ use Rattle.alt_lines.specs.Trial.{trial_lines}
 use Rattle.alt_machine.specs.Outcomes.{state_after, last_state}
 use Rattle.alt_machine.specs.State.{State}
 use Rattle.alt_shell.specs.Log.{Log, until, said_in}
+use Rattle.alt_tables.specs.FilesLeft.{most_files}
 use Rattle.alt_tables.specs.Images.{StandsFor}
 use Rattle.alt_tables.specs.Stands.{Stands}
 use Rattle.alt_tables.specs.declared.tables.Tables.{Tables}
-use Rattle.alt_talks.specs.Faults.{IsCausedBy, IsWorkFault}
+use Rattle.alt_talks.specs.Faults.{IsCausedBy, IsFileFault}
 use Rattle.alt_run.specs.Runs.{Rests}
 use Rattle.alt_talks.specs.Stops.{Image, atoms_of, AtEach, IsAmong}
 use Rattle.alt_run.specs.Turns.{Asked, asked_by, turns, requests}
@@ -62,10 +63,12 @@ pub record IsSummary (count : ℕ) (text : List ℕ) : Type 0 where
   pub is : text ≡ four_lines count good bad digest
 
 -- Why a trial broke off among these requests, which were begun: one has no answer, for want of the first number that one wanted, or
--- work behind one broke off, and none lacked anything.
-abbrev pub TriesFor : RunFault → State → List Asked → Type 0
-TriesFor fault s begun = IsCausedBy (wanted (trial_turns s begun)) fault
-    ⊎ (IsWorkFault fault × (wanted (trial_turns s begun) ≡ None) × (0 < length begun))
+-- work behind one broke off, and none lacked anything. A file was wanted then only where as many numbers as work behind each of these takes at
+-- most, from the next one on before them, reach the last.
+abbrev pub TriesFor : RunFault → ℕ → State → List Asked → Type 0
+TriesFor fault next s begun = IsCausedBy (wanted (trial_turns s begun)) fault
+    ⊎ (IsFileFault (next + length begun * most_files) fault
+    × (wanted (trial_turns s begun) ≡ None) × (0 < length begun))
 
 -- A trial as one turn from a state: it is told its four lines, its writes are those of its requests, one after the other, and it lacks
 -- what the first of them lacks that lacks something.
@@ -103,15 +106,15 @@ pub record Tries (s : State) (seed count : ℕ) (old new : DiskState) (entries :
   pub last : LeavesNow new (last_state s (as_turn s seed count).atoms)
 
 -- That broke off: what was said is the front of the four lines, and so many requests were begun.
-pub record TriesSome (fault : RunFault) (s : State) (seed count : ℕ) (old new : DiskState)
-    (entries : Log) (told : List ℕ) : Type 0 where
+pub record TriesSome (fault : RunFault) (next : ℕ) (s : State) (seed count : ℕ)
+    (old new : DiskState) (entries : Log) (told : List ℕ) : Type 0 where
   pub begun : List Asked
   pub rest : List Asked
   pub lines : trial_asks seed count ≡ begun ++ rest
   pub said : IsPrefix (said_in entries) (as_turn s seed count).text
   pub rests : Rests entries
   pub unasked : told ≡ []
-  pub wants : TriesFor fault s begun
+  pub wants : TriesFor fault next s begun
   pub leaves : AtEach old new (LeftOfTrial s (as_turn s seed count) entries)
 
 -- ---- its requests alone
@@ -131,10 +134,10 @@ pub record Counted (s : State) (ls : List Asked) (before behind : Tally) (old ne
   pub leaves : AtEach old new (λ _ image. IsAmong image s (atoms_of (trial_turns s ls)))
 
 -- that broke off
-pub record CountedSome (fault : RunFault) (s : State) (ls : List Asked)
+pub record CountedSome (fault : RunFault) (next : ℕ) (s : State) (ls : List Asked)
     (old new : DiskState) : Type 0 where
   pub begun : List Asked
   pub rest : List Asked
   pub lines : ls ≡ begun ++ rest
-  pub wants : TriesFor fault s begun
+  pub wants : TriesFor fault next s begun
   pub leaves : AtEach old new (λ _ image. IsAmong image s (atoms_of (trial_turns s ls)))

@@ -7,7 +7,7 @@ ghost use Rattle.alt_disk.specs.Disk.{Goes};
 ghost use Rattle.alt_machine.specs.State.{State};
 ghost use Rattle.alt_shape.specs.Body.{body_json};
 ghost use Rattle.alt_shape.specs.Refusals.{answer_of};
-ghost use Rattle.alt_tables.specs.Stands.{AreReady, Stands, limits_of};
+ghost use Rattle.alt_tables.specs.Stands.{AreReady, Stands, bounds_of};
 ghost use Rattle.alt_talks.specs.Faults.{IsCausedBy};
 ghost use Rattle.alt_talks.specs.declared.fault.RunFault.TheVariants.{Failed};
 ghost use Rattle.alt_talks.specs.Stops.{AtEach, IsAmong};
@@ -53,7 +53,7 @@ pub(crate) fn reply_text<D: Disk>(
         (IsCausedBy (carried_out s name.now body.now moment).lacks) }
     ensures device { IsErrOf result Failed
         → Rose (D.state disk.old).faults (D.state disk.new).faults }
-    ensures limits { limits_of tables.new ≡ limits_of tables.old }
+    ensures limits { bounds_of tables.new ≡ bounds_of tables.old }
     ensures goes { Goes (D.state disk.old) (D.state disk.new) }
     ensures leaves { (s : State) → Stands (D.state disk.old) tables.old s
         → AtEach (D.state disk.old) (D.state disk.new)

@@ -1,12 +1,13 @@
 //! A run of the program, but for what `main` takes off the front.
 
-ghost use Rattle.std.specs.Prelude.{◌≡◌, ◌≢◌, ◌⊎◌, ◌↔◌, ◌<◌, ℕ, true, false, Some, None, length, IsTrue, IfOk, IfErr, OnOk, IsErrOf, MatchResult};
+ghost use Rattle.std.specs.Prelude.{◌≡◌, ◌≢◌, ◌⊎◌, ◌↔◌, ◌<◌, ℕ, List, Option, true, false, Some, None, length, IsTrue, IfOk, IfErr, OnOk, IsErrOf, MatchResult};
 ghost use Rattle.alt_base.specs.Counts.{Rose};
 ghost use Rattle.alt_disk.specs.Disk.{IsTrusted};
 ghost use Rattle.alt_disk.specs.Runs.{Quiet};
 ghost use Rattle.alt_machine.specs.State.{State};
 ghost use Rattle.alt_shell.specs.Log.{talks};
-ghost use Rattle.alt_tables.specs.Stands.{AreReady, Stands, limits_of};
+ghost use Rattle.alt_tables.specs.FilesLeft.{IsFirstGiven};
+ghost use Rattle.alt_tables.specs.Stands.{AreReady, Stands, bounds_of, limits_of};
 ghost use Rattle.alt_run.specs.Endings.{Ended, HasDone, HasRun, Done, Broken, IsReadable, LacksNumber};
 ghost use Rattle.alt_run.specs.Faults.{IsUnreadable};
 ghost use Rattle.alt_run.specs.Behind.{AfterJob, ComesWithin, LastLine};
@@ -144,9 +145,10 @@ fn carry_out<S: Shell>(
     requires known { limits_of tables.old ≡ limits }
     requires quiet { talks (S.state shell.old).beside ≡ false }
     requires some { IsServable job }
-    ensures done { (s : State) → Stands (S.state shell.old) tables.old s → MatchResult result
+    ensures done { (files : ℕ → Option (List ℕ)) → IsFirstGiven files (bounds_of tables.old).file
+        → (s : State) → Stands (S.state shell.old) tables.old s → MatchResult result
         (λ _. Done job s (S.state shell.old) (S.state shell.new))
-        (λ f. Broken f job s (S.state shell.old) (S.state shell.new)) }
+        (λ f. Broken files f job s (S.state shell.old) (S.state shell.new)) }
     ensures after { OnOk result (AfterJob job limits.flush (S.state shell.old)
         (S.state shell.new)) }
     ensures most { ComesWithin job (S.state shell.old) (S.state shell.new) }
@@ -174,7 +176,8 @@ fn over_store<S: Shell>(
         (λ _. Opened (S.state shell.old) (S.state shell.new) (Done job))
         (λ f. (IsOpening (S.state shell.old) (S.state shell.new)
         × IsUnreadable (S.state shell.old).file f)
-        ⊎ Opened (S.state shell.old) (S.state shell.new) (Broken f job)) }
+        ⊎ Opened (S.state shell.old) (S.state shell.new)
+        (Broken (S.state shell.old).file f job)) }
     ensures readable { IsTrue (S.state shell.old).tells → MatchResult result
         (λ _. IsReadable (S.state shell.old).file)
         (λ f. (IsOpening (S.state shell.old) (S.state shell.new)

@@ -8,7 +8,8 @@ ghost use Rattle.alt_disk.specs.Disk.{DiskState, Goes};
 ghost use Rattle.alt_lines.specs.Trial.{generator, after_line, next_line};
 ghost use Rattle.alt_machine.specs.State.{State};
 ghost use Rattle.alt_shell.specs.Log.{talks};
-ghost use Rattle.alt_tables.specs.Stands.{AreReady, Stands, limits_of};
+ghost use Rattle.alt_tables.specs.FilesLeft.{most_files};
+ghost use Rattle.alt_tables.specs.Stands.{AreReady, Stands, bounds_of, limits_of};
 ghost use Rattle.alt_talks.specs.Runs.{Stretch, Passes};
 ghost use Rattle.alt_talks.specs.Works.{HasFewEntries};
 ghost use Rattle.alt_run.specs.Behind.{SaysSummary};
@@ -56,11 +57,13 @@ fn ask<D: Disk>(
     ensures counted { (s : State) → Stands (D.state disk.old) tables.old s → MatchResult result
         (λ _. Counted s (request name.now body.now ∷ []) tally.old tally.new
         (D.state disk.old) (D.state disk.new) tables.new)
-        (λ f. CountedSome f s (request name.now body.now ∷ [])
+        (λ f. CountedSome f (bounds_of tables.old).file s (request name.now body.now ∷ [])
         (D.state disk.old) (D.state disk.new)) }
     ensures good { OnOk result (tally.new.good ≤ tally.old.good + 1) }
     ensures bad { OnOk result (tally.new.bad ≤ tally.old.bad + 1) }
     ensures limits { limits_of tables.new ≡ limits_of tables.old }
+    ensures files { (s : State) → Stands (D.state disk.old) tables.old s → OnOk result
+        ((bounds_of tables.new).file ≤ (bounds_of tables.old).file + most_files) }
     ensures few { OnOk result (HasFewEntries (limits_of tables.old).flush (D.state disk.new)) }
     ensures cause { IsErrOf result RunFault.Failed
         → Rose (D.state disk.old).faults (D.state disk.new).faults }
@@ -91,12 +94,14 @@ fn ask_line<D: Disk>(
         (λ _. Counted s
         (request (before_first is_space line.now) (after_first is_space line.now) ∷ [])
         tally.old tally.new (D.state disk.old) (D.state disk.new) tables.new)
-        (λ f. CountedSome f s
+        (λ f. CountedSome f (bounds_of tables.old).file s
         (request (before_first is_space line.now) (after_first is_space line.now) ∷ [])
         (D.state disk.old) (D.state disk.new)) }
     ensures good { OnOk result (tally.new.good ≤ tally.old.good + 1) }
     ensures bad { OnOk result (tally.new.bad ≤ tally.old.bad + 1) }
     ensures limits { limits_of tables.new ≡ limits_of tables.old }
+    ensures files { (s : State) → Stands (D.state disk.old) tables.old s → OnOk result
+        ((bounds_of tables.new).file ≤ (bounds_of tables.old).file + most_files) }
     ensures few { OnOk result (HasFewEntries (limits_of tables.old).flush (D.state disk.new)) }
     ensures cause { IsErrOf result RunFault.Failed
         → Rose (D.state disk.old).faults (D.state disk.new).faults }
@@ -121,12 +126,15 @@ fn step<D: Disk>(
     ensures counted { (s : State) → Stands (D.state disk.old) tables.old s → MatchResult result
         (λ _. Counted s (asked_by (next_line (generator trial.old)) ∷ []) tally.old tally.new
         (D.state disk.old) (D.state disk.new) tables.new)
-        (λ f. CountedSome f s (asked_by (next_line (generator trial.old)) ∷ [])
+        (λ f. CountedSome f (bounds_of tables.old).file s
+        (asked_by (next_line (generator trial.old)) ∷ [])
         (D.state disk.old) (D.state disk.new)) }
     ensures next { OnOk result (generator trial.new ≡ after_line (generator trial.old)) }
     ensures good { OnOk result (tally.new.good ≤ tally.old.good + 1) }
     ensures bad { OnOk result (tally.new.bad ≤ tally.old.bad + 1) }
     ensures limits { limits_of tables.new ≡ limits_of tables.old }
+    ensures files { (s : State) → Stands (D.state disk.old) tables.old s → OnOk result
+        ((bounds_of tables.new).file ≤ (bounds_of tables.old).file + most_files) }
     ensures few { OnOk result (HasFewEntries (limits_of tables.old).flush (D.state disk.new)) }
     ensures cause { IsErrOf result RunFault.Failed
         → Rose (D.state disk.old).faults (D.state disk.new).faults }
@@ -150,7 +158,8 @@ fn requests<D: Disk>(
     ensures counted { (s : State) → Stands (D.state disk.old) tables.old s → MatchResult result
         (λ tally. (none : Tally) × IsTally none [] × Counted s (trial_asks seed count) none tally
         (D.state disk.old) (D.state disk.new) tables.new)
-        (λ f. CountedSome f s (trial_asks seed count) (D.state disk.old) (D.state disk.new)) }
+        (λ f. CountedSome f (bounds_of tables.old).file s (trial_asks seed count)
+        (D.state disk.old) (D.state disk.new)) }
     ensures few { 0 < count
         → OnOk result (HasFewEntries (limits_of tables.old).flush (D.state disk.new)) }
     ensures cause { IsErrOf result RunFault.Failed
@@ -173,11 +182,11 @@ fn requests<D: Disk>(
 fn tell<S: Shell>(alloc: Global, tally: Tally, count: u32, shell: &mut S) -> Result<(), RunFault>
     requires quiet { talks (S.state shell.old).beside ≡ false }
     ensures told { (old : DiskState) (s : State) (seed : ℕ) (tables : Tables) (none : Tally)
-        → IsTally none [] → Goes old (S.state shell.old)
+        (next : ℕ) → IsTally none [] → Goes old (S.state shell.old)
         → Counted s (trial_asks seed count) none tally old (S.state shell.old) tables
         → MatchResult result
         (λ _. Stretch old (S.state shell.new) (Tries s seed count))
-        (λ f. Stretch old (S.state shell.new) (TriesSome f s seed count)) }
+        (λ f. Stretch old (S.state shell.new) (TriesSome f next s seed count)) }
     ensures said { OnOk result (SaysSummary count (S.state shell.old) (S.state shell.new)) }
     ensures few { (flush : ℕ) → HasFewEntries flush (S.state shell.old)
         → OnOk result (HasFewEntries flush (S.state shell.new)) }
@@ -206,7 +215,8 @@ pub(crate) fn carry_out_trial<S: Shell>(
     requires quiet { talks (S.state shell.old).beside ≡ false }
     ensures tried { (s : State) → Stands (S.state shell.old) tables.old s → MatchResult result
         (λ _. Stretch (S.state shell.old) (S.state shell.new) (Tries s seed count))
-        (λ f. Stretch (S.state shell.old) (S.state shell.new) (TriesSome f s seed count)) }
+        (λ f. Stretch (S.state shell.old) (S.state shell.new)
+        (TriesSome f (bounds_of tables.old).file s seed count)) }
     ensures said { OnOk result (SaysSummary count (S.state shell.old) (S.state shell.new)) }
     ensures few { 0 < count
         → OnOk result (HasFewEntries (limits_of tables.old).flush (S.state shell.new)) }

@@ -10,7 +10,7 @@ ghost use Rattle.alt_request.specs.Carried.{Carries, Moves};
 ghost use Rattle.alt_request.specs.Steps.{IsMemory, Tested};
 ghost use Rattle.alt_shape.specs.Body.{body_json};
 ghost use Rattle.alt_shape.specs.Refusals.{answer_of};
-ghost use Rattle.alt_tables.specs.Stands.{Stands, limits_of};
+ghost use Rattle.alt_tables.specs.Stands.{Stands, bounds_of};
 
 use crate::shown::{key_schema_json, text_json};
 use crate::streams::{SHARD, arn_in, may_be_shard, stream_target};
@@ -33,7 +33,7 @@ pub fn describe_stream<D: Disk>(
 ) -> Result<Reply, Stop>
     ensures carried { Carries (λ s. describe_stream s (members_view body.now.entries))
         (Stands (D.state disk.old) tables.old) (Stands (D.state disk.new) tables.new) result }
-    ensures limits { limits_of tables.new ≡ limits_of tables.old }
+    ensures limits { bounds_of tables.new ≡ bounds_of tables.old }
     ensures moves { Moves (λ s. describe_stream s (members_view body.now.entries))
         (Stands (D.state disk.old) tables.old) (D.state disk.old) (D.state disk.new) result }
     ensures disk { D.state disk.new ≡ D.state disk.old }

@@ -13,7 +13,7 @@ ghost use Rattle.alt_request.specs.Steps.{IsMemory, Tested};
 ghost use Rattle.alt_shape.specs.Body.{body_json};
 ghost use Rattle.alt_shape.specs.Refusals.{answer_of};
 ghost use Rattle.alt_streams.specs.private.Paged.{iterator_at};
-ghost use Rattle.alt_tables.specs.Stands.{Stands, limits_of};
+ghost use Rattle.alt_tables.specs.Stands.{Stands, bounds_of};
 
 use crate::streams::{arn_in, is_trimmed, may_be_shard, stream_target};
 use alt_base::NoMemory;
@@ -37,7 +37,7 @@ pub fn get_shard_iterator<D: Disk>(
 ) -> Result<Reply, Stop>
     ensures carried { Carries (λ s. get_shard_iterator s (members_view body.now.entries))
         (Stands (D.state disk.old) tables.old) (Stands (D.state disk.new) tables.new) result }
-    ensures limits { limits_of tables.new ≡ limits_of tables.old }
+    ensures limits { bounds_of tables.new ≡ bounds_of tables.old }
     ensures moves { Moves (λ s. get_shard_iterator s (members_view body.now.entries))
         (Stands (D.state disk.old) tables.old) (D.state disk.old) (D.state disk.new) result }
     ensures disk { D.state disk.new ≡ D.state disk.old }

@@ -12,7 +12,7 @@ ghost use Rattle.alt_schema.specs.Json.{items_by};
 ghost use Rattle.alt_shape.specs.Body.{body_json};
 ghost use Rattle.alt_shape.specs.Refusals.{answer_of};
 ghost use Rattle.alt_streams.specs.private.Listed.{AreNamed, IsAsked, IsStart, all_in, is_listed, last_of, name_given, page_answer, start_name, streams_after};
-ghost use Rattle.alt_tables.specs.Stands.{Stands, catalog_of, limits_of};
+ghost use Rattle.alt_tables.specs.Stands.{Stands, catalog_of, bounds_of};
 
 use crate::shown::stream_json;
 use crate::streams::stream_named;
@@ -44,7 +44,7 @@ pub fn list_streams<D: Disk>(
 ) -> Result<Reply, Stop>
     ensures carried { Carries (λ s. list_streams s (members_view body.now.entries))
         (Stands (D.state disk.old) tables.old) (Stands (D.state disk.new) tables.new) result }
-    ensures limits { limits_of tables.new ≡ limits_of tables.old }
+    ensures limits { bounds_of tables.new ≡ bounds_of tables.old }
     ensures moves { Moves (λ s. list_streams s (members_view body.now.entries))
         (Stands (D.state disk.old) tables.old) (D.state disk.old) (D.state disk.new) result }
     ensures disk { D.state disk.new ≡ D.state disk.old }

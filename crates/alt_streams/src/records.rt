@@ -17,7 +17,7 @@ ghost use Rattle.alt_shape.specs.Refusals.{answer_of};
 ghost use Rattle.alt_streams.specs.private.Paged.{iterator_at, page_answer};
 ghost use Rattle.alt_streams.specs.private.Placed.{OnPlace, OnStreaming, has_stream};
 ghost use Rattle.alt_tables.specs.Faults.{IsFindFault};
-ghost use Rattle.alt_tables.specs.Stands.{AreReady, Reads, Stands, catalog_of, limits_of, trimmed_of};
+ghost use Rattle.alt_tables.specs.Stands.{AreReady, Reads, Stands, catalog_of, bounds_of, trimmed_of};
 
 use crate::page::Page;
 use crate::paging::fill;
@@ -53,7 +53,7 @@ pub fn get_records<D: Disk>(
     requires ready { AreReady (D.state disk.old) tables.old }
     ensures carried { Carries (λ s. get_records s (members_view body.now.entries))
         (Stands (D.state disk.old) tables.old) (Stands (D.state disk.new) tables.new) result }
-    ensures limits { limits_of tables.new ≡ limits_of tables.old }
+    ensures limits { bounds_of tables.new ≡ bounds_of tables.old }
     ensures moves { Moves (λ s. get_records s (members_view body.now.entries))
         (Stands (D.state disk.old) tables.old) (D.state disk.old) (D.state disk.new) result }
     ensures disk { Reads (D.state disk.old) (D.state disk.new) }
@@ -147,7 +147,7 @@ fn page_at<D: Disk>(
     ensures fault { (s : State) → Stands (D.state disk.old) tables.old s
         → IfErr result IsFindFault }
     ensures disk { Reads (D.state disk.old) (D.state disk.new) }
-    ensures limits { limits_of tables.new ≡ limits_of tables.old }
+    ensures limits { bounds_of tables.new ≡ bounds_of tables.old }
     ensures cause { IsErrOf result TableFault.Failed
         → Rose (D.state disk.old).faults (D.state disk.new).faults }
 {

@@ -3,6 +3,7 @@ pub mod CatalogLaws
 pub mod ChangeLaws
 pub mod ChangePages
 pub mod Elsewhere
+pub mod FilesLaws
 pub mod FrontLaws
 pub mod FrontTrims
 pub mod Holding

@@ -1,25 +1,35 @@
 -- Work between requests leaves the state: each live family shows what it showed, and nothing else is looked at.
-use Rattle.std.proofs.Common.{◌≡◌, ◌-◌, ◌^◌, ⊎_elim, sym, ap, subst, ◌∙◌, ℕ, List, Option, Some, None, Contains, option_map}
+use Rattle.std.proofs.Common.{◌≡◌, ◌≤◌, ◌+◌, ◌-◌, ◌^◌, ⊎_elim, inl, inr, sym, ap, subst, ◌∙◌, ℕ, List, length, Option, Some, None, Contains, option_map, arith}
+use Rattle.std.specs.BTreeMap.{get}
+use Rattle.std.specs.FinMap.{entries}
+use Rattle.std.specs.Ordering.{nat_cmp}
 use Rattle.std.specs.Prelude.{⊤}
 use Rattle.std.specs.FinMap as map
 use Rattle.alt_disk.specs.Disk.{DiskState, Goes}
 use Rattle.alt_disk.specs.Runs.{Spans}
 use Rattle.alt_disk.proofs.Runs.{spans_weaker, trusted_on}
-use Rattle.alt_engine.specs.InHand.{Stands as EngineStands}
-use Rattle.alt_hand.specs.Working.{AreLive, IsFileSpent, IsNoDamage, Works, WorksIn}
+use Rattle.alt_engine.specs.InHand.{Stands as EngineStands, next_file_of}
+use Rattle.alt_engine.specs.declared.engine.Engine.{Engine}
+use Rattle.alt_engine.specs.declared.work.Task.{Task}
+use Rattle.alt_engine.specs.declared.work.Task.TheVariants.{Step, FlushAll, MergeAll}
+use Rattle.alt_engine.proofs.Taking.{files_for-most, needed-most}
+use Rattle.alt_families.specs.Families.{rows_in}
+use Rattle.alt_hand.specs.Drafting.{IsSpentFor, files_for, files_needed}
+use Rattle.alt_hand.specs.Working.{AreLive, Works, WorksIn}
+use Rattle.alt_hand.proofs.NeedLaws.{spent_more}
 use Rattle.alt_hand.specs.declared.hand.EngineFault.{EngineFault}
 use Rattle.alt_layout.specs.Layout.{Layout, shown}
 use Rattle.alt_machine.specs.State.{State, Table, descriptions, families_of}
 use Rattle.alt_machine.proofs.Descriptions.{get-descriptions}
 use Rattle.alt_manifest.specs.Versions.{IsIn}
-use Rattle.alt_engine.specs.Working.{IsMerged}
+use Rattle.alt_engine.specs.Working.{IsMerged, IsNeeded, most_files as most_for}
 use Rattle.alt_opening.specs.Live.{AreLiveIn, IsOfTable}
 use Rattle.alt_opening.specs.StateRows.{Shows, catalog_family}
 use Rattle.alt_opening.proofs.Families.{own_family}
 use Rattle.alt_hand.specs.Faults.{told_by_engine}
 use Rattle.alt_faults.specs.Faults.{OnlySpent}
-use Rattle.alt_faults.proofs.Telling.{only-spent}
 use Rattle.alt_tables.specs.Faults.{IsWorkFault, told_by_tables}
+use Rattle.alt_tables.specs.FilesLeft.{most_files}
 use Rattle.alt_tables.specs.declared.faults.TableFault.{TableFault}
 use Rattle.alt_tables.specs.Images.{StandAt}
 use Rattle.alt_tables.specs.Merged.{IsMergedFor}
@@ -27,6 +37,7 @@ use Rattle.alt_opening.proofs.Engine.{one_layout_in_hand}
 use Rattle.alt_tables.specs.Fronts.{AreFronts}
 use Rattle.alt_tables.specs.Stands.{Stands, fronts_of, live_of, number_of}
 use Rattle.alt_tables.specs.declared.tables.Tables.{Tables}
+use Rattle.alt_tables.proofs.FilesLaws.{live_few}
 use Rattle.alt_tables.proofs.FrontLaws.{fronts_alike}
 use Rattle.alt_tables.proofs.IndexFamilies.{index_family}
 use Rattle.alt_tables.proofs.Standing.{still_live, still_trimmed}
@@ -130,11 +141,44 @@ merged_for old t s stands live same are files merged gs of v has family there =
     (still_live t.catalog (descriptions s.tables) t.live live (sym stands.catalog) same
     stands.live).each family table) (of.only family there))
 
+-- ---- its files
+
+-- the families that are said to be live are those of 256 tables at most, and that of the catalog
+pub few_live : (old : DiskState) (t : Tables) (s : State) → Stands old t s → (live : List ℕ)
+    → live ≡ live_of t → AreLive live → most_for live ≤ most_files
+few_live old t s stands live same are =
+    let few = live_few s stands.valid live are (still_live t.catalog (descriptions s.tables) t.live
+    live (sym stands.catalog) same stands.live) in omega (arith, few)
+
+-- so a task needs no more
+needed_reach : (task : Task) (live : List ℕ) (e : Engine) (fault : EngineFault)
+    → IsNeeded task live e fault → IsSpentFor (next_file_of e + most_for live) fault
+needed_reach Step live e fault (inl (inl all)) =
+    let most = needed-most e.hand.families live in
+    spent_more fault (e.hand.next_file + files_needed e.hand.families live + 1)
+    (e.hand.next_file + most_for live) (omega (arith, most)) all
+needed_reach Step live e fault (inl (inr one)) =
+    let rows = entries (rows_in (get nat_cmp e.hand.families one.0)) in
+    let most = files_for-most rows in
+    spent_more fault (e.hand.next_file + files_for rows) (e.hand.next_file + most_for live)
+    (omega (arith, most)) one.2
+needed_reach Step live e fault (inr begun) = spent_more fault (e.hand.next_file + 1)
+    (e.hand.next_file + most_for live) (omega arith) begun.2
+needed_reach FlushAll live e fault all =
+    let most = needed-most e.hand.families live in
+    spent_more fault (e.hand.next_file + files_needed e.hand.families live + 1)
+    (e.hand.next_file + most_for live) (omega (arith, most)) all
+needed_reach MergeAll live e fault each = spent_more fault (e.hand.next_file + length live)
+    (e.hand.next_file + most_for live) (omega arith) each
+
 -- ---- its faults
 
 -- a fault of the engine's work is one of work
-pub work_fault : (given : EngineFault) (fault : TableFault)
-    → told_by_tables fault ≡ told_by_engine given → IsFileSpent given → IsNoDamage given
-    → IsWorkFault fault
-work_fault given fault same spent whole = subst (OnlySpent (λ n. n ≡ 2 ^ 32 - 1)) (sym same)
-    (only-spent (λ n. n ≡ 2 ^ 32 - 1) (told_by_engine given) spent whole)
+pub work_fault : (task : Task) (live : List ℕ) (e : Engine) (given : EngineFault)
+    (fault : TableFault) → told_by_tables fault ≡ told_by_engine given
+    → IsNeeded task live e given → most_for live ≤ most_files
+    → IsWorkFault (next_file_of e + most_files) fault
+work_fault task live e given fault same needed few =
+    subst (OnlySpent (λ n. (n ≡ 2 ^ 32 - 1) × (2 ^ 32 ≤ next_file_of e + most_files))) (sym same)
+    (spent_more given (next_file_of e + most_for live) (next_file_of e + most_files)
+    (omega (arith, few)) (needed_reach task live e given needed))

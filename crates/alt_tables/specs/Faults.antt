@@ -65,7 +65,8 @@ IsFindFault fault = IsOutside (told_by_tables fault)
 abbrev pub IsUnspent : TableFault → Type 0
 IsUnspent fault = view.IsUnspent (told_by_tables fault)
 
--- a fault of work between requests on tables that stand for a state: the last number of a file is wanted, the device failed, or memory
--- was wanting
-abbrev pub IsWorkFault : TableFault → Type 0
-IsWorkFault fault = OnlySpent (λ number. number ≡ 2 ^ 32 - 1) (told_by_tables fault)
+-- a fault of work between requests on tables that stand for a state: the last number of a file is wanted, which so many from the next one
+-- on reach, the device failed, or memory was wanting
+abbrev pub IsWorkFault : ℕ → TableFault → Type 0
+IsWorkFault reach fault = OnlySpent (λ number. (number ≡ 2 ^ 32 - 1) × (2 ^ 32 ≤ reach))
+    (told_by_tables fault)

@@ -1,4 +1,5 @@
 pub mod Faults
+pub mod FilesLeft
 pub mod Found
 pub mod Fronts
 pub mod Images

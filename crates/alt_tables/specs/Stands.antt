@@ -4,7 +4,7 @@ use Rattle.alt_disk.specs.Disk.{DiskState, IsTrusted, Goes}
 use Rattle.alt_disk.specs.Runs.{Quiet}
 use Rattle.std.specs.Prelude.{IsTrue}
 use Rattle.alt_engine.specs.Opened.{StaysOn}
-use Rattle.alt_engine.specs.InHand.{Stands as EngineStands, next_of, limits_of as engine_limits}
+use Rattle.alt_engine.specs.InHand.{Bounds, Stands as EngineStands, next_of, bounds_of as engine_bounds, limits_of as engine_limits}
 use Rattle.alt_layout.specs.Layout.{Layout}
 use Rattle.alt_hand.specs.declared.hand.Limits.{Limits}
 use Rattle.alt_machine.specs.State.{State, Texts, descriptions}
@@ -48,8 +48,19 @@ live_of t = t.live
 abbrev pub limits_of : Tables → Limits
 limits_of t = engine_limits t.engine
 
+-- what work goes by: these limits, and the number of the next file
+abbrev pub bounds_of : Tables → Bounds
+bounds_of t = engine_bounds t.engine
+
 -- What is known without the disk stayed.
 pub record KeepsCatalog (old new : Tables) : Type 0 where
+  pub catalog : catalog_of new ≡ catalog_of old
+  pub number : number_of new ≡ number_of old
+  pub family : family_of new ≡ family_of old
+  pub limits : bounds_of new ≡ bounds_of old
+
+-- It stayed but for the number of the next file.
+pub record KeepsLimits (old new : Tables) : Type 0 where
   pub catalog : catalog_of new ≡ catalog_of old
   pub number : number_of new ≡ number_of old
   pub family : family_of new ≡ family_of old
@@ -93,7 +104,7 @@ pub record Keeps (old new : DiskState) (t u : Tables) : Type 0 where
   pub family : u.family ≡ t.family
   pub trimmed : u.trimmed ≡ t.trimmed
   pub fronts : u.fronts ≡ t.fronts
-  pub limits : limits_of u ≡ limits_of t
+  pub limits : bounds_of u ≡ bounds_of t
   pub number : number_of u ≡ number_of t
   pub reads : Reads old new
   pub same : IsTrue old.tells → StaysOn old new t.engine u.engine

@@ -7,8 +7,9 @@ ghost use Rattle.alt_disk.specs.Runs.{Spans};
 ghost use Rattle.alt_machine.specs.State.{State};
 ghost use Rattle.alt_opening.specs.Images.{StandsFor};
 ghost use Rattle.alt_opening.specs.Recovery.{IsExplained, HasNoState, WasLeft};
+ghost use Rattle.alt_tables.specs.FilesLeft.{IsFirstGiven};
 ghost use Rattle.alt_tables.specs.Images.{IsWhole};
-ghost use Rattle.alt_tables.specs.Stands.{Stands, limits_of};
+ghost use Rattle.alt_tables.specs.Stands.{Stands, bounds_of, limits_of};
 
 use crate::tables::Tables;
 use alt_disk::Disk;
@@ -31,6 +32,9 @@ impl Tables {
         ensures stands { IfOk result (λ t. IsTrusted (D.state disk.old) → (s : State)
             → StandsFor (D.state disk.old).file s → Stands (D.state disk.new) t s) }
         ensures limits { IfOk result (λ t. limits_of t ≡ limits) }
+        // The next file is past all that were there, and not below that of the last version.
+        ensures next_file { IfOk result (λ t. IsTrue (D.state disk.old).tells
+            → IsFirstGiven (D.state disk.old).file (bounds_of t).file) }
 
         // The files stand, as they read, for the state for which they stood, also where the call fails.
         ensures files { IsTrue (D.state disk.old).tells → (s : State)

@@ -24,7 +24,7 @@ ghost use Rattle.alt_views.specs.ItemRows.{IsReadItem, item_columns};
 ghost use Rattle.alt_tables.specs.Leftovers.{leftovers, lowest_left};
 ghost use Rattle.alt_tables.specs.RowChanges.{changed_rows, item_changes, write_changes};
 ghost use Rattle.alt_tables.specs.private.Trims.{CanTrim, IsNoted, IsTrim, IsWithin, IsWrittenAs};
-ghost use Rattle.alt_tables.specs.Stands.{AreReady, HasRows, Reads, Stands, KeepsCatalog, catalog_of, fronts_of, limits_of, number_of, trimmed_of};
+ghost use Rattle.alt_tables.specs.Stands.{AreReady, HasRows, Reads, Stands, KeepsCatalog, catalog_of, fronts_of, bounds_of, number_of, trimmed_of};
 ghost use Rattle.alt_value.specs.Tree.{Pair};
 ghost use Rattle.alt_value.specs.Values.{IsItemOfValues};
 
@@ -136,7 +136,7 @@ impl Tables {
         // Where there is nothing to write it never fails.
         ensures idle { is_same found.item new ≡ true → result ≡ Ok None }
         ensures catalog { catalog_of self.new ≡ catalog_of self.old }
-        ensures limits { limits_of self.new ≡ limits_of self.old }
+        ensures limits { bounds_of self.new ≡ bounds_of self.old }
         ensures cause { IsErrOf result TableFault.Failed
             → Rose (D.state disk.old).faults (D.state disk.new).faults }
     {
@@ -198,7 +198,7 @@ impl Tables {
             → D.state disk.new ≡ D.state disk.old }
         ensures goes { Goes (D.state disk.old) (D.state disk.new) }
         ensures catalog { catalog_of self.new ≡ catalog_of self.old }
-        ensures limits { limits_of self.new ≡ limits_of self.old }
+        ensures limits { bounds_of self.new ≡ bounds_of self.old }
         ensures cause { IsErrOf result TableFault.Failed
             → Rose (D.state disk.old).faults (D.state disk.new).faults }
     {
@@ -340,7 +340,7 @@ impl Tables {
             → Reads (D.state disk.old) (D.state disk.new) }
         ensures goes { Goes (D.state disk.old) (D.state disk.new) }
         ensures unchanged { result ≡ Ok None → D.state disk.new ≡ D.state disk.old }
-        ensures limits { limits_of self.new ≡ limits_of self.old }
+        ensures limits { bounds_of self.new ≡ bounds_of self.old }
         ensures cause { IsErrOf result TableFault.Failed
             → Rose (D.state disk.old).faults (D.state disk.new).faults }
     {

@@ -18,7 +18,7 @@ ghost use Rattle.alt_tables.specs.Faults.{IsFindFault, Writes};
 ghost use Rattle.alt_tables.specs.Images.{Leaves};
 ghost use Rattle.alt_opening.specs.Order.{first_after};
 ghost use Rattle.alt_tables.specs.RowChanges.{Turns, changed_rows, creation_changes, drop_changes};
-ghost use Rattle.alt_tables.specs.Stands.{AreReady, HasRows, Stands, catalog_of, number_of, family_of, limits_of, trimmed_of};
+ghost use Rattle.alt_tables.specs.Stands.{AreReady, HasRows, Stands, catalog_of, number_of, family_of, bounds_of, trimmed_of};
 ghost use Rattle.alt_opening.specs.Opened.{Holds};
 ghost use Rattle.alt_opening.specs.Trimmed.{number_at};
 
@@ -117,7 +117,7 @@ impl Tables {
             → D.state disk.new ≡ D.state disk.old }
         ensures lacking { IsSome (table_lack (number_of self.old) (family_of self.old))
             → D.state disk.new ≡ D.state disk.old }
-        ensures limits { limits_of self.new ≡ limits_of self.old }
+        ensures limits { bounds_of self.new ≡ bounds_of self.old }
         ensures goes { Goes (D.state disk.old) (D.state disk.new) }
         ensures cause { IsErrOf result TableFault.Failed
             → Rose (D.state disk.old).faults (D.state disk.new).faults }
@@ -157,7 +157,7 @@ impl Tables {
             → Leaves (D.state disk.old) (D.state disk.new) s (without_table s name.now ∷ []) }
         ensures no_memory { IsErrOf result TableFault.NoMemory
             → D.state disk.new ≡ D.state disk.old }
-        ensures limits { limits_of self.new ≡ limits_of self.old }
+        ensures limits { bounds_of self.new ≡ bounds_of self.old }
         ensures goes { Goes (D.state disk.old) (D.state disk.new) }
         ensures cause { IsErrOf result TableFault.Failed
             → Rose (D.state disk.old).faults (D.state disk.new).faults }
@@ -199,7 +199,7 @@ impl Tables {
         ensures kept { (self.new.catalog ≡ self.old.catalog) × (self.new.live ≡ self.old.live)
             × (self.new.family ≡ self.old.family) × (self.new.trimmed ≡ self.old.trimmed)
             × (self.new.fronts ≡ self.old.fronts) }
-        ensures limits { limits_of self.new ≡ limits_of self.old }
+        ensures limits { bounds_of self.new ≡ bounds_of self.old }
         ensures fault { IfErr result IsFindFault }
         ensures no_memory { IsErrOf result TableFault.NoMemory
             → D.state disk.new ≡ D.state disk.old }

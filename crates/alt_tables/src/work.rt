@@ -1,15 +1,16 @@
 //! Work between requests: none of it changes the state.
 
-ghost use Rattle.std.specs.Prelude.{◌≡◌, ◌<◌, ◌*◌, ⊤, ℕ, IfErr, OnOk, IsErrOf};
+ghost use Rattle.std.specs.Prelude.{◌≡◌, ◌≤◌, ◌<◌, ◌+◌, ◌*◌, ⊤, ℕ, IfErr, OnOk, IsErrOf};
 ghost use Rattle.alt_base.specs.Counts.{Rose};
 ghost use Rattle.alt_disk.specs.Disk.{IsTrusted, Goes};
 ghost use Rattle.alt_disk.specs.Runs.{Spans};
 ghost use Rattle.alt_hand.specs.Working.{HasEntries};
 ghost use Rattle.alt_machine.specs.State.{State};
 ghost use Rattle.alt_tables.specs.Faults.{IsWorkFault};
+ghost use Rattle.alt_tables.specs.FilesLeft.{LacksFile, most_files};
 ghost use Rattle.alt_tables.specs.Images.{StandAt};
 ghost use Rattle.alt_tables.specs.Merged.{IsMergedFor};
-ghost use Rattle.alt_tables.specs.Stands.{AreReady, KeepsCatalog, Stands, limits_of};
+ghost use Rattle.alt_tables.specs.Stands.{AreReady, KeepsLimits, Stands, bounds_of, limits_of};
 
 use crate::faults::TableFault;
 use crate::tables::Tables;
@@ -22,7 +23,7 @@ impl Tables {
         requires ready { AreReady (D.state disk.old) self.old }
         ensures ok { OnOk result ((s : State) → Stands (D.state disk.old) self.old s
             → Stands (D.state disk.new) self.new s) }
-        ensures kept { KeepsCatalog self.old self.new }
+        ensures kept { KeepsLimits self.old self.new }
 
         // A stop at any moment of the call, also one that fails, leaves files that stand for the state.
         ensures disk { (s : State) → Stands (D.state disk.old) self.old s
@@ -38,7 +39,13 @@ impl Tables {
         ensures merge_all { task ≡ Task.MergeAll → OnOk result (IsTrusted (D.state disk.old)
             → (s : State) → Stands (D.state disk.old) self.old s
             → IsMergedFor s (D.state disk.new).file) }
-        ensures fault { IsTrusted (D.state disk.old) → IfErr result IsWorkFault }
+
+        // A number is told where the files that the task had to make went beyond file 2^32 - 1, and it takes so many at most.
+        ensures lacks { IsTrusted (D.state disk.old) → IfErr result (LacksFile task self.old) }
+        ensures fault { (s : State) → Stands (D.state disk.old) self.old s
+            → IfErr result (IsWorkFault ((bounds_of self.old).file + most_files)) }
+        ensures files { (s : State) → Stands (D.state disk.old) self.old s → OnOk result
+            ((bounds_of self.new).file ≤ (bounds_of self.old).file + most_files) }
         ensures goes { Goes (D.state disk.old) (D.state disk.new) }
         ensures cause { IsErrOf result TableFault.Failed
             → Rose (D.state disk.old).faults (D.state disk.new).faults }

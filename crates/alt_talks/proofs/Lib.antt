@@ -1,4 +1,5 @@
 pub mod Breaking
+pub mod FileFaults
 pub mod Answering
 pub mod Arriving
 pub mod Fronts

@@ -1,5 +1,5 @@
 -- Why requests have no answer, and why work between them breaks off.
-use Rattle.std.specs.Prelude.{◌≡◌, ◌-◌, ◌^◌, Option, Some, option_map}
+use Rattle.std.specs.Prelude.{◌≡◌, ◌≤◌, ◌-◌, ◌^◌, ℕ, Option, Some, option_map}
 use Rattle.alt_faults.specs.Faults.{Fault, failed, no_memory, spent, damaged, bad_bytes, bad_digest, bad_row, OnlySpent}
 use Rattle.alt_machine.specs.Wanted.{Lack}
 use Rattle.alt_talks.specs.declared.fault.RunFault.{RunFault}
@@ -23,3 +23,8 @@ IsCausedBy lack fault = OnlySpent (λ number. option_map (λ l. l.number) lack �
 -- Why work breaks off: it wants file 2^32 - 1, which is never given out, the device failed, or memory was refused.
 abbrev pub IsWorkFault : RunFault → Type 0
 IsWorkFault fault = OnlySpent (λ number. number ≡ 2 ^ 32 - 1) (told_by_run fault)
+
+-- And it wants that one since so many numbers reach it.
+abbrev pub IsFileFault : ℕ → RunFault → Type 0
+IsFileFault reach fault = OnlySpent (λ number. (number ≡ 2 ^ 32 - 1) × (2 ^ 32 ≤ reach))
+    (told_by_run fault)

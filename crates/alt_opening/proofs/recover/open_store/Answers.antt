@@ -1,6 +1,8 @@
 -- The engine reads as the files are, and its rows are those of a state, or none's.
-use Rattle.std.proofs.Common.{refl, sym, subst, IsTrue}
+use Rattle.std.proofs.Common.{refl, sym, ap, subst, ◌∙◌, IsTrue}
 use Rattle.alt_disk.proofs.Runs.{tells_of, trusted_on}
+use Rattle.alt_engine.specs.InHand.{Bounds}
+use Rattle.alt_hand.specs.Recovery.{IsNextFile}
 use Rattle.alt_opening.proofs.Recovering.{stands_then, rows_explain, rows_no_state, files_explain, files_no_state, left_at_once, left_before, stands_like, stands_behind}
 use Rattle.alt_opening.proofs.recover.open_store.Goals as goal
 
@@ -93,3 +95,14 @@ returns-in-Err-read_rows-clause-files g c tells =
     (g.D.Disk.state c.read_rows.new.disk) (c.in-Ok.ensures.files tells)
     (c.in-Err-read_rows.ensures.walked.quiet
     (subst IsTrue (sym c.in-Ok.ensures.goes.tells) tells))
+
+-- ---- the next file
+
+pub returns-in-Ok-read_rows-clause-next_file : goal.returns-in-Ok-read_rows-clause-next_file
+returns-in-Ok-read_rows-clause-next_file g c tells v last =
+    subst (λ (b : Bounds). IsNextFile v (g.D.Disk.state c.args.disk.now).file b.file)
+    (sym c.in-Ok-read_rows.ensures.walked.bounds) (c.in-Ok.ensures.next_file tells v last)
+
+pub returns-in-Ok-read_rows-clause-limits : goal.returns-in-Ok-read_rows-clause-limits
+returns-in-Ok-read_rows-clause-limits g c =
+    ap (λ (b : Bounds). b.limits) c.in-Ok-read_rows.ensures.walked.bounds ∙ c.in-Ok.ensures.limits

@@ -78,7 +78,7 @@ returns-in-Ok-None-clause-walked g c = walk_then (g.D.Disk.state c.args.disk.now
       goes = c.first_from.ensures.goes;
       quiet = c.first_from.ensures.quiet;
       same = c.first_from.ensures.same;
-      limits = c.first_from.ensures.limits;
+      bounds = c.first_from.ensures.bounds;
     })
 
 pub returns-in-Ok-Some-clause-walked : goal.returns-in-Ok-Some-clause-walked
@@ -92,7 +92,7 @@ returns-in-Ok-Some-clause-walked g c = walk_then (g.D.Disk.state c.args.disk.now
       goes = c.first_from.ensures.goes;
       quiet = c.first_from.ensures.quiet;
       same = c.first_from.ensures.same;
-      limits = c.first_from.ensures.limits;
+      bounds = c.first_from.ensures.bounds;
     })
 
 pub returns-in-Err-first_from-clause-walked : goal.returns-in-Err-first_from-clause-walked
@@ -106,7 +106,7 @@ returns-in-Err-first_from-clause-walked g c = walk_then (g.D.Disk.state c.args.d
       goes = c.first_from.ensures.goes;
       quiet = c.first_from.ensures.quiet;
       same = c.first_from.ensures.same;
-      limits = c.first_from.ensures.limits;
+      bounds = c.first_from.ensures.bounds;
     })
 
 pub returns-in-Err-first_from-clause-wrong : goal.returns-in-Err-first_from-clause-wrong

@@ -41,7 +41,8 @@ returns-in-Ok-clause-done g c = λ trusted.
     let stood = c.in-Ok.ensures.reads (tells_of old trusted) in
     opened_result old (state c.open.new.disk) (state c.carry_out-done.new.shell) stood.0 c.args.job
     stood.1 c.in-Ok.ensures.goes c.in-Ok.ensures.leaves c.carry_out-done.result
-    (c.carry_out-done.ensures.done stood.0 (c.in-Ok.ensures.stands trusted stood.0 stood.1))
+    (c.carry_out-done.ensures.done old.file (c.in-Ok.ensures.next_file (tells_of old trusted)) stood.0
+    (c.in-Ok.ensures.stands trusted stood.0 stood.1))
 
 pub returns-in-Ok-clause-after : goal.returns-in-Ok-clause-after
 returns-in-Ok-clause-after g c =

@@ -1,8 +1,8 @@
-use Rattle.std.proofs.Common.{◌∷◌, [], ◌∙◌, subst}
+use Rattle.std.proofs.Common.{◌∷◌, [], ◌∙◌, ap, subst}
 use Rattle.alt_disk.proofs.Runs.{trusted_back}
 use Rattle.alt_disk.specs.Disk.{DiskState}
 use Rattle.alt_machine.specs.State.{State}
-use Rattle.alt_hand.specs.declared.hand.Limits.{Limits}
+use Rattle.alt_engine.specs.InHand.{Bounds}
 use Rattle.alt_talks.specs.Works.{HasFewEntries}
 use Rattle.alt_talks.specs.Turns.{after_turn}
 use Rattle.alt_run.specs.Turns.{request, carried_out}
@@ -106,7 +106,7 @@ returns-in-Ok-work-clause-brings g c =
     (request c.args.name.now c.args.body.now)
     (silent_then old mid asked c.now-moment.ensures.log c.in-Ok.ensures.goes)
     c.in-Ok-say.ensures.said c.in-Ok-work.ensures.goes
-    (subst (λ (limits : Limits). HasFewEntries limits.flush (state c.work.new.disk))
+    (subst (λ (b : Bounds). HasFewEntries b.limits.flush (state c.work.new.disk))
     c.in-Ok.ensures.limits c.in-Ok-work.ensures.entries)
 
 pub returns-clause-served : goal.returns-clause-served
@@ -131,3 +131,17 @@ returns-clause-served g c = λ s stands.
     (c.as_bytes.ensures.value ∙ c.in-Ok.ensures.text s here))
     (λ (t : State) there. c.in-Err-work.ensures.works t there) c.in-Err-work.fault
     (λ (t : State) there. c.in-Err-work.ensures.fault t there)
+
+pub returns-in-Err-clause-limits : goal.returns-in-Err-clause-limits
+returns-in-Err-clause-limits g c = ap (λ (b : Bounds). b.limits) c.in-Err.ensures.limits
+
+pub returns-in-Err-say-clause-limits : goal.returns-in-Err-say-clause-limits
+returns-in-Err-say-clause-limits g c = ap (λ (b : Bounds). b.limits) c.in-Ok.ensures.limits
+
+pub returns-in-Ok-work-clause-limits : goal.returns-in-Ok-work-clause-limits
+returns-in-Ok-work-clause-limits g c =
+    c.in-Ok-work.ensures.limits ∙ ap (λ (b : Bounds). b.limits) c.in-Ok.ensures.limits
+
+pub returns-clause-limits : goal.returns-clause-limits
+returns-clause-limits g c =
+    c.in-Err-work.ensures.limits ∙ ap (λ (b : Bounds). b.limits) c.in-Ok.ensures.limits

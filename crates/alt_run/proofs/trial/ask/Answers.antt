@@ -1,6 +1,9 @@
-use Rattle.std.proofs.Common.{◌∙◌, subst}
+use Rattle.std.proofs.Common.{◌∙◌, ◌≤◌, ◌+◌, ap, subst}
 use Rattle.alt_disk.proofs.Runs.{trusted_back, trusted_on}
-use Rattle.alt_hand.specs.declared.hand.Limits.{Limits}
+use Rattle.alt_tables.specs.FilesLeft.{most_files}
+use Rattle.alt_engine.specs.InHand.{Bounds}
+use Rattle.alt_tables.specs.Stands.{bounds_of}
+use Rattle.alt_talks.specs.Faults.{IsFileFault}
 use Rattle.alt_talks.specs.Works.{HasFewEntries}
 use Rattle.alt_talks.specs.Turns.{after_turn}
 use Rattle.alt_run.specs.Trials.{trial_moment}
@@ -12,7 +15,8 @@ pub returns-in-Err-clause-counted : goal.returns-in-Err-clause-counted
 returns-in-Err-clause-counted g c = λ s stands.
     let state = g.D.Disk.state in
     one_broke (state c.args.disk.now) (state c.reply_text.new.disk) s c.args.name.now c.args.body.now
-    (c.in-Err.ensures.leaves s stands) c.in-Err.fault (c.in-Err.ensures.cause s stands)
+    (c.in-Err.ensures.leaves s stands) c.in-Err.fault (bounds_of c.args.tables.now).file
+    (c.in-Err.ensures.cause s stands)
 
 pub work-requires : goal.work-requires
 work-requires g c =
@@ -45,7 +49,7 @@ returns-in-Ok-work-clause-counted g c = λ s stands.
 
 pub returns-in-Ok-work-clause-few : goal.returns-in-Ok-work-clause-few
 returns-in-Ok-work-clause-few g c = subst
-    (λ (limits : Limits). HasFewEntries limits.flush (g.D.Disk.state c.work.new.disk))
+    (λ (b : Bounds). HasFewEntries b.limits.flush (g.D.Disk.state c.work.new.disk))
     c.in-Ok.ensures.limits c.in-Ok-work.ensures.entries
 
 pub returns-in-Err-work-clause-counted : goal.returns-in-Err-work-clause-counted
@@ -63,5 +67,23 @@ returns-in-Err-work-clause-counted g c = λ s stands.
     (c.in-Ok.ensures.enough s stands) there
     (λ ts tally. c.count.ensures.counted ts (carried_out s name body trial_moment)
     (c.as_bytes.ensures.value ∙ c.in-Ok.ensures.text s stands) tally))
-    (c.in-Err-work.ensures.works _ there) c.in-Err-work.fault
-    (c.in-Err-work.ensures.fault _ there)
+    (c.in-Err-work.ensures.works _ there) c.in-Err-work.fault (bounds_of c.args.tables.now).file
+    (subst (λ (b : Bounds). IsFileFault (b.file + most_files) c.in-Err-work.fault)
+    c.in-Ok.ensures.limits (c.in-Err-work.ensures.reach _ there))
+
+pub returns-in-Ok-work-clause-files : goal.returns-in-Ok-work-clause-files
+returns-in-Ok-work-clause-files g c = λ s stands.
+    let there = c.in-Ok.ensures.state s stands in
+    subst (λ (b : Bounds). (bounds_of c.work.new.tables).file ≤ b.file + most_files)
+    c.in-Ok.ensures.limits (c.in-Ok-work.ensures.files _ there)
+
+pub returns-in-Err-clause-limits : goal.returns-in-Err-clause-limits
+returns-in-Err-clause-limits g c = ap (λ (b : Bounds). b.limits) c.in-Err.ensures.limits
+
+pub returns-in-Ok-work-clause-limits : goal.returns-in-Ok-work-clause-limits
+returns-in-Ok-work-clause-limits g c =
+    c.in-Ok-work.ensures.limits ∙ ap (λ (b : Bounds). b.limits) c.in-Ok.ensures.limits
+
+pub returns-in-Err-work-clause-limits : goal.returns-in-Err-work-clause-limits
+returns-in-Err-work-clause-limits g c =
+    c.in-Err-work.ensures.limits ∙ ap (λ (b : Bounds). b.limits) c.in-Ok.ensures.limits

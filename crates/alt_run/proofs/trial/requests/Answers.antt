@@ -44,7 +44,7 @@ requests-preserved g c =
           (trying_line a c.args.tables.now b c.requests.tables c.requests.tally all
           (next_lines (n - i) h) (next_lines (n - (i + 1)) (after_line h)) (next_line h)
           c.requests.invariant.0 (next_left n i h c.requests-test.true) d c.step.new.tables
-          c.step.new.tally c.step.ensures.goes c.in-Ok.ensures.counted),
+          c.step.new.tally c.step.ensures.goes c.in-Ok.ensures.counted c.in-Ok.ensures.files),
       omega (arith, c.in-Ok.ensures.good, c.requests.invariant.1),
       omega (arith, c.in-Ok.ensures.bad, c.requests.invariant.2),
       goes_on a b d c.requests.invariant.3 c.step.ensures.goes,

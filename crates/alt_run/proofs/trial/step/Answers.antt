@@ -1,6 +1,7 @@
 use Rattle.std.proofs.Common.{◌∷◌, ◌∙◌, [], sym, subst}
 use Rattle.std.specs.Prelude.{MatchResult}
 use Rattle.alt_lines.specs.Trial.{generator, next_line}
+use Rattle.alt_tables.specs.Stands.{bounds_of}
 use Rattle.alt_run.specs.Trials.{Counted, CountedSome}
 use Rattle.alt_run.specs.Turns.{Asked, asked_by}
 use Rattle.alt_talks.specs.declared.fault.RunFault.{RunFault}
@@ -14,7 +15,7 @@ returns-in-Ok-clause-counted g c = λ s stands.
     let b = state c.ask_line.new.disk in
     subst (λ (l : Asked). MatchResult c.ask_line.result
     (λ _. Counted s (l ∷ []) c.args.tally.now c.ask_line.new.tally a b c.ask_line.new.tables)
-    (λ f. CountedSome f s (l ∷ []) a b))
+    (λ f. CountedSome f (bounds_of c.args.tables.now).file s (l ∷ []) a b))
     (asked_parts (generator c.args.trial.now) c.deref.result.now
     (c.deref.ensures.value ∙ c.in-Ok.ensures.line))
     (c.ask_line.ensures.counted s stands)
@@ -22,7 +23,7 @@ returns-in-Ok-clause-counted g c = λ s stands.
 pub returns-in-Err-clause-counted : goal.returns-in-Err-clause-counted
 returns-in-Err-clause-counted g c = λ s stands.
     let a = g.D.Disk.state c.args.disk.now in
-    subst (λ (f : RunFault). CountedSome f s
+    subst (λ (f : RunFault). CountedSome f (bounds_of c.args.tables.now).file s
     (asked_by (next_line (generator c.args.trial.now)) ∷ []) a a)
     (sym c.in-Err.ensures.err)
-    (none_begun a c.args.tables.now s (asked_by (next_line (generator c.args.trial.now)) ∷ []) stands)
+    (none_begun a c.args.tables.now (bounds_of c.args.tables.now).file s (asked_by (next_line (generator c.args.trial.now)) ∷ []) stands)

@@ -4,6 +4,7 @@ use Rattle.alt_hand.proofs.EndLaws.{works_same, works_still}
 use Rattle.alt_hand.proofs.WorkLaws.{worked_in, works_of}
 use Rattle.alt_merging.specs.Mergings.{family_of}
 use Rattle.alt_engine.proofs.EngineLaws.{going_carried}
+use Rattle.alt_engine.proofs.Taking.{taken_all}
 use Rattle.alt_engine.proofs.engine.Engine.flush_all.Goals as goal
 
 pub returns-then-not-has_entries-clause-ok : goal.returns-then-not-has_entries-clause-ok
@@ -53,3 +54,7 @@ returns-clause-new_log g c done trusted l stands =
 pub returns-clause-missing : goal.returns-clause-missing
 returns-clause-missing g c trusted l stands =
     c.in_ok-flush_all.ensures.missing trusted l stands.hand
+
+pub returns-clause-next_file : goal.returns-clause-next_file
+returns-clause-next_file g c = taken_all c.args.live.now c.args.self.now.hand c.flush_all.new.self
+    c.in_ok-flush_all.ensures.flushed

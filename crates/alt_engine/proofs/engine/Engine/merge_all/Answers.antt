@@ -210,3 +210,13 @@ returns-clause-adds g c done trusted l stands =
     (ap (λ (x : Engine). x.hand) (c.in_ok-ended.ensures.same off).1.1)
     (c.in_ok-merged.ensures.adds more told first.0 first.1))
     (λ none. (let no : ⊥ = search rules in absurd no)))
+
+pub returns-then-not-merged-clause-next_file : goal.returns-then-not-merged-clause-next_file
+returns-then-not-merged-clause-next_file g c =
+    let first = c.in_ok-ended.ensures.next_file in
+    let more = c.in_ok-merged.ensures.next_file in omega (arith, first, more)
+
+pub returns-clause-next_file : goal.returns-clause-next_file
+returns-clause-next_file g c =
+    let first = c.in_ok-ended.ensures.next_file in
+    let more = c.in_ok-merged.ensures.next_file in omega (arith, first, more)

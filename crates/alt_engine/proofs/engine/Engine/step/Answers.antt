@@ -1,5 +1,5 @@
 -- A flush, or else what becomes of merges.
-use Rattle.std.proofs.Common.{◌≡◌, Some, None, inl, inr, sym, subst, rules}
+use Rattle.std.proofs.Common.{◌≡◌, Some, None, inl, inr, sym, ap, subst, arith, rules}
 use Rattle.std.proofs.lemmas.Result.{IfOk-weaker, on_ok_weaker}
 use Rattle.alt_disk.specs.Disk.{DiskState}
 use Rattle.alt_disk.specs.Runs.{Spans}
@@ -20,6 +20,7 @@ use Rattle.alt_engine.specs.InHand.{IsGoing, Stands, merge_of}
 use Rattle.alt_engine.specs.declared.engine.Engine.{Engine}
 use Rattle.alt_engine.proofs.EngineLaws.{going_carried}
 use Rattle.alt_engine.proofs.Stepping.{at_both, back_both, begins_at, ended_back, furthered_back, taken_stands}
+use Rattle.alt_engine.proofs.Taking.{taken_due}
 use Rattle.alt_engine.proofs.Turning.{no_job}
 use Rattle.alt_engine.proofs.engine.Engine.step.Goals as goal
 
@@ -378,3 +379,18 @@ returns-in-None-clause-one_version g c trusted l stands =
           (back_both (λ s h. Spans s d (λ y. Unit {0}) (HasLast (version_in h))) a b e.hand f p q
           (c.begin.ensures.last told l at)),
     )
+
+pub returns-then-flushed-clause-next_file : goal.returns-then-flushed-clause-next_file
+returns-then-flushed-clause-next_file g c =
+    taken_due c.args.live.now c.args.self.now.hand c.flush_due.new.self
+    (c.in_ok-flushed.ensures.done c.if-flushed.true)
+
+pub returns-in-Some-clause-next_file : goal.returns-in-Some-clause-next_file
+returns-in-Some-clause-next_file g c = on_ok_weaker c.go_on.result (λ it.
+    let q = ap (λ (h : Hand). h.next_file) (c.in_ok-flushed.ensures.idle_hand c.if-flushed.false) in
+    omega (arith, it, q)) c.go_on.ensures.next_file
+
+pub returns-in-None-clause-next_file : goal.returns-in-None-clause-next_file
+returns-in-None-clause-next_file g c = on_ok_weaker c.begin.result (λ it.
+    let q = ap (λ (h : Hand). h.next_file) (c.in_ok-flushed.ensures.idle_hand c.if-flushed.false) in
+    omega (arith, it, q)) c.begin.ensures.next_file

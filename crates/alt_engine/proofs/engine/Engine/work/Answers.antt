@@ -1,5 +1,5 @@
 -- What becomes of the merge under way, and then the task.
-use Rattle.std.proofs.Common.{◌≡◌, ◌<◌, ⊎_elim, inl, inr, sym, ap, subst, ◌∙◌}
+use Rattle.std.proofs.Common.{◌≡◌, ◌<◌, ⊎_elim, inl, inr, sym, ap, subst, ◌∙◌, arith}
 use Rattle.std.proofs.lemmas.Result.{IfOk-weaker, on_ok_weaker}
 use Rattle.std.specs.Prelude.{◌⊎◌}
 use Rattle.alt_disk.specs.Disk.{DiskState, IsTrusted}
@@ -639,3 +639,18 @@ returns-in-MergeAll-clause-kept g c it = on_ok_weaker c.merge_all.result
     kept told l at family lives (subst (AreMerged b) (sym hand)
     (merged_on a b (files_at (hand_of e) family) (c.give_up.ensures.still trusted l stands family) merged))
     (λ j is. apart j (job_back a b live e f turned same j is)) ∙ hand) c.merge_all.ensures.kept
+
+pub returns-in-Step-clause-taken : goal.returns-in-Step-clause-taken
+returns-in-Step-clause-taken g c = on_ok_weaker c.step.result (λ it.
+    let same = ap (λ (h : Hand). h.next_file) c.give_up.ensures.hand in
+    omega (arith, it, same)) c.step.ensures.next_file
+
+pub returns-in-FlushAll-clause-taken : goal.returns-in-FlushAll-clause-taken
+returns-in-FlushAll-clause-taken g c = on_ok_weaker c.flush_all.result (λ it.
+    let same = ap (λ (h : Hand). h.next_file) c.give_up.ensures.hand in
+    omega (arith, it, same)) c.flush_all.ensures.next_file
+
+pub returns-in-MergeAll-clause-taken : goal.returns-in-MergeAll-clause-taken
+returns-in-MergeAll-clause-taken g c = on_ok_weaker c.merge_all.result (λ it.
+    let same = ap (λ (h : Hand). h.next_file) c.give_up.ensures.hand in
+    omega (arith, it, same)) c.merge_all.ensures.next_file

@@ -1,6 +1,7 @@
 -- The families of all tables are live, so the rows of the state stay.
-use Rattle.std.proofs.Common.{refl}
-use Rattle.alt_tables.proofs.Working.{merged_for, work_fault, worked_left, worked_stands}
+use Rattle.std.proofs.Common.{refl, subst, arith}
+use Rattle.alt_engine.specs.Working.{IsNeeded}
+use Rattle.alt_tables.proofs.Working.{few_live, merged_for, work_fault, worked_left, worked_stands}
 use Rattle.alt_tables.proofs.tables.Tables.work.Goals as goal
 
 pub work-requires-clause-ready : goal.work-requires-clause-ready
@@ -27,8 +28,26 @@ returns-in-Err-clause-disk g c s stands =
     (c.in-Err.ensures.any_moment stands.rows.trusted stands.rows.layout stands.rows.is)
 
 pub returns-in-Err-clause-fault : goal.returns-in-Err-clause-fault
-returns-in-Err-clause-fault g c trusted = work_fault c.in-Err.fault c.from.result c.from.ensures
-    c.in-Err.ensures.spent (c.in-Err.ensures.undamaged trusted)
+returns-in-Err-clause-fault g c s stands =
+    work_fault c.args.task c.as_slice.result.now c.args.self.now.engine c.in-Err.fault
+    c.from.result c.from.ensures (c.in-Err.ensures.needed stands.rows.trusted)
+    (few_live (g.D.Disk.state c.args.disk.now) c.args.self.now s stands c.as_slice.result.now
+    c.as_slice.ensures.same c.as_slice.ensures.live)
+
+pub returns-in-Err-clause-lacks : goal.returns-in-Err-clause-lacks
+returns-in-Err-clause-lacks g c trusted = record {
+  given = c.in-Err.fault;
+  same = c.from.ensures;
+  needed = subst (λ live. IsNeeded c.args.task live c.args.self.now.engine c.in-Err.fault)
+      c.as_slice.ensures.same (c.in-Err.ensures.needed trusted);
+}
+
+pub returns-in-Ok-clause-files : goal.returns-in-Ok-clause-files
+returns-in-Ok-clause-files g c s stands =
+    let taken = c.in-Ok.ensures.taken in
+    let few = few_live (g.D.Disk.state c.args.disk.now) c.args.self.now s stands
+    c.as_slice.result.now c.as_slice.ensures.same c.as_slice.ensures.live in
+    omega (arith, taken, few)
 
 pub returns-in-Ok-clause-merge_all : goal.returns-in-Ok-clause-merge_all
 returns-in-Ok-clause-merge_all g c is trusted s stands =

@@ -8,11 +8,13 @@ use Rattle.std.specs.Prelude.{IfSome}
 use Rattle.std.specs.Result.{IsErr, IsErrAnd}
 use Rattle.alt_cellbytes.specs.Places as cell
 use Rattle.alt_cells.specs.Changes.{Columns}
-use Rattle.alt_changes.specs.ChangeRows.{IsReadChange, IsReadItem, change_columns, item_bytes}
-use Rattle.alt_changes.specs.NoChange.{IsBadItem, IsBadMoment, IsItemCell, IsMoment, NoItem, NoMoment, NoneIs, is_column, is_map}
+use Rattle.alt_changes.specs.ChangeRows.{IsReadChange, IsReadItem, change_columns, item_bytes, writer_cell}
+use Rattle.alt_changes.specs.NoChange.{IsBadItem, IsBadMoment, IsBadWriter, IsItemCell, IsMoment, IsWriterCell, NoItem, NoMoment, NoneIs, is_column, is_map}
 use Rattle.alt_changes.proofs.Rows.{Shows, is_row, shows_so}
 use Rattle.alt_fields.specs.Field.{StandsAt}
 use Rattle.alt_fields.proofs.Numbers.{stands_within}
+use Rattle.alt_codec.specs.declared.writer.Writer.{Writer}
+use Rattle.alt_codec.specs.declared.writer.Writer.TheVariants.{User, Expiry}
 use Rattle.alt_machine.specs.State.{Change}
 use Rattle.alt_machine.specs.Valid.{deepest}
 use Rattle.alt_value.specs.Item.{IsItem}
@@ -139,6 +141,15 @@ item_good row name o h = subst (λ g. IfSome g IsItemCell) (sym h.1) (by o h.0)
     by None is = tt
     by (Some i) is = (i, is, refl)
 
+-- where it was read who wrote the change, the cell is empty or missing
+pub writer_good : (row : Columns) (writer : Writer) → get row (codes "u") ≡ writer_cell writer
+    → IfSome (get row (codes "u")) IsWriterCell
+writer_good row writer e = subst (λ g. IfSome g IsWriterCell) (sym e) (by writer)
+  where
+    by : (w : Writer) → IfSome (writer_cell w) IsWriterCell
+    by User = tt
+    by Expiry = refl
+
 -- ---- the row
 
 module _ (row : Columns) (c : Change) (is : row ≡ change_columns c) where
@@ -166,6 +177,14 @@ module _ (row : Columns) (c : Change) (is : row ≡ change_columns c) where
   pub no_bad_old : (at : ℕ) → IsReadChange c → IsBadItem row (codes "o") at → ⊥
   no_bad_old at read = bad_item (codes "o") at c.old read.old shows.old
 
+  -- it has no bad cell of who wrote it
+  pub no_bad_writer : (at : ℕ) → IsBadWriter row at → ⊥
+  no_bad_writer at (bytes, there, some, zero) = by c.by (sym there ∙ shows.writer)
+    where
+      by : (writer : Writer) → Some bytes ≡ writer_cell writer → ⊥
+      by User e = let f : Some bytes ≡ None = e in cc f
+      by Expiry e = some (same_Some bytes [] e)
+
   -- it has a moment
   pub some_moment : MomentRead row None → ⊥
   some_moment h = let not_so : None ≡ Some (to_be_bytes w64 c.moment) = sym h.1
@@ -178,14 +197,16 @@ module _ (row : Columns) (c : Change) (is : row ≡ change_columns c) where
 -- a row that was read is that of the change
 pub change_read : (row : Columns) (c : Change) → MomentRead row (Some c.moment)
     → ItemRead row (codes "n") c.new → ItemRead row (codes "o") c.old
+    → get row (codes "u") ≡ writer_cell c.by
     → list_all (λ e. is_column e.0) (entries row) ≡ true
     → IsReadChange c × (row ≡ change_columns c)
-change_read row c moment new old alone = (
+change_read row c moment new old writer alone = (
   record { moment = moment.0; old = old.0; new = new.0 },
   is_row row c (record {
     moment = moment.1;
     new = new.1;
     old = old.1;
+    writer = writer;
     alone = alone;
   }),
 )

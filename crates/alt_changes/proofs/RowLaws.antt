@@ -9,9 +9,11 @@ use Rattle.std.specs.Prelude.{◌==◌, if◌then◌else◌, IfSome}
 use Rattle.alt_cellbytes.proofs.Apart.{cell_bytes-apart}
 use Rattle.alt_cellbytes.proofs.WholeValues.{whole_has}
 use Rattle.alt_cells.specs.Changes.{CanShow, Columns}
-use Rattle.alt_changes.specs.ChangeRows.{IsReadChange, IsReadItem, change_columns, item_bytes}
+use Rattle.alt_changes.specs.ChangeRows.{IsReadChange, IsReadItem, change_columns, item_bytes, writer_cell}
 use Rattle.alt_changes.proofs.Found.{whole_map}
 use Rattle.alt_changes.proofs.Rows.{Shows, entries-change, shows_so}
+use Rattle.alt_codec.specs.declared.writer.Writer.{Writer}
+use Rattle.alt_codec.specs.declared.writer.Writer.TheVariants.{User, Expiry}
 use Rattle.alt_machine.specs.State.{Change}
 use Rattle.alt_value.specs.Tree.{Pair, Tree, Fields, M_tree, fields_of, no_fields, pairs}
 use Rattle.alt_value.proofs.Trees.{pairs-fields_of}
@@ -58,6 +60,13 @@ items_one (Some a) None p q e = let f : Some (item_bytes a) ≡ None = e in cc f
 items_one (Some a) (Some b) p q e =
     ap Some (item_one a b p q (same_Some (item_bytes a) (item_bytes b) e))
 
+-- who wrote it is told by the cell
+writer_one : (a b : Writer) → writer_cell a ≡ writer_cell b → a ≡ b
+writer_one User User e = refl
+writer_one User Expiry e = let f : ◌≡◌ {A = Option (List ℕ)} None (Some []) = e in cc f
+writer_one Expiry User e = let f : ◌≡◌ {A = Option (List ℕ)} (Some []) None = e in cc f
+writer_one Expiry Expiry e = refl
+
 -- No two changes of one number have the same row.
 pub change_columns-one : (a b : Change) → IsReadChange a → IsReadChange b → a.number ≡ b.number
     → change_columns a ≡ change_columns b → a ≡ b
@@ -69,4 +78,11 @@ change_columns-one a b p q number same =
     (sym one.moment ∙ other.moment)) in
     let old : a.old ≡ b.old = items_one a.old b.old p.old q.old (sym one.old ∙ other.old) in
     let new : a.new ≡ b.new = items_one a.new b.new p.new q.new (sym one.new ∙ other.new) in
-    (λ i. record { number = number i; moment = moment i; old = old i; new = new i })
+    let writer : a.by ≡ b.by = writer_one a.by b.by (sym one.writer ∙ other.writer) in
+    (λ i. record {
+      number = number i;
+      moment = moment i;
+      old = old i;
+      new = new i;
+      by = writer i;
+    })

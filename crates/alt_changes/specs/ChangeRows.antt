@@ -1,5 +1,5 @@
--- The row of a change in the family of its stream (docs/formats/table-rows.md): its moment, and the item before and after it, where one was
--- there.
+-- The row of a change in the family of its stream (docs/formats/table-rows.md): its moment, the item before and after it, where one was
+-- there, and that time to live wrote it, where it did.
 use Rattle.std.specs.Prelude.{◌≤◌, ◌<◌, ◌^◌, ℕ, List, [], ◌∷◌, ◌++◌, map, Option, None, Some, option_map, IfSome, codes}
 use Rattle.std.specs.FinMap.{from_sorted}
 use Rattle.std.specs.Int.{w64, to_be_bytes}
@@ -7,6 +7,8 @@ use Rattle.std.specs.Option.{option_map_or, option_to_list}
 use Rattle.alt_cells.specs.declared.batch.RowChange.{RowChange}
 use Rattle.alt_cells.specs.Changes.{Columns, change_between}
 use Rattle.alt_changes.specs.declared.changes.Change as program
+use Rattle.alt_codec.specs.declared.writer.Writer.{Writer}
+use Rattle.alt_codec.specs.declared.writer.Writer.TheVariants.{User, Expiry}
 use Rattle.alt_machine.specs.State.{Change}
 use Rattle.alt_machine.specs.Valid.{deepest}
 use Rattle.alt_schema.specs.declared.schema.TableSchema.{TableSchema}
@@ -17,7 +19,13 @@ use Rattle.alt_value.specs.Values.{IsWholeItem}
 
 -- a change of the program, as the machine has it
 abbrev pub change_in : program.Change → Change
-change_in c = record { number = c.number; moment = c.moment; old = c.old; new = c.new }
+change_in c = record {
+  number = c.number;
+  moment = c.moment;
+  old = c.old;
+  new = c.new;
+  by = c.by;
+}
 
 -- ---- its row
 
@@ -33,14 +41,25 @@ item_bytes item = cell_bytes (M_tree (fields_of item))
 abbrev pub item_column : List ℕ → Option (List Pair) → List (List ℕ × List ℕ)
 item_column name item = option_to_list (option_map (λ i. (name, item_bytes i)) item)
 
+-- the cell that tells who wrote it: none for a user, an empty one for time to live
+abbrev pub writer_cell : Writer → Option (List ℕ)
+writer_cell User = None
+writer_cell Expiry = Some []
+
+-- the column of that cell
+abbrev pub writer_column : Writer → List (List ℕ × List ℕ)
+writer_column writer =
+    option_to_list (option_map (λ bytes. (codes "u", bytes)) (writer_cell writer))
+
 -- the columns of a change of that moment, by their names
-abbrev pub columns_of : ℕ → Option (List Pair) → Option (List Pair) → List (List ℕ × List ℕ)
-columns_of moment old new = (codes "m", to_be_bytes w64 moment)
-    ∷ (item_column (codes "n") new ++ item_column (codes "o") old)
+abbrev pub columns_of : ℕ → Writer → Option (List Pair) → Option (List Pair)
+    → List (List ℕ × List ℕ)
+columns_of moment writer old new = (codes "m", to_be_bytes w64 moment)
+    ∷ (item_column (codes "n") new ++ (item_column (codes "o") old ++ writer_column writer))
 
 -- its row
 abbrev pub change_columns : Change → Columns
-change_columns c = from_sorted (columns_of c.moment c.old c.new)
+change_columns c = from_sorted (columns_of c.moment c.by c.old c.new)
 
 -- ---- what a write does to the rows
 

@@ -1,5 +1,5 @@
 -- Where a row isn't that of a change: the place within its first bad cell by name.
-use Rattle.std.specs.Prelude.{◌≡◌, ◌<◌, ◌+◌, ◌^◌, ◌==◌, ◌⊎◌, ◌||◌, ℕ, Bool, true, false, List, [], ◌∷◌, length, Some, IfSome, codes}
+use Rattle.std.specs.Prelude.{◌≡◌, ◌≢◌, ◌<◌, ◌+◌, ◌^◌, ◌==◌, ◌⊎◌, ◌||◌, ℕ, Bool, true, false, List, [], ◌∷◌, length, Some, IfSome, codes}
 use Rattle.std.specs.FinMap.{get}
 use Rattle.std.specs.Int.{w64, to_be_bytes}
 use Rattle.std.specs.Str.{bytes_eq}
@@ -18,6 +18,10 @@ IsMoment bytes = (n : ℕ) × (n < 2 ^ 64) × (bytes ≡ to_be_bytes w64 n)
 -- the bytes of an item
 abbrev pub IsItemCell : List ℕ → Type 0
 IsItemCell bytes = (item : List Pair) × IsReadItem item × (bytes ≡ item_bytes item)
+
+-- the cell that tells that time to live wrote the change has no bytes
+abbrev pub IsWriterCell : List ℕ → Type 0
+IsWriterCell bytes = bytes ≡ []
 
 -- ---- and one that is bad at a place
 
@@ -50,12 +54,17 @@ abbrev pub IsBadItem : Columns → List ℕ → ℕ → Type 0
 IsBadItem row name at = (bytes : List ℕ) × (get row name ≡ Some bytes) × NoItem bytes at
     × NoneIs bytes
 
+-- and so is the cell that tells who wrote the change, which has bytes then
+abbrev pub IsBadWriter : Columns → ℕ → Type 0
+IsBadWriter row at = (bytes : List ℕ) × (get row (codes "u") ≡ Some bytes) × (bytes ≢ [])
+    × (at ≡ 0)
+
 -- ---- a row
 
 -- a column of that name is one of a change
 abbrev pub is_column : List ℕ → Bool
 is_column name = bytes_eq name (codes "m") || (bytes_eq name (codes "n")
-    || bytes_eq name (codes "o"))
+    || (bytes_eq name (codes "o") || bytes_eq name (codes "u")))
 
 -- The first cell by name that is bad, is bad there; where no cell is, but one is missing or too many, the place is 0.
 pub data IsBadAt (row : Columns) (at : ℕ) : Type 0 where
@@ -65,5 +74,9 @@ pub data IsBadAt (row : Columns) (at : ℕ) : Type 0 where
       → get row (codes "n") ≡ Some bytes → NoItem bytes at → IsBadAt row at
   in_old : IfSome (get row (codes "m")) IsMoment → IfSome (get row (codes "n")) IsItemCell
       → (bytes : List ℕ) → get row (codes "o") ≡ Some bytes → NoItem bytes at → IsBadAt row at
+  in_writer : IfSome (get row (codes "m")) IsMoment → IfSome (get row (codes "n")) IsItemCell
+      → IfSome (get row (codes "o")) IsItemCell → (bytes : List ℕ)
+      → get row (codes "u") ≡ Some bytes → bytes ≢ [] → at ≡ 0 → IsBadAt row at
   in_none : IfSome (get row (codes "m")) IsMoment → IfSome (get row (codes "n")) IsItemCell
-      → IfSome (get row (codes "o")) IsItemCell → at ≡ 0 → IsBadAt row at
+      → IfSome (get row (codes "o")) IsItemCell → IfSome (get row (codes "u")) IsWriterCell
+      → at ≡ 0 → IsBadAt row at

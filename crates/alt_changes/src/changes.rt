@@ -1,30 +1,32 @@
-//! The row of a change in the family of its stream (docs/formats/table-rows.md): its moment, and the item before and after it,
-//! where one was there.
+//! The row of a change in the family of its stream (docs/formats/table-rows.md): its moment, the item before and after it, where
+//! one was there, and that time to live wrote it, where it did.
 
 ghost use Rattle.std.specs.Prelude.{◌≡◌, ◌++◌, ℕ, Some, false, IfOk, OnOk, map as each, option_map};
 ghost use Rattle.std.specs.List.{flat_map};
 ghost use Rattle.alt_cellbytes.specs.Places.{entry_bytes};
 ghost use Rattle.alt_cells.specs.Batches.{has_row};
 ghost use Rattle.alt_cells.specs.Changes.{with_value};
-ghost use Rattle.alt_changes.specs.ChangeRows.{columns_of, item_bytes, item_column, row_changes, row_key};
+ghost use Rattle.alt_changes.specs.ChangeRows.{columns_of, item_bytes, item_column, row_changes, row_key, writer_column};
 ghost use Rattle.alt_machine.specs.Changes.{change_left};
 ghost use Rattle.alt_machine.specs.Same.{is_same};
 
 use alt_base::NoMemory;
 use alt_cellbytes::bytes_of;
 use alt_cells::{Batch, CellList, RowChange};
+use alt_codec::Writer;
 use alt_fields::{Bytes, put_bytes, put_u64};
 use alt_schema::TableSchema;
 use alt_value::{Item, item_equal};
 use std::alloc::Global;
 
-/// What a stream keeps of a write: its number and its moment, and the item before and after it, where one was there.
+/// What a stream keeps of a write: its number and its moment, the item before and after it, where one was there, and who made it.
 #[derive(Drop)]
 pub struct Change {
     pub number: u64,
     pub moment: u64,
     pub old: Option<Item>,
     pub new: Option<Item>,
+    pub by: Writer,
 }
 
 /// The column of a change's moment.
@@ -35,6 +37,9 @@ pub(crate) const NEW: &[u8] = b"n";
 
 /// The column of the item before it.
 pub(crate) const OLD: &[u8] = b"o";
+
+/// The column that tells that time to live wrote it.
+pub(crate) const EXPIRED: &[u8] = b"u";
 
 /// The byte with which the cell bytes of a map begin.
 pub(crate) const MAP: u8 = 10;
@@ -48,12 +53,13 @@ pub fn change_row(
     new: Option<&Item>,
     number: u64,
     moment: u64,
+    by: Writer,
     batch: &mut Batch,
 ) -> Result<(), NoMemory>
     requires row { (family : ℕ) → schema.now.stream_family ≡ Some family
         → has_row batch.old family (row_key number) ≡ false }
     ensures changes { OnOk result (batch.new ≡ batch.old ++ row_changes schema.now
-        (change_left number moment (option_map (λ i. i.now) old.entry)
+        (change_left number moment by (option_map (λ i. i.now) old.entry)
         (option_map (λ i. i.now) new.entry))) }
 {
     let Some(family) = schema.stream_family else {
@@ -66,7 +72,7 @@ pub fn change_row(
         family,
         key: number_bytes(alloc, number)?,
         clear: true,
-        cells: cells_of(alloc, moment, old, new)?,
+        cells: cells_of(alloc, moment, by, old, new)?,
     };
     batch.add(change)
 }
@@ -96,10 +102,11 @@ pub(crate) fn number_bytes(alloc: Global, number: u64) -> Result<Bytes, NoMemory
 fn cells_of(
     alloc: Global,
     moment: u64,
+    by: Writer,
     old: Option<&Item>,
     new: Option<&Item>,
 ) -> Result<CellList, NoMemory>
-    ensures { IfOk result (λ cells. cells ≡ each with_value (columns_of moment
+    ensures { IfOk result (λ cells. cells ≡ each with_value (columns_of moment by
         (option_map (λ i. i.now) old.entry) (option_map (λ i. i.now) new.entry))) }
 {
     let mut cells = CellList::new(alloc);
@@ -107,6 +114,7 @@ fn cells_of(
     cells.push(Bytes::new(alloc, MOMENT)?, Some(bytes))?;
     push_item(alloc, &mut cells, NEW, new)?;
     push_item(alloc, &mut cells, OLD, old)?;
+    push_writer(alloc, &mut cells, by)?;
     Ok(cells)
 }
 
@@ -126,6 +134,19 @@ fn push_item(
             cells.push(Bytes::new(alloc, name)?, Some(bytes))
         }
         None => Ok(()),
+    }
+}
+
+/// Puts the cell at the end that tells that time to live wrote the change, where it did.
+fn push_writer(alloc: Global, cells: &mut CellList, by: Writer) -> Result<(), NoMemory>
+    ensures { OnOk result (cells.new ≡ cells.old ++ each with_value (writer_column by)) }
+{
+    match by {
+        Writer::User => Ok(()),
+        Writer::Expiry => cells.push(
+            Bytes::new(alloc, EXPIRED)?,
+            Some(Bytes::from_vec(Vec::new(alloc))),
+        ),
     }
 }
 

@@ -4,13 +4,14 @@ ghost use Rattle.std.specs.Prelude.{◌≡◌, ◌<◌, ◌^◌, ℕ, Err, IfOk,
 ghost use Rattle.std.specs.FinMap.{entries, get};
 ghost use Rattle.std.specs.Int.{w64, to_be_bytes};
 ghost use Rattle.std.specs.List.{list_all};
-ghost use Rattle.alt_changes.specs.ChangeRows.{IsReadChange, IsReadItem, change_columns, change_in, item_bytes};
-ghost use Rattle.alt_changes.specs.NoChange.{IsBadAt, IsBadItem, IsBadMoment, NoItem, NoMoment, NoneIs, is_column, is_map};
+ghost use Rattle.alt_changes.specs.ChangeRows.{IsReadChange, IsReadItem, change_columns, change_in, item_bytes, writer_cell};
+ghost use Rattle.alt_changes.specs.NoChange.{IsBadAt, IsBadItem, IsBadMoment, IsBadWriter, NoItem, NoMoment, NoneIs, is_column, is_map};
 ghost use Rattle.alt_machine.specs.State as machine;
 
-use crate::changes::{Change, MAP, MOMENT, NEW, OLD};
+use crate::changes::{Change, EXPIRED, MAP, MOMENT, NEW, OLD};
 use alt_cellbytes::attr_within;
 use alt_cells::ShownRow;
+use alt_codec::Writer;
 use alt_fields::{BytesFault, take_u64};
 use alt_value::{Attr, Item};
 use std::alloc::Global;
@@ -31,6 +32,7 @@ pub fn change_of(alloc: Global, number: u64, row: &ShownRow) -> Result<Change, B
     let moment = moment_in(row)?;
     let new = item_in(alloc, row, NEW)?;
     let old = item_in(alloc, row, OLD)?;
+    let by = writer_in(row)?;
     let Some(moment) = moment else {
         return Err(BytesFault::Bad { at: 0 });
     };
@@ -42,6 +44,7 @@ pub fn change_of(alloc: Global, number: u64, row: &ShownRow) -> Result<Change, B
         moment,
         old,
         new,
+        by,
     })
 }
 
@@ -78,6 +81,18 @@ fn item_in(alloc: Global, row: &ShownRow, name: &[u8]) -> Result<Option<Item>, B
     match row.get(name) {
         Some(bytes) => Ok(Some(item_of(alloc, bytes.as_slice())?)),
         None => Ok(None),
+    }
+}
+
+/// Who wrote the change, by the cell of a row that tells it, which is empty.
+fn writer_in(row: &ShownRow) -> Result<Writer, BytesFault>
+    ensures writer { IfOk result (λ by. get row.now (codes "u") ≡ writer_cell by) }
+    ensures bad { (at : ℕ) → result ≡ Err (BytesFault.Bad at) → IsBadWriter row.now at }
+{
+    match row.get(EXPIRED) {
+        Some(bytes) if bytes.as_slice().is_empty() => Ok(Writer::Expiry),
+        Some(_) => Err(BytesFault::Bad { at: 0 }),
+        None => Ok(Writer::User),
     }
 }
 
@@ -119,5 +134,5 @@ fn has_no_others(row: &ShownRow) -> bool
 fn is_column(name: &[u8]) -> bool
     ensures { result ≡ is_column name.now }
 {
-    name == MOMENT || name == NEW || name == OLD
+    name == MOMENT || name == NEW || name == OLD || name == EXPIRED
 }

@@ -1,6 +1,6 @@
 //! The records that a stream shows of its changes (Streams API Reference, "Record" and "StreamRecord").
 
-ghost use Rattle.std.specs.Prelude.{◌≡◌, ◌↔◌, ◌≤◌, false, IfOk, IfSome, IsSome, IsTrue, None, OnOk, option_map};
+ghost use Rattle.std.specs.Prelude.{◌≡◌, ◌↔◌, ◌≤◌, false, IfOk, IfSome, IsSome, IsTrue, None, OnOk, Some, codes, option_map};
 ghost use Rattle.std.specs.Option.{option_map_or};
 ghost use Rattle.serde_json.specs.Data.{put, string};
 ghost use Rattle.serde_json.specs.View.{view, members_view};
@@ -16,7 +16,7 @@ ghost use Rattle.alt_value.specs.Size.{item_size};
 
 use crate::changes::Change;
 use alt_base::NoMemory;
-use alt_codec::json_of_item;
+use alt_codec::{Writer, json_of_item};
 use alt_machine::LARGEST_ITEM;
 use alt_schema::{KeyAttr, TableSchema, View, label, view_word};
 use alt_value::{Item, copy, item_size_within};
@@ -58,6 +58,32 @@ fn record_shown(
     put_text(alloc, &mut members, "eventName", event_name(change))?;
     put_text(alloc, &mut members, "eventSource", "aws:dynamodb")?;
     put_text(alloc, &mut members, "eventVersion", "1.1")?;
+    put_identity(alloc, &mut members, change.by)?;
+    Ok(Value::Object(members))
+}
+
+/// Puts who made the change, where that was time to live.
+fn put_identity(alloc: Global, members: &mut Map<String, Value>, by: Writer) -> Result<(), NoMemory>
+    ensures { OnOk result (members_view members.new.entries
+        ≡ put_if (codes "userIdentity") (machine.identity by) (members_view members.old.entries)) }
+{
+    match by {
+        Writer::User => Ok(()),
+        Writer::Expiry => {
+            let identity = expiry_json(alloc)?;
+            serde_json::put(members, alloc, "userIdentity", identity)?;
+            Ok(())
+        }
+    }
+}
+
+/// Time to live, as a record names it.
+fn expiry_json(alloc: Global) -> Result<Value, NoMemory>
+    ensures { IfOk result (λ v. machine.identity Writer.Expiry ≡ Some (view v)) }
+{
+    let mut members = Map::new(alloc);
+    put_text(alloc, &mut members, "PrincipalId", "dynamodb.amazonaws.com")?;
+    put_text(alloc, &mut members, "Type", "Service")?;
     Ok(Value::Object(members))
 }
 

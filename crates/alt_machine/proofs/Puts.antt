@@ -7,6 +7,7 @@ use Rattle.std.proofs.lemmas.Option.{same_Some}
 use Rattle.serde_json.specs.Data.{Data, Members}
 use Rattle.alt_codec.specs.declared.fault.ValueFault.{ValueFault}
 use Rattle.alt_codec.specs.Reading.{item_in}
+use Rattle.alt_codec.specs.declared.writer.Writer.TheVariants.{User}
 use Rattle.alt_machine.specs.declared.TheConstants.{LARGEST_ITEM}
 use Rattle.alt_expr.specs.declared.cond.Cond.{Cond}
 use Rattle.alt_machine.specs.declared.Sought.TheVariants.{Item, Key}
@@ -94,7 +95,7 @@ writes_steps s moment name t place new there put = by (is_same (map.get t.items 
         → AreSteps a_number s (if b then [] else after_item s moment name t place new ∷ [])
     by true e = no_steps a_number s
     by false e = one_step a_number s (after_item s moment name t place new) (λ v enough.
-        after_item_valid s moment name t place new v (number_room s enough) there e (put v))
+        after_item_valid s moment User name t place new v (number_room s enough) there e (put v))
 
 -- what is done where a condition holds
 pub steps-met : (s : State) (condition : Option Cond) (ms : Members) (old : Option (List Pair))

@@ -5,6 +5,7 @@ use Rattle.std.specs.FinMap.{len-insert, len-remove, len-empty}
 use Rattle.std.specs.FinMap as map
 use Rattle.std.proofs.lemmas.List.Elements.{All-nil, All-push, All-weaker}
 use Rattle.std.proofs.lemmas.List.Quantifiers.{all_pairs_push}
+use Rattle.alt_codec.specs.declared.writer.Writer.{Writer}
 use Rattle.alt_schema.specs.Described.{IsNew}
 use Rattle.alt_schema.specs.declared.schema.TableSchema.{TableSchema}
 use Rattle.alt_value.specs.Members.{text_order}
@@ -18,7 +19,7 @@ use Rattle.alt_machine.specs.Same.{is_same}
 use Rattle.alt_machine.specs.State.{State, Table, Change, start, new_table, families_of}
 use Rattle.alt_machine.specs.Trimming.{kept, trimmed_at}
 use Rattle.alt_machine.specs.Valid.{IsStored, WasStored, IsChange, AreChanges, IsMade, IsTable, IsValid}
-use Rattle.alt_machine.specs.Writes.{with_item, with_write, after_item}
+use Rattle.alt_machine.specs.Writes.{with_item, with_write_by, after_item_by}
 use Rattle.alt_machine.proofs.Families.{families_few, families_within, families_differ, of_contained}
 use Rattle.alt_machine.proofs.Same.{is_same-equal}
 use Rattle.alt_machine.proofs.Looks.{at_insert, at_remove, not_there}
@@ -241,20 +242,26 @@ may_have_been : (d : TableSchema) (place : List ℕ) (o : Option (List Pair))
 may_have_been d place None h = tt
 may_have_been d place (Some item) h = was_stored d place item (h item refl)
 
-module _ (s : State) (moment : ℕ) (name : List ℕ) (t : Table) (place : List ℕ)
+module _ (s : State) (moment : ℕ) (writer : Writer) (name : List ℕ) (t : Table) (place : List ℕ)
     (new : Option (List Pair)) (v : IsValid s) (room : s.next_number < NUMBERS_END)
     (there : map.get s.tables name ≡ Some t)
     (differ : is_same (map.get t.items place) new ≡ false)
     (put : (item : List Pair) → new ≡ Some item → IsStored t.description place item) where
   abbrev r : State
-  r = after_item s moment name t place new
+  r = after_item_by s moment writer name t place new
 
   abbrev changed : Table
-  changed = with_write s.next_number moment t place new
+  changed = with_write_by s.next_number moment writer t place new
 
   -- the change of that write
   abbrev change : Change
-  change = record { number = s.next_number; moment = moment; old = map.get t.items place; new = new }
+  change = record {
+    number = s.next_number;
+    moment = moment;
+    old = map.get t.items place;
+    new = new;
+    by = writer;
+  }
 
   pub change_is : IsChange t.description (s.next_number + 1) change
   change_is = record {

@@ -13,12 +13,13 @@ use Rattle.alt_changes.specs.TrimRows.{AreLeft, hidden, trimmed_changes}
 use Rattle.alt_hand.specs.InHand.{batch_write}
 use Rattle.alt_layout.specs.Layout.{Layout, IsPast, change_of, shown}
 use Rattle.alt_layout.proofs.BatchLaws.{shows_batch}
+use Rattle.alt_codec.specs.declared.writer.Writer.{Writer}
 use Rattle.alt_machine.specs.Changes.{change_left}
 use Rattle.alt_machine.specs.Same.{is_same}
 use Rattle.alt_machine.specs.State.{Change, State, Table}
 use Rattle.alt_machine.specs.Trimming.{kept, trimmed_at}
 use Rattle.alt_machine.specs.Valid.{IsValid}
-use Rattle.alt_machine.specs.Writes.{with_write}
+use Rattle.alt_machine.specs.Writes.{with_write_by}
 use Rattle.alt_machine.proofs.Trimming.{trimmed_most}
 use Rattle.alt_opening.proofs.OneState.{some}
 use Rattle.alt_schema.specs.declared.schema.TableSchema.{TableSchema}
@@ -45,12 +46,12 @@ lowest_are_left l d n = by d.stream_family
         (filter_rising (λ m. is_some (shown l family (row_key m))) 1 n (n + 1) (omega arith)))
 
 module _ (s : State) (name : List ℕ) (t : Table) (at : map.get s.tables name ≡ Some t)
-    (valid : IsValid s) (moment : ℕ) (place : List ℕ) (to : Option (List Pair))
+    (valid : IsValid s) (moment : ℕ) (writer : Writer) (place : List ℕ) (to : Option (List Pair))
     (differ : is_same (map.get t.items place) to ≡ false) (l : Layout) (r : Trim)
     (is : IsTrim l t moment r) where
   -- the table then, and the change of the write
   abbrev after : Table
-  after = with_write s.next_number moment t place to
+  after = with_write_by s.next_number moment writer t place to
 
   abbrev change : Change
   change = record {
@@ -58,9 +59,10 @@ module _ (s : State) (name : List ℕ) (t : Table) (at : map.get s.tables name �
     moment = moment;
     old = map.get t.items place;
     new = to;
+    by = writer;
   }
 
-  left_is : change_left s.next_number moment (map.get t.items place) to ≡ Some change
+  left_is : change_left s.next_number moment writer (map.get t.items place) to ≡ Some change
   left_is = ap (λ b. if b then None else Some change) differ
 
   -- the number is what was read
@@ -107,8 +109,8 @@ module _ (s : State) (name : List ℕ) (t : Table) (at : map.get s.tables name �
 
     -- so the others are left over then
     pub leftovers_then : IsPast l → (changes : List RowChange)
-        → changes ≡ write_changes t.description s.next_number moment place (map.get t.items place)
-        to t.trimmed r.number r.leftovers.items → T (is_distinct changes)
+        → changes ≡ write_changes t.description s.next_number moment writer place
+        (map.get t.items place) to t.trimmed r.number r.leftovers.items → T (is_distinct changes)
         → leftovers (changed_rows l changes) family r.number
         ≡ drop 2 (leftovers l family r.number)
     leftovers_then past changes written distinct = leftovers_after family s.next_number t.trimmed
@@ -116,8 +118,8 @@ module _ (s : State) (name : List ℕ) (t : Table) (at : map.get s.tables name �
         (shows_batch l (batch_write l changes) distinct past (omega arith)) refl refl below_then
         (let high = valid.next_number.1 in omega (arith, high))
         (λ key. (λ i. change_of family key (written i))
-        ∙ write_stream t.description s.next_number moment place (map.get t.items place) to t.trimmed
-        r.number r.leftovers.items differ (valid.tables name t at).differ family stream key
+        ∙ write_stream t.description s.next_number moment writer place (map.get t.items place) to
+        t.trimmed r.number r.leftovers.items differ (valid.tables name t at).differ family stream key
         ∙ ap (λ hs. change_of family key (row_change family change
         ∷ (trimmed_changes family t.trimmed r.number ++ map_list (hidden family) hs))) lowest_is)
 
@@ -151,10 +153,10 @@ module _ (s : State) (name : List ℕ) (t : Table) (at : map.get s.tables name �
     where
       changes_stay : after.changes ≡ t.changes
       changes_stay i = if is_some (none i)
-          then kept moment (t.changes ++ option_to_list (change_left s.next_number moment
+          then kept moment (t.changes ++ option_to_list (change_left s.next_number moment writer
           (map.get t.items place) to)) else t.changes
 
       trimmed_stays : after.trimmed ≡ t.trimmed
       trimmed_stays i = if is_some (none i)
           then trimmed_at moment t.trimmed (t.changes ++ option_to_list (change_left s.next_number
-          moment (map.get t.items place) to)) else t.trimmed
+          moment writer (map.get t.items place) to)) else t.trimmed

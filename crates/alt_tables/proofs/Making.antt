@@ -11,6 +11,7 @@ use Rattle.std.specs.FinMap as map
 use Rattle.alt_cells.specs.Batches.{is_distinct}
 use Rattle.alt_cells.specs.declared.batch.RowChange.{RowChange}
 use Rattle.alt_disk.specs.Disk.{DiskState}
+use Rattle.alt_codec.specs.declared.writer.Writer.{Writer}
 use Rattle.alt_machine.specs.declared.TheConstants.{NUMBERS_END, FAMILIES_END, MOST_FAMILIES, MOST_TABLES}
 use Rattle.alt_machine.specs.Ops.CreateTable.{with_table}
 use Rattle.alt_machine.specs.Ops.DeleteTable.{without_table}
@@ -19,7 +20,7 @@ use Rattle.alt_machine.specs.Same.{is_same}
 use Rattle.alt_machine.specs.State.{State, Table, Texts, new_table, families_of}
 use Rattle.alt_machine.specs.Valid.{IsStored, IsMade, IsValid}
 use Rattle.alt_machine.specs.Wanted.{lack_of, table_lack}
-use Rattle.alt_machine.specs.Writes.{with_write, after_item, item_writes}
+use Rattle.alt_machine.specs.Writes.{with_write_by, after_item_by, item_writes_by}
 use Rattle.alt_machine.proofs.Descriptions.{len-descriptions}
 use Rattle.alt_machine.proofs.Lacks.{has_table, one_has, one_lacks}
 use Rattle.alt_schema.specs.Described.{IsNew}
@@ -105,25 +106,26 @@ fronts_of_rows now new l tables rows are m other =
 -- ---- an item
 
 module _ (before : DiskState) (old : Tables) (s : State) (t : Table) (stands : Stands before old s)
-    (moment : ℕ) (name place : List ℕ) (found to : Option (List Pair))
+    (moment : ℕ) (writer : Writer) (name place : List ℕ) (found to : Option (List Pair))
     (at : map.get s.tables name ≡ Some t) (there : found ≡ map.get t.items place) where
   abbrev after : State
-  after = after_item s moment name t place to
+  after = after_item_by s moment writer name t place to
 
   -- one write is to be made
-  pub item_differs : is_same found to ≡ false → item_writes s moment name t place to ≡ after ∷ []
+  pub item_differs : is_same found to ≡ false
+      → item_writes_by s moment writer name t place to ≡ after ∷ []
   item_differs differ = ap (λ b. if b then [] else after ∷ [])
       (ap (λ o. is_same o to) (sym there) ∙ differ)
 
   module _ (r : Trim) (is : IsTrim stands.rows.layout t moment r) (d : TableSchema) (number : ℕ)
       (batch : List RowChange) (described : map.get (catalog_of old) name ≡ Some d)
       (numbered : number ≡ number_of old)
-      (written : batch ≡ write_changes d number moment place found to
+      (written : batch ≡ write_changes d number moment writer place found to
       (number_at name (trimmed_of old)) r.number r.leftovers.items)
       (differ : is_same found to ≡ false) where
     -- the table then
     abbrev table_after : Table
-    table_after = with_write s.next_number moment t place to
+    table_after = with_write_by s.next_number moment writer t place to
 
     same : t.description ≡ d
     same = some _ _ (sym (known before old s name t stands at) ∙ described)
@@ -136,35 +138,36 @@ module _ (before : DiskState) (old : Tables) (s : State) (t : Table) (stands : S
     trimmed_is = stands.trimmed name ∙ ap (λ o. option_map_or (λ (t : Table). t.trimmed) o 0) at
 
     number_then : table_after.trimmed ≡ r.number
-    number_then = trimmed_then s name t at stands.valid moment place to differs stands.rows.layout r is
+    number_then = trimmed_then s name t at stands.valid moment writer place to differs
+        stands.rows.layout r is
 
     -- the row changes in words of the state
-    in_state : batch ≡ write_changes t.description s.next_number moment place (map.get t.items place)
-        to t.trimmed r.number r.leftovers.items
+    in_state : batch ≡ write_changes t.description s.next_number moment writer place
+        (map.get t.items place) to t.trimmed r.number r.leftovers.items
     in_state = written
-        ∙ (λ i. write_changes (sym same i) ((numbered ∙ stands.number) i) moment place (there i) to
-        (trimmed_is i) r.number r.leftovers.items)
+        ∙ (λ i. write_changes (sym same i) ((numbered ∙ stands.number) i) moment writer place
+        (there i) to (trimmed_is i) r.number r.leftovers.items)
 
     -- They turn the rows of the state into those of the state after it.
     pub item_turned : number_of old < NUMBERS_END → IfSome to (IsStored d place)
         → IfSome to IsItemOfValues → moment < 2 ^ 64 → Turns batch s after
     item_turned room stored given fits =
         subst (λ cs. Turns cs s after)
-        (ap (λ n. write_changes t.description s.next_number moment place (map.get t.items place) to
-        t.trimmed n r.leftovers.items) number_then
+        (ap (λ n. write_changes t.description s.next_number moment writer place
+        (map.get t.items place) to t.trimmed n r.leftovers.items) number_then
         ∙ sym in_state)
-        (item_turns s moment name t place to r.leftovers.items stands.valid stands.rows.held
+        (item_turns s moment writer name t place to r.leftovers.items stands.valid stands.rows.held
         (omega (arith, room, stands.number)) at differs
         (λ item e. subst (λ d. IsStored d place item) (sym same)
         (of_some (IsStored d place) to item stored e)) given fits
-        (left_then s name t at stands.valid moment place to differs stands.rows.layout r is))
+        (left_then s name t at stands.valid moment writer place to differs stands.rows.layout r is))
 
     -- the rows of the stream's family show what the front is after it
     pub item_leftovers : T (is_distinct batch) → (family : ℕ) → d.stream_family ≡ Some family
         → leftovers (changed_rows stands.rows.layout batch) family r.number
         ≡ drop 2 (leftovers stands.rows.layout family r.number)
-    item_leftovers distinct family stream = leftovers_then s name t at stands.valid moment place to
-        differs stands.rows.layout r is family
+    item_leftovers distinct family stream = leftovers_then s name t at stands.valid moment writer
+        place to differs stands.rows.layout r is family
         (ap (λ (x : TableSchema). x.stream_family) same ∙ stream)
         (stands_past before old.engine stands.rows.layout stands.rows.is) batch in_state distinct
 
@@ -177,8 +180,8 @@ module _ (before : DiskState) (old : Tables) (s : State) (t : Table) (stands : S
     others_stay distinct q v family apart at_v stream = shown_elsewhere stands.rows.layout batch
         distinct (stands_past before old.engine stands.rows.layout stands.rows.is) family
         (subst (AreOthers family) (sym in_state)
-        (write_others t.description s.next_number moment place (map.get t.items place) to t.trimmed
-        r.number r.leftovers.items family
+        (write_others t.description s.next_number moment writer place (map.get t.items place) to
+        t.trimmed r.number r.leftovers.items family
         (λ own. false≢true (sym apart ∙ (bytes_eq-Decides name q).1
         (sym (stands.valid.families q name v t family at_v at
         (stream_family v.description family stream) own))))))
@@ -194,15 +197,15 @@ module _ (before : DiskState) (old : Tables) (s : State) (t : Table) (stands : S
       where
         own : (o : Option ℕ) → d.stream_family ≡ o → (f : Front) → front_at name new ≡ Some f
             → IsFront (changed_rows stands.rows.layout batch) table_after f
-        own (Some family) e f told = front_then s name t at stands.valid moment place to differs
-            stands.rows.layout r is family (ap (λ (x : TableSchema). x.stream_family) same ∙ e)
+        own (Some family) e f told = front_then s name t at stands.valid moment writer place to
+            differs stands.rows.layout r is family (ap (λ (x : TableSchema). x.stream_family) same ∙ e)
             (changed_rows stands.rows.layout batch) (item_leftovers distinct family e) f
             ((noted.stream family e).own f told)
         own None e f told =
             let (u, at_u, front) = stands.fronts stands.rows.layout stands.rows.is name f
             (ap (front_at name) (sym (noted.none e)) ∙ told) in
-            front_stays s name t at stands.valid moment place to differs stands.rows.layout r is
-            (ap (λ (x : TableSchema). x.stream_family) same ∙ e)
+            front_stays s name t at stands.valid moment writer place to differs stands.rows.layout r
+            is (ap (λ (x : TableSchema). x.stream_family) same ∙ e)
             (changed_rows stands.rows.layout batch) f
             (subst (λ v. IsFront stands.rows.layout v f) (some _ _ (sym at_u ∙ at)) front)
 

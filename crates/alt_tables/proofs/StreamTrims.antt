@@ -19,6 +19,7 @@ use Rattle.alt_changes.proofs.RowLaws.{change_can_show}
 use Rattle.alt_layout.specs.Layout.{Layout, change_of, shown, shown_by}
 use Rattle.alt_writes.specs.Writes.{Write}
 use Rattle.alt_layout.specs.Writes.{with_write}
+use Rattle.alt_codec.specs.declared.writer.Writer.{Writer}
 use Rattle.alt_machine.specs.Changes.{change_left, trimmed_with, with_change}
 use Rattle.alt_machine.specs.Same.{is_same}
 use Rattle.alt_machine.specs.State.{Change}
@@ -197,21 +198,27 @@ module _ (family moment before : ℕ) (change : Change) (cs : List Change) (left
 
 -- ---- in a table
 
-module _ (d : TableSchema) (family : ℕ) (stream : d.stream_family ≡ Some family) (n moment before : ℕ)
-    (old new : Option (List Pair)) (differ : is_same old new ≡ false) (cs : List Change)
-    (leftovers : List ℕ) where
+module _ (d : TableSchema) (family : ℕ) (stream : d.stream_family ≡ Some family) (n moment : ℕ)
+    (writer : Writer) (before : ℕ) (old new : Option (List Pair)) (differ : is_same old new ≡ false)
+    (cs : List Change) (leftovers : List ℕ) where
   -- the change that the write leaves
   abbrev change_made : Change
-  change_made = record { number = n; moment = moment; old = old; new = new }
+  change_made = record {
+    number = n;
+    moment = moment;
+    old = old;
+    new = new;
+    by = writer;
+  }
 
-  is_left : change_left n moment old new ≡ Some change_made
+  is_left : change_left n moment writer old new ≡ Some change_made
   is_left = ap (λ b. if b then None else Some change_made) differ
 
   abbrev kept_then : List Change
-  kept_then = with_change d moment (change_left n moment old new) cs
+  kept_then = with_change d moment (change_left n moment writer old new) cs
 
   abbrev trimmed_then : ℕ
-  trimmed_then = trimmed_with d moment (change_left n moment old new) cs before
+  trimmed_then = trimmed_with d moment (change_left n moment writer old new) cs before
 
   is_kept : kept_then ≡ kept moment (cs ++ change_made ∷ [])
   is_kept i = if is_some (stream i) then kept moment (cs ++ option_to_list (is_left i)) else cs
@@ -221,7 +228,8 @@ module _ (d : TableSchema) (family : ℕ) (stream : d.stream_family ≡ Some fam
       if is_some (stream i) then trimmed_at moment before (cs ++ option_to_list (is_left i)) else before
 
   -- the row changes of the write in the family
-  is_changed : (row_changes d (change_left n moment old new) ++ trim_changes d before trimmed_then leftovers)
+  is_changed : (row_changes d (change_left n moment writer old new)
+      ++ trim_changes d before trimmed_then leftovers)
       ≡ row_change family change_made ∷ (trimmed_changes family before
       (trimmed_at moment before (cs ++ change_made ∷ [])) ++ map (hidden family) leftovers)
   is_changed i =
@@ -234,7 +242,7 @@ module _ (d : TableSchema) (family : ℕ) (stream : d.stream_family ≡ Some fam
       → AreChanges d n before cs → AreChanges d (n + 1) before (cs ++ change_made ∷ [])
       → n < NUMBERS_END → AreLeft trimmed_then leftovers
       → ((key : List ℕ) → change_of family key w.changes
-      ≡ change_of family key (row_changes d (change_left n moment old new)
+      ≡ change_of family key (row_changes d (change_left n moment writer old new)
       ++ trim_changes d before trimmed_then leftovers))
       → ((key : List ℕ) → (IsLeftover before key → ⊥)
       → shown l family key ≡ stream_row before cs key)

@@ -10,6 +10,7 @@ use Rattle.alt_cells.specs.declared.batch.RowChange.{RowChange}
 use Rattle.alt_changes.specs.ChangeRows.{row_change, row_changes, row_key}
 use Rattle.alt_disk.specs.Disk.{DiskState, IsTrusted}
 use Rattle.alt_layout.specs.Layout.{Layout}
+use Rattle.alt_codec.specs.declared.writer.Writer.{Writer}
 use Rattle.alt_machine.specs.Changes.{change_left}
 use Rattle.alt_machine.specs.Same.{is_same}
 use Rattle.alt_machine.specs.State.{Change, State, Table}
@@ -58,22 +59,28 @@ has_none (c ∷ cs) ds family key e f = by ((c.family == family) && bytes_eq c.k
     by false e rest = rest e
 
 -- The row changes of an item have none of the row of a lesser number.
-pub no_lesser_row : (d : TableSchema) → HasOwnFamilies d → (number moment : ℕ) (place : List ℕ)
-    (old new : Option (List Pair)) (family : ℕ) → d.stream_family ≡ Some family → (k : ℕ)
+pub no_lesser_row : (d : TableSchema) → HasOwnFamilies d → (number moment : ℕ) (writer : Writer)
+    (place : List ℕ) (old new : Option (List Pair)) (family : ℕ) → d.stream_family ≡ Some family → (k : ℕ)
     → k < number → number < 2 ^ 64
-    → has_row (item_changes d number moment place old new) family (row_key k) ≡ false
-no_lesser_row d own number moment place old new family stream k less small = has_none
+    → has_row (item_changes d number moment writer place old new) family (row_key k) ≡ false
+no_lesser_row d own number moment writer place old new family stream k less small = has_none
     (change_between d.family place (option_map item_columns old) (option_map item_columns new)
     ∷ index_changes d old new)
-    (row_changes d (change_left number moment old new)) family (row_key k)
+    (row_changes d (change_left number moment writer old new)) family (row_key k)
     (change_new d own old new (change_between d.family place (option_map item_columns old)
     (option_map item_columns new)) refl family stream (row_key k))
     ((λ i. has_row (option_map_or (λ f. each (row_change f)
-    (option_to_list (change_left number moment old new))) (stream i) []) family (row_key k))
+    (option_to_list (change_left number moment writer old new))) (stream i) []) family (row_key k))
     ∙ by (is_same old new))
   where
     change : Change
-    change = record { number = number; moment = moment; old = old; new = new }
+    change = record {
+      number = number;
+      moment = moment;
+      old = old;
+      new = new;
+      by = writer;
+    }
 
     apart : (b : Bool) → bytes_eq (row_key number) (row_key k) ≡ b → b ≡ false
     apart true e = absurd (let same : number ≡ k = key_one number k small (omega (arith, less, small))
@@ -90,24 +97,25 @@ no_lesser_row d own number moment place old new family stream k less small = has
     by false = of_own (family == family)
 
 -- So a write may trim behind them.
-pub can_trim : (d : TableSchema) → HasOwnFamilies d → (number moment : ℕ) (place : List ℕ)
-    (old new : Option (List Pair)) (batch : List RowChange)
-    → batch ≡ item_changes d number moment place old new → (before : ℕ) (r : Trim)
+pub can_trim : (d : TableSchema) → HasOwnFamilies d → (number moment : ℕ) (writer : Writer)
+    (place : List ℕ) (old new : Option (List Pair)) (batch : List RowChange)
+    → batch ≡ item_changes d number moment writer place old new → (before : ℕ) (r : Trim)
     → IsWithin before number r → number < 2 ^ 64 → (family : ℕ) → d.stream_family ≡ Some family
     → CanTrim before r batch family
-can_trim d own number moment place old new batch is before r within small family stream = record {
-  rise = within.rise;
-  left = within.left;
-  differ = within.differ;
-  zero = let low = within.below in free 0 (omega (arith, low));
-  rows = All-weaker (λ k. (1 ≤ k) × (k ≤ r.number)) (λ k. has_row batch family (row_key k) ≡ false)
-      (λ k left. let high = left.1 in let below = within.below in
-      free k (omega (arith, high, below))) r.leftovers.items within.left;
-}
+can_trim d own number moment writer place old new batch is before r within small family stream =
+    record {
+      rise = within.rise;
+      left = within.left;
+      differ = within.differ;
+      zero = let low = within.below in free 0 (omega (arith, low));
+      rows = All-weaker (λ k. (1 ≤ k) × (k ≤ r.number)) (λ k. has_row batch family (row_key k) ≡ false)
+          (λ k left. let high = left.1 in let below = within.below in
+          free k (omega (arith, high, below))) r.leftovers.items within.left;
+    }
   where
     free : (k : ℕ) → k < number → has_row batch family (row_key k) ≡ false
     free k less = subst (λ cs. has_row cs family (row_key k) ≡ false) (sym is)
-        (no_lesser_row d own number moment place old new family stream k less small)
+        (no_lesser_row d own number moment writer place old new family stream k less small)
 
 -- ---- behind a call that reads
 
@@ -122,15 +130,15 @@ module _ (a m : DiskState) (old mid : Tables) (keeps : Keeps a m old mid) where
 -- ---- what is written
 
 module _ (a b : DiskState) (old new : Tables) (s : State) (t : Table) (stands : Stands a old s)
-    (moment : ℕ) (name place : List ℕ) (found to : Option (List Pair))
+    (moment : ℕ) (writer : Writer) (name place : List ℕ) (found to : Option (List Pair))
     (at : map.get s.tables name ≡ Some t) (was : found ≡ map.get t.items place) (r : Trim)
     (is : (l : Layout) → HasRows a old l → IsTrim l t moment r) (d : TableSchema)
     (described : map.get (catalog_of old) name ≡ Some d) (differ : is_same found to ≡ false)
     (after : ℕ) (known_after : after ≡ r.number) where
   -- the row changes, as they are made and in words of what is known behind them
   abbrev pub made : List RowChange
-  made = write_changes d (number_of old) moment place found to (number_at name (trimmed_of old))
-      r.number r.leftovers.items
+  made = write_changes d (number_of old) moment writer place found to
+      (number_at name (trimmed_of old)) r.number r.leftovers.items
 
   -- the rows that go are the lowest that are left over
   lowest_is : (l : Layout) → HasRows a old l → r.leftovers.items ≡ lowest_left l d after
@@ -139,9 +147,9 @@ module _ (a b : DiskState) (old new : Tables) (s : State) (t : Table) (stands : 
       (sym known_after i))
 
   pub made_is : (l : Layout) → HasRows a old l
-      → made ≡ write_changes d (number_of old) moment place found to
+      → made ≡ write_changes d (number_of old) moment writer place found to
       (number_at name (trimmed_of old)) after (lowest_left l d after)
-  made_is l rows i = write_changes d (number_of old) moment place found to
+  made_is l rows i = write_changes d (number_of old) moment writer place found to
       (number_at name (trimmed_of old)) (sym known_after i) (lowest_is l rows i)
 
   -- and the others are left over
@@ -154,7 +162,7 @@ module _ (a b : DiskState) (old new : Tables) (s : State) (t : Table) (stands : 
       let two : m ≡ changed_rows l made =
       one_layout_in_hand b new.engine m (changed_rows l made) later written in
       (λ i. leftovers ((two ∙ ap (λ x. changed_rows x made) one) i) family (known_after i))
-      ∙ item_leftovers a old s t stands moment name place found to at was r
+      ∙ item_leftovers a old s t stands moment writer name place found to at was r
       (is stands.rows.layout stands.rows.is) d (number_of old) made described refl refl differ
       distinct family stream
       ∙ (λ i. drop 2 (leftovers (sym one i) family (sym known_after i)))

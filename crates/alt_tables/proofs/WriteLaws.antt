@@ -19,13 +19,14 @@ use Rattle.alt_layout.specs.Layout.{Layout, shown, shown_by, change_of}
 use Rattle.alt_writes.specs.Writes.{Write}
 use Rattle.alt_layout.specs.Writes.{with_write}
 use Rattle.alt_layout.proofs.BatchLaws.{shows_batch}
+use Rattle.alt_codec.specs.declared.writer.Writer.{Writer}
 use Rattle.alt_machine.specs.declared.TheConstants.{NUMBERS_END}
 use Rattle.alt_machine.specs.Changes.{change_left}
 use Rattle.alt_machine.specs.Same.{is_same}
 use Rattle.alt_machine.specs.Sources.{index_at}
 use Rattle.alt_machine.specs.State.{State, Table, Texts, Change, families_of}
 use Rattle.alt_machine.specs.Valid.{AreChanges, IsStored, IsTable, IsValid, IsHeldChange, IsHeldState}
-use Rattle.alt_machine.specs.Writes.{with_item, with_write as with_row, after_item}
+use Rattle.alt_machine.specs.Writes.{with_item, with_write_by as with_row, after_item_by}
 use Rattle.alt_machine.proofs.Families.{of_contained}
 use Rattle.alt_machine.proofs.Indexing.{index_apart}
 use Rattle.alt_machine.proofs.Looks.{at_insert}
@@ -77,22 +78,22 @@ stream_within s name t is f stream = of_contained (λ f. (1 ≤ f) × (f < s.nex
     (families_of t.description) f is.families (stream_family t.description f stream)
 
 module _ (l : Layout) (s : State) (shows : Shows l s) (valid : IsValid s) (held : IsHeldState s)
-    (moment : ℕ) (name : List ℕ) (t : Table) (at : map.get s.tables name ≡ Some t)
+    (moment : ℕ) (writer : Writer) (name : List ℕ) (t : Table) (at : map.get s.tables name ≡ Some t)
     (place : List ℕ) (new : Option (List Pair)) (room : s.next_number < NUMBERS_END)
     (differ : is_same (map.get t.items place) new ≡ false)
     (stored : (item : List Pair) → new ≡ Some item → IsStored t.description place item)
     (given : IfSome new IsItemOfValues) (leftovers : List ℕ)
-    (left : AreLeft (with_row s.next_number moment t place new).trimmed leftovers) where
+    (left : AreLeft (with_row s.next_number moment writer t place new).trimmed leftovers) where
   -- what the write changes of the row
   abbrev change : RowChange
   change = change_between t.description.family place
       (option_map item_columns (map.get t.items place)) (option_map item_columns new)
 
   abbrev after : State
-  after = after_item s moment name t place new
+  after = after_item_by s moment writer name t place new
 
   abbrev changed : Table
-  changed = with_row s.next_number moment t place new
+  changed = with_row s.next_number moment writer t place new
 
   -- descriptions stay
   same_catalog : (key : List ℕ) → catalog_rows s key ≡ catalog_rows after key
@@ -128,7 +129,7 @@ module _ (l : Layout) (s : State) (shows : Shows l s) (valid : IsValid s) (held 
   -- what the stream gets
   abbrev row_part : List RowChange
   row_part = row_changes t.description
-      (change_left s.next_number moment (map.get t.items place) new)
+      (change_left s.next_number moment writer (map.get t.items place) new)
 
   -- and what it trims
   abbrev trim_part : List RowChange
@@ -150,7 +151,7 @@ module _ (l : Layout) (s : State) (shows : Shows l s) (valid : IsValid s) (held 
       → ((f : ℕ) → t.description.stream_family ≡ Some f → f ≢ family) → AreOthers family stream_part
   stream_part_apart family apart = others-append family row_part trim_part
       (others-row_changes t.description
-      (change_left s.next_number moment (map.get t.items place) new) family apart)
+      (change_left s.next_number moment writer (map.get t.items place) new) family apart)
       (others-trim_changes t.description t.trimmed changed.trimmed leftovers family apart)
 
   -- none of those changes is of the table's own family
@@ -241,7 +242,7 @@ module _ (l : Layout) (s : State) (shows : Shows l s) (valid : IsValid s) (held 
     behind : (f : ℕ) → t.description.stream_family ≡ Some f
         → (key : List ℕ) → (IsLeftover changed.trimmed key → ⊥)
         → shown (with_write l w) f key ≡ change_rows changed key
-    behind f stream = stream_shows t.description f stream s.next_number moment t.trimmed
+    behind f stream = stream_shows t.description f stream s.next_number moment writer t.trimmed
         (map.get t.items place) new differ t.changes leftovers l w law valid.next_number.0
         is_table.changes
         (changes_with t.description s.next_number t.trimmed f (record {
@@ -249,8 +250,9 @@ module _ (l : Layout) (s : State) (shows : Shows l s) (valid : IsValid s) (held 
           moment = moment;
           old = map.get t.items place;
           new = new;
+          by = writer;
         }) t.changes stream refl
-        (change_is s moment name t place new valid room at differ stored) is_table.changes)
+        (change_is s moment writer name t place new valid room at differ stored) is_table.changes)
         room left
         (λ key. ap (change_of f key) changes
         ∙ other_family change (index_part ++ stream_part) f key
@@ -326,21 +328,23 @@ module _ (l : Layout) (s : State) (shows : Shows l s) (valid : IsValid s) (held 
     }
 
 -- a state with an item more is held, as far as the item is
-held_after : (s : State) (moment : ℕ) (name : List ℕ) (t : Table) (place : List ℕ)
+held_after : (s : State) (moment : ℕ) (writer : Writer) (name : List ℕ) (t : Table) (place : List ℕ)
     (new : Option (List Pair)) → IsHeldWhole s → map.get s.tables name ≡ Some t
     → IfSome new IsItemOfValues → moment < 2 ^ 64
-    → IsHeldWhole (after_item s moment name t place new)
-held_after s moment name t place new held at given fits = record {
+    → IsHeldWhole (after_item_by s moment writer name t place new)
+held_after s moment writer name t place new held at given fits = record {
   items = record {
     items = λ other q u item at_other here. items other u q item here
-        (at_insert s.tables name other u (with_row s.next_number moment t place new) at_other);
+        (at_insert s.tables name other u (with_row s.next_number moment writer t place new)
+        at_other);
     changes = λ other u at_other. changes other u
-        (at_insert s.tables name other u (with_row s.next_number moment t place new) at_other);
+        (at_insert s.tables name other u (with_row s.next_number moment writer t place new)
+        at_other);
   };
   moments = λ other u at_other. moments other u
-      (at_insert s.tables name other u (with_row s.next_number moment t place new) at_other);
+      (at_insert s.tables name other u (with_row s.next_number moment writer t place new) at_other);
   descriptions = λ other u at_other. descriptions other u
-      (at_insert s.tables name other u (with_row s.next_number moment t place new) at_other);
+      (at_insert s.tables name other u (with_row s.next_number moment writer t place new) at_other);
 }
   where
     new_or_old : (to : Option (List Pair)) (q : List ℕ) (item : List Pair) (b : Bool)
@@ -352,7 +356,7 @@ held_after s moment name t place new held at given fits = record {
 
     items : (other : List ℕ) (u : Table) (q : List ℕ) (item : List Pair)
         → map.get u.items q ≡ Some item
-        → ((other ≡ name) × (with_row s.next_number moment t place new ≡ u))
+        → ((other ≡ name) × (with_row s.next_number moment writer t place new ≡ u))
         ⊎ (map.get s.tables other ≡ Some u) → IsItemOfValues item
     items other u q item here (inl changed) = new_or_old new q item (eq_by_cmp key_cmp q place)
         given (sym (get-with_item t.items place new q)
@@ -365,7 +369,8 @@ held_after s moment name t place new held at given fits = record {
       moment = moment;
       old = map.get t.items place;
       new = new;
-    }) → All P t.changes → All P (with_row s.next_number moment t place new).changes
+      by = writer;
+    }) → All P t.changes → All P (with_row s.next_number moment writer t place new).changes
     all_left P last all = by (is_some t.description.stream_family)
         (is_same (map.get t.items place) new)
       where
@@ -375,6 +380,7 @@ held_after s moment name t place new held at given fits = record {
               moment = moment;
               old = map.get t.items place;
               new = new;
+              by = writer;
             }))) else t.changes)
         by true true = kept_all P moment _ (subst (All P) (sym (append-nil t.changes)) all)
         by true false = kept_all P moment _ (All-push P t.changes _ all last)
@@ -385,7 +391,7 @@ held_after s moment name t place new held at given fits = record {
     was_held (Some item) is = held.items.items name place t item at is
 
     changes : (other : List ℕ) (u : Table)
-        → ((other ≡ name) × (with_row s.next_number moment t place new ≡ u))
+        → ((other ≡ name) × (with_row s.next_number moment writer t place new ≡ u))
         ⊎ (map.get s.tables other ≡ Some u) → All IsHeldChange u.changes
     changes other u (inl changed) = subst (λ (x : Table). All IsHeldChange x.changes) changed.1
         (all_left IsHeldChange (was_held (map.get t.items place) refl, given)
@@ -393,14 +399,14 @@ held_after s moment name t place new held at given fits = record {
     changes other u (inr old) = held.items.changes other u old
 
     moments : (other : List ℕ) (u : Table)
-        → ((other ≡ name) × (with_row s.next_number moment t place new ≡ u))
+        → ((other ≡ name) × (with_row s.next_number moment writer t place new ≡ u))
         ⊎ (map.get s.tables other ≡ Some u) → All HasMoment u.changes
     moments other u (inl changed) = subst (λ (x : Table). All HasMoment x.changes) changed.1
         (all_left HasMoment fits (held.moments name t at))
     moments other u (inr old) = held.moments other u old
 
     descriptions : (other : List ℕ) (u : Table)
-        → ((other ≡ name) × (with_row s.next_number moment t place new ≡ u))
+        → ((other ≡ name) × (with_row s.next_number moment writer t place new ≡ u))
         ⊎ (map.get s.tables other ≡ Some u) → IsHeld u.description
     descriptions other u (inl changed) = subst (λ (x : Table). IsHeld x.description) changed.1
         (held.descriptions name t at)
@@ -408,31 +414,32 @@ held_after s moment name t place new held at given fits = record {
 
 -- The change of an item's row, with those of its rows in the indexes and in the stream, turns the state into the one with that item,
 -- whichever rows that are left over go with it.
-pub item_turns : (s : State) (moment : ℕ) (name : List ℕ) (t : Table) (place : List ℕ)
-    (new : Option (List Pair)) (leftovers : List ℕ) → IsValid s → IsHeldWhole s
+pub item_turns : (s : State) (moment : ℕ) (writer : Writer) (name : List ℕ) (t : Table)
+    (place : List ℕ) (new : Option (List Pair)) (leftovers : List ℕ) → IsValid s → IsHeldWhole s
     → s.next_number < NUMBERS_END
     → map.get s.tables name ≡ Some t → is_same (map.get t.items place) new ≡ false
     → ((item : List Pair) → new ≡ Some item → IsStored t.description place item)
     → IfSome new IsItemOfValues → moment < 2 ^ 64
-    → AreLeft (with_row s.next_number moment t place new).trimmed leftovers
-    → Turns (write_changes t.description s.next_number moment place (map.get t.items place) new
-    t.trimmed (with_row s.next_number moment t place new).trimmed leftovers) s
-    (after_item s moment name t place new)
-item_turns s moment name t place new leftovers valid held room at differ stored given fits left =
+    → AreLeft (with_row s.next_number moment writer t place new).trimmed leftovers
+    → Turns (write_changes t.description s.next_number moment writer place (map.get t.items place)
+    new t.trimmed (with_row s.next_number moment writer t place new).trimmed leftovers) s
+    (after_item_by s moment writer name t place new)
+item_turns s moment writer name t place new leftovers valid held room at differ stored given fits
+    left =
     let changes : List RowChange =
-    write_changes t.description s.next_number moment place (map.get t.items place) new t.trimmed
-    (with_row s.next_number moment t place new).trimmed leftovers in
+    write_changes t.description s.next_number moment writer place (map.get t.items place) new
+    t.trimmed (with_row s.next_number moment writer t place new).trimmed leftovers in
     record {
-      shows = λ distinct l past shows. shows_item l s shows valid held.items moment name t at place
-          new room differ stored given leftovers left (batch_write l changes)
+      shows = λ distinct l past shows. shows_item l s shows valid held.items moment writer name t at
+          place new room differ stored given leftovers left (batch_write l changes)
           (ap (λ cs. change_between t.description.family place
           (option_map item_columns (map.get t.items place)) (option_map item_columns new) ∷ cs)
           (append_assoc (index_changes t.description (map.get t.items place) new)
           (row_changes t.description
-          (change_left s.next_number moment (map.get t.items place) new))
-          (trim_changes t.description t.trimmed (with_row s.next_number moment t place new).trimmed
-          leftovers))) refl
+          (change_left s.next_number moment writer (map.get t.items place) new))
+          (trim_changes t.description t.trimmed (with_row s.next_number moment writer t place
+          new).trimmed leftovers))) refl
           (shows_batch l (batch_write l changes) distinct past (omega arith));
-      valid = after_item_valid s moment name t place new valid room at differ stored;
-      held = held_after s moment name t place new held at given fits;
+      valid = after_item_valid s moment writer name t place new valid room at differ stored;
+      held = held_after s moment writer name t place new held at given fits;
     }

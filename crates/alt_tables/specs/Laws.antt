@@ -6,11 +6,12 @@ use Rattle.alt_disk.specs.Disk.{DiskState, IsImage}
 use Rattle.alt_disk.specs.Runs.{Quiet}
 use Rattle.alt_layout.specs.Files.{IsLayout}
 use Rattle.alt_layout.specs.Layout.{no_rows}
+use Rattle.alt_codec.specs.declared.writer.Writer.{Writer}
 use Rattle.alt_machine.specs.declared.TheConstants.{NUMBERS_END}
 use Rattle.alt_machine.specs.Same.{is_same}
 use Rattle.alt_machine.specs.State.{State, Table, start}
 use Rattle.alt_machine.specs.Valid.{IsStored, IsValid}
-use Rattle.alt_machine.specs.Writes.{after_item, with_write}
+use Rattle.alt_machine.specs.Writes.{after_item_by, with_write_by}
 use Rattle.alt_opening.specs.StateRows.{IsHeldWhole}
 use Rattle.alt_tables.specs.RowChanges.{Turns, write_changes}
 use Rattle.alt_value.specs.Tree.{Pair}
@@ -51,13 +52,13 @@ MadeStands = (image : ℕ → Option (List ℕ)) → IsLayout image no_rows → 
 -- The changes of an item's row, of its rows in all indexes and of the rows of the stream, whichever rows that are left over are hidden, turn the
 -- rows of a state into those of the state with that item, where it differs from what is there.
 abbrev pub ItemTurns : Type 0
-ItemTurns = (s : State) (moment : ℕ) (name : List ℕ) (t : Table) (place : List ℕ)
+ItemTurns = (s : State) (moment : ℕ) (writer : Writer) (name : List ℕ) (t : Table) (place : List ℕ)
     (new : Option (List Pair)) (leftovers : List ℕ) → IsValid s → IsHeldWhole s
     → s.next_number < NUMBERS_END
     → map.get s.tables name ≡ Some t → is_same (map.get t.items place) new ≡ false
     → ((item : List Pair) → new ≡ Some item → IsStored t.description place item)
     → IfSome new IsItemOfValues → moment < 2 ^ 64
-    → AreLeft (with_write s.next_number moment t place new).trimmed leftovers
-    → Turns (write_changes t.description s.next_number moment place (map.get t.items place) new
-    t.trimmed (with_write s.next_number moment t place new).trimmed leftovers) s
-    (after_item s moment name t place new)
+    → AreLeft (with_write_by s.next_number moment writer t place new).trimmed leftovers
+    → Turns (write_changes t.description s.next_number moment writer place (map.get t.items place)
+    new t.trimmed (with_write_by s.next_number moment writer t place new).trimmed leftovers) s
+    (after_item_by s moment writer name t place new)

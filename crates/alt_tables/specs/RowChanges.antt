@@ -8,6 +8,7 @@ use Rattle.alt_changes.specs.TrimRows.{trim_changes}
 use Rattle.alt_hand.specs.InHand.{batch_write}
 use Rattle.alt_layout.specs.Layout.{Layout, IsPast}
 use Rattle.alt_layout.specs.Writes.{with_write}
+use Rattle.alt_codec.specs.declared.writer.Writer.{Writer}
 use Rattle.alt_machine.specs.Changes.{change_left}
 use Rattle.alt_machine.specs.State.{State}
 use Rattle.alt_machine.specs.Valid.{IsValid}
@@ -18,19 +19,19 @@ use Rattle.alt_value.specs.Tree.{Pair}
 use Rattle.alt_opening.specs.StateRows.{Shows, IsHeldWhole, catalog_family, next_row, table_row}
 
 -- of an item, by the write of a number at a moment: the change of its row, those of its rows in the indexes, and the row that the
--- stream gets
-abbrev pub item_changes : TableSchema → ℕ → ℕ → List ℕ → Option (List Pair) → Option (List Pair)
-    → List RowChange
-item_changes d number moment place old new = change_between d.family place
+-- stream gets, which tells who made the write
+abbrev pub item_changes : TableSchema → ℕ → ℕ → Writer → List ℕ → Option (List Pair)
+    → Option (List Pair) → List RowChange
+item_changes d number moment writer place old new = change_between d.family place
     (option_map item_columns old) (option_map item_columns new)
-    ∷ (index_changes d old new ++ row_changes d (change_left number moment old new))
+    ∷ (index_changes d old new ++ row_changes d (change_left number moment writer old new))
 
 -- of the write that leaves the item: these, the row of number 0 of the stream where the number of the last change that is trimmed rises, and rows
 -- left over of such changes, which are hidden
-abbrev pub write_changes : TableSchema → ℕ → ℕ → List ℕ → Option (List Pair) → Option (List Pair)
-    → ℕ → ℕ → List ℕ → List RowChange
-write_changes d number moment place old new before after leftovers =
-    item_changes d number moment place old new ++ trim_changes d before after leftovers
+abbrev pub write_changes : TableSchema → ℕ → ℕ → Writer → List ℕ → Option (List Pair)
+    → Option (List Pair) → ℕ → ℕ → List ℕ → List RowChange
+write_changes d number moment writer place old new before after leftovers =
+    item_changes d number moment writer place old new ++ trim_changes d before after leftovers
 
 -- of a new table: its description, and the next family
 abbrev pub creation_changes : ℕ → ℕ → TableSchema → List RowChange

@@ -36,6 +36,7 @@ use crate::trimming::Trim;
 use alt_base::NoMemory;
 use alt_cells::{Batch, RowChange, ShownRow};
 use alt_changes::{change_row, trim_rows};
+use alt_codec::Writer;
 use alt_disk::Disk;
 use alt_fields::Bytes;
 use alt_machine::NUMBERS_END;
@@ -117,7 +118,8 @@ impl Tables {
         ensures rows { IfOk result (λ n. IsSome n → IsTrusted (D.state disk.old)
             → (d : TableSchema) (l : Layout) → map.get (catalog_of self.old) table.now ≡ Some d
             → HasRows (D.state disk.old) self.old l → HasRows (D.state disk.new) self.new
-            (changed_rows l (write_changes d (number_of self.old) moment found.place found.item new
+            (changed_rows l (write_changes d (number_of self.old) moment Writer.User found.place
+            found.item new
             (number_at table.now (trimmed_of self.old)) (number_at table.now (trimmed_of self.new))
             (lowest_left l d (number_at table.now (trimmed_of self.new)))))) }
         // After it the rows that are left over are those from before with those of the changes that it trims, without the two lowest of them.
@@ -191,7 +193,7 @@ impl Tables {
             → (d : TableSchema) (l : Layout) → map.get (catalog_of self.old) table.now ≡ Some d
             → HasRows (D.state disk.old) self.old l
             → IsWrittenAs (D.state disk.new) self.new l (write_changes d (number_of self.old) moment
-            found.place found.item new (number_at table.now (trimmed_of self.old)) trim.number
+            Writer.User found.place found.item new (number_at table.now (trimmed_of self.old)) trim.number
             trim.leftovers.items)) }
         ensures trimmed { OnOk result (number_at table.now (trimmed_of self.new) ≡ trim.number) }
         ensures no_memory { IsErrOf result TableFault.NoMemory
@@ -212,6 +214,7 @@ impl Tables {
             schema,
             number,
             moment,
+            Writer::User,
             found.place,
             found.row,
             &found.item,
@@ -326,7 +329,7 @@ impl Tables {
             → (d : TableSchema) (place : List ℕ) (l : Layout)
             → map.get (catalog_of self.old) table.now ≡ Some d → place_of d key.now ≡ Some place
             → HasRows (D.state disk.old) self.old l → HasRows (D.state disk.new) self.new
-            (changed_rows l (write_changes d (number_of self.old) moment place
+            (changed_rows l (write_changes d (number_of self.old) moment Writer.User place
             (option_map (λ i. i.now) old.entry) (option_map (λ i. i.now) new.entry)
             (number_at table.now (trimmed_of self.old)) (number_at table.now (trimmed_of self.new))
             (lowest_left l d (number_at table.now (trimmed_of self.new)))))) }
@@ -394,13 +397,14 @@ fn item_of(alloc: Global, row: &Option<ShownRow>) -> Result<Option<Item>, Unread
     }
 }
 
-/// The row changes of an item by the write of a number at a moment: in its table, in the indexes and in the stream. `row` is that of the
-/// old item.
+/// The row changes of an item by the write of a number at a moment: in its table, in the indexes and in the stream, which tells who made
+/// the write. `row` is that of the old item.
 fn item_batch(
     alloc: Global,
     schema: &TableSchema,
     number: u64,
     moment: u64,
+    by: Writer,
     place: Bytes,
     row: Option<ShownRow>,
     old: &Option<Item>,
@@ -409,7 +413,7 @@ fn item_batch(
     requires families { HasOwnFamilies schema.now }
     requires row { row ≡ option_map item_columns old.now }
     ensures changes { IfOk result (λ batch.
-        batch ≡ item_changes schema.now number moment place old.now new.now) }
+        batch ≡ item_changes schema.now number moment by place old.now new.now) }
     ensures held { OnOk result (IfSome new.now IsItemOfValues) }
 {
     let mut batch = view_batch(alloc, schema, place, row, old, new)?;
@@ -420,6 +424,7 @@ fn item_batch(
         new.as_ref(),
         number,
         moment,
+        by,
         &mut batch,
     )?;
     Ok(batch)

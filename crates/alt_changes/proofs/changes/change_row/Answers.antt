@@ -17,6 +17,7 @@ returns c =
       moment = c.args.moment;
       old = old;
       new = new;
+      by = c.args.by;
     } in
     let differ : is_same old new ≡ false = cc (c.same.ensures, c.if-same.false) in
     let of_key : List _ → RowChange = λ key. record {
@@ -29,6 +30,7 @@ returns c =
       changes = on_ok_weaker c.add.result (λ e. e ∙ ap (λ l. c.args.batch.now ++ l)
           (ap (λ r. r ∷ []) (ap of_key c.in_ok-number_bytes.ensures
           ∙ row_made c.in-Some.family change c.in_ok-cells_of.field-0 c.in_ok-cells_of.ensures)
-          ∙ sym (one_left c.args.schema.now c.args.number c.args.moment old new c.in-Some.family
+          ∙ sym (one_left c.args.schema.now c.args.number c.args.moment c.args.by old new
+          c.in-Some.family
           c.in-Some.is differ))) c.add.ensures.ok;
     }

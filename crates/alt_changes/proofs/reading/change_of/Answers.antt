@@ -2,8 +2,8 @@
 use Rattle.std.proofs.Common.{◌≡◌, true, false, Err, ap, subst, refl, codes}
 use Rattle.std.specs.FinMap.{entries}
 use Rattle.std.specs.List.{list_all}
-use Rattle.alt_changes.specs.NoChange.{IsBadItem, IsBadMoment, in_moment, in_new, in_old, is_column}
-use Rattle.alt_changes.proofs.Found.{MomentRead, bad_is, change_read, item_good, moment_good, no_bad_moment, no_bad_new, no_bad_old, no_others, some_moment}
+use Rattle.alt_changes.specs.NoChange.{IsBadItem, IsBadMoment, IsBadWriter, in_moment, in_new, in_old, in_writer, is_column}
+use Rattle.alt_changes.proofs.Found.{MomentRead, bad_is, change_read, item_good, moment_good, no_bad_moment, no_bad_new, no_bad_old, no_bad_writer, no_others, some_moment}
 use Rattle.alt_changes.proofs.reading.change_of.Goals as goal
 use Rattle.alt_fields.specs.declared.bytes.BytesFault.TheVariants.{Bad}
 
@@ -55,6 +55,24 @@ returns-in_err-old-clause-place c at bad =
     (item_good c.args.row.now (codes "n") c.in_ok-new.new c.in_ok-new.ensures.item)
     there.0 there.1 there.2
 
+-- ---- the cell of who wrote the change is
+
+pub returns-in_err-by-clause-none : goal.returns-in_err-by-clause-none
+returns-in_err-by-clause-none c at bad other read is =
+    no_bad_writer c.args.row.now other is at (c.in_err-by.ensures.bad at
+    (ap Err (bad_is c.from_residual-in_err-by.result c.in_err-by.field-0.0 (Bad at)
+    c.from_residual-in_err-by.ensures bad)))
+
+pub returns-in_err-by-clause-place : goal.returns-in_err-by-clause-place
+returns-in_err-by-clause-place c at bad =
+    let there : IsBadWriter c.args.row.now at = c.in_err-by.ensures.bad at
+    (ap Err (bad_is c.from_residual-in_err-by.result c.in_err-by.field-0.0 (Bad at)
+    c.from_residual-in_err-by.ensures bad)) in
+    in_writer (moment_good c.args.row.now c.in_ok-moment.moment c.in_ok-moment.ensures.moment)
+    (item_good c.args.row.now (codes "n") c.in_ok-new.new c.in_ok-new.ensures.item)
+    (item_good c.args.row.now (codes "o") c.in_ok-old.old c.in_ok-old.ensures.item)
+    there.0 there.1 there.2 there.3
+
 -- ---- a cell is missing, or is too many
 
 pub returns-in_default-clause-none : goal.returns-in_default-clause-none
@@ -79,6 +97,7 @@ returns-clause-change c =
       moment = c.in-Some.moment;
       old = c.in_ok-old.old;
       new = c.in_ok-new.new;
+      by = c.in_ok-by.by;
     }) (subst (MomentRead c.args.row.now) c.in-Some.is c.in_ok-moment.ensures.moment)
-    c.in_ok-new.ensures.item c.in_ok-old.ensures.item alone in
+    c.in_ok-new.ensures.item c.in_ok-old.ensures.item c.in_ok-by.ensures.writer alone in
     (refl, read.0, read.1)

@@ -3,6 +3,7 @@ use Rattle.std.proofs.Common.{◌≡◌, refl, sym, ap, ◌∙◌, ℕ, List, []
 use Rattle.std.specs.FinMap as map
 use Rattle.std.specs.Prelude.{IsSome, drop}
 use Rattle.alt_cells.specs.declared.batch.RowChange.{RowChange}
+use Rattle.alt_codec.specs.declared.writer.Writer.TheVariants.{User}
 use Rattle.alt_disk.specs.Disk.{DiskState, IsTrusted}
 use Rattle.alt_disk.proofs.Calls.{goes_on}
 use Rattle.alt_disk.proofs.Runs.{quiet_start, trusted_on}
@@ -45,7 +46,7 @@ returns-then-number-ge-NUMBERS_END-clause-writes g c s t stands at =
     subst (λ (ts : List State). BreakOff (Stands (g.D.Disk.state c.args.disk.now) c.args.self.now)
     a_number s ts (Spent c.next_number-number.result))
     (sym (item_differs (g.D.Disk.state c.args.disk.now) c.args.self.now s t stands
-    c.args.moment c.args.table.now c.args.found.place c.args.found.item c.args.new at
+    c.args.moment User c.args.table.now c.args.found.place c.args.found.item c.args.new at
     (c.requires.found s stands t at) (sym c.if-same.ensures)))
     (spent (Stands (g.D.Disk.state c.args.disk.now) c.args.self.now) a_number s
     (after_item s c.args.moment c.args.table.now t c.args.found.place c.args.new)
@@ -61,7 +62,7 @@ returns-in-Err-clause-writes g c s t stands at =
     subst (λ (ts : List State). BreakOff (Stands (g.D.Disk.state c.trim.new.disk) c.trim.new.self)
     a_number s ts c.in-Err.fault)
     (sym (item_differs (g.D.Disk.state c.args.disk.now) c.args.self.now s t stands
-    c.args.moment c.args.table.now c.args.found.place c.args.found.item c.args.new at
+    c.args.moment User c.args.table.now c.args.found.place c.args.found.item c.args.new at
     (c.requires.found s stands t at) (sym c.if-same.ensures)))
     (broke (Stands (g.D.Disk.state c.trim.new.disk) c.trim.new.self) a_number s
     (after_item s c.args.moment c.args.table.now t c.args.found.place c.args.new) c.in-Err.fault
@@ -128,7 +129,7 @@ returns-clause-writes g c s t stands at =
     subst (λ (ts : List State). Writes (Stands (g.D.Disk.state c.write_trimmed.new.disk)
     c.write_trimmed.new.self) a_number s ts c.write_trimmed.result)
     (sym (item_differs (g.D.Disk.state c.args.disk.now) c.args.self.now s t stands
-    c.args.moment c.args.table.now c.args.found.place c.args.found.item c.args.new at
+    c.args.moment User c.args.table.now c.args.found.place c.args.found.item c.args.new at
     (c.requires.found s stands t at) (sym c.if-same.ensures)))
     (c.write_trimmed.ensures.writes s t
     (stands_kept (g.D.Disk.state c.args.disk.now) (g.D.Disk.state c.trim.new.disk)
@@ -139,7 +140,7 @@ returns-clause-number g c s t stands at =
     subst (λ (ts : List State). IfOk c.write_trimmed.result
     (λ n. n ≡ number_taken (number_of c.args.self.now) ts))
     (sym (item_differs (g.D.Disk.state c.args.disk.now) c.args.self.now s t stands
-    c.args.moment c.args.table.now c.args.found.place c.args.found.item c.args.new at
+    c.args.moment User c.args.table.now c.args.found.place c.args.found.item c.args.new at
     (c.requires.found s stands t at) (sym c.if-same.ensures)))
     (subst (λ k. IfOk c.write_trimmed.result (λ n. n ≡ Some k)) c.trim.ensures.keeps.number
     c.write_trimmed.ensures.number)
@@ -149,7 +150,7 @@ returns-clause-disk g c s t stands at =
     subst (λ (ts : List State). Leaves (g.D.Disk.state c.args.disk.now)
     (g.D.Disk.state c.write_trimmed.new.disk) s ts)
     (sym (item_differs (g.D.Disk.state c.args.disk.now) c.args.self.now s t stands
-    c.args.moment c.args.table.now c.args.found.place c.args.found.item c.args.new at
+    c.args.moment User c.args.table.now c.args.found.place c.args.found.item c.args.new at
     (c.requires.found s stands t at) (sym c.if-same.ensures)))
     (leaves_after (g.D.Disk.state c.args.disk.now) (g.D.Disk.state c.trim.new.disk)
     (g.D.Disk.state c.write_trimmed.new.disk) c.args.self.now s
@@ -170,7 +171,8 @@ returns-clause-rows g c =
     let name : List ℕ = c.args.table.now in
     let r : Trim = c.in-Ok.trim in
     let changes : TableSchema → ℕ → ℕ → List RowChange = λ d number before. write_changes d number
-    c.args.moment c.args.found.place c.args.found.item c.args.new before r.number r.leftovers.items in
+    c.args.moment User c.args.found.place c.args.found.item c.args.new before r.number
+    r.leftovers.items in
     let in_old : (d : TableSchema) → changes d (number_of mid) (number_at name (trimmed_of mid))
     ≡ changes d (number_of old) (number_at name (trimmed_of old)) =
     λ d i. changes d (c.trim.ensures.keeps.number i)
@@ -181,7 +183,7 @@ returns-clause-rows g c =
     (λ (n : Option ℕ). IsSome n → IsTrusted a → (d : TableSchema) (l : Layout)
     → map.get (catalog_of old) name ≡ Some d → HasRows a old l
     → HasRows b new (changed_rows l (write_changes d (number_of old) c.args.moment
-    c.args.found.place c.args.found.item c.args.new (number_at name (trimmed_of old))
+    User c.args.found.place c.args.found.item c.args.new (number_at name (trimmed_of old))
     (number_at name (trimmed_of new)) (lowest_left l d (number_at name (trimmed_of new))))))
     (number_at name (trimmed_of new) ≡ r.number)
     c.write_trimmed.result c.write_trimmed.ensures.rows c.write_trimmed.ensures.trimmed
@@ -190,7 +192,7 @@ returns-clause-rows g c =
     let (t, at, same) = there a old s name d stands there_d in
     subst (λ (cs : List RowChange). HasRows b new (changed_rows l cs))
     (in_old d
-    ∙ made_is a b old new s t stands c.args.moment name c.args.found.place c.args.found.item
+    ∙ made_is a b old new s t stands c.args.moment User name c.args.found.place c.args.found.item
     c.args.new at (c.requires.found s stands t at) r
     (λ x has. c.in-Ok.ensures.trim s t x stands at has) d there_d (sym c.if-same.ensures)
     (number_at name (trimmed_of new)) after l rows_l)
@@ -209,7 +211,8 @@ returns-clause-leftovers g c =
     let name : List ℕ = c.args.table.now in
     let r : Trim = c.in-Ok.trim in
     let changes : TableSchema → ℕ → ℕ → List RowChange = λ d number before. write_changes d number
-    c.args.moment c.args.found.place c.args.found.item c.args.new before r.number r.leftovers.items in
+    c.args.moment User c.args.found.place c.args.found.item c.args.new before r.number
+    r.leftovers.items in
     let in_old : (d : TableSchema) → changes d (number_of mid) (number_at name (trimmed_of mid))
     ≡ changes d (number_of old) (number_at name (trimmed_of old)) =
     λ d i. changes d (c.trim.ensures.keeps.number i)
@@ -231,7 +234,8 @@ returns-clause-leftovers g c =
     (rows (trusted_on a m c.trim.ensures.keeps.reads.goes trusted) d l
     (ap (λ x. map.get x name) c.trim.ensures.keeps.catalog ∙ there_d)
     (rows_kept a m old mid c.trim.ensures.keeps trusted l rows_l)) in
-    made_leftovers a b old new s t stands c.args.moment name c.args.found.place c.args.found.item
+    made_leftovers a b old new s t stands c.args.moment User name c.args.found.place
+    c.args.found.item
     c.args.new at (c.requires.found s stands t at) r
     (λ x has. c.in-Ok.ensures.trim s t x stands at has) d there_d (sym c.if-same.ensures)
     (number_at name (trimmed_of new)) after written.distinct family stream l x rows_l written.rows

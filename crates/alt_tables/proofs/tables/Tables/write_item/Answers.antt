@@ -2,6 +2,7 @@
 use Rattle.std.proofs.Common.{◌≡◌, ◌∙◌, subst, ℕ, List, Option, Some, Result, Ok, Err, IfOk, IsSome, option_map}
 use Rattle.std.specs.FinMap as map
 use Rattle.alt_cells.specs.declared.batch.RowChange.{RowChange}
+use Rattle.alt_codec.specs.declared.writer.Writer.TheVariants.{User}
 use Rattle.alt_disk.specs.Disk.{DiskState, IsTrusted}
 use Rattle.alt_layout.specs.Layout.{Layout}
 use Rattle.alt_schema.specs.declared.schema.TableSchema.{TableSchema}
@@ -101,7 +102,8 @@ returns-clause-rows g c =
     let new : Tables = c.write.new.self in
     let name : List ℕ = c.args.table.now in
     let changes : TableSchema → List ℕ → Option (List Pair) → Option (List Pair) → Layout
-    → List RowChange = λ d place was to l. write_changes d (number_of old) c.args.moment place was to
+    → List RowChange = λ d place was to l. write_changes d (number_of old) c.args.moment User place
+    was to
     (number_at name (trimmed_of old)) (number_at name (trimmed_of new))
     (lowest_left l d (number_at name (trimmed_of new))) in
     at_ok (λ n. IsSome n → IsTrusted a → (d : TableSchema) (l : Layout)

@@ -7,6 +7,7 @@ use Rattle.std.proofs.lemmas.Slice.Eq.{bytes_eq-Decides}
 use Rattle.alt_cells.specs.Batches.{is_distinct}
 use Rattle.alt_cells.specs.declared.batch.RowChange.{RowChange}
 use Rattle.alt_changes.specs.TrimRows.{trim_changes}
+use Rattle.alt_codec.specs.declared.writer.Writer.TheVariants.{User}
 use Rattle.alt_disk.specs.Disk.{DiskState}
 use Rattle.alt_disk.proofs.Runs.{quiet_start}
 use Rattle.alt_engine.specs.InHand.{Stands as EngineStands, next_of}
@@ -74,7 +75,7 @@ returns-in_err-know-clause-disk g c s t stands at =
 pub put_trim-requires : goal.put_trim-requires
 put_trim-requires g c = record {
   rows = λ family stream. can_trim c.in-Some.schema.now c.in-Some.ensures.families
-      c.next_number-number.result c.args.moment c.args.found.place c.args.found.item c.args.new
+      c.next_number-number.result c.args.moment User c.args.found.place c.args.found.item c.args.new
       c.in_ok-batch.batch c.in_ok-batch.ensures.changes c.trimmed-before.result c.args.trim
       (subst (λ n. IsWithin n c.next_number-number.result c.args.trim)
       (sym c.trimmed-before.ensures.trimmed)
@@ -96,7 +97,7 @@ make-requires-clause-ready g c trusted =
 pub returns-in-Ok-clause-writes : goal.returns-in-Ok-clause-writes
 returns-in-Ok-clause-writes g c s t stands at =
     let turned = item_turned (g.D.Disk.state c.args.disk.now) c.args.self.now s t stands c.args.moment
-    c.args.table.now c.args.found.place c.args.found.item c.args.new at
+    User c.args.table.now c.args.found.place c.args.found.item c.args.new at
     (c.requires.found s stands t at) c.args.trim
     (c.requires.trim s t stands.rows.layout stands at stands.rows.is) c.in-Some.schema.now
     c.next_number-number.result c.put_trim.new.batch (sym c.in-Some.ensures.table)
@@ -110,7 +111,7 @@ returns-in-Ok-clause-writes g c s t stands at =
     one_made (Stands (g.D.Disk.state c.make.new.disk) c.make.new.self) a_number s
     (after_item s c.args.moment c.args.table.now t c.args.found.place c.args.new)
     (item_stands (g.D.Disk.state c.args.disk.now) c.args.self.now s t stands c.args.moment
-    c.args.table.now c.args.found.place c.args.found.item c.args.new at
+    User c.args.table.now c.args.found.place c.args.found.item c.args.new at
     (c.requires.found s stands t at) c.args.trim
     (c.requires.trim s t stands.rows.layout stands at stands.rows.is) c.in-Some.schema.now
     c.next_number-number.result c.put_trim.new.batch (sym c.in-Some.ensures.table)
@@ -144,7 +145,7 @@ returns-in-Ok-clause-disk g c s t stands at =
     (subst (λ (e : Engine). Holds (g.D.Disk.state c.args.disk.now) e s)
     (sym c.know.ensures.kept.0) stands.rows) stands.valid
     (item_turned (g.D.Disk.state c.args.disk.now) c.args.self.now s t stands c.args.moment
-    c.args.table.now c.args.found.place c.args.found.item c.args.new at
+    User c.args.table.now c.args.found.place c.args.found.item c.args.new at
     (c.requires.found s stands t at) c.args.trim
     (c.requires.trim s t stands.rows.layout stands at stands.rows.is) c.in-Some.schema.now
     c.next_number-number.result c.put_trim.new.batch (sym c.in-Some.ensures.table)
@@ -169,7 +170,7 @@ returns-clause-disk g c s t stands at =
     (subst (λ (e : Engine). Holds (g.D.Disk.state c.args.disk.now) e s)
     (sym c.know.ensures.kept.0) stands.rows) stands.valid
     (item_turned (g.D.Disk.state c.args.disk.now) c.args.self.now s t stands c.args.moment
-    c.args.table.now c.args.found.place c.args.found.item c.args.new at
+    User c.args.table.now c.args.found.place c.args.found.item c.args.new at
     (c.requires.found s stands t at) c.args.trim
     (c.requires.trim s t stands.rows.layout stands at stands.rows.is) c.in-Some.schema.now
     c.next_number-number.result c.put_trim.new.batch (sym c.in-Some.ensures.table)
@@ -191,7 +192,7 @@ returns-in-Ok-clause-rows g c trusted d l there rows =
     ∙ (λ i. c.in_ok-batch.ensures.changes i ++ trim_changes c.in-Some.schema.now
     (c.trimmed-before.ensures.trimmed i) c.args.trim.number c.args.trim.leftovers.items)
     ∙ (λ i. write_changes (same i) (c.next_number-number.ensures.next i) c.args.moment
-    c.args.found.place c.args.found.item c.args.new
+    User c.args.found.place c.args.found.item c.args.new
     (number_at c.args.table.now (trimmed_of c.args.self.now)) c.args.trim.number
     c.args.trim.leftovers.items))
     (record {

@@ -1,5 +1,5 @@
 -- What the rows beneath the tables show, in reads and in whatever a stop leaves, and what a write makes of it.
-use Rattle.std.proofs.Common.{◌≡◌, ◌&&◌, Bool, IsTrue, T, ⊎_elim, refl, sym, ap, subst, ℕ, List, [], ◌∷◌, Option, Result, Err, ◌∙◌}
+use Rattle.std.proofs.Common.{◌≡◌, ◌&&◌, Bool, IsTrue, T, ◌⊎◌, ⊎_elim, refl, sym, ap, subst, ℕ, List, [], ◌∷◌, Option, Result, Err, ◌∙◌}
 use Rattle.std.specs.Prelude.{⊤}
 use Rattle.alt_cells.specs.Batches.{is_distinct}
 use Rattle.alt_cells.specs.declared.batch.RowChange.{RowChange}
@@ -25,6 +25,7 @@ use Rattle.alt_opening.specs.Images.{StandsFor}
 use Rattle.alt_tables.specs.Images.{AfterSome, Leaves}
 use Rattle.alt_opening.specs.StateRows.{Shows}
 use Rattle.alt_tables.specs.RowChanges.{Turns}
+use Rattle.alt_tables.specs.Several.{AreDistinct, TurnsAll, with_batches}
 use Rattle.alt_opening.specs.Opened.{Holds}
 use Rattle.alt_opening.proofs.Engine.{in_each_image, stands_past, stays_quiet, one_layout_in_hand}
 use Rattle.alt_opening.proofs.OneState.{one_state}
@@ -112,6 +113,59 @@ module _ (old new : DiskState) (engine : Engine) (s r : State) (changes : List R
       is = stands;
       shows = turns.shows distinct holds.layout (stands_past old engine holds.layout holds.is)
           holds.shows;
+      held = turns.held;
+    }
+
+-- ---- several writes, as one entry
+
+module _ (old new : DiskState) (engine : Engine) (s r : State) (batches : List (List RowChange))
+    (holds : Holds old engine s) (turns : TurnsAll batches s r) (distinct : AreDistinct batches)
+  where
+    abbrev after_all : Layout
+    after_all = with_batches holds.layout batches
+
+    -- the image has the layout before, or the one with all batches
+    abbrev pub BeforeOrAfter : ℕ → (ℕ → Option (List ℕ)) → Type 0
+    BeforeOrAfter t image = IsLayout image holds.layout ⊎ IsLayout image after_all
+
+    all_show : Shows after_all r
+    all_show = turns.shows distinct holds.layout (stands_past old engine holds.layout holds.is)
+        holds.shows
+
+    -- what a stop leaves is the state before them or the one after all of them
+    pub all_images : IsValid s → Spans old new IsWritten BeforeOrAfter → Leaves old new s (r ∷ [])
+    all_images valid spans = spans_weaker old new IsWritten (λ _. ⊤) (AfterSome s (r ∷ []))
+        BeforeOrAfter spans (λ g is. tt) (λ t image here. ⊎_elim
+        (λ (is : IsLayout image holds.layout). (
+          0,
+          record {
+            layout = holds.layout;
+            is = is;
+            shows = holds.shows;
+            valid = valid;
+            held = holds.held;
+          },
+        ))
+        (λ (is : IsLayout image after_all). (
+          1,
+          record {
+            layout = after_all;
+            is = is;
+            shows = all_show;
+            valid = turns.valid;
+            held = turns.held;
+          },
+        ))
+        here)
+
+    -- after them the rows show the one after
+    pub all_hold : (later : Engine) → Goes old new → EngineStands new later after_all
+        → Holds new later r
+    all_hold later goes stands = record {
+      trusted = trusted_on old new goes holds.trusted;
+      layout = after_all;
+      is = stands;
+      shows = all_show;
       held = turns.held;
     }
 

@@ -1,19 +1,20 @@
 //! The engine in hand, from its opening on, and its writes.
 
-ghost use Rattle.std.specs.Prelude.{◌≡◌, ◌≤◌, ◌+◌, ◌-◌, ◌^◌, ⊤, Err, IfOk, IfErr, OnOk, IsErrOf, IsTrue};
+ghost use Rattle.std.specs.Prelude.{◌≡◌, ◌≤◌, ◌+◌, ◌-◌, ◌^◌, ⊤, Err, IfOk, IfErr, OnOk, IsErrOf, IsTrue, length, ◌<◌};
 ghost use Rattle.alt_base.specs.Counts.{Rose};
 ghost use Rattle.alt_disk.specs.Disk.{DiskState, IsTrusted, Goes};
 ghost use Rattle.alt_disk.specs.Runs.{Spans};
 ghost use Rattle.alt_layout.specs.Files.{IsLayout};
 ghost use Rattle.alt_layout.specs.Fresh.{versions_file};
 ghost use Rattle.alt_layout.specs.Layout.{Layout};
-ghost use Rattle.alt_layout.specs.Writes.{with_write};
+ghost use Rattle.alt_layout.specs.Writes.{with_write, with_writes};
 ghost use Rattle.alt_manifest.specs.Versions.{HasVersion};
 ghost use Rattle.alt_manifest.specs.declared.version.Version.{Version};
 ghost use Rattle.alt_hand.specs.InHand.{IsSpentAt, batch_write, BeforeOrWith, IsWritten};
 ghost use Rattle.alt_hand.specs.Recovery.{ExplainsStore, HasNoLayout, IsNextFile, LeavesFiles, LeavesStore, LeftLike};
 ghost use Rattle.alt_hand.specs.Syncing.{AllSynced};
 ghost use Rattle.alt_engine.specs.InHand.{bounds_of, limits_of, next_file_of, next_of, Reads, Stands};
+ghost use Rattle.alt_engine.specs.Several.{BeforeOrAll, IsSpentBy, batch_writes};
 
 use alt_cells::Batch;
 use alt_disk::Disk;
@@ -137,5 +138,39 @@ impl Engine {
         ensures well { OnOk result ((D.state disk.new).faults ≡ (D.state disk.old).faults) }
     {
         self.hand.apply(disk, batch)
+    }
+
+    /// Joins batches to the rows as one entry, each as a write, which are numbered in order from the next number on; the first one is
+    /// answered. After an Err the engine is spent, unless it is Spent.
+    pub fn apply_all<D: Disk>(
+        &mut self,
+        disk: &mut D,
+        batches: &[Batch],
+    ) -> Result<u64, EngineFault>
+        requires some { 0 < length batches.now }
+        requires stands { IsTrusted (D.state disk.old)
+            → (l : Layout) × Stands (D.state disk.old) self.old l }
+        ensures ok { OnOk result (IsTrusted (D.state disk.old) → (l : Layout)
+            → Stands (D.state disk.old) self.old l → Stands (D.state disk.new) self.new
+            (with_writes l (batch_writes l batches.now))) }
+        ensures number { IfOk result (λ n. n ≡ next_of self.old) }
+        ensures next { OnOk result (next_of self.new ≡ next_of self.old + length batches.now) }
+        ensures limits { limits_of self.new ≡ limits_of self.old }
+        ensures bounds { bounds_of self.new ≡ bounds_of self.old }
+
+        // A stop at any moment of the call, also one that fails, leaves the rows from before it or with all batches.
+        ensures any_moment { IsTrusted (D.state disk.old) → (l : Layout)
+            → Stands (D.state disk.old) self.old l
+            → Spans (D.state disk.old) (D.state disk.new) (λ _. ⊤) (BeforeOrAll l batches.now) }
+        ensures cause_spent { IfErr result (IsSpentBy (next_of self.old) (length batches.now)) }
+        ensures no_memory { IsErrOf result EngineFault.NoMemory
+            → D.state disk.new ≡ D.state disk.old }
+        ensures goes { Goes (D.state disk.old) (D.state disk.new) }
+        ensures cause { IsErrOf result EngineFault.Failed
+            → Rose (D.state disk.old).faults (D.state disk.new).faults }
+        ensures well { OnOk result ((D.state disk.new).faults ≡ (D.state disk.old).faults) }
+    {
+        // Until entries hold several writes nothing is written.
+        Err(EngineFault::NoMemory)
     }
 }

@@ -11,6 +11,7 @@ use Rattle.std.specs.Str.{bytes_eq}
 use Rattle.alt_cells.specs.Batches.{is_distinct}
 use Rattle.alt_cells.specs.declared.batch.RowChange.{RowChange}
 use Rattle.alt_changes.specs.ChangeRows.{row_key}
+use Rattle.alt_codec.specs.declared.writer.Writer.TheVariants.{User}
 use Rattle.alt_layout.specs.Layout.{Layout, IsPast, shown}
 use Rattle.alt_machine.specs.declared.TheConstants.{NUMBERS_END}
 use Rattle.alt_machine.specs.Same.{is_same}
@@ -197,7 +198,7 @@ module _ (l : Layout) (s : State) (past : IsPast l) (moment : ℕ) (notes : List
     (to : Option (List Pair)) (differ : is_same (map.get t.items place) to ≡ false) (x : Trim)
     (is : IsTrim (with_batches l batches) t moment x) (rest : IsRest l (with_batches l batches) t x)
     (batch : List RowChange)
-    (written : batch ≡ write_changes t.description r.next_number moment place
+    (written : batch ≡ write_changes t.description r.next_number moment User place
     (map.get t.items place) to t.trimmed x.number x.leftovers.items) (one : T (is_distinct batch))
   where
     -- the rows so far, and those then
@@ -216,10 +217,10 @@ module _ (l : Layout) (s : State) (past : IsPast l) (moment : ℕ) (notes : List
     -- the table then
     touched : IsTouched l then moment x table_after
     touched = record {
-      trimmed = trimmed_then r name t at ahead.turns.valid moment place to differ now x is;
+      trimmed = trimmed_then r name t at ahead.turns.valid moment User place to differ now x is;
       low = is.low;
-      oldest = λ family stream. sym (front_then r name t at ahead.turns.valid moment place to differ
-          now x is family stream then (left_of family stream)
+      oldest = λ family stream. sym (front_then r name t at ahead.turns.valid moment User place to
+          differ now x is family stream then (left_of family stream)
           (record { table = name; oldest = oldest_by moment x; from = x.from }) (refl, refl)).oldest;
       young = λ family stream. ap (λ o. is_over (Some (unwrap_or o moment)) moment)
           (is.oldest family stream) ∙ oldest_young moment t.changes;
@@ -228,8 +229,8 @@ module _ (l : Layout) (s : State) (past : IsPast l) (moment : ℕ) (notes : List
       where
         left_of : (family : ℕ) → t.description.stream_family ≡ Some family
             → leftovers then family x.number ≡ drop 2 (leftovers now family x.number)
-        left_of family stream = leftovers_then r name t at ahead.turns.valid moment place to differ
-            now x is family stream (past_behind l batches past) batch written one
+        left_of family stream = leftovers_then r name t at ahead.turns.valid moment User place to
+            differ now x is family stream (past_behind l batches past) batch written one
 
     -- the families of another table show what they showed
     others_stay : (q : List ℕ) → bytes_eq name q ≡ false → (v : Table) (family : ℕ)
@@ -238,8 +239,8 @@ module _ (l : Layout) (s : State) (past : IsPast l) (moment : ℕ) (notes : List
     others_stay q apart v family at_v stream = shown_elsewhere now batch one
         (past_behind l batches past) family
         (subst (AreOthers family) (sym written)
-        (write_others t.description r.next_number moment place (map.get t.items place) to t.trimmed
-        x.number x.leftovers.items family
+        (write_others t.description r.next_number moment User place (map.get t.items place) to
+        t.trimmed x.number x.leftovers.items family
         (λ own. false≢true (sym apart ∙ (bytes_eq-Decides name q).1
         (sym (ahead.turns.valid.families q name v t family at_v at
         (stream_family v.description family stream) own))))))
@@ -250,13 +251,13 @@ module _ (l : Layout) (s : State) (past : IsPast l) (moment : ℕ) (notes : List
       -- The row changes turn the rows of the state into those of the next one.
       pub one_turned : Turns batch r after
       one_turned = subst (λ cs. Turns cs r after)
-          (ap (λ n. write_changes t.description r.next_number moment place (map.get t.items place)
-          to t.trimmed n x.leftovers.items)
-          (trimmed_then r name t at ahead.turns.valid moment place to differ now x is)
+          (ap (λ n. write_changes t.description r.next_number moment User place
+          (map.get t.items place) to t.trimmed n x.leftovers.items)
+          (trimmed_then r name t at ahead.turns.valid moment User place to differ now x is)
           ∙ sym written)
-          (item_turns r moment name t place to x.leftovers.items ahead.turns.valid ahead.turns.held
+          (item_turns r moment User name t place to x.leftovers.items ahead.turns.valid ahead.turns.held
           room at differ stored given fits
-          (left_then r name t at ahead.turns.valid moment place to differ now x is))
+          (left_then r name t at ahead.turns.valid moment User place to differ now x is))
 
       -- So one more is ahead.
       pub one_ahead : IsAhead l s moment (record { table = name; trim = x } ∷ notes)

@@ -3,7 +3,9 @@ use Rattle.std.proofs.Common.{◌≡◌, refl, sym, ap, subst, ◌∙◌, T, Lis
 use Rattle.alt_cells.specs.Batches.{is_distinct}
 use Rattle.alt_cells.specs.declared.batch.RowChange.{RowChange}
 use Rattle.alt_hand.specs.InHand.{batch_write}
+use Rattle.alt_engine.specs.Several.{batch_writes}
 use Rattle.alt_layout.specs.Layout.{Layout, IsPast}
+use Rattle.alt_layout.specs.Writes.{with_writes}
 use Rattle.alt_layout.proofs.PastLaws.{is_past_after}
 use Rattle.alt_machine.specs.State.{State}
 use Rattle.alt_machine.specs.Valid.{IsValid}
@@ -24,6 +26,12 @@ pub past_behind : (l : Layout) (bs : List (List RowChange)) → IsPast l → IsP
 past_behind l [] past = past
 past_behind l (b ∷ bs) past = past_behind (changed_rows l b) bs
     (is_past_after l (batch_write l b) past (omega arith))
+
+-- They are those behind writes with the next numbers.
+pub with_batches-writes : (l : Layout) (bs : List (List RowChange))
+    → with_batches l bs ≡ with_writes l (batch_writes l bs)
+with_batches-writes l [] = refl
+with_batches-writes l (b ∷ bs) = with_batches-writes (changed_rows l b) bs
 
 -- ---- in none a row stands twice
 

@@ -4,6 +4,7 @@ use Rattle.std.specs.FinMap as map
 use Rattle.alt_cells.specs.Batches.{is_distinct}
 use Rattle.alt_cells.specs.declared.batch.RowChange.{RowChange}
 use Rattle.alt_disk.specs.Disk.{DiskState, IsTrusted}
+use Rattle.alt_codec.specs.declared.writer.Writer.TheVariants.{User}
 use Rattle.alt_layout.specs.Layout.{Layout, shown}
 use Rattle.alt_machine.specs.declared.TheConstants.{NUMBERS_END}
 use Rattle.alt_machine.specs.Ops.BatchWriteItem.{Written, writes_of, writes_of_all}
@@ -64,7 +65,7 @@ module _ (a : DiskState) (old : Tables) (s : State) (stands : Stands a old s) (l
       (behind : (t : Table) → map.get r.tables c.table ≡ Some t
       → IsBehind l (with_batches l batches) t moment x) (number : ℕ)
       (numbered : number ≡ number_of old + length batches) (batch : List RowChange)
-      (written : batch ≡ write_changes d number moment c.found.place c.found.item c.new x.0
+      (written : batch ≡ write_changes d number moment User c.found.place c.found.item c.new x.0
       x.1.number x.1.leftovers.items) (one : T (is_distinct batch))
       (given : IfSome c.new IsItemOfValues) (fits : moment < 2 ^ 64) (before after : Staged)
       (is_notes : before.notes.items ≡ notes) (is_batches : before.batches.items ≡ batches)
@@ -107,14 +108,14 @@ module _ (a : DiskState) (old : Tables) (s : State) (stands : Stands a old s) (l
 
         written_so : (t : Table) → map.get r.tables c.table ≡ Some t → t.description ≡ d
             → IsBehind l (with_batches l batches) t moment x
-            → batch ≡ write_changes t.description r.next_number moment c.found.place
+            → batch ≡ write_changes t.description r.next_number moment User c.found.place
             (map.get t.items c.found.place) c.new t.trimmed x.1.number x.1.leftovers.items
         written_so t at same was =
             let next : number ≡ r.next_number =
             (let so_far = ahead.number in let known = stands.number in
             omega (arith, numbered, so_far, known)) in
-            written ∙ (λ i. write_changes (sym same i) (next i) moment c.found.place (found t at i)
-            c.new (was.before i) x.1.number x.1.leftovers.items)
+            written ∙ (λ i. write_changes (sym same i) (next i) moment User c.found.place
+            (found t at i) c.new (was.before i) x.1.number x.1.leftovers.items)
 
         batch_is : (t : Table) (at : map.get r.tables c.table ≡ Some t) → t.description ≡ d
             → IsBehind l (with_batches l batches) t moment x
@@ -122,10 +123,10 @@ module _ (a : DiskState) (old : Tables) (s : State) (stands : Stands a old s) (l
             → batch ≡ batch_of (with_batches l batches) r moment t (written_at c)
         batch_is t at same was differs =
             let number_then : (with_write r.next_number moment t c.found.place c.new).trimmed
-            ≡ x.1.number = trimmed_then r c.table t at ahead.turns.valid moment c.found.place c.new
+            ≡ x.1.number = trimmed_then r c.table t at ahead.turns.valid moment User c.found.place c.new
             differs (with_batches l batches) x.1 was.again.trim in
             written_so t at same was
-            ∙ (λ i. write_changes t.description r.next_number moment c.found.place
+            ∙ (λ i. write_changes t.description r.next_number moment User c.found.place
             (map.get t.items c.found.place) c.new t.trimmed (sym number_then i)
             ((was.again.trim.lowest
             ∙ ap (lowest_left (with_batches l batches) t.description) (sym number_then)) i))

@@ -1,9 +1,12 @@
 -- Writes of several items at one moment, which are one entry of the log.
-use Rattle.std.specs.Prelude.{◌≡◌, ℕ, true, List, [], ◌∷◌, ◌++◌, Option, None, Some, IfSome, T, if◌then◌else◌}
+use Rattle.std.specs.Prelude.{◌≡◌, ℕ, true, List, [], ◌∷◌, ◌++◌, Option, None, Some, IfSome, IsSome, T, unwrap_or, if◌then◌else◌}
 use Rattle.std.specs.FinMap as map
+use Rattle.std.specs.Option.{option_map_or}
 use Rattle.alt_cells.specs.Batches.{is_distinct}
 use Rattle.alt_cells.specs.declared.batch.RowChange.{RowChange}
+use Rattle.alt_codec.specs.declared.writer.Writer.TheVariants.{User}
 use Rattle.alt_layout.specs.Layout.{Layout, IsPast}
+use Rattle.alt_machine.specs.Keys.{place_of}
 use Rattle.alt_machine.specs.Ops.BatchWriteItem.{Written, writes_of}
 use Rattle.alt_machine.specs.Outcomes.{last_state}
 use Rattle.alt_machine.specs.Same.{is_same}
@@ -15,6 +18,7 @@ use Rattle.alt_schema.specs.declared.schema.TableSchema.{TableSchema}
 use Rattle.alt_tables.specs.Found.{IsFoundIn}
 use Rattle.alt_tables.specs.Leftovers.{lowest_left}
 use Rattle.alt_tables.specs.RowChanges.{changed_rows, write_changes}
+use Rattle.alt_tables.specs.declared.by_keys.ItemWrite.{ItemWrite}
 use Rattle.alt_tables.specs.declared.several.ItemChange.{ItemChange}
 
 -- it holds of each element
@@ -47,6 +51,30 @@ AreAllApart (w ∷ ws) = Every (AreApart w) ws × AreAllApart ws
 abbrev pub IsFound : State → ItemChange → Type 0
 IsFound s c = IsFoundIn s c.table c.found
 
+-- ---- by keys
+
+-- The table of a write is there, its key is one of the table, and what it leaves may stand at the key's place.
+pub record MayWriteKey (catalog : Texts TableSchema) (w : ItemWrite) : Type 0 where
+  pub there : map.contains_key catalog w.table ≡ true
+  pub key : (d : TableSchema) → map.get catalog w.table ≡ Some d → IsSome (place_of d w.key)
+  pub stored : (d : TableSchema) (place : List ℕ) → map.get catalog w.table ≡ Some d
+      → place_of d w.key ≡ Some place → IfSome w.new (IsStored d place)
+
+-- what it says was there stands there
+abbrev pub WasThere : State → ItemWrite → Type 0
+WasThere s w = (t : Table) (place : List ℕ) → map.get s.tables w.table ≡ Some t
+    → place_of t.description w.key ≡ Some place → w.old ≡ map.get t.items place
+
+-- the place of its key
+abbrev pub place_within : Texts TableSchema → ItemWrite → List ℕ
+place_within catalog w =
+    option_map_or (λ d. unwrap_or (place_of d w.key) []) (map.get catalog w.table) []
+
+-- where it writes, and what it leaves there
+abbrev pub written_in : Texts TableSchema → ItemWrite → Written
+written_in catalog w =
+    record { table = w.table; place = place_within catalog w; new = w.new }
+
 -- ---- the row changes
 
 -- the rows behind these batches of row changes, each of which is a write with the next number
@@ -69,8 +97,8 @@ pub record TurnsAll (batches : List (List RowChange)) (s r : State) : Type 0 whe
 abbrev pub batch_of : Layout → State → ℕ → Table → Written → List RowChange
 batch_of l s moment t w =
     let after = (with_write s.next_number moment t w.place w.new).trimmed in
-    write_changes t.description s.next_number moment w.place (map.get t.items w.place) w.new
-    t.trimmed after (lowest_left l t.description after)
+    write_changes t.description s.next_number moment User w.place (map.get t.items w.place)
+    w.new t.trimmed after (lowest_left l t.description after)
 
 -- none, where it leaves what is there
 abbrev pub batches_in : Layout → State → ℕ → Written → Option Table → List (List RowChange)

@@ -1,6 +1,7 @@
 //! The tables with their items over the engine: what the machine's state stands for on a disk.
 #![tactic(auto)]
 
+mod by_keys;
 mod changes;
 mod faults;
 mod finding;
@@ -16,6 +17,7 @@ mod work;
 
 pub use alt_engine::{Limits, Task, Worked};
 pub use alt_opening::OpenFault;
+pub use by_keys::ItemWrite;
 pub use faults::TableFault;
 pub use finding::Found;
 pub use laws::tables_laws;

@@ -364,7 +364,7 @@ impl Tables {
     }
 
     /// The place of a key in a table that is there.
-    fn place_in(&self, table: &str, key: &Item) -> Result<Bytes, TableFault>
+    pub(crate) fn place_in(&self, table: &str, key: &Item) -> Result<Bytes, TableFault>
         requires there { map.contains_key (catalog_of self.now) table.now ≡ true }
         requires key { (d : TableSchema) → map.get (catalog_of self.now) table.now ≡ Some d
             → IsSome (place_of d key.now) }
@@ -497,7 +497,7 @@ fn change_of(
 }
 
 /// The row of an item, where there is one.
-fn row_of(alloc: Global, item: &Option<Item>) -> Result<Option<ShownRow>, NoMemory>
+pub(crate) fn row_of(alloc: Global, item: &Option<Item>) -> Result<Option<ShownRow>, NoMemory>
     ensures row { IfOk result (λ row. row ≡ option_map item_columns item.now) }
     ensures held { IfSome item.now IsItemOfValues }
 {
@@ -511,7 +511,7 @@ fn row_of(alloc: Global, item: &Option<Item>) -> Result<Option<ShownRow>, NoMemo
 }
 
 /// An item of its own, where one is given.
-fn copy_of(item: Option<&Item>) -> Result<Option<Item>, NoMemory>
+pub(crate) fn copy_of(item: Option<&Item>) -> Result<Option<Item>, NoMemory>
     ensures { IfOk result (λ o. o ≡ option_map (λ i. i.now) item.entry) }
 {
     match item {

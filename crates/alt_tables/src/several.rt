@@ -30,6 +30,7 @@ use crate::tables::Tables;
 use crate::trimming::Trim;
 use alt_base::NoMemory;
 use alt_cells::Batch;
+use alt_codec::Writer;
 use alt_disk::Disk;
 use alt_machine::NUMBERS_END;
 use alt_opening::same;
@@ -78,6 +79,7 @@ impl Tables {
         ensures count { (s : State) → Stands (D.state disk.old) self.old s
             → IfOk result (λ n. n
             ≡ length (writes_of_all s moment (each written_at changes.items))) }
+        ensures most { IfOk result (λ n. n ≤ length changes.items) }
         ensures disk { (s : State) → Stands (D.state disk.old) self.old s
             → Leaves (D.state disk.old) (D.state disk.new) s
             (together s (writes_of_all s moment (each written_at changes.items))) }
@@ -223,7 +225,7 @@ impl Tables {
             → IsSome d.stream_family → IsWithin before (number_of self.now + count) trim.now }
         ensures changes { (d : TableSchema) → map.get (catalog_of self.now) table.now ≡ Some d
             → IfOk result (λ batch. batch ≡ write_changes d (number_of self.now + count) moment
-            found.place found.item new.now before trim.now.number trim.now.leftovers.items) }
+            Writer.User found.place found.item new.now before trim.now.number trim.now.leftovers.items) }
         ensures held { OnOk result (IfSome new.now IsItemOfValues) }
     {
         let number = self.engine.next_number() + count as u64;
@@ -235,6 +237,7 @@ impl Tables {
             schema,
             number,
             moment,
+            Writer::User,
             found.place,
             found.row,
             &found.item,
@@ -353,41 +356,6 @@ impl Tables {
             self.know(note.table.as_str(), moment, &note.trim)?;
         }
         Ok(())
-    }
-}
-
-impl Tables {
-    /// Makes these batches of row changes one entry, in which each is a write with the next number. What is known without the disk
-    /// stays, but for the number. After an Err the engine is spent.
-    fn make_all<D: Disk>(&mut self, disk: &mut D, batches: &[Batch]) -> Result<(), TableFault>
-        requires ready { IsTrusted (D.state disk.old)
-            → (s : State) × Holds (D.state disk.old) self.old.engine s }
-        requires some { 1 ≤ length batches.now }
-        requires room { number_of self.old + length batches.now ≤ NUMBERS_END }
-        requires distinct { AreDistinct batches.now }
-        ensures ok { OnOk result ((s r : State) → Holds (D.state disk.old) self.old.engine s
-            → TurnsAll batches.now s r → Holds (D.state disk.new) self.new.engine r) }
-        ensures rows { OnOk result (IsTrusted (D.state disk.old) → (l : Layout)
-            → HasRows (D.state disk.old) self.old l
-            → HasRows (D.state disk.new) self.new (with_batches l batches.now)) }
-        ensures next { OnOk result (number_of self.new
-            ≡ number_of self.old + length batches.now) }
-        ensures kept { (self.new.catalog ≡ self.old.catalog) × (self.new.live ≡ self.old.live)
-            × (self.new.family ≡ self.old.family) × (self.new.trimmed ≡ self.old.trimmed)
-            × (self.new.fronts ≡ self.old.fronts) }
-        ensures limits { bounds_of self.new ≡ bounds_of self.old }
-        ensures fault { IfErr result IsFindFault }
-        ensures no_memory { IsErrOf result TableFault.NoMemory
-            → D.state disk.new ≡ D.state disk.old }
-        ensures disk { (s r : State) → Holds (D.state disk.old) self.old.engine s → IsValid s
-            → TurnsAll batches.now s r
-            → Leaves (D.state disk.old) (D.state disk.new) s (r ∷ []) }
-        ensures goes { Goes (D.state disk.old) (D.state disk.new) }
-        ensures cause { IsErrOf result TableFault.Failed
-            → Rose (D.state disk.old).faults (D.state disk.new).faults }
-    {
-        // Until the engine has its call `apply_all` nothing is written.
-        Err(TableFault::NoMemory)
     }
 }
 

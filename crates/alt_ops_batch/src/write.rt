@@ -16,6 +16,7 @@ ghost use Rattle.alt_tables.specs.Faults.{IsFindFault};
 ghost use Rattle.alt_tables.specs.Stands.{AreReady, KeepsCatalog, Reads, Stands, catalog_of, bounds_of};
 
 use crate::asked_writes::writes_asked;
+use alt_codec::Writer;
 use alt_disk::Disk;
 use alt_machine::{PlacedMember, Sought};
 use alt_request::{Stop, one_member};
@@ -46,7 +47,7 @@ pub fn batch_write_item<D: Disk>(
     let members = writes_asked(alloc, tables, body)?;
     let changes = find_all(alloc, tables, disk, members)?;
     let reply = all_processed(alloc)?;
-    tables.write_all(disk, changes, moment)?;
+    tables.write_all(disk, changes, moment, Writer::User)?;
     Ok(reply)
 }
 

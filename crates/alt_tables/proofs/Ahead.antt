@@ -11,14 +11,14 @@ use Rattle.std.specs.Str.{bytes_eq}
 use Rattle.alt_cells.specs.Batches.{is_distinct}
 use Rattle.alt_cells.specs.declared.batch.RowChange.{RowChange}
 use Rattle.alt_changes.specs.ChangeRows.{row_key}
-use Rattle.alt_codec.specs.declared.writer.Writer.TheVariants.{User}
+use Rattle.alt_codec.specs.declared.writer.Writer.{Writer}
 use Rattle.alt_layout.specs.Layout.{Layout, IsPast, shown}
 use Rattle.alt_machine.specs.declared.TheConstants.{NUMBERS_END}
 use Rattle.alt_machine.specs.Same.{is_same}
 use Rattle.alt_machine.specs.State.{Change, State, Table, descriptions}
 use Rattle.alt_machine.specs.Trimming.{a_day, is_past, kept, trimmed_at}
 use Rattle.alt_machine.specs.Valid.{IsStored, IsValid}
-use Rattle.alt_machine.specs.Writes.{after_item, with_write}
+use Rattle.alt_machine.specs.Writes.{after_item_by, with_write_by}
 use Rattle.alt_machine.proofs.Looks.{insert_elsewhere}
 use Rattle.alt_opening.specs.StateRows.{Shows, IsHeldWhole}
 use Rattle.alt_opening.proofs.OneState.{some}
@@ -192,13 +192,13 @@ table_on l now m moment was before after (Some e) alike same h = (
   },
 )
 
-module _ (l : Layout) (s : State) (past : IsPast l) (moment : ℕ) (notes : List Noted)
+module _ (l : Layout) (s : State) (past : IsPast l) (moment : ℕ) (writer : Writer) (notes : List Noted)
     (batches : List (List RowChange)) (r : State) (ahead : IsAhead l s moment notes batches r)
     (name : List ℕ) (t : Table) (at : map.get r.tables name ≡ Some t) (place : List ℕ)
     (to : Option (List Pair)) (differ : is_same (map.get t.items place) to ≡ false) (x : Trim)
     (is : IsTrim (with_batches l batches) t moment x) (rest : IsRest l (with_batches l batches) t x)
     (batch : List RowChange)
-    (written : batch ≡ write_changes t.description r.next_number moment User place
+    (written : batch ≡ write_changes t.description r.next_number moment writer place
     (map.get t.items place) to t.trimmed x.number x.leftovers.items) (one : T (is_distinct batch))
   where
     -- the rows so far, and those then
@@ -209,17 +209,17 @@ module _ (l : Layout) (s : State) (past : IsPast l) (moment : ℕ) (notes : List
     then = changed_rows now batch
 
     abbrev table_after : Table
-    table_after = with_write r.next_number moment t place to
+    table_after = with_write_by r.next_number moment writer t place to
 
     abbrev after : State
-    after = after_item r moment name t place to
+    after = after_item_by r moment writer name t place to
 
     -- the table then
     touched : IsTouched l then moment x table_after
     touched = record {
-      trimmed = trimmed_then r name t at ahead.turns.valid moment User place to differ now x is;
+      trimmed = trimmed_then r name t at ahead.turns.valid moment writer place to differ now x is;
       low = is.low;
-      oldest = λ family stream. sym (front_then r name t at ahead.turns.valid moment User place to
+      oldest = λ family stream. sym (front_then r name t at ahead.turns.valid moment writer place to
           differ now x is family stream then (left_of family stream)
           (record { table = name; oldest = oldest_by moment x; from = x.from }) (refl, refl)).oldest;
       young = λ family stream. ap (λ o. is_over (Some (unwrap_or o moment)) moment)
@@ -229,7 +229,7 @@ module _ (l : Layout) (s : State) (past : IsPast l) (moment : ℕ) (notes : List
       where
         left_of : (family : ℕ) → t.description.stream_family ≡ Some family
             → leftovers then family x.number ≡ drop 2 (leftovers now family x.number)
-        left_of family stream = leftovers_then r name t at ahead.turns.valid moment User place to
+        left_of family stream = leftovers_then r name t at ahead.turns.valid moment writer place to
             differ now x is family stream (past_behind l batches past) batch written one
 
     -- the families of another table show what they showed
@@ -239,7 +239,7 @@ module _ (l : Layout) (s : State) (past : IsPast l) (moment : ℕ) (notes : List
     others_stay q apart v family at_v stream = shown_elsewhere now batch one
         (past_behind l batches past) family
         (subst (AreOthers family) (sym written)
-        (write_others t.description r.next_number moment User place (map.get t.items place) to
+        (write_others t.description r.next_number moment writer place (map.get t.items place) to
         t.trimmed x.number x.leftovers.items family
         (λ own. false≢true (sym apart ∙ (bytes_eq-Decides name q).1
         (sym (ahead.turns.valid.families q name v t family at_v at
@@ -251,13 +251,13 @@ module _ (l : Layout) (s : State) (past : IsPast l) (moment : ℕ) (notes : List
       -- The row changes turn the rows of the state into those of the next one.
       pub one_turned : Turns batch r after
       one_turned = subst (λ cs. Turns cs r after)
-          (ap (λ n. write_changes t.description r.next_number moment User place
+          (ap (λ n. write_changes t.description r.next_number moment writer place
           (map.get t.items place) to t.trimmed n x.leftovers.items)
-          (trimmed_then r name t at ahead.turns.valid moment User place to differ now x is)
+          (trimmed_then r name t at ahead.turns.valid moment writer place to differ now x is)
           ∙ sym written)
-          (item_turns r moment User name t place to x.leftovers.items ahead.turns.valid ahead.turns.held
+          (item_turns r moment writer name t place to x.leftovers.items ahead.turns.valid ahead.turns.held
           room at differ stored given fits
-          (left_then r name t at ahead.turns.valid moment User place to differ now x is))
+          (left_then r name t at ahead.turns.valid moment writer place to differ now x is))
 
       -- So one more is ahead.
       pub one_ahead : IsAhead l s moment (record { table = name; trim = x } ∷ notes)

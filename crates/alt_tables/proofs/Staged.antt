@@ -4,15 +4,15 @@ use Rattle.std.specs.FinMap as map
 use Rattle.alt_cells.specs.Batches.{is_distinct}
 use Rattle.alt_cells.specs.declared.batch.RowChange.{RowChange}
 use Rattle.alt_disk.specs.Disk.{DiskState, IsTrusted}
-use Rattle.alt_codec.specs.declared.writer.Writer.TheVariants.{User}
+use Rattle.alt_codec.specs.declared.writer.Writer.{Writer}
 use Rattle.alt_layout.specs.Layout.{Layout, shown}
 use Rattle.alt_machine.specs.declared.TheConstants.{NUMBERS_END}
-use Rattle.alt_machine.specs.Ops.BatchWriteItem.{Written, writes_of, writes_of_all}
+use Rattle.alt_machine.specs.Ops.BatchWriteItem.{Written, writes_of_by, writes_of_all_by}
 use Rattle.alt_machine.specs.Outcomes.{last_state, together}
 use Rattle.alt_machine.specs.Same.{is_same}
 use Rattle.alt_machine.specs.State.{State, Table, Texts, descriptions}
 use Rattle.alt_machine.specs.Valid.{AreChanges, IsStored, IsValid}
-use Rattle.alt_machine.specs.Writes.{after_item, with_write}
+use Rattle.alt_machine.specs.Writes.{after_item_by, with_write_by}
 use Rattle.alt_machine.proofs.Behind.{last_behind}
 use Rattle.alt_machine.proofs.Descriptions.{get-descriptions, table_of_description}
 use Rattle.alt_opening.specs.Opened.{Holds}
@@ -59,20 +59,20 @@ module _ (a : DiskState) (old : Tables) (s : State) (stands : Stands a old s) (l
   ahead_there name d at = table_of_description r.tables name d
       (ap (λ m. map.get m name) (ahead.catalog ∙ sym stands.catalog) ∙ at)
 
-  module _ (rows : HasRows a old l) (c : ItemChange) (may : MayWrite (catalog_of old) (written_at c))
+  module _ (writer : Writer) (rows : HasRows a old l) (c : ItemChange) (may : MayWrite (catalog_of old) (written_at c))
       (differ : Differs c) (found : IsFound r c) (room : number_of old + length batches < NUMBERS_END)
       (d : TableSchema) (described : map.get (catalog_of old) c.table ≡ Some d) (x : ℕ × Trim)
       (behind : (t : Table) → map.get r.tables c.table ≡ Some t
       → IsBehind l (with_batches l batches) t moment x) (number : ℕ)
       (numbered : number ≡ number_of old + length batches) (batch : List RowChange)
-      (written : batch ≡ write_changes d number moment User c.found.place c.found.item c.new x.0
+      (written : batch ≡ write_changes d number moment writer c.found.place c.found.item c.new x.0
       x.1.number x.1.leftovers.items) (one : T (is_distinct batch))
       (given : IfSome c.new IsItemOfValues) (fits : moment < 2 ^ 64) (before after : Staged)
       (is_notes : before.notes.items ≡ notes) (is_batches : before.batches.items ≡ batches)
       (notes_then : after.notes.items ≡ record { table = c.table; trim = x.1 } ∷ notes)
       (batches_then : after.batches.items ≡ batches ++ batch ∷ []) where
     -- One more is got ready.
-    pub one_staged : IsStagedOn l s moment c r before after
+    pub one_staged : IsStagedOn l s moment writer c r before after
     one_staged =
         let (t, at, same) = ahead_there c.table d described in
         let was : IsBehind l (with_batches l batches) t moment x = behind t at in
@@ -83,13 +83,13 @@ module _ (a : DiskState) (old : Tables) (s : State) (stands : Stands a old s) (l
           there = at;
           batches = batches_then
               ∙ (λ i. sym is_batches i ++ batch_is t at same was differs i ∷ [])
-              ∙ ap (λ bs. before.batches.items ++ batch_of (with_batches l bs) r moment t (written_at c)
+              ∙ ap (λ bs. before.batches.items ++ batch_of (with_batches l bs) r moment writer t (written_at c)
               ∷ []) (sym is_batches);
           ahead = subst (λ ns. IsAhead l s moment ns after.batches.items
-              (after_item r moment c.table t c.found.place c.new)) (sym notes_then)
+              (after_item_by r moment writer c.table t c.found.place c.new)) (sym notes_then)
               (subst (λ bs. IsAhead l s moment (record { table = c.table; trim = x.1 } ∷ notes) bs
-              (after_item r moment c.table t c.found.place c.new)) (sym batches_then)
-              (one_ahead l s (stands_past a old.engine l rows) moment notes batches r ahead c.table t
+              (after_item_by r moment writer c.table t c.found.place c.new)) (sym batches_then)
+              (one_ahead l s (stands_past a old.engine l rows) moment writer notes batches r ahead c.table t
               at c.found.place c.new differs x.1 was.again.trim was.again.rest batch in_state one
               (let so_far = ahead.number in let known = stands.number in
               omega (arith, room, so_far, known))
@@ -108,25 +108,25 @@ module _ (a : DiskState) (old : Tables) (s : State) (stands : Stands a old s) (l
 
         written_so : (t : Table) → map.get r.tables c.table ≡ Some t → t.description ≡ d
             → IsBehind l (with_batches l batches) t moment x
-            → batch ≡ write_changes t.description r.next_number moment User c.found.place
+            → batch ≡ write_changes t.description r.next_number moment writer c.found.place
             (map.get t.items c.found.place) c.new t.trimmed x.1.number x.1.leftovers.items
         written_so t at same was =
             let next : number ≡ r.next_number =
             (let so_far = ahead.number in let known = stands.number in
             omega (arith, numbered, so_far, known)) in
-            written ∙ (λ i. write_changes (sym same i) (next i) moment User c.found.place
+            written ∙ (λ i. write_changes (sym same i) (next i) moment writer c.found.place
             (found t at i) c.new (was.before i) x.1.number x.1.leftovers.items)
 
         batch_is : (t : Table) (at : map.get r.tables c.table ≡ Some t) → t.description ≡ d
             → IsBehind l (with_batches l batches) t moment x
             → is_same (map.get t.items c.found.place) c.new ≡ false
-            → batch ≡ batch_of (with_batches l batches) r moment t (written_at c)
+            → batch ≡ batch_of (with_batches l batches) r moment writer t (written_at c)
         batch_is t at same was differs =
-            let number_then : (with_write r.next_number moment t c.found.place c.new).trimmed
-            ≡ x.1.number = trimmed_then r c.table t at ahead.turns.valid moment User c.found.place c.new
+            let number_then : (with_write_by r.next_number moment writer t c.found.place c.new).trimmed
+            ≡ x.1.number = trimmed_then r c.table t at ahead.turns.valid moment writer c.found.place c.new
             differs (with_batches l batches) x.1 was.again.trim in
             written_so t at same was
-            ∙ (λ i. write_changes t.description r.next_number moment User c.found.place
+            ∙ (λ i. write_changes t.description r.next_number moment writer c.found.place
             (map.get t.items c.found.place) c.new t.trimmed (sym number_then i)
             ((was.again.trim.lowest
             ∙ ap (lowest_left (with_batches l batches) t.description) (sym number_then)) i))
@@ -134,70 +134,70 @@ module _ (a : DiskState) (old : Tables) (s : State) (stands : Stands a old s) (l
 -- ---- one after another
 
 -- The first of the writes of a state are got ready, and those of the changes that are left come behind them.
-pub record AreUnderWay (l : Layout) (s : State) (moment : ℕ) (all rest : List ItemChange)
+pub record AreUnderWay (l : Layout) (s : State) (moment : ℕ) (writer : Writer) (all rest : List ItemChange)
     (notes : List Noted) (batches : List (List RowChange)) : Type 0 where
   pub state : State
   pub ahead : IsAhead l s moment notes batches state
   pub found : Every (IsFound state) rest
-  pub last : last_state s (writes_of_all s moment (each written_at all))
-      ≡ last_state state (writes_of_all state moment (each written_at rest))
-  pub rows : batches_of l s moment (each written_at all) ≡ batches
-      ++ batches_of (with_batches l batches) state moment (each written_at rest)
+  pub last : last_state s (writes_of_all_by s moment writer (each written_at all))
+      ≡ last_state state (writes_of_all_by state moment writer (each written_at rest))
+  pub rows : batches_of l s moment writer (each written_at all) ≡ batches
+      ++ batches_of (with_batches l batches) state moment writer (each written_at rest)
 
 -- before the first none is
-pub none_staged : (l : Layout) (s : State) (moment : ℕ) (all rest : List ItemChange) → rest ≡ all
+pub none_staged : (l : Layout) (s : State) (moment : ℕ) (writer : Writer) (all rest : List ItemChange) → rest ≡ all
     → Every (IsFound s) all → (a : DiskState) (old : Tables) → Stands a old s
-    → AreUnderWay l s moment all rest [] []
-none_staged l s moment all rest same found a old stands = record {
+    → AreUnderWay l s moment writer all rest [] []
+none_staged l s moment writer all rest same found a old stands = record {
   state = s;
   ahead = none_ahead l s moment stands.valid stands.rows.held;
   found = subst (Every (IsFound s)) (sym same) found;
-  last = ap (λ cs. last_state s (writes_of_all s moment (each written_at cs))) (sym same);
-  rows = ap (λ cs. batches_of l s moment (each written_at cs)) (sym same);
+  last = ap (λ cs. last_state s (writes_of_all_by s moment writer (each written_at cs))) (sym same);
+  rows = ap (λ cs. batches_of l s moment writer (each written_at cs)) (sym same);
 }
 
-module _ (l : Layout) (s : State) (moment : ℕ) (all rest : List ItemChange) (c : ItemChange)
+module _ (l : Layout) (s : State) (moment : ℕ) (writer : Writer) (all rest : List ItemChange) (c : ItemChange)
     (before after : Staged)
-    (so : AreUnderWay l s moment all (c ∷ rest) before.notes.items before.batches.items)
+    (so : AreUnderWay l s moment writer all (c ∷ rest) before.notes.items before.batches.items)
     (apart : AreAllApart (each written_at (c ∷ rest))) (differ : Differs c)
-    (on : IsStagedOn l s moment c so.state before after) where
+    (on : IsStagedOn l s moment writer c so.state before after) where
   -- one more is
-  pub staged_more : AreUnderWay l s moment all rest after.notes.items after.batches.items
+  pub staged_more : AreUnderWay l s moment writer all rest after.notes.items after.batches.items
   staged_more =
       let r : State = so.state in
       let t : Table = on.table in
-      let then : State = after_item r moment c.table t c.found.place c.new in
-      let made : writes_of r moment (written_at c) ≡ then ∷ [] =
-      differ_one r moment c so.found.0 differ t on.there in
+      let then : State = after_item_by r moment writer c.table t c.found.place c.new in
+      let made : writes_of_by r moment writer (written_at c) ≡ then ∷ [] =
+      differ_one r moment writer c so.found.0 differ t on.there in
       let batch : List RowChange =
-      batch_of (with_batches l before.batches.items) r moment t (written_at c) in
-      let by_rows = differ_rows r moment c so.found.0 (with_batches l before.batches.items) differ t
+      batch_of (with_batches l before.batches.items) r moment writer t (written_at c) in
+      let by_rows = differ_rows r moment writer c so.found.0 (with_batches l before.batches.items) differ t
       on.there in
       let ws : List Written = each written_at rest in
       record {
         state = then;
         ahead = on.ahead;
         found = subst (λ xs. Every (IsFound (last_state r xs)) rest) made
-            (stay_found r moment (written_at c) rest apart.0 so.found.1);
+            (stay_found r moment writer (written_at c) rest apart.0 so.found.1);
         last = so.last
-            ∙ ap (λ xs. last_state r (xs ++ writes_of_all (last_state r xs) moment ws)) made;
+            ∙ ap (λ xs. last_state r (xs ++ writes_of_all_by (last_state r xs) moment writer ws)) made;
         rows = so.rows
             ∙ (λ i. before.batches.items ++ (by_rows i
             ++ batches_of (with_batches (with_batches l before.batches.items) (by_rows i))
-            (last_state r (made i)) moment ws))
+            (last_state r (made i)) moment writer ws))
             ∙ sym (append_assoc before.batches.items (batch ∷ [])
             (batches_of (with_batches (with_batches l before.batches.items) (batch ∷ [])) then moment
-            ws))
-            ∙ ap (λ m. (before.batches.items ++ batch ∷ []) ++ batches_of m then moment ws)
+            writer ws))
+            ∙ ap (λ m. (before.batches.items ++ batch ∷ []) ++ batches_of m then moment writer ws)
             (sym (with_batches-append l before.batches.items (batch ∷ [])))
-            ∙ ap (λ bs. bs ++ batches_of (with_batches l bs) then moment ws) (sym on.batches);
+            ∙ ap (λ bs. bs ++ batches_of (with_batches l bs) then moment writer ws) (sym on.batches);
       }
 
 -- and so are all
-pub all_staged : (l : Layout) (s : State) (moment : ℕ) (all : List ItemChange) (r : Staged)
-    → AreUnderWay l s moment all [] r.notes.items r.batches.items
-    → IsStaged l s moment (each written_at all) r
-all_staged l s moment all r so = record {
+pub all_staged : (l : Layout) (s : State) (moment : ℕ) (writer : Writer) (all : List ItemChange) (r : Staged)
+    → AreUnderWay l s moment writer all [] r.notes.items r.batches.items
+    → IsStaged l s moment writer (each written_at all) r
+all_staged l s moment writer all r so = record {
   batches = sym (so.rows ∙ append-nil r.batches.items);
   ahead = subst (IsAhead l s moment r.notes.items r.batches.items) (sym so.last) so.ahead;
 }
@@ -205,7 +205,7 @@ all_staged l s moment all r so = record {
 -- ---- in the call that gets them ready
 
 -- The first of the changes are got ready by calls that read alone.
-pub record IsStaging (a : DiskState) (old : Tables) (b : DiskState) (now : Tables) (moment : ℕ)
+pub record IsStaging (a : DiskState) (old : Tables) (b : DiskState) (now : Tables) (moment : ℕ) (writer : Writer)
     (all rest : List ItemChange) (staged : Staged) : Type 0 where
   pub keeps : Keeps a b old now
   pub may : Every (MayWrite (catalog_of old)) (each written_at rest)
@@ -215,19 +215,19 @@ pub record IsStaging (a : DiskState) (old : Tables) (b : DiskState) (now : Table
   pub count : length staged.batches.items + length rest ≡ length all
   pub notes : AreNotes (catalog_of old) (number_of old) staged.notes.items
   pub so : (s : State) (l : Layout) → Stands a old s → HasRows a old l
-      → AreUnderWay l s moment all rest staged.notes.items staged.batches.items
+      → AreUnderWay l s moment writer all rest staged.notes.items staged.batches.items
 
 -- one more is
-pub staging_more : (a b d : DiskState) (old now new : Tables) (moment : ℕ)
+pub staging_more : (a b d : DiskState) (old now new : Tables) (moment : ℕ) (writer : Writer)
     (all rest : List ItemChange) (c : ItemChange) (x y : Staged)
-    → IsStaging a old b now moment all (c ∷ rest) x → Keeps b d now new
+    → IsStaging a old b now moment writer all (c ∷ rest) x → Keeps b d now new
     → ((s r : State) (l : Layout) → Stands b now s → HasRows b now l
     → AreDistinct x.batches.items → IsAhead l s moment x.notes.items x.batches.items r
-    → IsFound r c → IsStagedOn l s moment c r x y)
+    → IsFound r c → IsStagedOn l s moment writer c r x y)
     → AreDistinct y.batches.items → length y.batches.items ≡ length x.batches.items + 1
     → AreNotes (catalog_of now) (number_of now) y.notes.items
-    → IsStaging a old d new moment all rest y
-staging_more a b d old now new moment all rest c x y so keeps on distinct count notes = record {
+    → IsStaging a old d new moment writer all rest y
+staging_more a b d old now new moment writer all rest c x y so keeps on distinct count notes = record {
   keeps = keeps_then a b d old now new so.keeps keeps;
   may = so.may.1;
   apart = so.apart.1;
@@ -239,7 +239,7 @@ staging_more a b d old now new moment all rest c x y so keeps on distinct count 
       so.keeps.catalog notes);
   so = λ s l stands rows.
       let under = so.so s l stands rows in
-      staged_more l s moment all rest c x y under so.apart so.differ.0
+      staged_more l s moment writer all rest c x y under so.apart so.differ.0
       (on s under.state l (stands_kept a b old now so.keeps s stands)
       (rows_kept a b old now so.keeps stands.rows.trusted l rows) so.distinct under.ahead
       under.found.0);

@@ -4,15 +4,15 @@ use Rattle.std.specs.FinMap as map
 use Rattle.std.specs.Option.{option_map_or}
 use Rattle.alt_cells.specs.Batches.{is_distinct}
 use Rattle.alt_cells.specs.declared.batch.RowChange.{RowChange}
-use Rattle.alt_codec.specs.declared.writer.Writer.TheVariants.{User}
+use Rattle.alt_codec.specs.declared.writer.Writer.{Writer}
 use Rattle.alt_layout.specs.Layout.{Layout, IsPast}
 use Rattle.alt_machine.specs.Keys.{place_of}
-use Rattle.alt_machine.specs.Ops.BatchWriteItem.{Written, writes_of}
+use Rattle.alt_machine.specs.Ops.BatchWriteItem.{Written, writes_of_by}
 use Rattle.alt_machine.specs.Outcomes.{last_state}
 use Rattle.alt_machine.specs.Same.{is_same}
 use Rattle.alt_machine.specs.State.{State, Table, Texts}
 use Rattle.alt_machine.specs.Valid.{IsStored, IsValid}
-use Rattle.alt_machine.specs.Writes.{with_write}
+use Rattle.alt_machine.specs.Writes.{with_write_by}
 use Rattle.alt_opening.specs.StateRows.{Shows, IsHeldWhole}
 use Rattle.alt_schema.specs.declared.schema.TableSchema.{TableSchema}
 use Rattle.alt_tables.specs.Found.{IsFoundIn}
@@ -94,24 +94,25 @@ pub record TurnsAll (batches : List (List RowChange)) (s r : State) : Type 0 whe
   pub held : IsHeldWhole r
 
 -- those of a write of a state to a table, where the lowest two of the rows that are left over in its stream are hidden
-abbrev pub batch_of : Layout → State → ℕ → Table → Written → List RowChange
-batch_of l s moment t w =
-    let after = (with_write s.next_number moment t w.place w.new).trimmed in
-    write_changes t.description s.next_number moment User w.place (map.get t.items w.place)
+abbrev pub batch_of : Layout → State → ℕ → Writer → Table → Written → List RowChange
+batch_of l s moment writer t w =
+    let after = (with_write_by s.next_number moment writer t w.place w.new).trimmed in
+    write_changes t.description s.next_number moment writer w.place (map.get t.items w.place)
     w.new t.trimmed after (lowest_left l t.description after)
 
 -- none, where it leaves what is there
-abbrev pub batches_in : Layout → State → ℕ → Written → Option Table → List (List RowChange)
-batches_in l s moment w None = []
-batches_in l s moment w (Some t) =
-    if is_same (map.get t.items w.place) w.new then [] else batch_of l s moment t w ∷ []
+abbrev pub batches_in : Layout → State → ℕ → Writer → Written → Option Table
+    → List (List RowChange)
+batches_in l s moment writer w None = []
+batches_in l s moment writer w (Some t) = if is_same (map.get t.items w.place) w.new then []
+    else batch_of l s moment writer t w ∷ []
 
-abbrev pub batches_by : Layout → State → ℕ → Written → List (List RowChange)
-batches_by l s moment w = batches_in l s moment w (map.get s.tables w.table)
+abbrev pub batches_by : Layout → State → ℕ → Writer → Written → List (List RowChange)
+batches_by l s moment writer w = batches_in l s moment writer w (map.get s.tables w.table)
 
 -- those of several writes, each from the rows and the state behind those before it
-abbrev pub batches_of : Layout → State → ℕ → List Written → List (List RowChange)
-batches_of l s moment [] = []
-batches_of l s moment (w ∷ ws) = batches_by l s moment w
-    ++ batches_of (with_batches l (batches_by l s moment w))
-    (last_state s (writes_of s moment w)) moment ws
+abbrev pub batches_of : Layout → State → ℕ → Writer → List Written → List (List RowChange)
+batches_of l s moment writer [] = []
+batches_of l s moment writer (w ∷ ws) = batches_by l s moment writer w
+    ++ batches_of (with_batches l (batches_by l s moment writer w))
+    (last_state s (writes_of_by s moment writer w)) moment writer ws

@@ -18,7 +18,7 @@ use crate::finding::Found;
 use crate::rows::{copy_of, row_of};
 use crate::several::ItemChange;
 use crate::tables::Tables;
-use alt_base::NoMemory;
+use alt_codec::Writer;
 use alt_disk::Disk;
 use alt_value::{Item, Text};
 
@@ -59,7 +59,7 @@ impl Tables {
         ensures rows { OnOk result ((s : State) (l : Layout)
             → Stands (D.state disk.old) self.old s → HasRows (D.state disk.old) self.old l
             → HasRows (D.state disk.new) self.new (with_batches l
-            (batches_of l s moment (each (written_in (catalog_of self.old)) writes.now)))) }
+            (batches_of l s moment Writer.User (each (written_in (catalog_of self.old)) writes.now)))) }
         ensures no_memory { IsErrOf result TableFault.NoMemory
             → Reads (D.state disk.old) (D.state disk.new) }
         ensures goes { Goes (D.state disk.old) (D.state disk.new) }
@@ -73,7 +73,7 @@ impl Tables {
             Ok(changes) => changes,
             Err(fault) => return Err(fault),
         };
-        match self.write_all(disk, changes, moment) {
+        match self.write_all(disk, changes, moment, Writer::User) {
             Ok(count) => Ok(count as u32),
             Err(fault) => Err(fault),
         }

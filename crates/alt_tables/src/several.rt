@@ -7,7 +7,7 @@ ghost use Rattle.alt_changes.specs.TrimRows.{trim_changes};
 ghost use Rattle.alt_cells.specs.declared.batch.RowChange.{RowChange};
 ghost use Rattle.alt_disk.specs.Disk.{IsTrusted, Goes};
 ghost use Rattle.alt_layout.specs.Layout.{Layout};
-ghost use Rattle.alt_machine.specs.Ops.BatchWriteItem.{writes_of_all};
+ghost use Rattle.alt_machine.specs.Ops.BatchWriteItem.{writes_of_all_by};
 ghost use Rattle.alt_machine.specs.Outcomes.{together};
 ghost use Rattle.alt_machine.specs.Same.{is_same};
 ghost use Rattle.alt_machine.specs.State.{State, Table};
@@ -67,6 +67,7 @@ impl Tables {
         disk: &mut D,
         changes: Vec<ItemChange>,
         moment: u64,
+        by: Writer,
     ) -> Result<usize, TableFault>
         requires ready { AreReady (D.state disk.old) self.old }
         requires may { Every (MayWrite (catalog_of self.old)) (each written_at changes.items) }
@@ -75,19 +76,19 @@ impl Tables {
             → Every (IsFound s) changes.items }
         ensures writes { (s : State) → Stands (D.state disk.old) self.old s
             → WritesAll (Stands (D.state disk.new) self.new) s
-            (writes_of_all s moment (each written_at changes.items)) result }
+            (writes_of_all_by s moment by (each written_at changes.items)) result }
         ensures count { (s : State) → Stands (D.state disk.old) self.old s
             → IfOk result (λ n. n
-            ≡ length (writes_of_all s moment (each written_at changes.items))) }
+            ≡ length (writes_of_all_by s moment by (each written_at changes.items))) }
         ensures most { IfOk result (λ n. n ≤ length changes.items) }
         ensures disk { (s : State) → Stands (D.state disk.old) self.old s
             → Leaves (D.state disk.old) (D.state disk.new) s
-            (together s (writes_of_all s moment (each written_at changes.items))) }
+            (together s (writes_of_all_by s moment by (each written_at changes.items))) }
         // The one entry has the row changes of each of them, as a write by itself would have them behind those before it.
         ensures rows { OnOk result ((s : State) (l : Layout)
             → Stands (D.state disk.old) self.old s → HasRows (D.state disk.old) self.old l
             → HasRows (D.state disk.new) self.new
-            (with_batches l (batches_of l s moment (each written_at changes.items)))) }
+            (with_batches l (batches_of l s moment by (each written_at changes.items)))) }
         // On every disk: where memory is wanting nothing is written.
         ensures no_memory { IsErrOf result TableFault.NoMemory
             → Reads (D.state disk.old) (D.state disk.new) }
@@ -109,7 +110,7 @@ impl Tables {
                 number: NUMBERS_END,
             });
         }
-        let staged = match self.stage_all(disk, changes, moment) {
+        let staged = match self.stage_all(disk, changes, moment, by) {
             Ok(staged) => staged,
             Err(fault) => return Err(fault),
         };
@@ -127,6 +128,7 @@ impl Tables {
         disk: &mut D,
         changes: Vec<ItemChange>,
         moment: u64,
+        by: Writer,
     ) -> Result<Staged, TableFault>
         requires ready { AreReady (D.state disk.old) self.old }
         requires may { Every (MayWrite (catalog_of self.old)) (each written_at changes.items) }
@@ -137,7 +139,7 @@ impl Tables {
         requires room { number_of self.old + length changes.items ≤ NUMBERS_END }
         ensures staged { (s : State) (l : Layout) → Stands (D.state disk.old) self.old s
             → HasRows (D.state disk.old) self.old l
-            → IfOk result (IsStaged l s moment (each written_at changes.items)) }
+            → IfOk result (IsStaged l s moment by (each written_at changes.items)) }
         ensures distinct { IfOk result (λ r. AreDistinct r.batches.items) }
         ensures count { IfOk result (λ r. length r.batches.items ≡ length changes.items) }
         ensures notes { IfOk result (λ r.
@@ -153,7 +155,7 @@ impl Tables {
             notes: Vec::new(self.alloc),
         };
         for change in changes {
-            match self.stage(disk, change, moment, &mut staged) {
+            match self.stage(disk, change, moment, by, &mut staged) {
                 Ok(()) => {}
                 Err(fault) => return Err(fault),
             }
@@ -167,6 +169,7 @@ impl Tables {
         disk: &mut D,
         change: ItemChange,
         moment: u64,
+        by: Writer,
         staged: &mut Staged,
     ) -> Result<(), TableFault>
         requires ready { AreReady (D.state disk.old) self.old }
@@ -179,7 +182,7 @@ impl Tables {
             → HasRows (D.state disk.old) self.old l → AreDistinct staged.old.batches.items
             → IsAhead l s moment staged.old.notes.items staged.old.batches.items r
             → IsFound r change
-            → OnOk result (IsStagedOn l s moment change r staged.old staged.new) }
+            → OnOk result (IsStagedOn l s moment by change r staged.old staged.new) }
         ensures distinct { AreDistinct staged.old.batches.items
             → OnOk result (AreDistinct staged.new.batches.items) }
         ensures count { OnOk result (length staged.new.batches.items
@@ -201,7 +204,16 @@ impl Tables {
             Err(fault) => return Err(fault),
         };
         let count = staged.batches.len();
-        let batch = self.batch(table.as_str(), count, found, &new, moment, before, &trim)?;
+        let batch = self.batch(
+            table.as_str(),
+            count,
+            found,
+            &new,
+            moment,
+            by,
+            before,
+            &trim,
+        )?;
         let _changes = batch.as_slice();
         staged.batches.push(batch)?;
         staged.notes.insert(0, Noted { table, trim })?;
@@ -216,6 +228,7 @@ impl Tables {
         found: Found,
         new: &Option<Item>,
         moment: u64,
+        by: Writer,
         before: u64,
         trim: &Trim,
     ) -> Result<Batch, NoMemory>
@@ -225,7 +238,7 @@ impl Tables {
             → IsSome d.stream_family → IsWithin before (number_of self.now + count) trim.now }
         ensures changes { (d : TableSchema) → map.get (catalog_of self.now) table.now ≡ Some d
             → IfOk result (λ batch. batch ≡ write_changes d (number_of self.now + count) moment
-            Writer.User found.place found.item new.now before trim.now.number trim.now.leftovers.items) }
+            by found.place found.item new.now before trim.now.number trim.now.leftovers.items) }
         ensures held { OnOk result (IfSome new.now IsItemOfValues) }
     {
         let number = self.engine.next_number() + count as u64;
@@ -237,7 +250,7 @@ impl Tables {
             schema,
             number,
             moment,
-            Writer::User,
+            by,
             found.place,
             found.row,
             &found.item,

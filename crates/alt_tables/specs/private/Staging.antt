@@ -5,12 +5,13 @@ use Rattle.std.specs.List.{find}
 use Rattle.std.specs.Option.{option_map_or}
 use Rattle.std.specs.Str.{bytes_eq}
 use Rattle.alt_cells.specs.declared.batch.RowChange.{RowChange}
+use Rattle.alt_codec.specs.declared.writer.Writer.{Writer}
 use Rattle.alt_layout.specs.Layout.{Layout, shown}
-use Rattle.alt_machine.specs.Ops.BatchWriteItem.{Written, writes_of_all}
+use Rattle.alt_machine.specs.Ops.BatchWriteItem.{Written, writes_of_all_by}
 use Rattle.alt_machine.specs.Outcomes.{last_state}
 use Rattle.alt_machine.specs.Same.{is_same}
 use Rattle.alt_machine.specs.State.{State, Table, Texts, descriptions}
-use Rattle.alt_machine.specs.Writes.{after_item}
+use Rattle.alt_machine.specs.Writes.{after_item_by}
 use Rattle.alt_opening.specs.Trimmed.{number_at}
 use Rattle.alt_opening.specs.declared.trimmed.Trimmed.{Trimmed}
 use Rattle.alt_schema.specs.declared.schema.TableSchema.{TableSchema}
@@ -96,23 +97,23 @@ pub record IsBehind (l m : Layout) (t : Table) (moment : ℕ) (r : ℕ × Trim) 
   pub again : IsAgain l m t moment r.1
 
 -- One more is got ready behind the others.
-pub record IsStagedOn (l : Layout) (s : State) (moment : ℕ) (c : ItemChange) (r : State)
-    (old new : Staged) : Type 0 where
+pub record IsStagedOn (l : Layout) (s : State) (moment : ℕ) (writer : Writer) (c : ItemChange)
+    (r : State) (old new : Staged) : Type 0 where
   pub table : Table
   pub there : map.get r.tables c.table ≡ Some table
   pub batches : new.batches.items ≡ old.batches.items
-      ++ batch_of (with_batches l old.batches.items) r moment table (written_at c) ∷ []
+      ++ batch_of (with_batches l old.batches.items) r moment writer table (written_at c) ∷ []
   pub ahead : IsAhead l s moment new.notes.items new.batches.items
-      (after_item r moment c.table table c.found.place c.new)
+      (after_item_by r moment writer c.table table c.found.place c.new)
 
 -- ---- all of them
 
 -- These writes of a state are got ready.
-pub record IsStaged (l : Layout) (s : State) (moment : ℕ) (ws : List Written) (r : Staged)
-    : Type 0 where
-  pub batches : r.batches.items ≡ batches_of l s moment ws
+pub record IsStaged (l : Layout) (s : State) (moment : ℕ) (writer : Writer) (ws : List Written)
+    (r : Staged) : Type 0 where
+  pub batches : r.batches.items ≡ batches_of l s moment writer ws
   pub ahead : IsAhead l s moment r.notes.items r.batches.items
-      (last_state s (writes_of_all s moment ws))
+      (last_state s (writes_of_all_by s moment writer ws))
 
 -- what is known of a front by what is noted: where a write was to a table with a stream, what it leaves
 abbrev pub IsFrontKnown : Texts TableSchema → ℕ → List ℕ → Option Noted → List Front → List Front

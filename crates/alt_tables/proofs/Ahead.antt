@@ -169,6 +169,22 @@ none_ahead l s moment valid held = record {
   tables = λ q. record { same = refl; rows = λ t family is stream key. refl };
 }
 
+module _ (l : Layout) (s : State) (moment : ℕ) (notes : List Noted)
+    (batches : List (List RowChange)) (r : State) (ahead : IsAhead l s moment notes batches r)
+    (name : List ℕ) where
+  -- a table that is noted is as its note says
+  pub touched_by : (e : Noted) → Some e ≡ note_at name notes
+      → (t : Table) × (map.get r.tables name ≡ Some t)
+      × IsTouched l (with_batches l batches) moment e.trim t
+  touched_by e noted = subst (IsTableAhead l (with_batches l batches) moment
+      (map.get s.tables name) (map.get r.tables name)) (sym noted) (ahead.tables name)
+
+  -- and one that isn't is as it was
+  pub untouched_by : None ≡ note_at name notes → IsUntouched l (with_batches l batches)
+      (map.get s.tables name) (map.get r.tables name)
+  untouched_by none = subst (IsTableAhead l (with_batches l batches) moment
+      (map.get s.tables name) (map.get r.tables name)) (sym none) (ahead.tables name)
+
 -- a table to which none was goes on as it is where its rows do
 table_on : (l now m : Layout) (moment : ℕ) (was before after : Option Table) (o : Option Noted)
     → ((v : Table) (family : ℕ) → before ≡ Some v → v.description.stream_family ≡ Some family

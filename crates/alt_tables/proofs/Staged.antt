@@ -33,6 +33,7 @@ use Rattle.alt_tables.specs.declared.several.Staged.{Staged}
 use Rattle.alt_tables.specs.declared.tables.Tables.{Tables}
 use Rattle.alt_tables.specs.declared.trimming.Trim.{Trim}
 use Rattle.alt_tables.specs.private.Staging.{AreKnown, AreNotes, Differs, IsAhead, IsBehind, IsStaged, IsStagedOn, IsTableAhead, note_at}
+use Rattle.alt_tables.specs.private.Trims.{IsWithin}
 use Rattle.alt_tables.proofs.Ahead.{none_ahead, one_ahead}
 use Rattle.alt_tables.proofs.Batches.{with_batches-append}
 use Rattle.alt_tables.proofs.Differing.{differ_one, differ_rows, stay_found}
@@ -130,6 +131,27 @@ module _ (a : DiskState) (old : Tables) (s : State) (stands : Stands a old s) (l
             (map.get t.items c.found.place) c.new t.trimmed (sym number_then i)
             ((was.again.trim.lowest
             ∙ ap (lowest_left (with_batches l batches) t.description) (sym number_then)) i))
+
+-- a table that is there is described
+pub described_by : (catalog : Texts TableSchema) (name : List ℕ)
+    → map.contains_key catalog name ≡ true
+    → (d : TableSchema) × (map.get catalog name ≡ Some d)
+described_by catalog name there = by (map.get catalog name) refl there
+  where
+    by : (o : Option TableSchema) → map.get catalog name ≡ o → is_some o ≡ true
+        → (d : TableSchema) × (map.get catalog name ≡ Some d)
+    by None e h = absurd (let f : ⊥ = cc h in f)
+    by (Some d) e h = (d, e)
+
+-- what lies before a number lies before a later one
+pub within_later : (before next later : ℕ) (x : Trim) → next ≤ later → IsWithin before next x
+    → IsWithin before later x
+within_later before next later x low within = record {
+  rise = within.rise;
+  below = let high = within.below in omega (arith, high, low);
+  left = within.left;
+  differ = within.differ;
+}
 
 -- ---- one after another
 

@@ -1,6 +1,6 @@
 -- Writes of the state are one entry of the engine.
 use Rattle.std.proofs.Common.{refl, sym, ap, subst, Err}
-use Rattle.alt_tables.specs.Stands.{HasRows}
+use Rattle.alt_engine.specs.InHand.{Stands as EngineStands}
 use Rattle.alt_tables.proofs.Batches.{with_batches-writes}
 use Rattle.alt_tables.proofs.Holding.{all_hold, all_images, memory_wanted, same_Err}
 use Rattle.alt_tables.proofs.tables.Tables.make_all.Goals as goal
@@ -18,7 +18,7 @@ returns-in-Ok-clause-ok g c s r holds turns =
 
 pub returns-in-Ok-clause-rows : goal.returns-in-Ok-clause-rows
 returns-in-Ok-clause-rows g c trusted l rows =
-    subst (HasRows (g.D.Disk.state c.apply_all.new.disk) _)
+    subst (EngineStands (g.D.Disk.state c.apply_all.new.disk) c.apply_all.new.self)
     (sym (with_batches-writes l c.args.batches.now)) (c.in-Ok.ensures.ok trusted l rows)
 
 pub returns-in-Ok-clause-disk : goal.returns-in-Ok-clause-disk

@@ -17,6 +17,7 @@ pub mod Left
 pub mod LeftoverLaws
 pub mod LeftoverRows
 pub mod Making
+pub mod MakingAll
 pub mod Moving
 pub mod Noting
 pub mod Pages

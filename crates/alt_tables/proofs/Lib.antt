@@ -1,6 +1,7 @@
 pub mod Ahead
 pub mod Batches
 pub mod Behind
+pub mod ByKeys
 pub mod CatalogLaws
 pub mod ChangeLaws
 pub mod ChangePages

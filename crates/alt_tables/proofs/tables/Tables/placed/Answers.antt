@@ -1,19 +1,19 @@
-use Rattle.std.proofs.Common.{rules, ◌≡◌, ◌<◌, ◌≤◌, ◌^◌, [], length}
-use Rattle.std.proofs.Common.{map as each}
-use Rattle.std.proofs.Common.{ℕ, List, Ok, IfOk, IfErr, OnOk, IsErrOf, ◌+◌, ◌-◌, ◌*◌, ◌/◌, ◌%◌, Bool, true, false, nat_eq, nat_lt, ◌∷◌, ◌++◌, slice_index_or, slice_set, bit_and, bit_or, Fits, w8, w32, w64, Bor, MutBor}
+-- What is at the place of the key is what the write says.
+use Rattle.std.proofs.Common.{◌≡◌, sym, ap, ◌∙◌, List, ℕ, Some}
 use Rattle.std.specs.FinMap as map
-use Rattle.alt_base.specs.Counts.{Rose}
-use Rattle.alt_disk.specs.Disk.{Goes}
-use Rattle.alt_layout.specs.Layout.{Layout}
-use Rattle.alt_machine.specs.Ops.BatchWriteItem.{writes_of_all}
-use Rattle.alt_machine.specs.Outcomes.{together}
-use Rattle.alt_machine.specs.State.{State, descriptions}
-use Rattle.alt_tables.specs.Faults.{WritesAll}
-use Rattle.alt_tables.specs.Images.{Leaves}
-use Rattle.alt_tables.specs.Several.{AreAllApart, Every, IsFound, MayWriteKey, WasThere, batches_of, with_batches, written_at, written_in}
-use Rattle.alt_tables.specs.Stands.{AreReady, HasRows, Reads, Stands, bounds_of, catalog_of}
+use Rattle.alt_machine.specs.State.{Texts}
+use Rattle.alt_schema.specs.declared.schema.TableSchema.{TableSchema}
+use Rattle.alt_tables.specs.Stands.{catalog_of}
+use Rattle.alt_tables.specs.declared.by_keys.ItemWrite.{ItemWrite}
+use Rattle.alt_tables.proofs.ByKeys.{known_by}
 use Rattle.alt_tables.proofs.tables.Tables.placed.Goals as goal
 
--- src/by_keys.rt:103:5
 pub returns-clause-found : goal.returns-clause-found
-returns-clause-found c = ?
+returns-clause-found c s same was t at =
+    let catalog : Texts TableSchema = catalog_of c.args.self.now in
+    let w : ItemWrite = c.args.write.now in
+    let at_w : map.get s.tables w.table ≡ Some t =
+    ap (map.get s.tables) (sym c.in_ok-copy.ensures.same) ∙ at in
+    c.in_ok-copy_of.ensures ∙ c.as_ref.ensures ∙ was t c.in-Ok.place at_w
+    (c.in-Ok.ensures.place t.description
+    (ap (map.get catalog) c.as_str.ensures.same ∙ known_by catalog s w.table t same at_w))

@@ -1,35 +1,69 @@
-use Rattle.std.proofs.Common.{rules, ◌≡◌, ◌<◌, ◌≤◌, ◌^◌, [], length}
-use Rattle.std.proofs.Common.{map as each}
-use Rattle.std.proofs.Common.{ℕ, List, Ok, IfOk, IfErr, OnOk, IsErrOf, ◌+◌, ◌-◌, ◌*◌, ◌/◌, ◌%◌, Bool, true, false, nat_eq, nat_lt, ◌∷◌, ◌++◌, slice_index_or, slice_set, bit_and, bit_or, Fits, w8, w32, w64, Bor, MutBor}
-use Rattle.std.specs.FinMap as map
-use Rattle.alt_base.specs.Counts.{Rose}
-use Rattle.alt_disk.specs.Disk.{Goes}
-use Rattle.alt_layout.specs.Layout.{Layout}
-use Rattle.alt_machine.specs.Ops.BatchWriteItem.{writes_of_all}
-use Rattle.alt_machine.specs.Outcomes.{together}
-use Rattle.alt_machine.specs.State.{State, descriptions}
-use Rattle.alt_tables.specs.Faults.{WritesAll}
-use Rattle.alt_tables.specs.Images.{Leaves}
-use Rattle.alt_tables.specs.Several.{AreAllApart, Every, IsFound, MayWriteKey, WasThere, batches_of, with_batches, written_at, written_in}
-use Rattle.alt_tables.specs.Stands.{AreReady, HasRows, Reads, Stands, bounds_of, catalog_of}
+-- One more is placed.
+use Rattle.std.proofs.Common.{◌≡◌, ◌<◌, ◌+◌, sym, ap, subst, ◌∙◌, ℕ, List, [], ◌∷◌, length, drop, map as each, append-nil, arith}
+use Rattle.std.proofs.lemmas.List.{drop_all, drop_more}
+use Rattle.alt_machine.specs.State.{Texts}
+use Rattle.alt_schema.specs.declared.schema.TableSchema.{TableSchema}
+use Rattle.alt_tables.specs.Several.{Every, MayWriteKey, written_at}
+use Rattle.alt_tables.specs.Stands.{catalog_of}
+use Rattle.alt_tables.specs.declared.by_keys.ItemWrite.{ItemWrite}
+use Rattle.alt_tables.proofs.ByKeys.{ArePlaced, placed_all, placed_more, placed_none}
 use Rattle.alt_tables.proofs.tables.Tables.placed_all.Goals as goal
 
--- src/by_keys.rt:93:9
-pub loop-i-init : goal.loop-i-init
-loop-i-init c = ?
+pub loop-write-init : goal.loop-write-init
+loop-write-init c = placed_none (catalog_of c.args.self.now) c.args.writes.now _
+    c.in_ok-with_capacity.ensures.items c.requires
 
--- src/by_keys.rt:93:9
-pub loop-i-preserved : goal.loop-i-preserved
-loop-i-preserved c = ?
+pub placed-requires : goal.placed-requires
+placed-requires c =
+    let catalog : Texts TableSchema = catalog_of c.args.self.now in
+    let writes : List ItemWrite = c.args.writes.now in
+    let i : ℕ = c.loop-write.write-index in
+    let w : ItemWrite = c.write-item.result in
+    let less : i < length writes = omega (arith, c.loop-write-test.true) in
+    let front : drop i writes ≡ w ∷ drop (i + 1) writes = drop_more writes i w less
+    ∙ ap (λ (x : ItemWrite). x ∷ drop (i + 1) writes) (sym c.write-item.is) in
+    (subst (Every (MayWriteKey catalog)) front c.loop-write.invariant.may).0
 
--- src/by_keys.rt:83:5
+pub loop-write-preserved : goal.loop-write-preserved
+loop-write-preserved c =
+    let catalog : Texts TableSchema = catalog_of c.args.self.now in
+    let writes : List ItemWrite = c.args.writes.now in
+    let i : ℕ = c.loop-write.write-index in
+    let w : ItemWrite = c.write-item.result in
+    let less : i < length writes = omega (arith, c.loop-write-test.true) in
+    let front : drop i writes ≡ w ∷ drop (i + 1) writes = drop_more writes i w less
+    ∙ ap (λ (x : ItemWrite). x ∷ drop (i + 1) writes) (sym c.write-item.is) in
+    placed_more catalog writes (drop (i + 1) writes) (drop i writes) w c.loop-write.changes.items _
+    c.in-Ok.change front c.in_ok-push.ensures.items c.loop-write.invariant c.in-Ok.ensures.written
+    c.in-Ok.ensures.found
+
 pub returns-clause-written : goal.returns-clause-written
-returns-clause-written c = ?
+returns-clause-written c =
+    let catalog : Texts TableSchema = catalog_of c.args.self.now in
+    let writes : List ItemWrite = c.args.writes.now in
+    let i : ℕ = c.loop-write.write-index in
+    let so : ArePlaced catalog writes [] c.loop-write.changes.items =
+    placed_all catalog writes (drop i writes) c.loop-write.changes.items
+    (drop_all i writes (omega (arith, c.loop-write-test.false))) c.loop-write.invariant in
+    sym (append-nil (each written_at c.loop-write.changes.items)) ∙ so.written
 
--- src/by_keys.rt:83:5
 pub returns-clause-found : goal.returns-clause-found
-returns-clause-found c = ?
+returns-clause-found c s same were =
+    let catalog : Texts TableSchema = catalog_of c.args.self.now in
+    let writes : List ItemWrite = c.args.writes.now in
+    let i : ℕ = c.loop-write.write-index in
+    let so : ArePlaced catalog writes [] c.loop-write.changes.items =
+    placed_all catalog writes (drop i writes) c.loop-write.changes.items
+    (drop_all i writes (omega (arith, c.loop-write-test.false))) c.loop-write.invariant in
+    (so.found s same were).0
 
--- src/by_keys.rt:83:5
 pub returns-clause-count : goal.returns-clause-count
-returns-clause-count c = ?
+returns-clause-count c =
+    let catalog : Texts TableSchema = catalog_of c.args.self.now in
+    let writes : List ItemWrite = c.args.writes.now in
+    let i : ℕ = c.loop-write.write-index in
+    let so : ArePlaced catalog writes [] c.loop-write.changes.items =
+    placed_all catalog writes (drop i writes) c.loop-write.changes.items
+    (drop_all i writes (omega (arith, c.loop-write-test.false))) c.loop-write.invariant in
+    let count = so.count in
+    omega (arith, count)

@@ -1,33 +1,32 @@
-use Rattle.std.proofs.Common.{rules, ◌≡◌, ◌<◌, ◌≤◌, ◌+◌, ◌++◌, ◌∷◌, ◌^◌, [], false, length}
-use Rattle.std.proofs.Common.{map as each}
-use Rattle.std.proofs.Common.{option_map, ℕ, true, List, Ok, Some, IsSome, IfOk, IfErr, IfSome, OnOk, IsErrOf, ◌-◌, ◌*◌, ◌/◌, ◌%◌, Bool, nat_eq, nat_lt, slice_index_or, slice_set, bit_and, bit_or, Fits, w8, w32, w64, Bor, MutBor}
+-- The row changes of the write are put behind the others, and what it takes before what they take.
+use Rattle.std.proofs.Common.{◌≡◌, ◌+◌, refl, sym, ap, subst, ◌∙◌, ℕ, List, length, rules, arith}
 use Rattle.std.specs.FinMap as map
-use Rattle.alt_base.specs.Counts.{Rose}
-use Rattle.alt_changes.specs.TrimRows.{trim_changes}
-use Rattle.alt_cells.specs.declared.batch.RowChange.{RowChange}
-use Rattle.alt_disk.specs.Disk.{IsTrusted, Goes}
-use Rattle.alt_layout.specs.Layout.{Layout}
-use Rattle.alt_machine.specs.Ops.BatchWriteItem.{writes_of_all_by}
-use Rattle.alt_machine.specs.Outcomes.{together}
-use Rattle.alt_machine.specs.Same.{is_same}
-use Rattle.alt_machine.specs.State.{State, Table}
-use Rattle.alt_machine.specs.Valid.{IsStored, IsValid}
-use Rattle.alt_opening.specs.Opened.{Holds}
+use Rattle.alt_disk.specs.Disk.{DiskState}
 use Rattle.alt_schema.specs.declared.schema.TableSchema.{TableSchema}
-use Rattle.alt_tables.specs.Faults.{IsFindFault, IsUnspent, WritesAll}
-use Rattle.alt_tables.specs.Images.{Leaves}
-use Rattle.alt_tables.specs.RowChanges.{item_changes, write_changes}
-use Rattle.alt_tables.specs.Several.{AreAllApart, AreDistinct, Every, IsFound, MayWrite, TurnsAll, batches_of, with_batches, written_at}
-use Rattle.alt_tables.specs.Stands.{AreReady, HasRows, Keeps, Reads, Stands, catalog_of, fronts_of, bounds_of, number_of, trimmed_of}
-use Rattle.alt_tables.specs.private.Staging.{AreKnown, AreNotes, Differs, IsAgain, IsAhead, IsBehind, IsStaged, IsStagedOn, IsTouched, differing_of, note_at}
-use Rattle.alt_tables.specs.private.Trims.{IsTrim, IsWithin}
-use Rattle.alt_value.specs.Values.{IsItemOfValues}
+use Rattle.alt_tables.specs.Stands.{catalog_of, number_of}
+use Rattle.alt_tables.specs.declared.several.Staged.{Staged}
+use Rattle.alt_tables.specs.declared.tables.Tables.{Tables}
+use Rattle.alt_tables.proofs.Staged.{ahead_there, described_by, one_staged}
 use Rattle.alt_tables.proofs.tables.Tables.stage.Goals as goal
 
--- src/several.rt:204:27
 pub returns-in-Err-clause-fault : goal.returns-in-Err-clause-fault
-returns-in-Err-clause-fault g c = ?
+returns-in-Err-clause-fault g c s r l stands rows ahead =
+    c.in-Err.ensures.fault s r l c.args.staged.now.batches.items stands rows ahead
 
--- src/several.rt:167:5
 pub returns-clause-staged : goal.returns-clause-staged
-returns-clause-staged g c = ?
+returns-clause-staged g c s r l stands rows distinct ahead found =
+    let a : DiskState = g.D.Disk.state c.args.disk.now in
+    let old : Tables = c.args.self.now in
+    let before : Staged = c.args.staged.now in
+    let (d, described) = described_by (catalog_of old) c.args.change.table c.requires.may.there in
+    one_staged a old s stands l c.args.moment before.notes.items before.batches.items r ahead
+    c.args.by rows c.args.change c.requires.may c.requires.differ found
+    (omega (arith, c.requires.room)) d described c.in-Ok.read
+    (λ t at. c.in-Ok.ensures.trim s r l before.batches.items t stands rows distinct ahead at)
+    (number_of c.trim_behind.new.self + c.len-count.result)
+    (omega (arith, c.trim_behind.ensures.keeps.number, c.len-count.ensures, before.batches.ok.0))
+    c.in_ok-batch.batch
+    (c.in_ok-batch.ensures.changes d
+    (ap (λ k. map.get k c.args.change.table) c.trim_behind.ensures.keeps.catalog ∙ described))
+    c.as_slice-changes.ensures.distinct c.in_ok-batch.ensures.held (search rules) before
+    _ refl refl (search rules) (search rules)

@@ -1,37 +1,37 @@
-use Rattle.std.proofs.Common.{rules, ◌≡◌, ◌<◌, ◌≤◌, ◌+◌, ◌++◌, ◌∷◌, ◌^◌, [], false, length}
-use Rattle.std.proofs.Common.{map as each}
-use Rattle.std.proofs.Common.{option_map, ℕ, true, List, Ok, Some, IsSome, IfOk, IfErr, IfSome, OnOk, IsErrOf, ◌-◌, ◌*◌, ◌/◌, ◌%◌, Bool, nat_eq, nat_lt, slice_index_or, slice_set, bit_and, bit_or, Fits, w8, w32, w64, Bor, MutBor}
-use Rattle.std.specs.FinMap as map
-use Rattle.alt_base.specs.Counts.{Rose}
-use Rattle.alt_changes.specs.TrimRows.{trim_changes}
-use Rattle.alt_cells.specs.declared.batch.RowChange.{RowChange}
-use Rattle.alt_disk.specs.Disk.{IsTrusted, Goes}
-use Rattle.alt_layout.specs.Layout.{Layout}
-use Rattle.alt_machine.specs.Ops.BatchWriteItem.{writes_of_all_by}
-use Rattle.alt_machine.specs.Outcomes.{together}
-use Rattle.alt_machine.specs.Same.{is_same}
-use Rattle.alt_machine.specs.State.{State, Table}
-use Rattle.alt_machine.specs.Valid.{IsStored, IsValid}
-use Rattle.alt_opening.specs.Opened.{Holds}
+-- The next rows that are left over are read, and nothing is trimmed.
+use Rattle.std.proofs.Common.{◌≡◌, refl, sym, ap, subst, ◌∙◌, ℕ, Some, IsSome}
+use Rattle.alt_disk.specs.Disk.{DiskState}
+use Rattle.alt_opening.proofs.OneState.{some}
 use Rattle.alt_schema.specs.declared.schema.TableSchema.{TableSchema}
-use Rattle.alt_tables.specs.Faults.{IsFindFault, IsUnspent, WritesAll}
-use Rattle.alt_tables.specs.Images.{Leaves}
-use Rattle.alt_tables.specs.RowChanges.{item_changes, write_changes}
-use Rattle.alt_tables.specs.Several.{AreAllApart, AreDistinct, Every, IsFound, MayWrite, TurnsAll, batches_of, with_batches, written_at}
-use Rattle.alt_tables.specs.Stands.{AreReady, HasRows, Keeps, Reads, Stands, catalog_of, fronts_of, bounds_of, number_of, trimmed_of}
-use Rattle.alt_tables.specs.private.Staging.{AreKnown, AreNotes, Differs, IsAgain, IsAhead, IsBehind, IsStaged, IsStagedOn, IsTouched, differing_of, note_at}
-use Rattle.alt_tables.specs.private.Trims.{IsTrim, IsWithin}
-use Rattle.alt_value.specs.Values.{IsItemOfValues}
+use Rattle.alt_tables.specs.declared.tables.Tables.{Tables}
+use Rattle.alt_tables.proofs.Ahead.{again_with}
+use Rattle.alt_tables.proofs.Standing.{there}
 use Rattle.alt_tables.proofs.tables.Tables.trim_again.Goals as goal
 
--- src/several.rt:347:15
 pub lowest-requires-clause-number : goal.lowest-requires-clause-number
-lowest-requires-clause-number g c = ?
+lowest-requires-clause-number g c = c.requires.last c.in-Some.schema.now (sym c.in-Some.ensures.table)
+    (subst IsSome (sym c.in-Some-stream_family.is) refl)
 
--- src/several.rt:307:5
 pub returns-in-Ok-clause-trim : goal.returns-in-Ok-clause-trim
-returns-in-Ok-clause-trim g c = ?
+returns-in-Ok-clause-trim g c s l m t stands rows known touched =
+    let a : DiskState = g.D.Disk.state c.args.disk.now in
+    let old : Tables = c.args.self.now in
+    let schema : TableSchema = c.in-Some.schema.now in
+    let family : ℕ = c.in-Some-stream_family.family in
+    let same : t.description ≡ schema = some _ _ (sym known ∙ sym c.in-Some.ensures.table) in
+    let (u, at, of_u) = there a old s c.args.table.now schema stands (sym c.in-Some.ensures.table) in
+    again_with l m t c.args.moment c.args.last.now touched _ refl
+    (ap (λ n. Some n) c.unwrap_or.ensures) family
+    (ap (λ (x : TableSchema). x.stream_family) same ∙ c.in-Some-stream_family.is)
+    (c.in-Ok.ensures.lowest_from s c.args.table.now u l stands at
+    (ap (λ (x : TableSchema). x.stream_family) of_u ∙ c.in-Some-stream_family.is) rows
+    touched.low.0)
 
--- src/several.rt:307:5
 pub returns-in-Err-clause-fault : goal.returns-in-Err-clause-fault
-returns-in-Err-clause-fault g c = ?
+returns-in-Err-clause-fault g c s l m t stands touched =
+    let a : DiskState = g.D.Disk.state c.args.disk.now in
+    let old : Tables = c.args.self.now in
+    let (u, at, of_u) = there a old s c.args.table.now c.in-Some.schema.now stands
+    (sym c.in-Some.ensures.table) in
+    c.in-Err.ensures.fault s c.args.table.now u stands at
+    (ap (λ (x : TableSchema). x.stream_family) of_u ∙ c.in-Some-stream_family.is) touched.low.0

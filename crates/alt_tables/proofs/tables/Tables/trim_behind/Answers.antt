@@ -1,41 +1,60 @@
-use Rattle.std.proofs.Common.{rules, ◌≡◌, ◌<◌, ◌≤◌, ◌+◌, ◌++◌, ◌∷◌, ◌^◌, [], false, length}
-use Rattle.std.proofs.Common.{map as each}
-use Rattle.std.proofs.Common.{option_map, ℕ, true, List, Ok, Some, IsSome, IfOk, IfErr, IfSome, OnOk, IsErrOf, ◌-◌, ◌*◌, ◌/◌, ◌%◌, Bool, nat_eq, nat_lt, slice_index_or, slice_set, bit_and, bit_or, Fits, w8, w32, w64, Bor, MutBor}
+-- What the last of the writes to the table noted goes on, and else the front is read.
+use Rattle.std.proofs.Common.{◌≡◌, sym, subst, ◌∙◌, Some}
 use Rattle.std.specs.FinMap as map
-use Rattle.alt_base.specs.Counts.{Rose}
-use Rattle.alt_changes.specs.TrimRows.{trim_changes}
-use Rattle.alt_cells.specs.declared.batch.RowChange.{RowChange}
-use Rattle.alt_disk.specs.Disk.{IsTrusted, Goes}
+use Rattle.alt_disk.specs.Disk.{DiskState}
 use Rattle.alt_layout.specs.Layout.{Layout}
-use Rattle.alt_machine.specs.Ops.BatchWriteItem.{writes_of_all_by}
-use Rattle.alt_machine.specs.Outcomes.{together}
-use Rattle.alt_machine.specs.Same.{is_same}
-use Rattle.alt_machine.specs.State.{State, Table}
-use Rattle.alt_machine.specs.Valid.{IsStored, IsValid}
-use Rattle.alt_opening.specs.Opened.{Holds}
-use Rattle.alt_schema.specs.declared.schema.TableSchema.{TableSchema}
-use Rattle.alt_tables.specs.Faults.{IsFindFault, IsUnspent, WritesAll}
-use Rattle.alt_tables.specs.Images.{Leaves}
-use Rattle.alt_tables.specs.RowChanges.{item_changes, write_changes}
-use Rattle.alt_tables.specs.Several.{AreAllApart, AreDistinct, Every, IsFound, MayWrite, TurnsAll, batches_of, with_batches, written_at}
-use Rattle.alt_tables.specs.Stands.{AreReady, HasRows, Keeps, Reads, Stands, catalog_of, fronts_of, bounds_of, number_of, trimmed_of}
-use Rattle.alt_tables.specs.private.Staging.{AreKnown, AreNotes, Differs, IsAgain, IsAhead, IsBehind, IsStaged, IsStagedOn, IsTouched, differing_of, note_at}
-use Rattle.alt_tables.specs.private.Trims.{IsTrim, IsWithin}
-use Rattle.alt_value.specs.Values.{IsItemOfValues}
+use Rattle.alt_machine.specs.State.{Table}
+use Rattle.alt_opening.proofs.OneState.{some}
+use Rattle.alt_tables.specs.Several.{with_batches}
+use Rattle.alt_tables.specs.Stands.{catalog_of, number_of}
+use Rattle.alt_tables.specs.declared.several.Noted.{Noted}
+use Rattle.alt_tables.specs.declared.tables.Tables.{Tables}
+use Rattle.alt_tables.specs.private.Staging.{IsTouched}
+use Rattle.alt_tables.proofs.Ahead.{first_behind, touched_by, untouched_by}
+use Rattle.alt_tables.proofs.Noting.{note_is}
+use Rattle.alt_tables.proofs.Staged.{ahead_known}
+use Rattle.alt_tables.proofs.TrimSteps.{trimmed_known}
 use Rattle.alt_tables.proofs.tables.Tables.trim_behind.Goals as goal
 
--- src/several.rt:293:26
 pub trim_again-requires-clause-last : goal.trim_again-requires-clause-last
-trim_again-requires-clause-last g c = ?
+trim_again-requires-clause-last g c =
+    (note_is (catalog_of c.args.self.now) (number_of c.args.self.now) c.args.table.now
+    c.args.notes.now c.in-Some.last.now c.requires.notes (sym c.in-Some.ensures)).1
 
--- src/several.rt:293:13
 pub returns-in-Ok-clause-trim : goal.returns-in-Ok-clause-trim
-returns-in-Ok-clause-trim g c = ?
+returns-in-Ok-clause-trim g c s r l batches t stands rows distinct ahead at =
+    let m : Layout = with_batches l batches in
+    let last : Noted = c.in-Some.last.now in
+    let (u, at_u, touched) = touched_by l s c.args.moment c.args.notes.now batches r ahead
+    c.args.table.now last c.in-Some.ensures in
+    let same : u ≡ t = some u t (sym at_u ∙ at) in
+    let is : IsTouched l m c.args.moment last.trim t =
+    subst (λ (v : Table). IsTouched l m c.args.moment last.trim v) same touched in
+    record {
+      before = sym is.trimmed;
+      again = c.in-Ok.ensures.trim s l m t stands rows
+          (ahead_known (g.D.Disk.state c.args.disk.now) c.args.self.now s stands l c.args.moment
+          c.args.notes.now batches r ahead c.args.table.now t at) is;
+    }
 
--- src/several.rt:293:13
 pub returns-in-Err-clause-fault : goal.returns-in-Err-clause-fault
-returns-in-Err-clause-fault g c = ?
+returns-in-Err-clause-fault g c s r l batches stands rows ahead =
+    let (u, at, touched) = touched_by l s c.args.moment c.args.notes.now batches r ahead
+    c.args.table.now c.in-Some.last.now c.in-Some.ensures in
+    c.in-Err.ensures.fault s l (with_batches l batches) u stands touched
 
--- src/several.rt:265:5
 pub returns-in-Ok-trim-clause-trim : goal.returns-in-Ok-trim-clause-trim
-returns-in-Ok-trim-clause-trim g c = ?
+returns-in-Ok-trim-clause-trim g c s r l batches t stands rows distinct ahead at =
+    let a : DiskState = g.D.Disk.state c.args.disk.now in
+    let old : Tables = c.args.self.now in
+    let still = untouched_by l s c.args.moment c.args.notes.now batches r ahead c.args.table.now
+    c.in-None.ensures in
+    let was : map.get s.tables c.args.table.now ≡ Some t = sym still.same ∙ at in
+    record {
+      before = c.trimmed-before.ensures.trimmed
+          ∙ trimmed_known a old s c.args.table.now t stands was;
+      again = first_behind l (with_batches l batches) t c.args.moment
+          (λ family stream key. still.rows t family was stream key) c.in-Ok-trim.trim
+          (c.in-Ok-trim.ensures.trim s t l stands was rows)
+          (c.in-Ok-trim.ensures.rest s t l stands was rows);
+    }

@@ -1,23 +1,25 @@
-use Rattle.std.proofs.Common.{rules, ◌≡◌, ◌<◌, ◌≤◌, ◌^◌, [], length}
-use Rattle.std.proofs.Common.{map as each}
-use Rattle.std.proofs.Common.{ℕ, List, Ok, IfOk, IfErr, OnOk, IsErrOf, ◌+◌, ◌-◌, ◌*◌, ◌/◌, ◌%◌, Bool, true, false, nat_eq, nat_lt, ◌∷◌, ◌++◌, slice_index_or, slice_set, bit_and, bit_or, Fits, w8, w32, w64, Bor, MutBor}
-use Rattle.std.specs.FinMap as map
-use Rattle.alt_base.specs.Counts.{Rose}
-use Rattle.alt_disk.specs.Disk.{Goes}
-use Rattle.alt_layout.specs.Layout.{Layout}
-use Rattle.alt_machine.specs.Ops.BatchWriteItem.{writes_of_all}
+-- The writes at the places of the keys.
+use Rattle.std.proofs.Common.{◌≡◌, subst, sym, List, map as each}
+use Rattle.alt_disk.specs.Disk.{DiskState}
+use Rattle.alt_disk.proofs.Runs.{quiet_start}
+use Rattle.alt_codec.specs.declared.writer.Writer.TheVariants.{User}
+use Rattle.alt_machine.specs.Ops.BatchWriteItem.{Written, writes_of_all_by}
 use Rattle.alt_machine.specs.Outcomes.{together}
-use Rattle.alt_machine.specs.State.{State, descriptions}
-use Rattle.alt_tables.specs.Faults.{WritesAll}
-use Rattle.alt_tables.specs.Images.{Leaves}
-use Rattle.alt_tables.specs.Several.{AreAllApart, Every, IsFound, MayWriteKey, WasThere, batches_of, with_batches, written_at, written_in}
-use Rattle.alt_tables.specs.Stands.{AreReady, HasRows, Reads, Stands, bounds_of, catalog_of}
+use Rattle.alt_tables.specs.Several.{Every, MayWrite, written_in}
+use Rattle.alt_tables.specs.Stands.{catalog_of}
+use Rattle.alt_tables.proofs.ByKeys.{all_may}
+use Rattle.alt_tables.proofs.Holding.{leaves_quiet}
 use Rattle.alt_tables.proofs.tables.Tables.write_items.Goals as goal
 
--- src/by_keys.rt:74:27
 pub returns-in-Err-clause-disk : goal.returns-in-Err-clause-disk
-returns-in-Err-clause-disk g c = ?
+returns-in-Err-clause-disk g c s stands =
+    leaves_quiet (g.D.Disk.state c.args.disk.now) (g.D.Disk.state c.args.disk.now)
+    c.args.self.now.engine s (together s (writes_of_all_by s c.args.moment User
+    (each (written_in (catalog_of c.args.self.now)) c.args.writes.now)))
+    stands.rows stands.valid (quiet_start (g.D.Disk.state c.args.disk.now))
 
--- src/by_keys.rt:76:15
 pub write_all-requires-clause-may : goal.write_all-requires-clause-may
-write_all-requires-clause-may g c = ?
+write_all-requires-clause-may g c =
+    subst (λ (ws : List Written). Every (MayWrite (catalog_of c.args.self.now)) ws)
+    (sym c.in-Ok.ensures.written)
+    (all_may (catalog_of c.args.self.now) c.args.writes.now c.requires.may)

@@ -9,7 +9,7 @@ pub put_trim-requires : goal.put_trim-requires
 put_trim-requires g c = record {
   rows = λ family stream. can_trim c.in-Some.schema.now c.in-Some.ensures.families
       (c.next_number.result + c.args.count) c.args.moment c.args.by c.args.found.place
-      c.args.found.item c.args.new.now c.in_ok-item_batch.batch c.in_ok-item_batch.ensures.changes
+      c.args.found.item c.args.new.now c.in_ok-batch.batch c.in_ok-batch.ensures.changes
       c.args.before c.args.trim.now
       (subst (λ n. IsWithin c.args.before (n + c.args.count) c.args.trim.now)
       (sym c.next_number.ensures.next)

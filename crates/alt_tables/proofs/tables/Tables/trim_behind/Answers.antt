@@ -48,7 +48,7 @@ returns-in-Ok-trim-clause-trim g c s r l batches t stands rows distinct ahead at
     let a : DiskState = g.D.Disk.state c.args.disk.now in
     let old : Tables = c.args.self.now in
     let still = untouched_by l s c.args.moment c.args.notes.now batches r ahead c.args.table.now
-    c.in-None.ensures in
+    c.in_default.ensures in
     let was : map.get s.tables c.args.table.now ≡ Some t = sym still.same ∙ at in
     record {
       before = c.trimmed-before.ensures.trimmed

@@ -32,12 +32,14 @@ there catalog next all left back before x notes whole taken =
 pub know-requires : goal.know-requires
 know-requires c =
     let known = c.loop-note.invariant.known in
-    ap (λ (k : Texts TableSchema). map.contains_key k c.as_str.result.now)
-    c.loop-note.invariant.kept.1
-    ∙ ap (map.contains_key (catalog_of c.args.self.now)) c.as_str.ensures.same
-    ∙ there (catalog_of c.args.self.now) (number_of c.args.self.now) c.args.notes.items
-    c.pop.new.self.items known.back c.loop-note.notes.items c.in-Some.note c.requires.notes known.whole
-    c.in-Some.ensures.items
+    record {
+      there = ap (λ (k : Texts TableSchema). map.contains_key k c.as_str.result.now)
+          c.loop-note.invariant.kept.1
+          ∙ ap (map.contains_key (catalog_of c.args.self.now)) c.as_str.ensures.same
+          ∙ there (catalog_of c.args.self.now) (number_of c.args.self.now) c.args.notes.items
+          c.pop.new.self.items known.back c.loop-note.notes.items c.in-Some.note c.requires.notes
+          known.whole c.in-Some.ensures.items;
+    }
 
 pub returns-in_err-know-clause-kept : goal.returns-in_err-know-clause-kept
 returns-in_err-know-clause-kept c = (

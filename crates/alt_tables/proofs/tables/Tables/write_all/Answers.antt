@@ -107,11 +107,17 @@ returns-then-saturating_add-gt-NUMBERS_END-clause-writes g c s stands =
     let count = count_left (catalog_of old) cs ds c.differing-changes.ensures c.requires.may
     c.requires.apart s (c.requires.found s stands) c.args.moment c.args.by a old refl stands in
     let more = over _ _ c.saturating_add.result c.saturating_add.ensures
-    c.if-saturating_add-gt-NUMBERS_END.true in
-    (
+    c.if-saturating_add-gt-NUMBERS_END.true in (
       refl,
-      omega (arith, count, more, stands.number, c.next_number.ensures.next, c.len-count.ensures,
-          c.differing-changes.result.ok.0),
+      omega (
+        arith,
+        count,
+        more,
+        stands.number,
+        c.next_number.ensures.next,
+        c.len-count.ensures,
+        c.differing-changes.result.ok.0,
+      ),
       stands,
     )
 
@@ -179,8 +185,7 @@ make_all-requires-clause-ready g c trusted =
     let a : DiskState = g.D.Disk.state c.args.disk.now in
     let m : DiskState = g.D.Disk.state c.stage_all.new.disk in
     let (s, stands) = c.requires.ready (trusted_back a m c.stage_all.ensures.keeps.reads.goes
-    trusted) in
-    (
+    trusted) in (
       s,
       still_holds a m c.args.self.now c.stage_all.new.self c.know_all.new.self
           c.stage_all.ensures.keeps c.know_all.ensures.kept.0 s stands,
@@ -229,8 +234,15 @@ returns-in-Ok-make_all-clause-writes g c s stands =
           c.in-Ok-make_all.ensures.next));
       enough = let low = under (c.next_number.result + c.len-count.result) c.saturating_add.result
           c.saturating_add.ensures c.if-saturating_add-gt-NUMBERS_END.false in
-          omega (arith, count, low, stands.number, c.next_number.ensures.next, c.len-count.ensures,
-          c.differing-changes.result.ok.0);
+          omega (
+            arith,
+            count,
+            low,
+            stands.number,
+            c.next_number.ensures.next,
+            c.len-count.ensures,
+            c.differing-changes.result.ok.0,
+          );
     }
 
 pub returns-in-Ok-make_all-clause-count : goal.returns-in-Ok-make_all-clause-count

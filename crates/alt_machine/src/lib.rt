@@ -4,6 +4,7 @@
 //! and the program share, and no function that does anything.
 #![tactic(auto)]
 
+ghost use Rattle.alt_machine.specs.Expiry.{DeletesExpired};
 ghost use Rattle.alt_machine.specs.Laws.{StepsKeepValid, PlacesLie, IndexPlacesLie, AllIndex, OlderConditions, OlderKeys, OlderUpdates};
 ghost use Rattle.alt_machine.specs.State.{start};
 ghost use Rattle.alt_machine.specs.Valid.{IsValid};
@@ -98,14 +99,15 @@ pub const MOST_RECORDS: u64 = 1000;
 pub const BATCH_BYTES: u64 = 16_777_216;
 
 /// The laws of the machine: the state of an empty store is valid, each request leads from a valid state to valid ones, the items of a
-/// table and of an index lie by their keys, and an index has the items of its table that have its keys; the trees of members of the
-/// older interface mean what these ask. It does nothing.
+/// table and of an index lie by their keys, and an index has the items of its table that have its keys; an ExpireItems deletes exactly
+/// the items that it names; the trees of members of the older interface mean what these ask. It does nothing.
 pub fn laws()
     ensures start { IsValid start }
     ensures steps { StepsKeepValid }
     ensures places { PlacesLie }
     ensures index_places { IndexPlacesLie }
     ensures indexes { AllIndex }
+    ensures expiry { DeletesExpired }
     ensures older_conditions { OlderConditions }
     ensures older_keys { OlderKeys }
     ensures older_updates { OlderUpdates }

@@ -1,5 +1,6 @@
 pub mod Behind
 pub mod CatalogLaws
+pub mod TimeLaws
 pub mod ChangeLaws
 pub mod ChangePages
 pub mod Elsewhere

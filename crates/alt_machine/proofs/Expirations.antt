@@ -5,6 +5,7 @@ use Rattle.std.specs.List.{list_any}
 use Rattle.std.specs.Ordering.{eq_by_cmp}
 use Rattle.std.specs.declared.cmp.Ordering.{Ordering}
 use Rattle.std.specs.declared.cmp.Ordering.TheVariants.{Less, Equal, Greater}
+use Rattle.alt_codec.specs.declared.writer.Writer.TheVariants.{Expiry}
 use Rattle.alt_schema.proofs.NewDescriptions.{left, right}
 use Rattle.alt_value.specs.Members.{text_order}
 use Rattle.alt_value.proofs.Texts.{text_total, text_apart}
@@ -12,12 +13,12 @@ use Rattle.std.specs.FinMap as finite
 use Rattle.std.specs.Option.{option_map_or}
 use Rattle.serde_json.specs.Data.{Members}
 use Rattle.alt_machine.specs.Expiry.{DeletesExpired, Standing, deletions, expiring, gone_at, is_at, item_in}
-use Rattle.alt_machine.specs.Ops.BatchWriteItem.{writes_of, writes_of_all}
+use Rattle.alt_machine.specs.Ops.BatchWriteItem.{writes_of_by, writes_of_all_by}
 use Rattle.alt_machine.specs.Ops.ExpireItems.{expire_items, expired, of_body}
 use Rattle.alt_machine.specs.Outcomes.{a_number, last_state, writes}
 use Rattle.alt_machine.specs.Same.{is_same}
 use Rattle.alt_machine.specs.State.{State, Table}
-use Rattle.alt_machine.specs.Writes.{after_item, item_writes, with_write}
+use Rattle.alt_machine.specs.Writes.{after_item_by, item_writes_by, with_write_by}
 use Rattle.alt_machine.proofs.Behind.{last_behind}
 use Rattle.alt_machine.proofs.Chains.{AreSteps, Steps, no_steps, first_step, steps-unless}
 use Rattle.alt_machine.proofs.Lacks.{number_room}
@@ -28,12 +29,12 @@ module _ (moment : ℕ) where
   -- the write that deletes an item, where it is there, is a step, and so are those behind it
   next_gone : (s : State) (e : Standing) (rest : State → List State)
       → ((r : State) → AreSteps a_number r (rest r))
-      → AreSteps a_number s (writes_of s moment (gone_at e)
-      ++ rest (last_state s (writes_of s moment (gone_at e))))
+      → AreSteps a_number s (writes_of_by s moment Expiry (gone_at e)
+      ++ rest (last_state s (writes_of_by s moment Expiry (gone_at e))))
   next_gone s e rest behind = at (finite.get s.tables e.table) refl
     where
       made : Option Table → List State
-      made o = option_map_or (λ t. item_writes s moment e.table t e.place None) o []
+      made o = option_map_or (λ t. item_writes_by s moment Expiry e.table t e.place None) o []
 
       at : (o : Option Table) → finite.get s.tables e.table ≡ o
           → AreSteps a_number s (made o ++ rest (last_state s (made o)))
@@ -41,22 +42,22 @@ module _ (moment : ℕ) where
       at (Some t) there = by (is_same (finite.get t.items e.place) None) refl
         where
           after : State
-          after = after_item s moment e.table t e.place None
+          after = after_item_by s moment Expiry e.table t e.place None
 
           by : (b : Bool) → is_same (finite.get t.items e.place) None ≡ b
               → AreSteps a_number s ((if b then [] else after ∷ [])
               ++ rest (last_state s (if b then [] else after ∷ [])))
           by true same = behind s
           by false differ = first_step a_number s after (rest after) (λ v enough.
-              after_item_valid s moment e.table t e.place None v (number_room s enough) there differ
+              after_item_valid s moment Expiry e.table t e.place None v (number_room s enough) there differ
               (λ item no. absurd (let f : ⊥ = cc in f))) (behind after)
 
   -- the writes that delete several are steps
   pub gone_steps : (s : State) (es : List Standing)
-      → AreSteps a_number s (writes_of_all s moment (map gone_at es))
+      → AreSteps a_number s (writes_of_all_by s moment Expiry (map gone_at es))
   gone_steps s [] = no_steps a_number s
   gone_steps s (e ∷ es) =
-      next_gone s e (λ r. writes_of_all r moment (map gone_at es)) (λ r. gone_steps r es)
+      next_gone s e (λ r. writes_of_all_by r moment Expiry (map gone_at es)) (λ r. gone_steps r es)
 
 -- each write of an ExpireItems leads from a valid state to a valid one
 pub expire_steps : (s : State) (moment : ℕ) (ms : Members) → Steps s (expire_items s moment ms)
@@ -92,12 +93,12 @@ both_none false b x = refl
 module _ (moment : ℕ) (name place : List ℕ) where
   -- one deletion takes the item at its place, and leaves the others
   one_gone : (s : State) (e : Standing)
-      → item_in (last_state s (writes_of s moment (gone_at e))) name place
+      → item_in (last_state s (writes_of_by s moment Expiry (gone_at e))) name place
       ≡ (if is_at name place e then None else item_in s name place)
   one_gone s e = at (finite.get s.tables e.table) refl
     where
       made : Option Table → List State
-      made o = option_map_or (λ t. item_writes s moment e.table t e.place None) o []
+      made o = option_map_or (λ t. item_writes_by s moment Expiry e.table t e.place None) o []
 
       -- where nothing stands at its place, nothing stood there
       stays : (o : Option Table) → finite.get s.tables e.table ≡ o
@@ -118,10 +119,10 @@ module _ (moment : ℕ) (name place : List ℕ) where
       at (Some t) there = by (is_same (finite.get t.items e.place) None) refl
         where
           after : State
-          after = after_item s moment e.table t e.place None
+          after = after_item_by s moment Expiry e.table t e.place None
 
           left_items : Table
-          left_items = with_write s.next_number moment t e.place None
+          left_items = with_write_by s.next_number moment Expiry t e.place None
 
           by_name : (b : Bool) → eq_by_cmp text_order name e.table ≡ b
               → option_and_then (λ (u : Table). finite.get u.items place)
@@ -145,13 +146,13 @@ module _ (moment : ℕ) (name place : List ℕ) where
 
   -- so do several
   all_gone : (s : State) (es : List Standing)
-      → item_in (last_state s (writes_of_all s moment (map gone_at es))) name place
+      → item_in (last_state s (writes_of_all_by s moment Expiry (map gone_at es))) name place
       ≡ (if list_any (is_at name place) es then None else item_in s name place)
   all_gone s [] = refl
   all_gone s (e ∷ es) =
-      let next : State = last_state s (writes_of s moment (gone_at e)) in
-      ap (λ r. item_in r name place) (last_behind s (writes_of s moment (gone_at e))
-      (writes_of_all next moment (map gone_at es)))
+      let next : State = last_state s (writes_of_by s moment Expiry (gone_at e)) in
+      ap (λ r. item_in r name place) (last_behind s (writes_of_by s moment Expiry (gone_at e))
+      (writes_of_all_by next moment Expiry (map gone_at es)))
       ∙ all_gone next es
       ∙ ap (λ x. if list_any (is_at name place) es then None else x) (one_gone s e)
       ∙ both_none (is_at name place e) (list_any (is_at name place) es) (item_in s name place)

@@ -4,12 +4,13 @@ use Rattle.std.specs.FinMap as finite
 use Rattle.std.specs.List.{filter, flat_map, list_any}
 use Rattle.std.specs.Option.{option_map_or}
 use Rattle.std.specs.Ordering.{eq_by_cmp, int_cmp, is_lt, is_le}
+use Rattle.alt_codec.specs.declared.writer.Writer.TheVariants.{Expiry}
 use Rattle.alt_decimal.specs.Number.{units_in}
 use Rattle.alt_schema.specs.declared.schema.TableSchema.{TableSchema}
 use Rattle.alt_value.specs.Item.{at_name}
 use Rattle.alt_value.specs.Members.{text_order}
 use Rattle.alt_value.specs.Tree.{Pair, Tree, N_tree}
-use Rattle.alt_machine.specs.Ops.BatchWriteItem.{Written, writes_of_all}
+use Rattle.alt_machine.specs.Ops.BatchWriteItem.{Written, writes_of_all_by}
 use Rattle.alt_machine.specs.Outcomes.{last_state}
 use Rattle.alt_machine.specs.State.{State, Table}
 
@@ -54,9 +55,9 @@ expiring s moment = take most_expired (all_expired s moment)
 abbrev pub gone_at : Standing → Written
 gone_at e = record { table = e.table; place = e.place; new = None }
 
--- the writes that delete them
+-- the writes that delete them, of which a stream tells that time to live made them
 abbrev pub deletions : State → ℕ → List State
-deletions s moment = writes_of_all s moment (map gone_at (expiring s moment))
+deletions s moment = writes_of_all_by s moment Expiry (map gone_at (expiring s moment))
 
 -- ---- what is left
 

@@ -36,9 +36,24 @@ const TIME: &[u8] = b"l";
 pub fn row_of_schema(alloc: Global, schema: &TableSchema) -> Result<ShownRow, NoMemory>
     ensures row { IfOk result (λ row. row ≡ table_row schema.now) }
 {
+    match &schema.ttl {
+        Some(name) => row_with_time(alloc, schema, Some(name)),
+        None => row_with_time(alloc, schema, None),
+    }
+}
+
+/// The row of a table as it is with that attribute for time to live, or with none.
+pub fn row_with_time(
+    alloc: Global,
+    schema: &TableSchema,
+    ttl: Option<&Text>,
+) -> Result<ShownRow, NoMemory>
+    ensures row { IfOk result (λ row. row
+        ≡ table_row (record schema.now { ttl = option_map (λ t. t.now) ttl.entry })) }
+{
     let mut bytes = Vec::new(alloc);
     schema_bytes(schema, &mut bytes)?;
-    match &schema.ttl {
+    match ttl {
         Some(name) => timed_row(alloc, name, bytes),
         None => one_column(alloc, TABLE, bytes),
     }

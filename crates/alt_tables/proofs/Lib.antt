@@ -1,6 +1,7 @@
 pub mod Behind
 pub mod CatalogLaws
 pub mod TimeLaws
+pub mod Timed
 pub mod ChangeLaws
 pub mod ChangePages
 pub mod Elsewhere

@@ -4,7 +4,7 @@ use Rattle.std.specs.Prelude.{ℕ, Bool, true, false, not, ◌||◌, ◌==◌, n
 use Rattle.std.specs.FinMap as map
 use Rattle.std.specs.Option.{option_map_or}
 use Rattle.std.specs.Str.{bytes_eq}
-use Rattle.serde_json.specs.Data.{Members, boolean, member, no_members, object, string}
+use Rattle.serde_json.specs.Data.{Data, Members, boolean, member, no_members, object, string}
 use Rattle.serde_json.specs.Find.{as_bool, as_object}
 use Rattle.alt_shape.specs.Bodies.{first_of, in_object, required}
 use Rattle.alt_shape.specs.Refusals.{Answer, bad_time_to_live}
@@ -22,13 +22,16 @@ use Rattle.alt_machine.specs.Targets.{on_table}
 
 -- ---- the body
 
--- it names a table, and says of an attribute whether it tells the time
+-- what is said of an attribute: its name, and whether it tells the time
+abbrev pub specified : Members → Option Broken
+specified = in_object (codes "TimeToLiveSpecification") (first_unmet
+    (required (codes "AttributeName") a_text ∷ required (codes "Enabled") a_truth ∷ []))
+
+-- it names a table, and says that of an attribute
 abbrev pub shape : Members → Option Broken
 shape ms = first_of (
     first_unmet (required (codes "TableName") a_text
-    ∷ required (codes "TimeToLiveSpecification") an_object ∷ []) ms ∷
-    in_object (codes "TimeToLiveSpecification") (first_unmet
-    (required (codes "AttributeName") a_text ∷ required (codes "Enabled") a_truth ∷ [])) ms ∷ [])
+    ∷ required (codes "TimeToLiveSpecification") an_object ∷ []) ms ∷ specified ms ∷ [])
 
 -- all its members are taken
 abbrev pub rules : Rules
@@ -84,11 +87,14 @@ timed ttl t = record t { description = record t.description { ttl = ttl } }
 abbrev pub with_time : State → List ℕ → Table → Option (List ℕ) → State
 with_time s name t ttl = after_write s (map.insert s.tables name (timed ttl t))
 
+-- a name, and whether it tells the time
+abbrev pub time_json : List ℕ → Bool → Data
+time_json name enabled = object (member (codes "AttributeName") (string name)
+    (member (codes "Enabled") (boolean enabled) no_members))
+
 -- what was said, as it is answered
 abbrev pub time_said : Members → Answer
-time_said ms = answers (codes "TimeToLiveSpecification") (object
-    (member (codes "AttributeName") (string (attribute ms))
-    (member (codes "Enabled") (boolean (enables ms)) no_members)))
+time_said ms = answers (codes "TimeToLiveSpecification") (time_json (attribute ms) (enables ms))
 
 -- behind the tests the table that is named has the attribute, or has it no longer
 unfoldable pub update_time_to_live : State → Members → Outcome

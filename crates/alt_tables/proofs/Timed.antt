@@ -1,6 +1,7 @@
 -- The write that gives a table another attribute for time to live, or none: what it leaves is what the machine's leaves.
 use Rattle.std.proofs.Common.{◌≡◌, refl, sym, ap, subst, ◌∙◌, ℕ, ◌+◌, ◌<◌, Bool, true, false, cond, T, List, Option, Some, arith}
 use Rattle.std.specs.FinMap as map
+use Rattle.std.specs.Option.{option_map_or}
 use Rattle.std.specs.Ordering.{eq_by_cmp}
 use Rattle.alt_cells.specs.Batches.{is_distinct}
 use Rattle.alt_cells.specs.declared.batch.RowChange.{RowChange}
@@ -53,6 +54,16 @@ fronts_timed l tables known name t ttl at are q f told =
           (some _ _ (sym at_v ∙ ap (map.get tables) (tied q name tie) ∙ at)) front),
     )
     by v at_v front false tie is = (v, is ∙ at_v, front)
+
+-- where a table is described there, the catalog has it with that time to live
+pub given_time : (m n : Texts TableSchema) (name : List ℕ) (d : TableSchema)
+    (o ttl : Option (List ℕ))
+    → n ≡ option_map_or (λ e. map.insert m name (record e { ttl = o })) (map.get m name) m
+    → o ≡ ttl → map.get m name ≡ Some d → n ≡ map.insert m name (record d { ttl = ttl })
+given_time m n name d o ttl is same at =
+    is ∙ ap (λ x. option_map_or
+        (λ (e : TableSchema). map.insert m name (record e { ttl = o })) x m) at
+    ∙ ap (λ t. map.insert m name (record d { ttl = t })) same
 
 module _ (before : DiskState) (old : Tables) (s : State) (stands : Stands before old s)
     (name : List ℕ) (t : Table) (at : map.get s.tables name ≡ Some t) (ttl : Option (List ℕ))

@@ -20,7 +20,7 @@ use Rattle.alt_opening.proofs.LiveLaws.{live_alike}
 use Rattle.alt_opening.proofs.OneState.{some}
 use Rattle.alt_opening.proofs.Ties.{tied}
 use Rattle.alt_opening.proofs.TrimmedLaws.{trimmed-stay}
-use Rattle.alt_tables.specs.Fronts.{AreFronts, IsFront, front_at}
+use Rattle.alt_tables.specs.Fronts.{AreFronts, IsFront}
 use Rattle.alt_tables.specs.RowChanges.{Turns, changed_rows, time_changes}
 use Rattle.alt_tables.specs.Stands.{HasRows, Stands, catalog_of, fronts_of, number_of, trimmed_of}
 use Rattle.alt_tables.specs.declared.fronts.Front.{Front}

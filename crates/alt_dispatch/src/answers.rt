@@ -28,7 +28,10 @@ use alt_members::{heeded, read_heeded};
 use alt_ops_batch::{batch_get_item, batch_write_item};
 use alt_ops_item::{delete_item, get_item, put_item, put_item_ahead, update_item};
 use alt_ops_query::{query, scan};
-use alt_ops_table::{create_table, delete_table, describe_table, list_tables};
+use alt_ops_table::{
+    create_table, delete_table, describe_table, describe_time_to_live, list_tables,
+    update_time_to_live,
+};
 use alt_readahead::{ReadAhead, read_ahead};
 use alt_request::Stop;
 use alt_shape::{Refusal, Reply, refuse};
@@ -38,7 +41,7 @@ use serde_json::{Map, Value};
 use std::alloc::Global;
 
 /// The operations that are built, by name.
-static OPERATIONS: [(&str, Operation); 16] = [
+static OPERATIONS: [(&str, Operation); 18] = [
     ("CreateTable", Operation::CreateTable),
     ("DescribeTable", Operation::DescribeTable),
     ("ListTables", Operation::ListTables),
@@ -55,6 +58,8 @@ static OPERATIONS: [(&str, Operation); 16] = [
     ("DescribeStream", Operation::DescribeStream),
     ("GetShardIterator", Operation::GetShardIterator),
     ("GetRecords", Operation::GetRecords),
+    ("UpdateTimeToLive", Operation::UpdateTimeToLive),
+    ("DescribeTimeToLive", Operation::DescribeTimeToLive),
 ];
 
 /// The built operation of that name, `None` exactly where there is none.
@@ -241,5 +246,7 @@ fn carry_out<D: Disk>(
         Operation::DescribeStream => describe_stream(alloc, tables, disk, body, moment),
         Operation::GetShardIterator => get_shard_iterator(alloc, tables, disk, body, moment),
         Operation::GetRecords => get_records(alloc, tables, disk, body, moment),
+        Operation::UpdateTimeToLive => update_time_to_live(alloc, tables, disk, body, moment),
+        Operation::DescribeTimeToLive => describe_time_to_live(alloc, tables, disk, body, moment),
     }
 }

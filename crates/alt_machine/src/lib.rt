@@ -32,6 +32,8 @@ pub enum Operation {
     DescribeStream,
     GetShardIterator,
     GetRecords,
+    UpdateTimeToLive,
+    DescribeTimeToLive,
 }
 
 /// What a request has of an item: all of it, at its member Item, or the key alone, at Key.

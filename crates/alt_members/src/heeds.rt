@@ -34,6 +34,8 @@ pub fn heeded(operation: Operation) -> &'static [&'static str]
         Operation::DescribeStream => &DESCRIBE_STREAM,
         Operation::GetShardIterator => &GET_SHARD_ITERATOR,
         Operation::GetRecords => &GET_RECORDS,
+        Operation::UpdateTimeToLive => &UPDATE_TIME_TO_LIVE,
+        Operation::DescribeTimeToLive => &TABLE,
     }
 }
 
@@ -149,3 +151,5 @@ static GET_SHARD_ITERATOR: [&str; 4] = [
 ];
 
 static GET_RECORDS: [&str; 2] = ["ShardIterator", "Limit"];
+
+static UPDATE_TIME_TO_LIVE: [&str; 2] = ["TableName", "TimeToLiveSpecification"];

@@ -124,6 +124,14 @@ names_two row es d e name bytes at is same =
     sym is ∙ at ∙ ap entries same ∙ entries-described_row (Some name) bytes in
     (ap first_name cells, ap (λ xs. first_name (behind_first xs)) cells)
 
+-- A row that is neither of the description alone nor of both is no table's.
+pub none_told : (row : Columns) (time : Option (List ℕ)) (bytes : List ℕ)
+    → ((value : List ℕ) → row ≡ one_column (codes "t") value → ⊥)
+    → ((name value : List ℕ) → row ≡ described_row (Some name) value → ⊥)
+    → row ≡ described_row time bytes → ⊥
+none_told row None bytes alone both is = alone bytes (is ∙ sym (one_described bytes))
+none_told row (Some name) bytes alone both is = both name bytes is
+
 -- ---- what a row tells
 
 -- each index of it is whole

@@ -1,3 +1,4 @@
 pub mod Asking
 pub mod Pages
 pub mod Listing
+pub mod Timing

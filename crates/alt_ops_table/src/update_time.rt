@@ -1,21 +1,23 @@
 //! UpdateTimeToLive.
 
-ghost use Rattle.std.specs.Prelude.{◌≡◌, false, map as each, codes, option_map, IfOk, IfErr, if◌then◌else◌, Some, None};
+ghost use Rattle.std.specs.Prelude.{◌≡◌, false, map as each, codes, option_map, IfOk, IfErr};
 ghost use Rattle.serde_json.specs.View.{view, members_view};
 ghost use Rattle.serde_json.specs.Written.{has_float};
-ghost use Rattle.alt_machine.specs.Ops.UpdateTimeToLive.{attribute, enables, is_no_name, may_change, shape, specified, time_json, update_time_to_live};
+ghost use Rattle.alt_machine.specs.Ops.UpdateTimeToLive.{attribute, enables, is_barred, is_no_name, may_change, shape, specified, time_json, time_left, update_time_to_live};
 ghost use Rattle.alt_machine.specs.Replies.{answers};
+ghost use Rattle.alt_ops_table.specs.private.Timed.{IsTimed};
 ghost use Rattle.alt_request.specs.Carried.{Carries, Moves};
 ghost use Rattle.alt_request.specs.Steps.{IsMemory};
 ghost use Rattle.alt_shape.specs.Body.{body_json};
 ghost use Rattle.alt_shape.specs.Refusals.{answer_of};
 ghost use Rattle.alt_shape.specs.Shape.{demand_of, first_unmet};
-ghost use Rattle.alt_tables.specs.Stands.{AreReady, Stands, bounds_of};
+ghost use Rattle.alt_tables.specs.Stands.{AreReady, Stands, bounds_of, catalog_of};
 
 use crate::replies::shown;
 use alt_base::NoMemory;
 use alt_disk::Disk;
 use alt_request::{Rules, Stop, table_name, table_target};
+use alt_schema::TableSchema;
 use alt_shape::{Broken, Kind, Refusal, Reply, Rule, check, object_at, text_at, truth_at};
 use alt_tables::{TableFault, Tables};
 use alt_value::Text;
@@ -77,15 +79,29 @@ pub fn update_time_to_live<D: Disk>(
         (Stands (D.state disk.old) tables.old) (D.state disk.old) (D.state disk.new) result }
 {
     let _ = moment;
+    asked(tables, body)?;
+    let reply = said(alloc, attribute(body), enables(body))?;
+    tables.set_ttl(disk, table_name(body), left(body))?;
+    Ok(reply)
+}
+
+/// Whether the table may have what is asked, where nothing else refuses the request.
+fn asked(tables: &Tables, body: &Map<String, Value>) -> Result<(), Stop>
+    ensures asked { IsTimed (catalog_of tables.now) (members_view body.now.entries) result }
+{
     let schema = table_target(tables, body, broken(body), &RULES)?;
-    let name = attribute(body);
-    let enables = enables(body);
-    if is_no_name(name) || !may_change(enables, name, &schema.ttl) {
+    if is_barred(body, schema) {
         return Err(Stop::Refused(Refusal::BAD_TIME_TO_LIVE));
     }
-    let reply = said(alloc, name, enables)?;
-    tables.set_ttl(disk, table_name(body), left(enables, name))?;
-    Ok(reply)
+    Ok(())
+}
+
+/// Whether the name is none, or that can't be done with the table's attribute.
+fn is_barred(body: &Map<String, Value>, schema: &TableSchema) -> bool
+    ensures { result ≡ is_barred (members_view body.now.entries) schema.now }
+{
+    let name = attribute(body);
+    is_no_name(name) || !may_change(enables(body), name, &schema.ttl)
 }
 
 /// How the body first breaks its shape.
@@ -153,10 +169,14 @@ fn may_change(enables: bool, name: &str, ttl: &Option<Text>) -> bool
 }
 
 /// The attribute that tells the time then.
-fn left(enables: bool, name: &str) -> Option<&str>
-    ensures { option_map (λ n. n.now) result ≡ (if enables then Some name.now else None) }
+fn left(body: &Map<String, Value>) -> Option<&str>
+    ensures { option_map (λ n. n.now) result ≡ time_left (members_view body.now.entries) }
 {
-    if enables { Some(name) } else { None }
+    if enables(body) {
+        Some(attribute(body))
+    } else {
+        None
+    }
 }
 
 /// The reply: what was said.

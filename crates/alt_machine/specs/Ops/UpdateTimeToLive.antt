@@ -68,10 +68,14 @@ abbrev pub may_change : Bool → List ℕ → Option (List ℕ) → Bool
 may_change true name ttl = not (is_some ttl)
 may_change false name ttl = option_map_or (λ own. bytes_eq own name) ttl false
 
--- a name that none has, or what can't be done with the table's attribute
+-- the name is none, or that can't be done with the table's attribute
+abbrev pub is_barred : Members → TableSchema → Bool
+is_barred ms d = is_no_name (attribute ms)
+    || not (may_change (enables ms) (attribute ms) d.ttl)
+
+-- so it is refused
 abbrev pub of_time : Members → TableSchema → List (Option Answer)
-of_time ms d = refuse_if (is_no_name (attribute ms)
-    || not (may_change (enables ms) (attribute ms) d.ttl)) bad_time_to_live ∷ []
+of_time ms d = refuse_if (is_barred ms d) bad_time_to_live ∷ []
 
 -- ---- the operation
 

@@ -1,8 +1,7 @@
 -- The description of the name gives way to one with that time to live.
-use Rattle.std.proofs.Common.{◌≡◌, sym, ap, subst, ◌∙◌, ℕ, List, Some, Option, get_or}
+use Rattle.std.proofs.Common.{◌≡◌, sym, ap, subst, ◌∙◌, ℕ, List, Some, Option, set}
 use Rattle.std.proofs.lemmas.List.Elements.{All-same}
 use Rattle.std.specs.FinMap as map
-use Rattle.std.specs.List.{set}
 use Rattle.std.specs.Option.{option_map_or}
 use Rattle.alt_machine.specs.State.{Texts}
 use Rattle.alt_schema.specs.declared.schema.TableSchema.{TableSchema}

@@ -5,11 +5,13 @@ use Rattle.alt_shape.specs.Refusals.{Answer, refused}
 use Rattle.alt_machine.specs.Refusals.{first_answer}
 use Rattle.alt_machine.specs.State.{State}
 
--- what each write of a request wants: nothing, a number, or for a new table a number and 27 families
+-- what each write of a request wants: nothing, a number, for a new table a number and 27 families, or for a new index a number and one
+-- family
 pub data Wants : Type 0 where
   nothing : Wants
   a_number : Wants
   a_table : Wants
+  a_family : Wants
 
 -- The answer, and the atoms: the single writes that the request makes, each by the state after it. A stop may come between two
 -- of them and never inside one. The state after the request is that after the last of them.

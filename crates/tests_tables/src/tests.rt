@@ -9,3 +9,4 @@ mod stops;
 mod streams;
 mod updates;
 mod walks;
+mod writers;

@@ -17,7 +17,7 @@ use Rattle.alt_run.proofs.Opening.{spent_done, breaks_done, damaged_done}
 pub ended_for : (a b : DiskState) (job : Job) (f : RunFault)
     → (f ≡ Failed → Rose a.faults b.faults)
     → (IsTrue a.tells → (IsOpening a b × IsUnreadable a.file f) ⊎ IsReadable a.file)
-    → (IsTrusted a → (IsOpening a b × IsUnreadable a.file f) ⊎ Opened a b (Broken f job))
+    → (IsTrusted a → (IsOpening a b × IsUnreadable a.file f) ⊎ Opened a b (Broken a.file f job))
     → HasRun job (ending_of f) a b
 ended_for a b job Failed cause readable answered =
     (cause refl, breaks_done a b job Failed Failed refl answered)

@@ -1,5 +1,5 @@
 -- What a task leaves of the log.
-use Rattle.std.proofs.Common.{◌≡◌, refl, subst}
+use Rattle.std.proofs.Common.{◌≡◌, ◌+◌, refl, subst}
 use Rattle.alt_disk.specs.Disk.{IsTrusted}
 use Rattle.alt_disk.proofs.Runs.{trusted_back}
 use Rattle.alt_engine.specs.declared.work.Task.{Task}

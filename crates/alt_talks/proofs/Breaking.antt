@@ -1,26 +1,27 @@
 -- Why turns broke off, with more entries and behind more turns.
-use Rattle.std.proofs.Common.{◌≡◌, ◌⊎◌, inl, inr, ℕ, List, [], ◌∷◌, ◌++◌, length, Bool, true, false, Option, None, refl, sym, ap, subst, ◌∙◌, append_assoc, append-nil, arith, length-append}
+use Rattle.std.proofs.Common.{◌≡◌, ◌≤◌, ◌⊎◌, inl, inr, ℕ, List, [], ◌∷◌, ◌++◌, length, Bool, true, false, Option, None, refl, sym, ap, subst, ◌∙◌, append_assoc, append-nil, arith, length-append}
 use Rattle.std.specs.Prelude.{◌||◌}
 use Rattle.std.proofs.lemmas.Bool.{true≢false}
 use Rattle.alt_machine.specs.State.{State}
 use Rattle.alt_machine.specs.Wanted.{Lack}
 use Rattle.alt_shell.specs.Log.{Log, said_in, says_failed}
-use Rattle.alt_talks.specs.Faults.{IsCausedBy, IsWorkFault}
+use Rattle.alt_talks.specs.Faults.{IsCausedBy, IsFileFault, reach}
 use Rattle.alt_talks.specs.Stretches.{SaidOf, Does, DoesSome, IsWorking, BreaksFor}
 use Rattle.alt_talks.specs.Talks.{Turn, asked, Request, Rules, has_refused}
 use Rattle.alt_talks.specs.TalkTexts.{text, after, asks, wanted}
 use Rattle.alt_talks.specs.declared.fault.RunFault.{RunFault}
+use Rattle.alt_talks.proofs.FileFaults.{file_more, reach_then, reach_wider}
 use Rattle.alt_talks.proofs.Stretching.{said_in-append}
 use Rattle.alt_talks.proofs.TalkFolds.{asks-append, text-append, wanted-append}
 use Rattle.alt_talks.proofs.TalkIdle.{exact_count}
 use Rattle.alt_talks.proofs.TalkLogs.{broken-append, or-assoc}
 
 -- with entries that say the same
-pub breaks_same : (r : Rules) (fault : RunFault) (s : State) (m : Bool) (ts : List Turn) (es fs : Log)
+pub breaks_same : (r : Rules) (fault : RunFault) (next : ℕ) (s : State) (m : Bool) (ts : List Turn) (es fs : Log)
     (ms : List ℕ) → said_in fs ≡ said_in es → says_failed fs ≡ says_failed es
-    → BreaksFor r fault s m ts es ms → BreaksFor r fault s m ts fs ms
-breaks_same r fault s m ts es fs ms said failed (inl cause) = inl cause
-breaks_same r fault s m ts es fs ms said failed (inr work) = inr (
+    → BreaksFor r fault next s m ts es ms → BreaksFor r fault next s m ts fs ms
+breaks_same r fault next s m ts es fs ms said failed (inl cause) = inl cause
+breaks_same r fault next s m ts es fs ms said failed (inr work) = inr (
   work.0,
   record {
     before = work.1.before;
@@ -34,6 +35,25 @@ breaks_same r fault s m ts es fs ms said failed (inr work) = inr (
   },
 )
 
+-- with the next file behind that one
+breaks_wider : (r : Rules) (fault : RunFault) (k l : ℕ) (s : State) (m : Bool) (ts : List Turn)
+    (es : Log) (ms : List ℕ) → k ≤ l → BreaksFor r fault k s m ts es ms → BreaksFor r fault l s m ts es ms
+breaks_wider r fault k l s m ts es ms le (inl cause) = inl cause
+breaks_wider r fault k l s m ts es ms le (inr work) =
+    inr (file_more fault (reach k ms) (reach l ms) (reach_wider k l ms le) work.0, work.1)
+
+pub some_wider : (r : Rules) (fault : RunFault) (k l : ℕ) (s : State) (m : Bool) (ts : List Turn)
+    (es : Log) (ms : List ℕ) → k ≤ l → DoesSome r fault k s m ts es ms → DoesSome r fault l s m ts es ms
+some_wider r fault k l s m ts es ms le a = record {
+  said = a.said;
+  most = a.most;
+  wants = breaks_wider r fault k l s m ts es ms le a.wants;
+  silent = a.silent;
+  hush = a.hush;
+  still = a.still;
+  begins = a.begins;
+}
+
 -- neither is so
 first_false : (a b : Bool) → (a || b) ≡ false → a ≡ false
 first_false true b e = absurd (true≢false e)
@@ -45,7 +65,7 @@ all_said true some whole e said = absurd (true≢false e)
 all_said false some whole e said = said
 
 -- behind turns that were done, without a refusal
-module _ (r : Rules) (fault : RunFault) (s t : State) (m n : Bool) (ts us : List Turn) (es fs : Log)
+module _ (r : Rules) (fault : RunFault) (next : ℕ) (s t : State) (m n : Bool) (ts us : List Turn) (es fs : Log)
     (ms ns : List ℕ) (clear : has_refused ts ≡ false) (a : Does r s m ts t n es ms) where
   told : length ms ≡ asks ts
   told = exact_count r s t m n ts es ms clear a
@@ -77,17 +97,20 @@ module _ (r : Rules) (fault : RunFault) (s t : State) (m n : Bool) (ts us : List
             ∙ ap (λ (ks : List Turn). text r s ks (ms ++ ns)) (sym (append_assoc ts w.before last));
       }
 
-  pub breaks_behind : BreaksFor r fault t n us fs ns
-      → BreaksFor r fault s m (ts ++ us) (es ++ fs) (ms ++ ns)
+  pub breaks_behind : BreaksFor r fault (reach next ms) t n us fs ns
+      → BreaksFor r fault next s m (ts ++ us) (es ++ fs) (ms ++ ns)
   breaks_behind (inl cause) =
       inl (subst (λ (l : Option Lack). IsCausedBy l fault) same_wanted cause)
-  breaks_behind (inr work) = inr (work.0, working work.1)
+  breaks_behind (inr work) = inr (
+    file_more fault (reach (reach next ms) ns) (reach next (ms ++ ns)) (reach_then next ms ns) work.0,
+    working work.1,
+  )
 
 -- a request was carried out and its reply said, and then work broke off
-pub broke_behind : (r : Rules) (fault : RunFault) (s t : State) (m n : Bool) (q : Request) (es : Log)
-    (ms : List ℕ) → IsWorkFault fault → n ≡ false → Does r s m (asked q ∷ []) t n es ms
-    → DoesSome r fault s m (asked q ∷ []) es ms
-broke_behind r fault s t m n q es ms why none a =
+pub broke_behind : (r : Rules) (fault : RunFault) (next : ℕ) (s t : State) (m n : Bool) (q : Request) (es : Log)
+    (ms : List ℕ) → IsFileFault (reach next ms) fault → n ≡ false → Does r s m (asked q ∷ []) t n es ms
+    → DoesSome r fault next s m (asked q ∷ []) es ms
+broke_behind r fault next s t m n q es ms why none a =
     let one : length ms ≡ asks (asked q ∷ []) = exact_count r s t m n (asked q ∷ []) es ms refl a in
     let said : said_in es ≡ text r s (asked q ∷ []) ms =
     all_said n (said_in es) (text r s (asked q ∷ []) ms) none a.said in record {

@@ -83,14 +83,14 @@ module _ (r : Rules) (per : ℕ) (s : State) (es : Log) (ms : List ℕ) (from si
         inside = e.goes.inside;
       }
 
-  pub some_hung : (fault : RunFault) → GoesSome r fault (at per false []) s false es ms
-      → Breaks r per fault s (record { moment = from; clocked = since; entries = es ++ entry upto clocked hung_up ∷ []; told = ms })
-  some_hung fault e =
-      let moved = subst (λ (bs : List ℕ). DoesSome r fault s false (turns r per false bs) es ms) (sym same_taken) e.some in record {
+  pub some_hung : (fault : RunFault) (next : ℕ) → GoesSome r fault next (at per false []) s false es ms
+      → Breaks r per fault next s (record { moment = from; clocked = since; entries = es ++ entry upto clocked hung_up ∷ []; told = ms })
+  some_hung fault next e =
+      let moved = subst (λ (bs : List ℕ). DoesSome r fault next s false (turns r per false bs) es ms) (sym same_taken) e.some in record {
         some = record {
           said = (moved.said.0, moved.said.1 ∙ ap (λ bs. bs ++ moved.said.0) (sym same_said));
           most = moved.most;
-          wants = breaks_same r fault s false (turns r per false (taken (es ++ entry upto clocked hung_up ∷ []))) es (es ++ entry upto clocked hung_up ∷ []) ms same_said same_broken moved.wants;
+          wants = breaks_same r fault next s false (turns r per false (taken (es ++ entry upto clocked hung_up ∷ []))) es (es ++ entry upto clocked hung_up ∷ []) ms same_said same_broken moved.wants;
           silent = λ z. absurd (let f : ⊥ = cc in f);
           hush = hushed moved.hush;
           still = λ z. absurd (let f : ⊥ = cc in f);
@@ -116,8 +116,8 @@ none_comes r w per s a b g m keeps here = stretch_one a b (ComesOn r per false s
     )
 
 -- the wait failed
-pub wait_failed : (r : Rules) (w : Lawful r) (per : ℕ) (s : State) (a b : DiskState)
+pub wait_failed : (r : Rules) (w : Lawful r) (per next : ℕ) (s : State) (a b : DiskState)
     → Grows a.beside b.beside [] → moments_of b.beside ≡ moments_of a.beside → Keeps a b
-    → LeavesNow a s → Stretch a b (ComesSomeOn r per Failed s)
-wait_failed r w per s a b g m keeps here = stretch_one a b (ComesSomeOn r per Failed s) [] g m tt keeps
+    → LeavesNow a s → Stretch a b (ComesSomeOn r per Failed next s)
+wait_failed r w per next s a b g m keeps here = stretch_one a b (ComesSomeOn r per Failed next s) [] g m tt keeps
     (inl (refl, refl, tt), left_silent r w (at per false []) s a b [] [] keeps refl here)

@@ -20,5 +20,6 @@ pub mod TalkLeaving
 pub mod TalkLogs
 pub mod TalkPulls
 pub mod TalkReach
+pub mod TalkWider
 pub mod TurnLaws
 pub mod Uttering

@@ -46,11 +46,11 @@ wanted-more r s (asked q ∷ ts) us (m ∷ ms) h = ap (or_next (r.wants s q m)) 
 wanted-more r s (refused k ∷ ts) us [] h = wanted-more r s ts us [] (omega arith)
 wanted-more r s (refused k ∷ ts) us (m ∷ ms) h = wanted-more r s ts us ms (omega arith)
 
-breaks_more : (r : Rules) (fault : RunFault) (s : State) (m : Bool) (ts us : List Turn) (es : Log) (ms : List ℕ)
-    → length ms ≤ asks ts → BreaksFor r fault s m ts es ms → BreaksFor r fault s m (ts ++ us) es ms
-breaks_more r fault s m ts us es ms few (inl cause) =
+breaks_more : (r : Rules) (fault : RunFault) (next : ℕ) (s : State) (m : Bool) (ts us : List Turn) (es : Log) (ms : List ℕ)
+    → length ms ≤ asks ts → BreaksFor r fault next s m ts es ms → BreaksFor r fault next s m (ts ++ us) es ms
+breaks_more r fault next s m ts us es ms few (inl cause) =
     inl (subst (λ w. IsCausedBy w fault) (sym (wanted-more r s ts us ms few)) cause)
-breaks_more r fault s m ts us es ms few (inr work) = inr (
+breaks_more r fault next s m ts us es ms few (inr work) = inr (
   work.0,
   record {
     before = work.1.before;
@@ -79,14 +79,14 @@ begins_more r s ts us ms b = record {
 }
 
 -- a break is one of more turns
-pub some_more : (r : Rules) (fault : RunFault) (s : State) (m : Bool) (ts us vs : List Turn) (es : Log) (ms : List ℕ) → vs ≡ ts ++ us
-    → AnswersSome r fault s m ts es ms → AnswersSome r fault s m vs es ms
-some_more r fault s m ts us vs es ms e a =
-    subst (λ (ws : List Turn). AnswersSome r fault s m ws es ms) (sym e) (record {
+pub some_more : (r : Rules) (fault : RunFault) (next : ℕ) (s : State) (m : Bool) (ts us vs : List Turn) (es : Log) (ms : List ℕ) → vs ≡ ts ++ us
+    → AnswersSome r fault next s m ts es ms → AnswersSome r fault next s m vs es ms
+some_more r fault next s m ts us vs es ms e a =
+    subst (λ (ws : List Turn). AnswersSome r fault next s m ws es ms) (sym e) (record {
       some = record {
         said = let t = text-more r s ts us ms a.some.most in (a.some.said.0 ++ t.0, t.1 ∙ ap (λ bs. bs ++ t.0) a.some.said.1 ∙ append_assoc (said_in es) a.some.said.0 t.0);
         most = let x = asks-append ts us in let y = a.some.most in omega (arith, x, y);
-        wants = breaks_more r fault s m ts us es ms a.some.most a.some.wants;
+        wants = breaks_more r fault next s m ts us es ms a.some.most a.some.wants;
         silent = a.some.silent;
         hush = a.some.hush;
         still = a.some.still;
@@ -95,9 +95,9 @@ some_more r fault s m ts us vs es ms e a =
       quiet = a.quiet;
     })
 
-pub moves_some : (r : Rules) (fault : RunFault) (p : Place) (s : State) (m : Bool) (es : Log) (ms : List ℕ) (ts us : List Turn)
-    → turns r p.left p.greeted p.bytes ≡ ts ++ us → AnswersSome r fault s m ts es ms → MovesSome r fault p s m es ms
-moves_some r fault p s m es ms ts us e a = let b = some_more r fault s m ts us _ es ms e a in record { some = b.some; quiet = b.quiet }
+pub moves_some : (r : Rules) (fault : RunFault) (next : ℕ) (p : Place) (s : State) (m : Bool) (es : Log) (ms : List ℕ) (ts us : List Turn)
+    → turns r p.left p.greeted p.bytes ≡ ts ++ us → AnswersSome r fault next s m ts es ms → MovesSome r fault next p s m es ms
+moves_some r fault next p s m es ms ts us e a = let b = some_more r fault next s m ts us _ es ms e a in record { some = b.some; quiet = b.quiet }
 
 unfoldable pub steps_unread : (r : Rules) (p : Place) (s : State) (m : Bool) → r.scan p.bytes ≡ unread → Steps r false p s m p s m [] []
 steps_unread r p s m e = record {

@@ -5,7 +5,8 @@ use Rattle.std.proofs.Common.{◌≡◌, ◌<◌, ◌+◌, inl, inr, ℕ, List, 
 use Rattle.std.proofs.lemmas.Grind.{flat_map-append}
 use Rattle.alt_machine.specs.State.{State}
 use Rattle.alt_shell.specs.Log.{Log, entry, accepted}
-use Rattle.alt_talks.specs.Connections.{Connection, Serves, ServesAll, Served, ServedSome, Comes, ComesSome, entries_of, told_of, after_all}
+use Rattle.alt_talks.specs.Connections.{Breaks, Connection, Serves, ServesAll, Served, ServedSome, Comes, ComesSome, entries_of, told_of, after_all}
+use Rattle.alt_talks.specs.Faults.{reach}
 use Rattle.alt_talks.specs.Talks.{Rules}
 
 -- so many connections were served, and nothing else was done
@@ -88,10 +89,10 @@ served_fewer r per n count s t u es fs ms ns few a b =
     }
 
 -- a connection broke off, or the wait for one failed
-unfoldable pub served_some : (r : Rules) (per n count : ℕ) (fault : RunFault) (s t : State) (es fs : Log)
-    (ms ns : List ℕ) → n < count → Sofar r per n s t es ms → ComesSome r per fault t fs ns
-    → ServedSome r per count fault s (es ++ fs) (ms ++ ns)
-served_some r per n count fault s t es fs ms ns few a (inl none) = record {
+unfoldable pub served_some : (r : Rules) (per n count : ℕ) (fault : RunFault) (next : ℕ) (s t : State) (es fs : Log)
+    (ms ns : List ℕ) → n < count → Sofar r per n s t es ms → ComesSome r per fault (reach next ms) t fs ns
+    → ServedSome r per count fault next s (es ++ fs) (ms ++ ns)
+served_some r per n count fault next s t es fs ms ns few a (inl none) = record {
   all = a.all;
   halfway = t;
   each = a.each;
@@ -101,7 +102,7 @@ served_some r per n count fault s t es fs ms ns few a (inl none) = record {
   some = inl (refl, none.2);
   most = let m = a.count in omega (arith, m, few);
 }
-served_some r per n count fault s t es fs ms ns few a (inr one) =
+served_some r per n count fault next s t es fs ms ns few a (inr one) =
     let k = one.0 in record {
       all = a.all;
       halfway = t;
@@ -111,13 +112,17 @@ served_some r per n count fault s t es fs ms ns few a (inr one) =
           (one.2 ∙ sym (append-nil (entry k.moment k.clocked accepted ∷ k.entries)));
       moments = ap (λ (l : List ℕ). l ++ ns) a.moments ∙ ap (λ (l : List ℕ). told_of a.all ++ l)
           (one.3 ∙ sym (append-nil k.told));
-      some = inr (k, refl, one.1);
+      some = inr (
+        k,
+        refl,
+        subst (λ (ls : List ℕ). Breaks r per fault (reach next ls) t k) a.moments one.1,
+      );
       most = let m = a.count in omega (arith, m, few);
     }
 
 -- nothing was begun
-unfoldable pub served_nothing : (r : Rules) (per count : ℕ) (s : State) → ServedSome r per count NoMemory s [] []
-served_nothing r per count s = record {
+unfoldable pub served_nothing : (r : Rules) (per count next : ℕ) (s : State) → ServedSome r per count NoMemory next s [] []
+served_nothing r per count next s = record {
   all = [];
   halfway = s;
   each = refl;

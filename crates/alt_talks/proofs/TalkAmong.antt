@@ -5,6 +5,7 @@ use Rattle.alt_machine.specs.Outcomes.{state_after}
 use Rattle.alt_machine.specs.State.{State}
 use Rattle.alt_shell.specs.Log.{Log, entry, accepted, until, taken, said_in}
 use Rattle.alt_tables.specs.Images.{StandsFor}
+use Rattle.alt_talks.specs.Faults.{reach}
 use Rattle.alt_talks.specs.Connections.{Connection, entries_of, turns_of, after_all, start}
 use Rattle.alt_talks.specs.Runs.{OfStretch}
 use Rattle.alt_talks.specs.Stops.{Image, IsLeft, AtEach, AreWithin}
@@ -156,18 +157,18 @@ module _ (r : Rules) (w : Lawful r) (per : ℕ) (a : DiskState) where
       left_still r w per a b c s t x.0.all same es fs x.0.made meet x.1 ns (ap taken y.0.1.2) y.1,
     )
 
-    pub served_some_on : (count : ℕ) (fault : RunFault) → n < count
-        → ComesSomeOn r per fault t b c fs ns
-        → ServedSomeOn r per count fault s a c (es ++ fs) (ms ++ ns)
+    pub served_some_on : (count : ℕ) (fault : RunFault) (next : ℕ) → n < count
+        → ComesSomeOn r per fault (reach next ms) t b c fs ns
+        → ServedSomeOn r per count fault next s a c (es ++ fs) (ms ++ ns)
     unfolding served_some
-    served_some_on count fault few (inl none, left) = (
-      served_some r per n count fault s t es fs ms ns few x.0 (inl none),
+    served_some_on count fault next few (inl none, left) = (
+      served_some r per n count fault next s t es fs ms ns few x.0 (inl none),
       subst (λ (ks : List Connection). AtEach a c (LeftAmong r per s ks)) (sym (append-nil x.0.all))
           (left_still r w per a b c s t x.0.all same es fs x.0.made meet x.1 ns (ap taken none.0)
           left),
     )
-    served_some_on count fault few (inr one, left) = (
-      served_some r per n count fault s t es fs ms ns few x.0 (inr one),
+    served_some_on count fault next few (inr one, left) = (
+      served_some r per n count fault next s t es fs ms ns few x.0 (inr one),
       left_more r w per a b c s t x.0.all same es fs x.0.made meet x.1 one.0 one.2
           (subst (λ (ls : List ℕ). AtEach b c (LeftTaken r (start per) t fs ls)) one.3 left),
     )
@@ -178,10 +179,10 @@ module _ (r : Rules) (w : Lawful r) (per : ℕ) (a : DiskState) where
   served_all_on b n s t es ms x = (served_all r per n s t es ms x.0, x.1)
 
 -- nothing was begun
-pub served_nothing_on : (r : Rules) (per count : ℕ) (a : DiskState) (s : State) → LeavesNow a s
-    → ServedSomeOn r per count NoMemory s a a [] []
+pub served_nothing_on : (r : Rules) (per count next : ℕ) (a : DiskState) (s : State) → LeavesNow a s
+    → ServedSomeOn r per count NoMemory next s a a [] []
 unfolding served_nothing
-served_nothing_on r per count a s here = (
-  served_nothing r per count s,
+served_nothing_on r per count next a s here = (
+  served_nothing r per count next s,
   leaves-here a (λ u image. StandsFor image s) (λ trusted u image is. here trusted image is),
 )

@@ -12,7 +12,7 @@ use Rattle.alt_shell.specs.Calls.{Adds, Aside, Keeps, Untold, IsUntoldBy}
 use Rattle.alt_shell.specs.Log.{Log, Grows, Tells, moments_of, until, entry, told_count, took, take_failed, takes_failed, takes_missed, talks, accepted, hung_up, said_in, taken, bytes_said, bytes_taken, event_of}
 use Rattle.alt_shell.proofs.Telling.{Grows-then, Tells-then}
 use Rattle.alt_tables.specs.Images.{StandsFor}
-use Rattle.alt_talks.specs.Faults.{IsCausedBy, IsWorkFault}
+use Rattle.alt_talks.specs.Faults.{IsCausedBy, IsFileFault, reach}
 use Rattle.alt_talks.specs.Works.{Works}
 use Rattle.alt_talks.specs.Runs.{OfStretch, Stretch}
 use Rattle.alt_talks.specs.Stops.{Image, IsLeft, IsAmong, AtEach, AreWithin}
@@ -150,12 +150,12 @@ asked_on r w a b c s m n q moment fs ns front enough here keeps within u =
 
 -- or it broke off
 pub asked_some_on : (r : Rules) (w : Lawful r) (a b : DiskState) (s : State) (m : Bool) (q : Request)
-    (moment : ℕ) (fault : RunFault) → Asked r a b s q moment
-    → IsCausedBy (r.wants s q moment) fault → Stretch a b (AnswersSomeOn r fault s m (asked q ∷ []))
-asked_some_on r w a b s m q moment fault front cause =
-    told_alone a b {R = AnswersSomeOn r fault s m (asked q ∷ [])} moment front.silent front.told
+    (moment : ℕ) (fault : RunFault) (next : ℕ) → Asked r a b s q moment
+    → IsCausedBy (r.wants s q moment) fault → Stretch a b (AnswersSomeOn r fault next s m (asked q ∷ []))
+asked_some_on r w a b s m q moment fault next front cause =
+    told_alone a b {R = AnswersSomeOn r fault next s m (asked q ∷ [])} moment front.silent front.told
     front.later front.trusts (
-      some_asked r fault s m q moment [] (moment ∷ []) (record { nothing = refl; one = refl }) cause,
+      some_asked r fault next s m q moment [] (moment ∷ []) (record { nothing = refl; one = refl }) cause,
       leaves-unsaid s (deeds r s (asked q ∷ []) (moment ∷ [])) (carrying r s q moment) refl
           (deeds_say r w s (asked q ∷ []) (moment ∷ [])) a b front.leaves,
     )
@@ -177,14 +177,14 @@ worked_on r w a c d s m n q moment fs ns x by trusts works = (
 
 -- or that broke off
 pub worked_some_on : (r : Rules) (w : Lawful r) (a c d : DiskState) (s : State) (m n : Bool)
-    (q : Request) (moment : ℕ) (fs : Log) (ns : List ℕ) (fault : RunFault)
+    (q : Request) (moment : ℕ) (fs : Log) (ns : List ℕ) (fault : RunFault) (next : ℕ)
     → AnswersOn r s m (asked q ∷ []) (r.next s q moment) n a c fs (moment ∷ ns)
     → ((u : ℕ) → IsPrefix (said_in (until u fs)) (r.reply s q moment)) → (IsTrusted a → IsTrusted c)
-    → Works c d (r.next s q moment) → IsWorkFault fault → n ≡ false
-    → AnswersSomeOn r fault s m (asked q ∷ []) a d fs (moment ∷ ns)
-worked_some_on r w a c d s m n q moment fs ns fault x by trusts works why heard = (
+    → Works c d (r.next s q moment) → IsFileFault (reach next (moment ∷ ns)) fault → n ≡ false
+    → AnswersSomeOn r fault next s m (asked q ∷ []) a d fs (moment ∷ ns)
+worked_some_on r w a c d s m n q moment fs ns fault next x by trusts works why heard = (
   record {
-    some = broke_behind r fault s (r.next s q moment) m n q fs (moment ∷ ns) why heard x.0.does;
+    some = broke_behind r fault next s (r.next s q moment) m n q fs (moment ∷ ns) why heard x.0.does;
     quiet = x.0.quiet;
   },
   (worked_on r w a c d s m n q moment fs ns x by trusts works).1,
@@ -243,11 +243,11 @@ module _ (r : Rules) (w : Lawful r) (a b : DiskState) where
       (sym more.2 ∙ ap (λ (ks : List Turn). deeds r s ks ms) (sym e))
       (left-more s (deeds r s ts ms) more.0 (said_in (until u es)) image more.1 x)) left
 
-  pub moves_some_on : (fault : RunFault) (p : Place) (s : State) (m : Bool) (es : Log) (ms : List ℕ)
+  pub moves_some_on : (fault : RunFault) (next : ℕ) (p : Place) (s : State) (m : Bool) (es : Log) (ms : List ℕ)
       (ts us : List Turn) → turns r p.left p.greeted p.bytes ≡ ts ++ us
-      → AnswersSomeOn r fault s m ts a b es ms → MovesSomeOn r fault p s m a b es ms
-  moves_some_on fault p s m es ms ts us e x = (
-    moves_some r fault p s m es ms ts us e x.0,
+      → AnswersSomeOn r fault next s m ts a b es ms → MovesSomeOn r fault next p s m a b es ms
+  moves_some_on fault next p s m es ms ts us e x = (
+    moves_some r fault next p s m es ms ts us e x.0,
     left_some s ts us (turns r p.left p.greeted p.bytes) es ms e x.0.some.most x.1,
   )
 
@@ -289,11 +289,11 @@ module _ (r : Rules) (w : Lawful r) (a b c : DiskState) where
   )
 
   -- moves and then a break
-  pub moves_break_on : (fault : RunFault) (p q : Place) (s t : State) (m n : Bool) (es fs : Log)
+  pub moves_break_on : (fault : RunFault) (next : ℕ) (p q : Place) (s t : State) (m n : Bool) (es fs : Log)
       (ms ns : List ℕ) → Meet a b c es fs → 0 < q.left → MovesOn r p s m q t n a b es ms
-      → MovesSomeOn r fault q t n b c fs ns → MovesSomeOn r fault p s m a c (es ++ fs) (ms ++ ns)
-  moves_break_on fault p q s t m n es fs ms ns meet going x y = (
-    moves_break r fault p q s t m n es fs ms ns going x.0 y.0,
+      → MovesSomeOn r fault (reach next ms) q t n b c fs ns → MovesSomeOn r fault next p s m a c (es ++ fs) (ms ++ ns)
+  moves_break_on fault next p q s t m n es fs ms ns meet going x y = (
+    moves_break r fault next p q s t m n es fs ms ns going x.0 y.0,
     subst (λ (ts : List Turn). AtEach a c (LeftOn r s ts (es ++ fs) (ms ++ ns))) (sym x.0.splits)
         (left_then r w a b c s t m n x.0.done (turns r q.left q.greeted q.bytes) es fs ms ns meet
         (x.0.clear going) x.0.does y.0.some.silent x.1 y.1),
@@ -343,12 +343,12 @@ module _ (r : Rules) (w : Lawful r) (a b c : DiskState) where
         )
 
     -- or that broke off
-    pub some_whole_on : (fault : RunFault) → CarriesSomeOn r fault h mid t n b c fs ns
-        → MovesSomeOn r fault p s m a c (es ++ fs) (ms ++ ns)
-    some_whole_on fault y =
+    pub some_whole_on : (fault : RunFault) (next : ℕ) → CarriesSomeOn r fault (reach next ms) h mid t n b c fs ns
+        → MovesSomeOn r fault next p s m a c (es ++ fs) (ms ++ ns)
+    some_whole_on fault next y =
         let f = whole_at r p.left p.greeted p.bytes h l e v in
-        moves_break_on fault p mid s t m n es fs ms ns meet l first
-        (moves_some_on r w b c fault mid t n fs ns (whole ∷ []) _ f.0 y)
+        moves_break_on fault next p mid s t m n es fs ms ns meet l first
+        (moves_some_on r w b c fault (reach next ms) mid t n fs ns (whole ∷ []) _ f.0 y)
 
 -- ---- entries that say and take nothing
 
@@ -486,11 +486,11 @@ module _ (r : Rules) (p : Place) (s : State) (a b c : DiskState) (bytes : List �
   )
 
   -- that broke off
-  pub goes_some_taken_on : (w : Lawful r) (m : Bool) (ready : Idle r p s m [] []) (fault : RunFault) (es : Log) (ms : List ℕ)
-      → AreWithin b.moment c.moment es → MovesSomeOn r fault into s m b c es ms
-      → GoesSomeOn r fault p s m a c (one ∷ es) ms
-  goes_some_taken_on w m ready fault es ms within x = (
-    goes_some_taken r p s m bytes b.moment clocked ready fault es ms x.0,
+  pub goes_some_taken_on : (w : Lawful r) (m : Bool) (ready : Idle r p s m [] []) (fault : RunFault) (next : ℕ) (es : Log) (ms : List ℕ)
+      → AreWithin b.moment c.moment es → MovesSomeOn r fault next into s m b c es ms
+      → GoesSomeOn r fault next p s m a c (one ∷ es) ms
+  goes_some_taken_on w m ready fault next es ms within x = (
+    goes_some_taken r p s m bytes b.moment clocked ready fault next es ms x.0,
     left_taken w es ms within x.0.quiet.still x.1,
   )
 
@@ -549,11 +549,11 @@ module _ (r : Rules) (w : Lawful r) (a b c : DiskState) where
     left_goes p q s t m n es fs ms ns meet going x.0 (λ e. (y.0.does.silent e).0) x.1 y.1,
   )
 
-  pub goes_break_on : (fault : RunFault) (p q : Place) (s t : State) (m n : Bool) (es fs : Log)
+  pub goes_break_on : (fault : RunFault) (next : ℕ) (p q : Place) (s t : State) (m n : Bool) (es fs : Log)
       (ms ns : List ℕ) → Meet a b c es fs → 0 < q.left → GoesOn r true p s m q t n a b es ms
-      → GoesSomeOn r fault q t n b c fs ns → GoesSomeOn r fault p s m a c (es ++ fs) (ms ++ ns)
-  goes_break_on fault p q s t m n es fs ms ns meet going x y = (
-    goes_break r w fault p q s t m n es fs ms ns going x.0 y.0,
+      → GoesSomeOn r fault (reach next ms) q t n b c fs ns → GoesSomeOn r fault next p s m a c (es ++ fs) (ms ++ ns)
+  goes_break_on fault next p q s t m n es fs ms ns meet going x y = (
+    goes_break r w fault next p q s t m n es fs ms ns going x.0 y.0,
     left_goes p q s t m n es fs ms ns meet going x.0 y.0.some.silent x.1 y.1,
   )
 

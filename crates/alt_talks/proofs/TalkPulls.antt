@@ -7,6 +7,7 @@ use Rattle.alt_machine.specs.State.{State}
 use Rattle.alt_shell.specs.Log.{Log, entry, took, take_failed, taken, crosses}
 use Rattle.alt_talks.specs.Talks.{Turn, Rules, Lawful, Place, at, turns, final, turns_at, final_at, has_refused}
 use Rattle.alt_talks.specs.TalkTexts.{text}
+use Rattle.alt_talks.specs.Faults.{reach}
 use Rattle.alt_talks.specs.Stretches.{is_over, over, Does, DoesSome, MovesAll, MovesSome, Goes, GoesSome, AtRest, Idle, TakesIdle}
 use Rattle.alt_talks.proofs.Breaking.{breaks_same}
 use Rattle.alt_talks.proofs.Stretching.{taken-append}
@@ -58,15 +59,15 @@ module _ (r : Rules) (p : Place) (s : State) (m : Bool) (bytes : List ℕ) (mome
         idle = idle_taken es ms a.quiet.still a.quiet.goes_on;
       }
 
-  pub goes_some_taken : (fault : RunFault) (es : Log) (ms : List ℕ) → MovesSome r fault (at p.left p.greeted (p.bytes ++ bytes)) s m es ms → GoesSome r fault p s m (entry moment clocked (took bytes) ∷ es) ms
-  goes_some_taken fault es ms a =
+  pub goes_some_taken : (fault : RunFault) (next : ℕ) (es : Log) (ms : List ℕ) → MovesSome r fault next (at p.left p.greeted (p.bytes ++ bytes)) s m es ms → GoesSome r fault next p s m (entry moment clocked (took bytes) ∷ es) ms
+  goes_some_taken fault next es ms a =
       let all = all_taken es a.quiet.still in
       record {
-        some = subst (λ (bs : List ℕ). DoesSome r fault s m (turns_at r p bs) (entry moment clocked (took bytes) ∷ es) ms) (sym all)
+        some = subst (λ (bs : List ℕ). DoesSome r fault next s m (turns_at r p bs) (entry moment clocked (took bytes) ∷ es) ms) (sym all)
             (record {
               said = a.some.said;
               most = a.some.most;
-              wants = breaks_same r fault s m (turns_at r p bytes) es (entry moment clocked (took bytes) ∷ es) ms refl refl a.some.wants;
+              wants = breaks_same r fault next s m (turns_at r p bytes) es (entry moment clocked (took bytes) ∷ es) ms refl refl a.some.wants;
               silent = a.some.silent;
               hush = (λ f. absurd (let g : ⊥ = cc in g), a.some.hush);
               still = a.some.still;
@@ -76,8 +77,8 @@ module _ (r : Rules) (p : Place) (s : State) (m : Bool) (bytes : List ℕ) (mome
         idle = idle_taken es ms a.quiet.still a.quiet.goes_on;
       }
 
-  pub goes_some_none : GoesSome r NoMemory p s m (entry moment clocked (took bytes) ∷ []) []
-  goes_some_none = record { some = record { said = (text r s (turns_at r p (taken (entry moment clocked (took bytes) ∷ []))) [], refl); most = omega arith; wants = inl tt; silent = λ _. refl; hush = (λ f. absurd (let g : ⊥ = cc in g), tt); still = λ _. refl; begins = begins_none r s (turns_at r p (taken (entry moment clocked (took bytes) ∷ []))) }; inside = refl; idle = idle_taken [] [] refl refl }
+  pub goes_some_none : (next : ℕ) → GoesSome r NoMemory next p s m (entry moment clocked (took bytes) ∷ []) []
+  goes_some_none next = record { some = record { said = (text r s (turns_at r p (taken (entry moment clocked (took bytes) ∷ []))) [], refl); most = omega arith; wants = inl tt; silent = λ _. refl; hush = (λ f. absurd (let g : ⊥ = cc in g), tt); still = λ _. refl; begins = begins_none r s (turns_at r p (taken (entry moment clocked (took bytes) ∷ []))) }; inside = refl; idle = idle_taken [] [] refl refl }
 
 -- the end came
 module _ (r : Rules) (p : Place) (s : State) (m : Bool) (rest : AtRest r p) where
@@ -187,11 +188,11 @@ goes_none r w per s =
     }
 
 -- turns then a break
-pub goes_break : (r : Rules) (w : Lawful r) (fault : RunFault) (p q : Place) (s t : State) (m n : Bool) (es fs : Log) (ms ns : List ℕ) → 0 < q.left
-    → Goes r true p s m q t n es ms → GoesSome r fault q t n fs ns → GoesSome r fault p s m (es ++ fs) (ms ++ ns)
-goes_break r w fault p q s t m n es fs ms ns going a b = record {
-  some = subst (λ (ts : List Turn). DoesSome r fault s m ts (es ++ fs) (ms ++ ns)) (sym (joined r w p q s t m n es fs ms going a))
-      (does_break r fault s t m n (turns_at r p (taken es)) (turns_at r q (taken fs)) es fs ms ns (a.clear going) a.does b.some);
+pub goes_break : (r : Rules) (w : Lawful r) (fault : RunFault) (next : ℕ) (p q : Place) (s t : State) (m n : Bool) (es fs : Log) (ms ns : List ℕ) → 0 < q.left
+    → Goes r true p s m q t n es ms → GoesSome r fault (reach next ms) q t n fs ns → GoesSome r fault next p s m (es ++ fs) (ms ++ ns)
+goes_break r w fault next p q s t m n es fs ms ns going a b = record {
+  some = subst (λ (ts : List Turn). DoesSome r fault next s m ts (es ++ fs) (ms ++ ns)) (sym (joined r w p q s t m n es fs ms going a))
+      (does_break r fault next s t m n (turns_at r p (taken es)) (turns_at r q (taken fs)) es fs ms ns (a.clear going) a.does b.some);
   inside = crosses-append es fs ∙ ap (λ e. e || crosses fs) a.inside ∙ b.inside;
   idle = idle_both r w p q s t m n es ms (a.clear going) a.does a.ends a.place fs ns a.idle b.idle;
 }

@@ -9,7 +9,7 @@ use Rattle.std.proofs.lemmas.Bool.{true≢false}
 use Rattle.alt_disk.specs.Disk.{DiskState}
 use Rattle.alt_shell.specs.Calls.{Adds, Keeps, Untold, IsUntoldBy}
 use Rattle.alt_talks.specs.Runs.{Stretch}
-use Rattle.alt_talks.specs.Faults.{IsCausedBy}
+use Rattle.alt_talks.specs.Faults.{IsCausedBy, reach}
 use Rattle.alt_talks.specs.declared.fault.RunFault.{RunFault}
 use Rattle.alt_talks.specs.declared.fault.RunFault.TheVariants.{NoMemory}
 use Rattle.alt_talks.specs.Turns.{or_next}
@@ -228,15 +228,15 @@ begins_one r s t at e =
     record { done = []; begun = t ∷ []; rest = []; parts = refl; few = omega arith; count = inl e; enough = refl }
 
 -- a turn that broke off before its text was said
-pub answers_some_none : (r : Rules) (s : State) (m : Bool) (ts : List Turn) → AnswersSome r NoMemory s m ts [] []
-answers_some_none r s m ts = record { some = record { said = (text r s ts [], refl); most = omega arith; wants = inl tt; silent = λ _. refl; hush = tt; still = λ _. refl; begins = begins_none r s ts }; quiet = quiet_none }
+pub answers_some_none : (r : Rules) (next : ℕ) (s : State) (m : Bool) (ts : List Turn) → AnswersSome r NoMemory next s m ts [] []
+answers_some_none r next s m ts = record { some = record { said = (text r s ts [], refl); most = omega arith; wants = inl tt; silent = λ _. refl; hush = tt; still = λ _. refl; begins = begins_none r s ts }; quiet = quiet_none }
 
-pub some_asked : (r : Rules) (fault : RunFault) (s : State) (m : Bool) (q : Request) (at : ℕ) (es : Log) (ms : List ℕ)
-    → Clocked at es ms → IsCausedBy (r.wants s q at) fault → AnswersSome r fault s m (asked q ∷ []) es ms
-some_asked r fault s m q at es ms t w =
+pub some_asked : (r : Rules) (fault : RunFault) (next : ℕ) (s : State) (m : Bool) (q : Request) (at : ℕ) (es : Log) (ms : List ℕ)
+    → Clocked at es ms → IsCausedBy (r.wants s q at) fault → AnswersSome r fault next s m (asked q ∷ []) es ms
+some_asked r fault next s m q at es ms t w =
     let none = t.nothing in let one = t.one in
-    subst (λ (fs : Log). AnswersSome r fault s m (asked q ∷ []) fs ms) (sym none)
-    (subst (λ (ns : List ℕ). AnswersSome r fault s m (asked q ∷ []) [] ns) (sym one) (record {
+    subst (λ (fs : Log). AnswersSome r fault next s m (asked q ∷ []) fs ms) (sym none)
+    (subst (λ (ns : List ℕ). AnswersSome r fault next s m (asked q ∷ []) [] ns) (sym one) (record {
       some = record {
         said = (text r s (asked q ∷ []) (at ∷ []), refl);
         most = omega arith;
@@ -249,18 +249,18 @@ some_asked r fault s m q at es ms t w =
       quiet = quiet_none;
     }))
 
-pub some_refused : (r : Rules) (s : State) (m : Bool) (k at : ℕ) (es : Log) (ms : List ℕ) → Clocked at es ms → AnswersSome r NoMemory s m (refused k ∷ []) es ms
-some_refused r s m k at es ms t =
+pub some_refused : (r : Rules) (next : ℕ) (s : State) (m : Bool) (k at : ℕ) (es : Log) (ms : List ℕ) → Clocked at es ms → AnswersSome r NoMemory next s m (refused k ∷ []) es ms
+some_refused r next s m k at es ms t =
     let none = t.nothing in let one = t.one in
-    subst (λ (fs : Log). AnswersSome r NoMemory s m (refused k ∷ []) fs ms) (sym none)
-    (subst (λ (ns : List ℕ). AnswersSome r NoMemory s m (refused k ∷ []) [] ns) (sym one) (record {
+    subst (λ (fs : Log). AnswersSome r NoMemory next s m (refused k ∷ []) fs ms) (sym none)
+    (subst (λ (ns : List ℕ). AnswersSome r NoMemory next s m (refused k ∷ []) [] ns) (sym one) (record {
       some = record { said = (text r s (refused k ∷ []) (at ∷ []), refl); most = omega arith; wants = inl tt; silent = λ _. refl; hush = tt; still = λ _. refl; begins = begins_one r s (refused k) at refl };
       quiet = quiet_none;
     }))
 
 -- turns and then a break
-module _ (r : Rules) (fault : RunFault) (s t : State) (m n : Bool) (ts us : List Turn) (es fs : Log) (ms ns : List ℕ) (clear : has_refused ts ≡ false)
-    (a : Does r s m ts t n es ms) (b : DoesSome r fault t n us fs ns) where
+module _ (r : Rules) (fault : RunFault) (next : ℕ) (s t : State) (m n : Bool) (ts us : List Turn) (es fs : Log) (ms ns : List ℕ) (clear : has_refused ts ≡ false)
+    (a : Does r s m ts t n es ms) (b : DoesSome r fault (reach next ms) t n us fs ns) where
   told_of : length ms ≡ asks ts
   told_of = exact_count r s t m n ts es ms clear a
 
@@ -285,7 +285,7 @@ module _ (r : Rules) (fault : RunFault) (s t : State) (m n : Bool) (ts us : List
         ∙ ap (λ (v : State). wanted r v b.begins.done ns) (sym a.state) ∙ b.begins.enough;
   }
 
-  pub does_break : DoesSome r fault s m (ts ++ us) (es ++ fs) (ms ++ ns)
+  pub does_break : DoesSome r fault next s m (ts ++ us) (es ++ fs) (ms ++ ns)
   does_break = record {
     said = subst (λ (bs : List ℕ). IsPrefix bs (text r s (ts ++ us) (ms ++ ns))) (sym (said_in-append es fs))
         (subst (λ (bs : List ℕ). IsPrefix (said_in es ++ said_in fs) bs) (sym (text-append r s ts us ms ns told_of))
@@ -293,7 +293,7 @@ module _ (r : Rules) (fault : RunFault) (s t : State) (m n : Bool) (ts us : List
         (subst (λ (v : State). IsPrefix (said_in fs) (text r v us ns)) a.state b.said)
         b.silent (λ _. refl)));
     most = let x = length-append ms ns in let y = asks-append ts us in let k = told_of in let z = b.most in omega (arith, x, y, k, z);
-    wants = breaks_behind r fault s t m n ts us es fs ms ns clear a b.wants;
+    wants = breaks_behind r fault next s t m n ts us es fs ms ns clear a b.wants;
     silent = λ e. said_in-append es fs ∙ ap (λ bs. bs ++ said_in fs) (a.silent e).0 ∙ b.silent (or_true m (says_failed es) n a.broke e);
     hush = hushes-append es fs a.hush b.hush (λ e. b.still (a.broke ∙ ap (λ v. m || v) e ∙ or_right m));
     still = λ e. says-append es fs ∙ ap (λ v. v || says fs) (a.still e) ∙ b.still (or_true m (says_failed es) n a.broke e);
@@ -301,11 +301,11 @@ module _ (r : Rules) (fault : RunFault) (s t : State) (m n : Bool) (ts us : List
   }
 
 -- moves and then a break
-pub moves_break : (r : Rules) (fault : RunFault) (p q : Place) (s t : State) (m n : Bool) (es fs : Log) (ms ns : List ℕ) → 0 < q.left
-    → Moves r p s m q t n es ms → MovesSome r fault q t n fs ns → MovesSome r fault p s m (es ++ fs) (ms ++ ns)
-moves_break r fault p q s t m n es fs ms ns going a b = record {
-  some = subst (λ (ts : List Turn). DoesSome r fault s m ts (es ++ fs) (ms ++ ns)) (sym a.splits)
-      (does_break r fault s t m n a.done (turns r q.left q.greeted q.bytes) es fs ms ns (a.clear going) a.does b.some);
+pub moves_break : (r : Rules) (fault : RunFault) (next : ℕ) (p q : Place) (s t : State) (m n : Bool) (es fs : Log) (ms ns : List ℕ) → 0 < q.left
+    → Moves r p s m q t n es ms → MovesSome r fault (reach next ms) q t n fs ns → MovesSome r fault next p s m (es ++ fs) (ms ++ ns)
+moves_break r fault next p q s t m n es fs ms ns going a b = record {
+  some = subst (λ (ts : List Turn). DoesSome r fault next s m ts (es ++ fs) (ms ++ ns)) (sym a.splits)
+      (does_break r fault next s t m n a.done (turns r q.left q.greeted q.bytes) es fs ms ns (a.clear going) a.does b.some);
   quiet = quiet_then es fs a.quiet b.quiet;
 }
 

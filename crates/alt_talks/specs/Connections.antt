@@ -3,7 +3,7 @@ use Rattle.std.specs.Prelude.{◌≡◌, ◌<◌, ◌≤◌, ◌+◌, ◌⊎◌,
 use Rattle.std.specs.List.{flat_map}
 use Rattle.alt_machine.specs.State.{State}
 use Rattle.alt_shell.specs.Log.{Log, accepted, none_came, hung_up, entry, taken, says_failed, crosses}
-use Rattle.alt_talks.specs.Faults.{IsCausedBy}
+use Rattle.alt_talks.specs.Faults.{IsCausedBy, reach}
 use Rattle.alt_talks.specs.declared.fault.RunFault.{RunFault}
 use Rattle.alt_talks.specs.Talks.{Turn, Rules, Place, at, turns, closes}
 use Rattle.alt_talks.specs.TalkTexts.{after}
@@ -56,8 +56,8 @@ abbrev pub Missed : RunFault → Log → List ℕ → Type 0
 Missed fault entries told = (entries ≡ []) × (told ≡ []) × IsCausedBy None fault
 
 -- Serving a connection broke off, and it was hung up; bytes were taken as on one that was served, and no other connection came or went.
-pub record Breaks (r : Rules) (per : ℕ) (fault : RunFault) (s : State) (k : Connection) : Type 0 where
-  pub some : DoesSome r fault s false (turns_of r per k) k.entries k.told
+pub record Breaks (r : Rules) (per : ℕ) (fault : RunFault) (next : ℕ) (s : State) (k : Connection) : Type 0 where
+  pub some : DoesSome r fault next s false (turns_of r per k) k.entries k.told
   pub idle : TakesIdle r (start per) s false k.told [] k.entries
   pub before : Log
   pub at : ℕ
@@ -66,14 +66,15 @@ pub record Breaks (r : Rules) (per : ℕ) (fault : RunFault) (s : State) (k : Co
   pub inside : crosses before ≡ false
 
 -- one came, broke off and was hung up
-abbrev pub Broke : Rules → ℕ → RunFault → State → Log → List ℕ → Type 0
-Broke r per fault s entries told = (k : Connection)
-    × Breaks r per fault s k
+abbrev pub Broke : Rules → ℕ → RunFault → ℕ → State → Log → List ℕ → Type 0
+Broke r per fault next s entries told = (k : Connection)
+    × Breaks r per fault next s k
     × (entries ≡ entry k.moment k.clocked accepted ∷ k.entries) × (told ≡ k.told)
 
 -- either
-abbrev pub ComesSome : Rules → ℕ → RunFault → State → Log → List ℕ → Type 0
-ComesSome r per fault s entries told = Missed fault entries told ⊎ Broke r per fault s entries told
+abbrev pub ComesSome : Rules → ℕ → RunFault → ℕ → State → Log → List ℕ → Type 0
+ComesSome r per fault next s entries told = Missed fault entries told
+    ⊎ Broke r per fault next s entries told
 
 -- one after another
 abbrev pub ServesAll : Rules → ℕ → State → List Connection → State → Type 0
@@ -95,13 +96,14 @@ pub record Served (r : Rules) (per connections : ℕ) (s t : State) (entries : L
   pub state : t ≡ after_all r per s all
   pub ends : ((length all ≡ connections) × (last ≡ [])) ⊎ ((length all < connections) × ((m n : ℕ) × (last ≡ entry m n none_came ∷ [])))
 
--- Another status: the connections before were served so, and one may have broken off, which was hung up then or never accepted.
-pub record ServedSome (r : Rules) (per connections : ℕ) (fault : RunFault) (s : State) (entries : Log) (told : List ℕ) : Type 0 where
+-- Another status: the connections before were served so, and one may have broken off, which was hung up then or never accepted. The moments told
+-- on those before count where that one wants a file.
+pub record ServedSome (r : Rules) (per connections : ℕ) (fault : RunFault) (next : ℕ) (s : State) (entries : Log) (told : List ℕ) : Type 0 where
   pub all : List Connection
   pub halfway : State
   pub each : ServesAll r per s all halfway
   pub last : List Connection
   pub made : entries ≡ entries_of all ++ entries_of last
   pub moments : told ≡ told_of all ++ told_of last
-  pub some : ((last ≡ []) × IsCausedBy None fault) ⊎ ((k : Connection) × (last ≡ k ∷ []) × Breaks r per fault halfway k)
+  pub some : ((last ≡ []) × IsCausedBy None fault) ⊎ ((k : Connection) × (last ≡ k ∷ []) × Breaks r per fault (reach next (told_of all)) halfway k)
   pub most : length all + length last ≤ connections

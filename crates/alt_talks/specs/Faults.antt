@@ -1,7 +1,8 @@
 -- Why requests have no answer, and why work between them breaks off.
-use Rattle.std.specs.Prelude.{◌≡◌, ◌≤◌, ◌-◌, ◌^◌, ℕ, Option, Some, option_map}
+use Rattle.std.specs.Prelude.{◌≡◌, ◌≤◌, ◌+◌, ◌-◌, ◌*◌, ◌^◌, ℕ, List, length, Option, Some, option_map}
 use Rattle.alt_faults.specs.Faults.{Fault, failed, no_memory, spent, damaged, bad_bytes, bad_digest, bad_row, OnlySpent}
 use Rattle.alt_machine.specs.Wanted.{Lack}
+use Rattle.alt_tables.specs.FilesLeft.{most_files}
 use Rattle.alt_talks.specs.declared.fault.RunFault.{RunFault}
 use Rattle.alt_talks.specs.declared.fault.RunFault.TheVariants.{Failed, NoMemory, Spent, Damaged, DigestDiffers, BadRow}
 
@@ -20,11 +21,12 @@ abbrev pub IsCausedBy : Option Lack → RunFault → Type 0
 IsCausedBy lack fault = OnlySpent (λ number. option_map (λ l. l.number) lack ≡ Some number)
     (told_by_run fault)
 
--- Why work breaks off: it wants file 2^32 - 1, which is never given out, the device failed, or memory was refused.
-abbrev pub IsWorkFault : RunFault → Type 0
-IsWorkFault fault = OnlySpent (λ number. number ≡ 2 ^ 32 - 1) (told_by_run fault)
-
--- And it wants that one since so many numbers reach it.
+-- Why work breaks off: it wants file 2^32 - 1, which is never given out, since so many numbers reach it; the device failed, or memory was
+-- refused.
 abbrev pub IsFileFault : ℕ → RunFault → Type 0
 IsFileFault reach fault = OnlySpent (λ number. (number ≡ 2 ^ 32 - 1) × (2 ^ 32 ≤ reach))
     (told_by_run fault)
+
+-- How far the numbers of files reach from this one on where a task takes as many as it does at most at each of these moments.
+abbrev pub reach : ℕ → List ℕ → ℕ
+reach next told = next + length told * most_files

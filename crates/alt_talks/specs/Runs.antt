@@ -3,8 +3,9 @@ use Rattle.std.specs.Prelude.{◌≡◌, ◌≤◌, ℕ, List}
 use Rattle.alt_disk.specs.Disk.{DiskState, IsTrusted}
 use Rattle.alt_machine.specs.State.{State}
 use Rattle.alt_shell.specs.Log.{Log, Grows, Tells, moments_of, notes_of, talks}
-use Rattle.alt_tables.specs.Stands.{Stands}
+use Rattle.alt_tables.specs.Stands.{Stands, bounds_of}
 use Rattle.alt_tables.specs.declared.tables.Tables.{Tables}
+use Rattle.alt_talks.specs.Faults.{reach}
 use Rattle.alt_talks.specs.Stops.{AreWithin}
 
 -- what is said of a stretch of calls: of the disk before and after it, its entries, and the moments told in it
@@ -39,3 +40,13 @@ pub record Leads (old new : DiskState) (tables : Tables) (P : State → OfStretc
   pub to : State
   pub stands : Stands new tables to
   pub calls : Stretch old new (P to)
+
+-- P of calls on connections, where each request has a moment, and a task behind it. The number of the next file was the first one before them,
+-- and is the second one now: the tasks took no more than they take at most.
+abbrev pub Counting : ℕ → ℕ → OfStretch → OfStretch
+Counting next now P old new entries told = P old new entries told × (now ≤ reach next told)
+
+-- so of calls that led to tables
+abbrev pub LeadsOn : ℕ → DiskState → DiskState → Tables → (State → OfStretch) → Type 0
+LeadsOn next old new tables P =
+    Leads old new tables (λ t. Counting next (bounds_of tables).file (P t))

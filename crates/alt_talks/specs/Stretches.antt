@@ -5,7 +5,7 @@ use Rattle.alt_base.specs.Prefix.{IsPrefix}
 use Rattle.alt_machine.specs.State.{State}
 use Rattle.alt_shell.specs.Log as event
 use Rattle.alt_shell.specs.Log.{Log, Event, event_of, is_end, is_take_failed, is_say_failed, until, taken, said_in, says_failed, crosses}
-use Rattle.alt_talks.specs.Faults.{IsCausedBy, IsWorkFault}
+use Rattle.alt_talks.specs.Faults.{IsCausedBy, IsFileFault, reach}
 use Rattle.alt_talks.specs.declared.fault.RunFault.{RunFault}
 use Rattle.alt_talks.specs.Talks.{Turn, asked, refused, Rules, Request, Head, Place, at, size_of, request_of, turns, final, turns_at, final_at, has_refused}
 use Rattle.alt_talks.specs.TalkTexts.{text, after, requests, asks, wanted}
@@ -131,24 +131,25 @@ pub record IsWorking (r : Rules) (s : State) (mute : Bool) (ts : List Turn) (ent
   pub heard : (mute || says_failed entries) ≡ false
   pub said : said_in entries ≡ text r s (before ++ asked request ∷ []) told
 
--- Why turns broke off: a request has no answer, or work behind one broke off.
-abbrev pub BreaksFor : Rules → RunFault → State → Bool → List Turn → Log → List ℕ → Type 0
-BreaksFor r fault s mute ts entries told =
-    IsCausedBy (wanted r s ts told) fault ⊎ (IsWorkFault fault × IsWorking r s mute ts entries told)
+-- Why turns broke off: a request has no answer, or work behind one broke off. A file was wanted then only where as many numbers as a task
+-- takes at most at each of the moments told, from the next file on before them, reach the last.
+abbrev pub BreaksFor : Rules → RunFault → ℕ → State → Bool → List Turn → Log → List ℕ → Type 0
+BreaksFor r fault next s mute ts entries told = IsCausedBy (wanted r s ts told) fault
+    ⊎ (IsFileFault (reach next told) fault × IsWorking r s mute ts entries told)
 
 -- Doing these turns broke off.
-pub record DoesSome (r : Rules) (fault : RunFault) (s : State) (mute : Bool) (ts : List Turn) (entries : Log) (told : List ℕ) : Type 0 where
+pub record DoesSome (r : Rules) (fault : RunFault) (next : ℕ) (s : State) (mute : Bool) (ts : List Turn) (entries : Log) (told : List ℕ) : Type 0 where
   pub said : IsPrefix (said_in entries) (text r s ts told)
   pub most : length told ≤ asks ts
-  pub wants : BreaksFor r fault s mute ts entries told
+  pub wants : BreaksFor r fault next s mute ts entries told
   pub silent : mute ≡ true → said_in entries ≡ []
   pub hush : Hushes entries
   pub still : mute ≡ true → says entries ≡ false
   pub begins : Begins r s ts told
 
 -- and nothing was taken
-pub record AnswersSome (r : Rules) (fault : RunFault) (s : State) (mute : Bool) (ts : List Turn) (entries : Log) (told : List ℕ) : Type 0 where
-  pub some : DoesSome r fault s mute ts entries told
+pub record AnswersSome (r : Rules) (fault : RunFault) (next : ℕ) (s : State) (mute : Bool) (ts : List Turn) (entries : Log) (told : List ℕ) : Type 0 where
+  pub some : DoesSome r fault next s mute ts entries told
   pub quiet : Quiet entries
 
 -- Turns at hand were done, from a place to a place, and nothing was taken.
@@ -211,8 +212,8 @@ pub record Goes (r : Rules) (more : Bool) (p : Place) (s : State) (mute : Bool) 
   pub idle : TakesIdle r p s mute told [] entries
 
 -- the turns at hand broke off, and nothing was taken
-pub record MovesSome (r : Rules) (fault : RunFault) (p : Place) (s : State) (mute : Bool) (entries : Log) (told : List ℕ) : Type 0 where
-  pub some : DoesSome r fault s mute (turns r p.left p.greeted p.bytes) entries told
+pub record MovesSome (r : Rules) (fault : RunFault) (next : ℕ) (p : Place) (s : State) (mute : Bool) (entries : Log) (told : List ℕ) : Type 0 where
+  pub some : DoesSome r fault next s mute (turns r p.left p.greeted p.bytes) entries told
   pub quiet : Quiet entries
 
 -- Takes and turns went on until no more came, a say failed, or the turns ended.
@@ -222,7 +223,7 @@ pub record Ends (r : Rules) (p : Place) (s : State) (mute : Bool) (q : Place) (t
   pub cause : (more ≡ false) ⊎ (after_it ≡ true) ⊎ (q.left ≡ 0)
 
 -- taking, and the turns at hand then, broke off
-pub record GoesSome (r : Rules) (fault : RunFault) (p : Place) (s : State) (mute : Bool) (entries : Log) (told : List ℕ) : Type 0 where
-  pub some : DoesSome r fault s mute (turns_at r p (taken entries)) entries told
+pub record GoesSome (r : Rules) (fault : RunFault) (next : ℕ) (p : Place) (s : State) (mute : Bool) (entries : Log) (told : List ℕ) : Type 0 where
+  pub some : DoesSome r fault next s mute (turns_at r p (taken entries)) entries told
   pub inside : crosses entries ≡ false
   pub idle : TakesIdle r p s mute told [] entries

@@ -64,8 +64,8 @@ abbrev pub AnswersOn : Rules → State → Bool → List Turn → State → Bool
 AnswersOn r s mute ts t after_it = Leaving r s (Answers r s mute ts t after_it) (λ _ _ _. ts)
 
 -- they broke off
-abbrev pub AnswersSomeOn : Rules → RunFault → State → Bool → List Turn → OfStretch
-AnswersSomeOn r fault s mute ts = Leaving r s (AnswersSome r fault s mute ts) (λ _ _ _. ts)
+abbrev pub AnswersSomeOn : Rules → RunFault → ℕ → State → Bool → List Turn → OfStretch
+AnswersSomeOn r fault next s mute ts = Leaving r s (AnswersSome r fault next s mute ts) (λ _ _ _. ts)
 
 -- the whole request behind this head was carried out, and dropped from the front
 abbrev pub CarriesOn : Rules → Head → Place → State → Bool → Place → State → Bool → OfStretch
@@ -73,9 +73,9 @@ CarriesOn r h p s mute q t after_it = Leaving r s (Carries r h p s mute q t afte
     (λ _ _ _. asked (request_of h p.bytes (p.left - 1)) ∷ [])
 
 -- carrying it out broke off
-abbrev pub CarriesSomeOn : Rules → RunFault → Head → Place → State → Bool → OfStretch
-CarriesSomeOn r fault h p s mute =
-    AnswersSomeOn r fault s mute (asked (request_of h p.bytes (p.left - 1)) ∷ [])
+abbrev pub CarriesSomeOn : Rules → RunFault → ℕ → Head → Place → State → Bool → OfStretch
+CarriesSomeOn r fault next h p s mute =
+    AnswersSomeOn r fault next s mute (asked (request_of h p.bytes (p.left - 1)) ∷ [])
 
 -- turns at hand were done
 abbrev pub MovesOn : Rules → Place → State → Bool → Place → State → Bool → OfStretch
@@ -92,8 +92,8 @@ MovesAllOn r p s mute q t after_it = Leaving r s (MovesAll r p s mute q t after_
     (λ _ _ _. turns r p.left p.greeted p.bytes)
 
 -- they broke off
-abbrev pub MovesSomeOn : Rules → RunFault → Place → State → Bool → OfStretch
-MovesSomeOn r fault p s mute = Leaving r s (MovesSome r fault p s mute)
+abbrev pub MovesSomeOn : Rules → RunFault → ℕ → Place → State → Bool → OfStretch
+MovesSomeOn r fault next p s mute = Leaving r s (MovesSome r fault next p s mute)
     (λ _ _ _. turns r p.left p.greeted p.bytes)
 
 -- bytes were taken, and the turns at hand then were done
@@ -101,8 +101,8 @@ abbrev pub GoesOn : Rules → Bool → Place → State → Bool → Place → St
 GoesOn r more p s mute q t after_it = Taking r p s (Goes r more p s mute q t after_it)
 
 -- that broke off
-abbrev pub GoesSomeOn : Rules → RunFault → Place → State → Bool → OfStretch
-GoesSomeOn r fault p s mute = Taking r p s (GoesSome r fault p s mute)
+abbrev pub GoesSomeOn : Rules → RunFault → ℕ → Place → State → Bool → OfStretch
+GoesSomeOn r fault next p s mute = Taking r p s (GoesSome r fault next p s mute)
 
 -- that went on until no more came, a say failed, or the turns ended
 abbrev pub EndsOn : Rules → Place → State → Bool → Place → State → Bool → OfStretch
@@ -115,8 +115,8 @@ abbrev pub ComesOn : Rules → ℕ → Bool → State → State → OfStretch
 ComesOn r per came s t = Taking r (start per) s (Comes r per came s t)
 
 -- none came since the wait failed; or one came, broke off and was hung up
-abbrev pub ComesSomeOn : Rules → ℕ → RunFault → State → OfStretch
-ComesSomeOn r per fault s = Taking r (start per) s (ComesSome r per fault s)
+abbrev pub ComesSomeOn : Rules → ℕ → RunFault → ℕ → State → OfStretch
+ComesSomeOn r per fault next s = Taking r (start per) s (ComesSome r per fault next s)
 
 -- A stop at a moment leaves this while connections are served from a state, one after another. It is left while the first is served, and
 -- no call of the others had ended by then; or all calls of the first had, and it is left while the others are served.
@@ -135,7 +135,7 @@ ServedOn r per connections s t old new entries told =
     × AtEach old new (LeftAmong r per s x.all)
 
 -- another status: one may have broken off
-abbrev pub ServedSomeOn : Rules → ℕ → ℕ → RunFault → State → OfStretch
-ServedSomeOn r per connections fault s old new entries told =
-    (x : ServedSome r per connections fault s entries told)
+abbrev pub ServedSomeOn : Rules → ℕ → ℕ → RunFault → ℕ → State → OfStretch
+ServedSomeOn r per connections fault next s old new entries told =
+    (x : ServedSome r per connections fault next s entries told)
     × AtEach old new (LeftAmong r per s (x.all ++ x.last))

@@ -7,12 +7,13 @@ ghost use Rattle.alt_disk.specs.Disk.{Goes};
 ghost use Rattle.alt_machine.specs.State.{State};
 ghost use Rattle.alt_shell.specs.Calls.{Keeps};
 ghost use Rattle.alt_shell.specs.Log.{talks, takes_missed, says_missed};
-ghost use Rattle.alt_tables.specs.Stands.{AreReady, Stands};
+ghost use Rattle.alt_tables.specs.FilesLeft.{most_files};
+ghost use Rattle.alt_tables.specs.Stands.{AreReady, Stands, bounds_of};
 ghost use Rattle.alt_http.specs.Reading.{scan_of};
 ghost use Rattle.alt_talks.specs.Arrivals.{Came, CameAll, CameAtMost, CameOne};
-ghost use Rattle.alt_talks.specs.Faults.{IsWorkFault};
+ghost use Rattle.alt_talks.specs.Faults.{IsFileFault};
 ghost use Rattle.alt_talks.specs.private.HeadViews.{scan_in};
-ghost use Rattle.alt_talks.specs.Runs.{Leads, Passes, Stretch};
+ghost use Rattle.alt_talks.specs.Runs.{LeadsOn, Passes, Stretch};
 ghost use Rattle.alt_talks.specs.Stretches.{Utters, AtRest};
 ghost use Rattle.alt_talks.specs.TalkRules.{rules};
 ghost use Rattle.alt_talks.specs.TalkStops.{AnswersOn, AnswersSomeOn, CarriesOn, CarriesSomeOn, ComesOn, ComesSomeOn, EndsOn, GoesOn, GoesSomeOn, LeavesNow, MovesAllOn, MovesSomeOn, ServedOn, ServedSomeOn, StepsOn};
@@ -79,8 +80,8 @@ fn refuse<S: Shell>(
     ensures answered { (s : State) → LeavesNow (S.state shell.old) s → MatchResult result
         (λ _. Stretch (S.state shell.old) (S.state shell.new)
         (AnswersOn rules s mute.old (refused number ∷ []) s mute.new))
-        (λ f. Stretch (S.state shell.old) (S.state shell.new)
-        (AnswersSomeOn rules f s mute.old (refused number ∷ []))) }
+        (λ f. (next : ℕ) → Stretch (S.state shell.old) (S.state shell.new)
+        (AnswersSomeOn rules f next s mute.old (refused number ∷ []))) }
     ensures hears { mute.new ≡ false → says_missed (S.state shell.new).beside ≡ false }
     ensures takes { takes_missed (S.state shell.new).beside
         ≡ takes_missed (S.state shell.old).beside }
@@ -118,10 +119,11 @@ fn respond<S: Shell>(
     requires talking { talks (S.state shell.old).beside ≡ true }
     requires hears { mute.old ≡ false → says_missed (S.state shell.old).beside ≡ false }
     ensures answered { (s : State) → Stands (S.state shell.old) tables.old s → MatchResult result
-        (λ _. Leads (S.state shell.old) (S.state shell.new) tables.new
+        (λ _. LeadsOn (bounds_of tables.old).file (S.state shell.old)
+        (S.state shell.new) tables.new
         (λ t. AnswersOn rules s mute.old (asked (asking target.now body.now close) ∷ []) t mute.new))
         (λ f. Stretch (S.state shell.old) (S.state shell.new)
-        (AnswersSomeOn rules f s mute.old (asked (asking target.now body.now close) ∷ []))) }
+        (AnswersSomeOn rules f (bounds_of tables.old).file s mute.old (asked (asking target.now body.now close) ∷ []))) }
     ensures hears { mute.new ≡ false → says_missed (S.state shell.new).beside ≡ false }
     ensures takes { takes_missed (S.state shell.new).beside
         ≡ takes_missed (S.state shell.old).beside }
@@ -150,7 +152,9 @@ fn step<S: Shell>(mute: bool, tables: &mut Tables, shell: &mut S) -> Result<(), 
     ensures works { (s : State) → Stands (S.state shell.old) tables.old s
         → Works (S.state shell.old) (S.state shell.new) s }
     ensures fault { (s : State) → Stands (S.state shell.old) tables.old s
-        → IfErr result IsWorkFault }
+        → IfErr result (IsFileFault ((bounds_of tables.old).file + most_files)) }
+    ensures files { (s : State) → Stands (S.state shell.old) tables.old s → OnOk result
+        ((bounds_of tables.new).file ≤ (bounds_of tables.old).file + most_files) }
     ensures heard { OnErr result (mute ≡ false) }
     ensures goes { Goes (S.state shell.old) (S.state shell.new) }
     ensures cause { IsErrOf result RunFault.Failed
@@ -240,11 +244,12 @@ fn carry<S: Shell>(
     requires talking { talks (S.state shell.old).beside ≡ true }
     requires hears { talk.old.mute ≡ false → says_missed (S.state shell.old).beside ≡ false }
     ensures carried { (s : State) → Stands (S.state shell.old) tables.old s → MatchResult result
-        (λ _. Leads (S.state shell.old) (S.state shell.new) tables.new
+        (λ _. LeadsOn (bounds_of tables.old).file (S.state shell.old)
+        (S.state shell.new) tables.new
         (λ t. CarriesOn rules (head_in head.now) (place_of talk.old) s talk.old.mute
         (place_of talk.new) t talk.new.mute))
         (λ f. Stretch (S.state shell.old) (S.state shell.new)
-        (CarriesSomeOn rules f (head_in head.now) (place_of talk.old) s
+        (CarriesSomeOn rules f (bounds_of tables.old).file (head_in head.now) (place_of talk.old) s
         talk.old.mute)) }
     ensures fewer { OnOk result (talk.new.left < talk.old.left) }
     ensures hears { talk.new.mute ≡ false → says_missed (S.state shell.new).beside ≡ false }
@@ -292,11 +297,12 @@ fn found<S: Shell>(
     requires talking { talks (S.state shell.old).beside ≡ true }
     requires hears { talk.old.mute ≡ false → says_missed (S.state shell.old).beside ≡ false }
     ensures stepped { (s : State) → Stands (S.state shell.old) tables.old s → MatchResult result
-        (λ more. Leads (S.state shell.old) (S.state shell.new) tables.new
+        (λ more. LeadsOn (bounds_of tables.old).file (S.state shell.old)
+        (S.state shell.new) tables.new
         (λ t. StepsOn rules more (place_of talk.old) s talk.old.mute
         (place_of talk.new) t talk.new.mute))
         (λ f. Stretch (S.state shell.old) (S.state shell.new)
-        (MovesSomeOn rules f (place_of talk.old) s talk.old.mute)) }
+        (MovesSomeOn rules f (bounds_of tables.old).file (place_of talk.old) s talk.old.mute)) }
     ensures fewer { IfOk result (λ more. more ≡ true → talk.new.left < talk.old.left) }
     ensures hears { talk.new.mute ≡ false → says_missed (S.state shell.new).beside ≡ false }
     ensures takes { takes_missed (S.state shell.new).beside
@@ -330,11 +336,12 @@ fn one<S: Shell>(
     requires talking { talks (S.state shell.old).beside ≡ true }
     requires hears { talk.old.mute ≡ false → says_missed (S.state shell.old).beside ≡ false }
     ensures stepped { (s : State) → Stands (S.state shell.old) tables.old s → MatchResult result
-        (λ more. Leads (S.state shell.old) (S.state shell.new) tables.new
+        (λ more. LeadsOn (bounds_of tables.old).file (S.state shell.old)
+        (S.state shell.new) tables.new
         (λ t. StepsOn rules more (place_of talk.old) s talk.old.mute
         (place_of talk.new) t talk.new.mute))
         (λ f. Stretch (S.state shell.old) (S.state shell.new)
-        (MovesSomeOn rules f (place_of talk.old) s talk.old.mute)) }
+        (MovesSomeOn rules f (bounds_of tables.old).file (place_of talk.old) s talk.old.mute)) }
     ensures fewer { IfOk result (λ more. more ≡ true → talk.new.left < talk.old.left) }
     ensures hears { talk.new.mute ≡ false → says_missed (S.state shell.new).beside ≡ false }
     ensures takes { takes_missed (S.state shell.new).beside
@@ -388,11 +395,12 @@ fn at_hand<S: Shell>(
     requires talking { talks (S.state shell.old).beside ≡ true }
     requires hears { talk.old.mute ≡ false → says_missed (S.state shell.old).beside ≡ false }
     ensures moved { (s : State) → Stands (S.state shell.old) tables.old s → MatchResult result
-        (λ _. Leads (S.state shell.old) (S.state shell.new) tables.new
+        (λ _. LeadsOn (bounds_of tables.old).file (S.state shell.old)
+        (S.state shell.new) tables.new
         (λ t. MovesAllOn rules (place_of talk.old) s talk.old.mute
         (place_of talk.new) t talk.new.mute))
         (λ f. Stretch (S.state shell.old) (S.state shell.new)
-        (MovesSomeOn rules f (place_of talk.old) s talk.old.mute)) }
+        (MovesSomeOn rules f (bounds_of tables.old).file (place_of talk.old) s talk.old.mute)) }
     ensures hears { talk.new.mute ≡ false → says_missed (S.state shell.new).beside ≡ false }
     ensures takes { takes_missed (S.state shell.new).beside
         ≡ takes_missed (S.state shell.old).beside }
@@ -428,11 +436,12 @@ fn pull<S: Shell>(
     requires taking { takes_missed (S.state shell.old).beside ≡ false }
     ensures turned { (s : State) → Stands (S.state shell.old) tables.old s
         → AtRest rules (place_of talk.old) → MatchResult result
-        (λ more. Leads (S.state shell.old) (S.state shell.new) tables.new
+        (λ more. LeadsOn (bounds_of tables.old).file (S.state shell.old)
+        (S.state shell.new) tables.new
         (λ t. GoesOn rules more (place_of talk.old) s talk.old.mute
         (place_of talk.new) t talk.new.mute))
         (λ f. Stretch (S.state shell.old) (S.state shell.new)
-        (GoesSomeOn rules f (place_of talk.old) s talk.old.mute)) }
+        (GoesSomeOn rules f (bounds_of tables.old).file (place_of talk.old) s talk.old.mute)) }
     ensures hears { talk.new.mute ≡ false → says_missed (S.state shell.new).beside ≡ false }
     ensures taking { IfOk result (λ more. more ≡ true
         → takes_missed (S.state shell.new).beside ≡ false) }
@@ -478,11 +487,12 @@ fn pulls<S: Shell>(
     requires taking { takes_missed (S.state shell.old).beside ≡ false }
     requires rest { AtRest rules (place_of talk.old) }
     ensures ended { (s : State) → Stands (S.state shell.old) tables.old s → MatchResult result
-        (λ _. Leads (S.state shell.old) (S.state shell.new) tables.new
+        (λ _. LeadsOn (bounds_of tables.old).file (S.state shell.old)
+        (S.state shell.new) tables.new
         (λ t. EndsOn rules (place_of talk.old) s talk.old.mute
         (place_of talk.new) t talk.new.mute))
         (λ f. Stretch (S.state shell.old) (S.state shell.new)
-        (GoesSomeOn rules f (place_of talk.old) s talk.old.mute)) }
+        (GoesSomeOn rules f (bounds_of tables.old).file (place_of talk.old) s talk.old.mute)) }
     ensures cause { IsErrOf result RunFault.Failed
         → Rose (S.state shell.old).faults (S.state shell.new).faults }
     ensures none { Came 0 (S.state shell.old) (S.state shell.new) }
@@ -516,10 +526,11 @@ fn connection<S: Shell>(
     requires some { 0 < per }
     requires quiet { talks (S.state shell.old).beside ≡ false }
     ensures served { (s : State) → Stands (S.state shell.old) tables.old s → MatchResult result
-        (λ came. Leads (S.state shell.old) (S.state shell.new) tables.new
+        (λ came. LeadsOn (bounds_of tables.old).file (S.state shell.old)
+        (S.state shell.new) tables.new
         (λ t. ComesOn rules per came s t))
         (λ f. Stretch (S.state shell.old) (S.state shell.new)
-        (ComesSomeOn rules per f s)) }
+        (ComesSomeOn rules per f (bounds_of tables.old).file s)) }
     ensures cause { IsErrOf result RunFault.Failed
         → Rose (S.state shell.old).faults (S.state shell.new).faults }
     ensures came { MatchResult result
@@ -563,10 +574,11 @@ pub fn connections<S: Shell>(
     requires some { 0 < per }
     requires quiet { talks (S.state shell.old).beside ≡ false }
     ensures served { (s : State) → Stands (S.state shell.old) tables.old s → MatchResult result
-        (λ _. Leads (S.state shell.old) (S.state shell.new) tables.new
+        (λ _. LeadsOn (bounds_of tables.old).file (S.state shell.old)
+        (S.state shell.new) tables.new
         (λ t. ServedOn rules per count s t))
         (λ f. Stretch (S.state shell.old) (S.state shell.new)
-        (ServedSomeOn rules per count f s)) }
+        (ServedSomeOn rules per count f (bounds_of tables.old).file s)) }
     ensures cause { IsErrOf result RunFault.Failed
         → Rose (S.state shell.old).faults (S.state shell.new).faults }
     // On any disk: so many came, or fewer and then none will come; and never more.

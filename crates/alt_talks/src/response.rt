@@ -11,7 +11,7 @@ ghost use Rattle.alt_machine.specs.State.{State};
 ghost use Rattle.alt_machine.specs.Wanted.{wanted};
 ghost use Rattle.alt_shape.specs.Body.{body_json};
 ghost use Rattle.alt_shape.specs.Refusals.{answer_of};
-ghost use Rattle.alt_tables.specs.Stands.{AreReady, Stands};
+ghost use Rattle.alt_tables.specs.Stands.{AreReady, Stands, bounds_of};
 ghost use Rattle.alt_talks.specs.Faults.{IsCausedBy};
 ghost use Rattle.alt_talks.specs.Stops.{AtEach, IsAmong};
 ghost use Rattle.alt_talks.specs.TalkRules.{outcome_of, http_text, status_said};
@@ -107,6 +107,7 @@ pub(crate) fn response<D: Disk>(
         (IsCausedBy (wanted s (outcome_of s (asking target.now body.now close) moment))) }
     ensures device { IsErrOf result Failed
         → Rose (D.state disk.old).faults (D.state disk.new).faults }
+    ensures limits { bounds_of tables.new ≡ bounds_of tables.old }
     ensures goes { Goes (D.state disk.old) (D.state disk.new) }
     ensures leaves { (s : State) → Stands (D.state disk.old) tables.old s
         → AtEach (D.state disk.old) (D.state disk.new) (λ _ image. IsAmong image s

@@ -6,7 +6,7 @@ ghost use Rattle.alt_disk.specs.Disk.{Goes};
 ghost use Rattle.alt_machine.specs.State.{State};
 ghost use Rattle.alt_tables.specs.FilesLeft.{most_files};
 ghost use Rattle.alt_tables.specs.Stands.{AreReady, Stands, bounds_of, limits_of};
-ghost use Rattle.alt_talks.specs.Faults.{IsFileFault, IsWorkFault};
+ghost use Rattle.alt_talks.specs.Faults.{IsFileFault};
 ghost use Rattle.alt_talks.specs.Works.{AfterWork, Works};
 
 use crate::fault::RunFault;
@@ -20,10 +20,8 @@ pub fn work<D: Disk>(tables: &mut Tables, disk: &mut D, task: Task) -> Result<()
         → OnOk result (Stands (D.state disk.new) tables.new s) }
     ensures works { (s : State) → Stands (D.state disk.old) tables.old s
         → Works (D.state disk.old) (D.state disk.new) s }
-    ensures fault { (s : State) → Stands (D.state disk.old) tables.old s
-        → IfErr result IsWorkFault }
     // A file is wanted where so many numbers from the next one on reach the last, and no more are taken.
-    ensures reach { (s : State) → Stands (D.state disk.old) tables.old s
+    ensures fault { (s : State) → Stands (D.state disk.old) tables.old s
         → IfErr result (IsFileFault ((bounds_of tables.old).file + most_files)) }
     ensures files { (s : State) → Stands (D.state disk.old) tables.old s → OnOk result
         ((bounds_of tables.new).file ≤ (bounds_of tables.old).file + most_files) }

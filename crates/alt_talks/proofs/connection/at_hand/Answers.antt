@@ -1,11 +1,13 @@
 use Rattle.std.proofs.Common.{◌≡◌, ◌<◌, ◌++◌, ℕ, List, arith, ◌∙◌, refl}
 use Rattle.alt_machine.specs.State.{State}
 use Rattle.alt_shell.specs.Log.{Log}
+use Rattle.alt_tables.specs.Stands.{bounds_of}
 use Rattle.alt_talks.specs.TalkStops.{MovesOn, MovesAllOn, MovesSomeOn, StepsOn}
 use Rattle.alt_talks.specs.TalkRules.{rules}
 use Rattle.alt_talks.specs.TalkViews.{place_of}
 use Rattle.alt_talks.proofs.Passing.{passes_none, passes_then, passes_back}
 use Rattle.alt_talks.proofs.TalkReach.{reach_none, reach_as, reach_then, reach_break}
+use Rattle.alt_talks.proofs.TalkWider.{moves_wider}
 use Rattle.alt_talks.proofs.Uttering.{rests_at_end}
 use Rattle.alt_talks.proofs.TalkLaws.{lawful}
 use Rattle.alt_talks.proofs.TalkLeaving.{moves_none_on, moves_then_on, moves_all_on, moves_break_on}
@@ -41,7 +43,7 @@ loop-talk-preserved g c =
     let o = c.one.new.talk.mute in
     let going : 0 < c.loop-talk.talk.left = grind arith in
     let inv = c.loop-talk.invariant in (
-      λ s stands. reach_then a b d c.loop-talk.tables c.one.new.tables
+      λ s stands. reach_then a b d (bounds_of c.args.tables.now).file c.loop-talk.tables c.one.new.tables
           (λ t. MovesOn rules p s m q t n)
           (λ t u. StepsOn rules c.in-Ok-true.field-0 q t n v u o)
           (λ u. MovesOn rules p s m v u o)
@@ -68,7 +70,7 @@ returns-in-Ok-false-clause-moved g c = λ s stands.
     let n = c.loop-talk.talk.mute in
     let o = c.one.new.talk.mute in
     let going : 0 < c.loop-talk.talk.left = grind arith in
-    reach_then a b d c.loop-talk.tables c.one.new.tables
+    reach_then a b d (bounds_of c.args.tables.now).file c.loop-talk.tables c.one.new.tables
     (λ t. MovesOn rules p s m q t n)
     (λ t u. StepsOn rules c.in-Ok-false.field-0 q t n v u o)
     (λ u. MovesAllOn rules p s m v u o)
@@ -90,12 +92,14 @@ returns-in-Err-clause-moved g c = λ s stands.
     let m = c.args.talk.now.mute in
     let n = c.loop-talk.talk.mute in
     let fault = c.in-Err.fault in
+    let next = (bounds_of c.args.tables.now).file in
     let going : 0 < c.loop-talk.talk.left = grind arith in
-    reach_break a b d c.loop-talk.tables
-    (λ t. MovesOn rules p s m q t n) (λ t. MovesSomeOn rules fault q t n)
-    (MovesSomeOn rules fault p s m)
+    reach_break a b d next c.loop-talk.tables
+    (λ t. MovesOn rules p s m q t n) (λ k t. MovesSomeOn rules fault k q t n)
+    (MovesSomeOn rules fault next p s m)
+    (λ k l t es ms le x. moves_wider rules fault b d k l t es ms le q n x)
     (λ (t : State) (es fs : Log) (ms ns : List ℕ) meet x y.
-    moves_break_on rules lawful a b d fault p q s t m n es fs ms ns meet going x y)
+    moves_break_on rules lawful a b d fault next p q s t m n es fs ms ns meet going x y)
     (c.loop-talk.invariant.0 s stands) c.in-Err.ensures.stepped
 
 pub returns-clause-moved : goal.returns-clause-moved
@@ -109,7 +113,7 @@ returns-clause-moved g c = λ s stands.
     let n = c.loop-talk.talk.mute in
     let none : c.loop-talk.talk.left ≡ 0 = grind arith in
     let rest = rests_at_end rules q none in
-    reach_as a b c.loop-talk.tables (λ t. MovesOn rules p s m q t n)
+    reach_as a b (bounds_of c.args.tables.now).file c.loop-talk.tables (λ t. MovesOn rules p s m q t n)
     (λ t. MovesAllOn rules p s m q t n)
     (λ (t : State) (es : Log) (ms : List ℕ) x.
     moves_all_on rules lawful a b p q s t m n es ms rest.0 rest.1 x)

@@ -1,9 +1,9 @@
 use Rattle.std.proofs.Common.{◌≡◌, false}
 use Rattle.alt_machine.specs.State.{State}
 use Rattle.alt_shell.specs.Log.{takes_missed, says_missed}
-use Rattle.alt_tables.specs.Stands.{Stands}
+use Rattle.alt_tables.specs.Stands.{Stands, bounds_of}
 use Rattle.alt_talks.specs.Arrivals.{Came}
-use Rattle.alt_talks.specs.Runs.{Leads, Passes}
+use Rattle.alt_talks.specs.Runs.{LeadsOn, Passes}
 use Rattle.alt_talks.specs.TalkStops.{MovesOn}
 use Rattle.alt_talks.specs.TalkRules.{rules}
 use Rattle.alt_talks.specs.TalkViews.{place_of}
@@ -14,7 +14,7 @@ invariant-loop-talk g l =
     let state = g.S.Disk.state in
     let old = state l.initial.shell in
     let new = state l.shell in
-    ((s : State) → Stands old l.initial.tables s → Leads old new l.tables
+    ((s : State) → Stands old l.initial.tables s → LeadsOn (bounds_of l.initial.tables).file old new l.tables
     (λ t. MovesOn rules (place_of l.initial.talk) s l.initial.talk.mute
     (place_of l.talk) t l.talk.mute))
     × Passes old new

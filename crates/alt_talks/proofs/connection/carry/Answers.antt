@@ -1,6 +1,7 @@
 use Rattle.std.proofs.Common.{ℕ, List, [], ◌∷◌, false, subst}
 use Rattle.alt_machine.specs.State.{State}
 use Rattle.alt_shell.specs.Log.{Log}
+use Rattle.alt_tables.specs.Stands.{bounds_of}
 use Rattle.alt_talks.specs.Runs.{Stretch}
 use Rattle.alt_talks.specs.TalkRules.{rules}
 use Rattle.alt_talks.specs.TalkStops.{AnswersOn, AnswersSomeOn, CarriesOn}
@@ -24,7 +25,7 @@ returns-clause-carried g c = λ s stands.
     let last = c.is_last-last.result in
     let same = asking_same h p.bytes c.as_slice.result.now body p.left last
     c.as_slice.ensures.same c.body_in.ensures c.is_last-last.ensures in
-    reach_as a d c.respond.new.tables
+    reach_as a d (bounds_of c.args.tables.now).file c.respond.new.tables
     (λ t. AnswersOn rules s m (asked (asking h.target body last) ∷ []) t n)
     (λ t. CarriesOn rules h p s m q t n)
     (λ (t : State) (es : Log) (ms : List ℕ) x.
@@ -49,9 +50,10 @@ returns-in-Err-clause-carried g c = λ s stands.
     let body = c.body_in.result.now in
     let last = c.is_last-last.result in
     let fault = c.in-Err.fault in
+    let next = (bounds_of c.args.tables.now).file in
     let same = asking_same h p.bytes c.as_slice.result.now body p.left last
     c.as_slice.ensures.same c.body_in.ensures c.is_last-last.ensures in
-    subst (λ (r : Request). Stretch a d (AnswersSomeOn rules fault s m (asked r ∷ [])))
+    subst (λ (r : Request). Stretch a d (AnswersSomeOn rules fault next s m (asked r ∷ [])))
     same (c.in-Err.ensures.answered s stands)
 
 pub returns-clause-none : goal.returns-clause-none

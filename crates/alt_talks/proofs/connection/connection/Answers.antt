@@ -1,13 +1,16 @@
 use Rattle.std.proofs.Common.{◌∷◌, ◌++◌, ◌∙◌, [], inr, ℕ, List, Bool, true, false, refl, sym, subst, arith}
 use Rattle.alt_shell.specs.Calls.{Accepted}
 use Rattle.alt_shell.specs.Log.{Log, entry, hung_up, told_count}
-use Rattle.alt_talks.specs.Runs.{Leads, Stretch}
+use Rattle.alt_tables.specs.Stands.{bounds_of}
+use Rattle.alt_talks.specs.Runs.{Counting, LeadsOn, Stretch}
 use Rattle.alt_talks.specs.Stops.{AreWithin}
 use Rattle.alt_talks.specs.Stretches.{AtRest}
 use Rattle.alt_talks.specs.TalkRules.{rules}
 use Rattle.alt_talks.specs.TalkStops.{ComesOn, ComesSomeOn, EndsOn, GoesSomeOn}
 use Rattle.alt_talks.specs.TalkViews.{place_of}
 use Rattle.alt_talks.specs.Talks.{at}
+use Rattle.alt_talks.proofs.FileFaults.{reach_least}
+use Rattle.alt_talks.proofs.Stretching.{stretch_as}
 use Rattle.alt_talks.proofs.Hanging.{serves_hung, some_hung, none_comes, wait_failed}
 use Rattle.alt_tables.proofs.Left.{stands_left}
 use Rattle.alt_talks.proofs.TalkLeaving.{left_hung, stretch_hung}
@@ -29,7 +32,9 @@ returns-in-Ok-clause-served g c = λ s stands.
     let n = c.pulls-served.new.talk.mute in
     let came = subst (λ (v : Bool). Accepted a b v) c.in-Ok-true.field-0-test
     c.in-Ok-true.ensures.accepted in
-    let served = subst (λ (bs : List ℕ). Leads b d c.pulls-served.new.tables
+    let next = (bounds_of c.args.tables.now).file in
+    let k = (bounds_of c.pulls-served.new.tables).file in
+    let served = subst (λ (bs : List ℕ). LeadsOn next b d c.pulls-served.new.tables
     (λ t. EndsOn rules (at per false bs) s false q t n)) c.new.ensures
     (c.in-Ok.ensures.ended s
     (stands_kept a b c.in-Ok-true.ensures.call.keeps c.args.tables.now s stands)) in
@@ -38,27 +43,31 @@ returns-in-Ok-clause-served g c = λ s stands.
       stands = stands_kept d e c.hang_up.ensures.call.keeps c.pulls-served.new.tables served.to
           served.stands;
       calls = stretch_hung a b d e (told_count a.beside) (told_count d.beside)
-          (EndsOn rules (at per false []) s false q served.to n) (ComesOn rules per true s served.to)
+          (Counting next k (EndsOn rules (at per false []) s false q served.to n))
+          (Counting next k (ComesOn rules per true s served.to))
           came.0 c.in-Ok-true.ensures.moments c.in-Ok-true.ensures.call.keeps
           (c.hang_up.ensures.hung (c.pulls-served.ensures.passes.talking ∙ came.1))
           c.hang_up.ensures.moments c.hang_up.ensures.call
           (λ (es : Log) (ms : List ℕ) (within : AreWithin b.moment d.moment es) p. (
             (
-              record {
-                moment = b.moment;
-                clocked = told_count a.beside;
-                entries = es ++ entry e.moment (told_count d.beside) hung_up ∷ [];
-                told = ms;
-              },
-              serves_hung rules per s es ms b.moment (told_count a.beside) e.moment
-                  (told_count d.beside) q served.to n c.requires.some p.0,
-              refl,
-              refl,
+              (
+                record {
+                  moment = b.moment;
+                  clocked = told_count a.beside;
+                  entries = es ++ entry e.moment (told_count d.beside) hung_up ∷ [];
+                  told = ms;
+                },
+                serves_hung rules per s es ms b.moment (told_count a.beside) e.moment
+                    (told_count d.beside) q served.to n c.requires.some p.0.0,
+                refl,
+                refl,
+              ),
+              left_hung rules lawful (at per false []) s a b d e (told_count a.beside) (told_count d.beside)
+                  c.in-Ok-true.ensures.call.keeps c.hang_up.ensures.call
+                  (λ trusted image is. stands_left a c.args.tables.now s stands image is)
+                  es ms within c.pulls-served.ensures.passes.later p.0.1,
             ),
-            left_hung rules lawful (at per false []) s a b d e (told_count a.beside) (told_count d.beside)
-                c.in-Ok-true.ensures.call.keeps c.hang_up.ensures.call
-                (λ trusted image is. stands_left a c.args.tables.now s stands image is)
-                es ms within c.pulls-served.ensures.passes.later p.1,
+            p.1,
           ))
           served.calls;
     }
@@ -74,12 +83,13 @@ returns-in-Ok-true-clause-served g c = λ s stands.
     let fault = c.in-Err-served.fault in
     let came = subst (λ (v : Bool). Accepted a b v) c.in-Ok-true.field-0-test
     c.in-Ok-true.ensures.accepted in
+    let next = (bounds_of c.args.tables.now).file in
     let broke = subst (λ (bs : List ℕ). Stretch b d
-    (GoesSomeOn rules fault (at per false bs) s false)) c.new.ensures
+    (GoesSomeOn rules fault next (at per false bs) s false)) c.new.ensures
     (c.in-Err-served.ensures.ended s
     (stands_kept a b c.in-Ok-true.ensures.call.keeps c.args.tables.now s stands)) in
     stretch_hung a b d e (told_count a.beside) (told_count d.beside)
-    (GoesSomeOn rules fault (at per false []) s false) (ComesSomeOn rules per fault s)
+    (GoesSomeOn rules fault next (at per false []) s false) (ComesSomeOn rules per fault next s)
     came.0 c.in-Ok-true.ensures.moments c.in-Ok-true.ensures.call.keeps
     (c.hang_up.ensures.hung (c.pulls-served.ensures.passes.talking ∙ came.1))
     c.hang_up.ensures.moments c.hang_up.ensures.call
@@ -92,7 +102,7 @@ returns-in-Ok-true-clause-served g c = λ s stands.
           told = ms;
         },
         some_hung rules per s es ms b.moment (told_count a.beside) e.moment
-            (told_count d.beside) fault p.0,
+            (told_count d.beside) fault next p.0,
         refl,
         refl,
       ),
@@ -110,12 +120,16 @@ returns-in-Ok-false-clause-served g c = λ s stands.
     let b = state c.accept.new.self in
     let none = subst (λ (v : Bool). Accepted a b v) c.in-Ok-false.field-0-test
     c.in-Ok-false.ensures.accepted in
+    let next = (bounds_of c.args.tables.now).file in
     record {
       to = s;
       stands = stands_kept a b c.in-Ok-false.ensures.call.keeps c.args.tables.now s stands;
-      calls = none_comes rules lawful c.args.per s a b none.0 c.in-Ok-false.ensures.moments
+      calls = stretch_as a b {P = ComesOn rules c.args.per false s s}
+          {Q = Counting next next (ComesOn rules c.args.per false s s)}
+          (λ es ms within x. (x, reach_least next ms))
+          (none_comes rules lawful c.args.per s a b none.0 c.in-Ok-false.ensures.moments
           c.in-Ok-false.ensures.call.keeps
-          (λ trusted image is. stands_left a c.args.tables.now s stands image is);
+          (λ trusted image is. stands_left a c.args.tables.now s stands image is));
     }
 
 pub pulls-served-requires-clause-ready : goal.pulls-served-requires-clause-ready
@@ -133,7 +147,7 @@ pub returns-clause-served : goal.returns-clause-served
 returns-clause-served g c = λ s stands.
     let state = g.S.Disk.state in
     let a = state c.args.shell.now in
-    wait_failed rules lawful c.args.per s a (state c.accept.new.self) c.in-Err.ensures.accepted.0
+    wait_failed rules lawful c.args.per (bounds_of c.args.tables.now).file s a (state c.accept.new.self) c.in-Err.ensures.accepted.0
     c.in-Err.ensures.moments c.in-Err.ensures.call.keeps
     (λ trusted image is. stands_left a c.args.tables.now s stands image is)
 

@@ -1,6 +1,7 @@
 use Rattle.std.proofs.Common.{◌≡◌, ◌<◌, ◌+◌, inl, inr, ℕ, List, Bool, subst, arith}
 use Rattle.alt_machine.specs.State.{State}
 use Rattle.alt_shell.specs.Log.{Log}
+use Rattle.alt_tables.specs.Stands.{bounds_of}
 use Rattle.alt_talks.specs.Arrivals.{Came, CameOne, NoneWill}
 use Rattle.alt_talks.specs.TalkStops.{ComesOn, ComesSomeOn, ServedOn, ServedSomeOn}
 use Rattle.alt_talks.specs.TalkRules.{rules}
@@ -10,6 +11,7 @@ use Rattle.alt_talks.proofs.TalkAmong.{SofarOn, sofar_none_on, sofar_more_on, se
 use Rattle.alt_talks.proofs.TalkLaws.{lawful}
 use Rattle.alt_talks.proofs.TalkReach.{reach_none, reach_as, reach_then, reach_break}
 use Rattle.alt_talks.proofs.Arriving.{came_none, came_then, none_will-behind, none_will-came}
+use Rattle.alt_talks.proofs.TalkWider.{comes_wider}
 use Rattle.alt_talks.proofs.connection.connections.Goals as goal
 
 pub loop-served-init : goal.loop-served-init
@@ -32,7 +34,7 @@ loop-served-preserved g c =
     let per = c.args.per in
     let n = c.loop-served.served in
     let inv = c.loop-served.invariant in (
-      λ s stands. reach_then a b d c.loop-served.tables c.connection.new.tables
+      λ s stands. reach_then a b d (bounds_of c.args.tables.now).file c.loop-served.tables c.connection.new.tables
           (λ t. SofarOn rules per n s t)
           (λ t u. ComesOn rules per c.in-Ok-true.field-0 t u)
           (λ u. SofarOn rules per (n + 1) s u)
@@ -55,7 +57,7 @@ returns-in-Ok-false-clause-served g c = λ s stands.
     let per = c.args.per in
     let n = c.loop-served.served in
     let few : n < c.args.count = grind arith in
-    reach_then a b d c.loop-served.tables c.connection.new.tables
+    reach_then a b d (bounds_of c.args.tables.now).file c.loop-served.tables c.connection.new.tables
     (λ t. SofarOn rules per n s t)
     (λ t u. ComesOn rules per c.in-Ok-false.field-0 t u)
     (λ u. ServedOn rules per c.args.count s u)
@@ -73,12 +75,14 @@ returns-in-Err-clause-served g c = λ s stands.
     let per = c.args.per in
     let n = c.loop-served.served in
     let fault = c.in-Err.fault in
+    let next = (bounds_of c.args.tables.now).file in
     let few : n < c.args.count = grind arith in
-    reach_break a b d c.loop-served.tables
-    (λ t. SofarOn rules per n s t) (λ t. ComesSomeOn rules per fault t)
-    (ServedSomeOn rules per c.args.count fault s)
+    reach_break a b d next c.loop-served.tables
+    (λ t. SofarOn rules per n s t) (λ k t. ComesSomeOn rules per fault k t)
+    (ServedSomeOn rules per c.args.count fault next s)
+    (λ k l t es ms le x. comes_wider rules fault b d k l t es ms le per x)
     (λ (t : State) (es fs : Log) (ms ns : List ℕ) meet x y.
-    served_some_on rules lawful per a b d s t n es fs ms ns meet x c.args.count fault few y)
+    served_some_on rules lawful per a b d s t n es fs ms ns meet x c.args.count fault next few y)
     (c.loop-served.invariant.0 s stands) c.in-Err.ensures.served
 
 pub returns-clause-served : goal.returns-clause-served
@@ -89,7 +93,7 @@ returns-clause-served g c = λ s stands.
     let per = c.args.per in
     let n = c.loop-served.served in
     let all : n ≡ c.args.count = grind arith in
-    reach_as a b c.loop-served.tables (λ t. SofarOn rules per n s t)
+    reach_as a b (bounds_of c.args.tables.now).file c.loop-served.tables (λ t. SofarOn rules per n s t)
     (λ t. ServedOn rules per c.args.count s t)
     (λ (t : State) (es : Log) (ms : List ℕ) x.
     subst (λ (k : ℕ). ServedOn rules per k s t a b es ms) all

@@ -2,10 +2,15 @@ use Rattle.std.proofs.Common.{◌≡◌, ◌+◌, ◌∙◌, ℕ, List, Bool, tr
 use Rattle.std.specs.Prelude.{nat_le}
 use Rattle.alt_shell.specs.Log.{Log}
 use Rattle.alt_tables.proofs.Left.{stands_left}
+use Rattle.alt_tables.specs.Stands.{bounds_of}
+use Rattle.alt_talks.specs.Faults.{reach}
+use Rattle.alt_talks.specs.Runs.{Counting}
 use Rattle.alt_talks.specs.TalkRules.{rules}
 use Rattle.alt_talks.specs.TalkStops.{AnswersOn, CarriesOn, CarriesSomeOn, MovesSomeOn, StepsOn}
 use Rattle.alt_talks.specs.TalkViews.{place_of, head_in, scanned}
 use Rattle.alt_talks.specs.Talks.{greets, good, at, is_whole}
+use Rattle.alt_talks.proofs.FileFaults.{reach_behind, reach_least}
+use Rattle.alt_talks.proofs.TalkWider.{answers_wider}
 use Rattle.alt_talks.proofs.Stretching.{stretch_as, stretch_then}
 use Rattle.alt_talks.proofs.Stopping.{ready_kept, stands_kept}
 use Rattle.alt_talks.proofs.TalkLaws.{lawful, rules-scan}
@@ -26,18 +31,22 @@ returns-then-not-is_whole-clause-stepped g c = λ s stands.
     ap (nat_le (h.taken + h.length)) (sym c.len.ensures)
     ∙ sym c.is_whole.ensures ∙ c.if-not-is_whole.true in
     let e : rules.scan p.bytes ≡ good h = rules-scan p.bytes ∙ ap scanned c.requires.head in
+    let next = (bounds_of c.args.tables.now).file in
     record {
       to = s;
       stands = stands_kept a b c.hello.ensures.keeps c.args.tables.now s stands;
       calls = stretch_as a b {P = AnswersOn rules s m (greets p.greeted h.expect) s n}
-          {Q = StepsOn rules false p s m (at p.left c.either-talk.result c.keep.new.self) s n}
-          (λ (es : Log) (ms : List ℕ) within x.
-          subst (λ (bs : List ℕ).
-          StepsOn rules false p s m (at p.left c.either-talk.result bs) s n a b es ms)
-          (sym c.keep.ensures.stays)
-          (subst (λ (v : Bool). StepsOn rules false p s m (at p.left v p.bytes) s n a b es ms)
-          (sym c.either-talk.ensures)
-          (steps_short_on rules lawful a b p h s s m n es ms c.requires.going e w x)))
+          {Q = Counting next next
+          (StepsOn rules false p s m (at p.left c.either-talk.result c.keep.new.self) s n)}
+          (λ (es : Log) (ms : List ℕ) within x. (
+            subst (λ (bs : List ℕ).
+                StepsOn rules false p s m (at p.left c.either-talk.result bs) s n a b es ms)
+                (sym c.keep.ensures.stays)
+                (subst (λ (v : Bool). StepsOn rules false p s m (at p.left v p.bytes) s n a b es ms)
+                (sym c.either-talk.ensures)
+                (steps_short_on rules lawful a b p h s s m n es ms c.requires.going e w x)),
+            reach_least next ms,
+          ))
           (c.hello.ensures.greeted s
           (λ trusted image is. stands_left a c.args.tables.now s stands image is));
     }
@@ -60,18 +69,24 @@ returns-in-Ok-clause-stepped g c = λ s stands.
     let e : rules.scan p.bytes ≡ good h = rules-scan p.bytes ∙ ap scanned c.requires.head in
     let carried = c.in-Ok.ensures.carried s
     (stands_kept a b c.hello.ensures.keeps c.args.tables.now s stands) in
+    let next = (bounds_of c.args.tables.now).file in
+    let k = (bounds_of c.carry.new.tables).file in
     record {
       to = carried.to;
       stands = carried.stands;
       calls = stretch_then a b d
           {P = AnswersOn rules s m (greets p.greeted h.expect) s n}
-          {Q = CarriesOn rules h (at p.left c.either-talk.result p.bytes) s n q carried.to o}
-          {R = StepsOn rules true p s m q carried.to o}
-          (λ (es fs : Log) (ms ns : List ℕ) meet x y.
-          steps_whole_on rules lawful a b d p h s s carried.to m n o es fs ms ns meet
-          c.requires.going e w x q
-          (subst (λ (v : Bool). CarriesOn rules h (at p.left v p.bytes) s n q carried.to o b d fs ns)
-          c.either-talk.ensures y))
+          {Q = Counting next k
+          (CarriesOn rules h (at p.left c.either-talk.result p.bytes) s n q carried.to o)}
+          {R = Counting next k (StepsOn rules true p s m q carried.to o)}
+          (λ (es fs : Log) (ms ns : List ℕ) meet x y. (
+            steps_whole_on rules lawful a b d p h s s carried.to m n o es fs ms ns meet
+                c.requires.going e w x q
+                (subst (λ (v : Bool).
+                CarriesOn rules h (at p.left v p.bytes) s n q carried.to o b d fs ns)
+                c.either-talk.ensures y.0),
+            reach_behind k next ms ns y.1,
+          ))
           (c.hello.ensures.greeted s
           (λ trusted image is. stands_left a c.args.tables.now s stands image is))
           carried.calls;
@@ -88,17 +103,19 @@ returns-clause-stepped g c = λ s stands.
     let n = c.hello.new.mute in
     let h = head_in c.args.head in
     let fault = c.in-Err.fault in
+    let next = (bounds_of c.args.tables.now).file in
     let w : is_whole h p.bytes ≡ true =
     ap (nat_le (h.taken + h.length)) (sym c.len.ensures)
     ∙ sym c.is_whole.ensures ∙ c.if-not-is_whole.false in
     let e : rules.scan p.bytes ≡ good h = rules-scan p.bytes ∙ ap scanned c.requires.head in
     stretch_then a b d
     {P = AnswersOn rules s m (greets p.greeted h.expect) s n}
-    {Q = CarriesSomeOn rules fault h (at p.left c.either-talk.result p.bytes) s n}
-    {R = MovesSomeOn rules fault p s m}
+    {Q = CarriesSomeOn rules fault next h (at p.left c.either-talk.result p.bytes) s n}
+    {R = MovesSomeOn rules fault next p s m}
     (λ (es fs : Log) (ms ns : List ℕ) meet x y.
     some_whole_on rules lawful a b d p h s s s m n n es fs ms ns meet c.requires.going
-    e w x fault y)
+    e w x fault next
+    (answers_wider rules fault b d next (reach next ms) s fs ns (reach_least next ms) n _ y))
     (c.hello.ensures.greeted s
     (λ trusted image is. stands_left a c.args.tables.now s stands image is))
     (c.in-Err.ensures.carried s

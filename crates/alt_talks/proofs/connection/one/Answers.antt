@@ -6,14 +6,15 @@ use Rattle.alt_http.specs.Judged.{IsScan}
 use Rattle.alt_http.specs.Reading.{scan_of}
 use Rattle.alt_http.proofs.Answering.{scan_of-is, scan_of-within}
 use Rattle.alt_machine.specs.State.{State}
-use Rattle.alt_tables.specs.Stands.{Stands}
+use Rattle.alt_tables.specs.Stands.{Stands, bounds_of}
 use Rattle.alt_talks.specs.TalkStops.{deeds, AnswersOn, AnswersSomeOn, MovesSomeOn, StepsOn}
-use Rattle.alt_talks.specs.Runs.{Leads, Stretch}
+use Rattle.alt_talks.specs.Runs.{Counting, LeadsOn, Stretch}
 use Rattle.alt_talks.specs.TalkRules.{rules}
 use Rattle.alt_talks.specs.TalkViews.{place_of, scanned}
 use Rattle.alt_talks.specs.Talks.{refused, unread, bad, at, turns}
 use Rattle.alt_talks.proofs.Stopping.{stands_kept}
 use Rattle.alt_tables.proofs.Left.{stands_left}
+use Rattle.alt_talks.proofs.FileFaults.{reach_least}
 use Rattle.alt_talks.proofs.Stretching.{stretch_none, stretch_as}
 use Rattle.alt_talks.proofs.TalkDeeds.{deeds_say}
 use Rattle.alt_talks.proofs.TalkLeaving.{left_nothing, moves_some_on, steps_bad_on, steps_unread_on}
@@ -30,8 +31,9 @@ returns-in-Err-clause-stepped g c = λ s stands.
     let p = place_of c.args.talk.now in
     let m = c.args.talk.now.mute in
     let a = g.S.Disk.state c.args.shell.now in
-    stretch_none a {P = MovesSomeOn rules NoMemory p s m} (
-      moves_some rules NoMemory p s m [] [] _ [] (sym (append-nil _)) (answers_some_none rules s m _),
+    let next = (bounds_of c.args.tables.now).file in
+    stretch_none a {P = MovesSomeOn rules NoMemory next p s m} (
+      moves_some rules NoMemory next p s m [] [] _ [] (sym (append-nil _)) (answers_some_none rules next s m _),
       left_nothing a s (deeds rules s (turns rules p.left p.greeted p.bytes) [])
           (deeds_say rules lawful s (turns rules p.left p.greeted p.bytes) [])
           (λ trusted image is. stands_left a c.args.tables.now s stands image is),
@@ -74,12 +76,13 @@ returns-in-Err-refuse-clause-stepped g c = λ s stands.
     let fault = c.in-Err-refuse.fault in
     let e : rules.scan p.bytes ≡ bad k =
     rules-scan p.bytes ∙ ap scanned (sym c.in-Ok.ensures.answer ∙ c.in-Refused.is) in
-    stretch_as a b {P = AnswersSomeOn rules fault s m (refused k ∷ [])}
-    {Q = MovesSomeOn rules fault p s m}
-    (λ (es : Log) (ms : List ℕ) within x. moves_some_on rules lawful a b fault p s m es ms
+    let next = (bounds_of c.args.tables.now).file in
+    stretch_as a b {P = AnswersSomeOn rules fault next s m (refused k ∷ [])}
+    {Q = MovesSomeOn rules fault next p s m}
+    (λ (es : Log) (ms : List ℕ) within x. moves_some_on rules lawful a b fault next p s m es ms
     (refused k ∷ []) [] (at_bad rules p.left p.greeted p.bytes k c.requires.going e).0 x)
     (c.in-Err-refuse.ensures.answered s
-    (λ trusted image is. stands_left a c.args.tables.now s stands image is))
+    (λ trusted image is. stands_left a c.args.tables.now s stands image is) next)
 
 pub returns-in-Ok-refuse-clause-stepped : goal.returns-in-Ok-refuse-clause-stepped
 returns-in-Ok-refuse-clause-stepped g c = λ s stands.
@@ -92,15 +95,18 @@ returns-in-Ok-refuse-clause-stepped g c = λ s stands.
     let k = c.in-Refused.number in
     let e : rules.scan p.bytes ≡ bad k =
     rules-scan p.bytes ∙ ap scanned (sym c.in-Ok.ensures.answer ∙ c.in-Refused.is) in
+    let next = (bounds_of c.args.tables.now).file in
     record {
       to = s;
       stands = stands_kept a b c.in-Ok-refuse.ensures.keeps c.args.tables.now s stands;
       calls = stretch_as a b {P = AnswersOn rules s m (refused k ∷ []) s n}
-          {Q = StepsOn rules true p s m (at 0 p.greeted c.scan.new.self) s n}
-          (λ (es : Log) (ms : List ℕ) within x.
-          subst (λ (bs : List ℕ). StepsOn rules true p s m (at 0 p.greeted bs) s n a b es ms)
-          (sym c.in-Ok.ensures.stays)
-          (steps_bad_on rules lawful a b p s s m n k es ms c.requires.going e x))
+          {Q = Counting next next (StepsOn rules true p s m (at 0 p.greeted c.scan.new.self) s n)}
+          (λ (es : Log) (ms : List ℕ) within x. (
+            subst (λ (bs : List ℕ). StepsOn rules true p s m (at 0 p.greeted bs) s n a b es ms)
+                (sym c.in-Ok.ensures.stays)
+                (steps_bad_on rules lawful a b p s s m n k es ms c.requires.going e x),
+            reach_least next ms,
+          ))
           (c.in-Ok-refuse.ensures.answered s
           (λ trusted image is. stands_left a c.args.tables.now s stands image is));
     }
@@ -123,10 +129,11 @@ returns-in-Head-clause-stepped g c =
     let q = place_of c.found.new.talk in
     let m = c.args.talk.now.mute in
     let n = c.found.new.talk.mute in
+    let next = (bounds_of c.args.tables.now).file in
     subst (λ (bs : List ℕ). (s : State) → Stands a c.args.tables.now s → MatchResult c.found.result
-    (λ more. Leads a b c.found.new.tables
+    (λ more. LeadsOn next a b c.found.new.tables
     (λ t. StepsOn rules more (at p.left p.greeted bs) s m q t n))
-    (λ f. Stretch a b (MovesSomeOn rules f (at p.left p.greeted bs) s m)))
+    (λ f. Stretch a b (MovesSomeOn rules f next (at p.left p.greeted bs) s m)))
     c.in-Ok.ensures.stays c.found.ensures.stepped
 
 pub returns-in-Err-clause-none : goal.returns-in-Err-clause-none

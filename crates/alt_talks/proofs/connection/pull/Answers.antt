@@ -1,7 +1,8 @@
 use Rattle.std.proofs.Common.{◌≡◌, ◌<◌, ◌++◌, ◌∷◌, [], ℕ, List, length, take, arith, length-take, refl, subst, true, false}
 use Rattle.alt_shell.specs.Log.{Log, Grows, entry, took, told_count}
 use Rattle.alt_tables.proofs.Left.{stands_left}
-use Rattle.alt_talks.specs.Runs.{Leads, Stretch}
+use Rattle.alt_tables.specs.Stands.{bounds_of}
+use Rattle.alt_talks.specs.Runs.{Counting, LeadsOn, Stretch}
 use Rattle.alt_talks.specs.Stops.{AreWithin}
 use Rattle.alt_talks.specs.TalkRules.{rules}
 use Rattle.alt_talks.specs.TalkStops.{MovesAllOn, MovesSomeOn, GoesOn, GoesSomeOn}
@@ -9,6 +10,8 @@ use Rattle.alt_talks.specs.TalkViews.{place_of}
 use Rattle.alt_talks.specs.Talks.{at}
 use Rattle.alt_talks.specs.declared.fault.RunFault.TheVariants.{NoMemory}
 use Rattle.alt_talks.proofs.Stopping.{ready_kept, stands_kept}
+use Rattle.alt_talks.proofs.FileFaults.{reach_least}
+use Rattle.alt_talks.proofs.Stretching.{stretch_as}
 use Rattle.alt_talks.proofs.TalkIdle.{idle_start}
 use Rattle.alt_talks.proofs.TalkLaws.{lawful}
 use Rattle.alt_talks.proofs.TalkLeaving.{goes_taken_on, goes_some_taken_on, goes_missed_on, left_silent}
@@ -31,8 +34,10 @@ returns-in-Ok-at_hand-clause-turned g c = λ s stands rest.
     let clocked = told_count a.beside in
     let keeps = c.in-Ok.ensures.call.keeps in
     let some : 0 < length bytes = let l = length-take c.in-Ok.count c.take.new.buf in
-    let k = c.in-Ok.ensures.count in grind arith in
-    let went = subst (λ (bs : List ℕ). Leads b d c.at_hand.new.tables
+    let held = c.in-Ok.ensures.count in grind arith in
+    let next = (bounds_of c.args.tables.now).file in
+    let k = (bounds_of c.at_hand.new.tables).file in
+    let went = subst (λ (bs : List ℕ). LeadsOn next b d c.at_hand.new.tables
     (λ t. MovesAllOn rules (at p.left p.greeted bs) s m q t n))
     c.in-Ok-extend.ensures.more
     (c.in-Ok-at_hand.ensures.moved s (stands_kept a b keeps c.args.tables.now s stands)) in
@@ -40,14 +45,16 @@ returns-in-Ok-at_hand-clause-turned g c = λ s stands rest.
       to = went.to;
       stands = went.stands;
       calls = took_then a b d (entry b.moment clocked (took bytes))
-          (MovesAllOn rules (at p.left p.greeted (p.bytes ++ bytes)) s m q went.to n)
-          (GoesOn rules true p s m q went.to n)
+          (Counting next k (MovesAllOn rules (at p.left p.greeted (p.bytes ++ bytes)) s m q went.to n))
+          (Counting next k (GoesOn rules true p s m q went.to n))
           c.in-Ok.ensures.taken c.in-Ok.ensures.moments keeps.later (omega arith) keeps
-          (λ (es : Log) (ms : List ℕ) (within : AreWithin b.moment d.moment es) x.
-          goes_taken_on rules p s a b d bytes clocked keeps
-          (λ trusted image is. stands_left a c.args.tables.now s stands image is)
-          lawful m (idle_start rules p s m rest c.requires.going c.requires.heard) q went.to n es ms
-          within some x)
+          (λ (es : Log) (ms : List ℕ) (within : AreWithin b.moment d.moment es) x. (
+            goes_taken_on rules p s a b d bytes clocked keeps
+                (λ trusted image is. stands_left a c.args.tables.now s stands image is)
+                lawful m (idle_start rules p s m rest c.requires.going c.requires.heard) q went.to n es ms
+                within some x.0,
+            x.1,
+          ))
           went.calls;
     }
 
@@ -63,18 +70,19 @@ returns-in-Err-at_hand-clause-turned g c = λ s stands rest.
     let bytes = take c.in-Ok.count c.take.new.buf in
     let clocked = told_count a.beside in
     let keeps = c.in-Ok.ensures.call.keeps in
+    let next = (bounds_of c.args.tables.now).file in
     let went = subst (λ (bs : List ℕ). Stretch b d
-    (MovesSomeOn rules fault (at p.left p.greeted bs) s m))
+    (MovesSomeOn rules fault next (at p.left p.greeted bs) s m))
     c.in-Ok-extend.ensures.more
     (c.in-Err-at_hand.ensures.moved s (stands_kept a b keeps c.args.tables.now s stands)) in
     took_then a b d (entry b.moment clocked (took bytes))
-    (MovesSomeOn rules fault (at p.left p.greeted (p.bytes ++ bytes)) s m)
-    (GoesSomeOn rules fault p s m)
+    (MovesSomeOn rules fault next (at p.left p.greeted (p.bytes ++ bytes)) s m)
+    (GoesSomeOn rules fault next p s m)
     c.in-Ok.ensures.taken c.in-Ok.ensures.moments keeps.later (omega arith) keeps
     (λ (es : Log) (ms : List ℕ) (within : AreWithin b.moment d.moment es) x.
     goes_some_taken_on rules p s a b d bytes clocked keeps
     (λ trusted image is. stands_left a c.args.tables.now s stands image is)
-    lawful m (idle_start rules p s m rest c.requires.going c.requires.heard) fault es ms within x)
+    lawful m (idle_start rules p s m rest c.requires.going c.requires.heard) fault next es ms within x)
     went
 
 pub returns-in-Err-clause-turned : goal.returns-in-Err-clause-turned
@@ -85,13 +93,17 @@ returns-in-Err-clause-turned g c = λ s stands rest.
     let p = place_of c.args.talk.now in
     let m = c.args.talk.now.mute in
     let keeps = c.in-Err.ensures.call.keeps in
+    let next = (bounds_of c.args.tables.now).file in
     record {
       to = s;
       stands = stands_kept a b keeps c.args.tables.now s stands;
-      calls = goes_missed_on rules lawful p s m rest
+      calls = stretch_as a b {P = GoesOn rules false p s m p s m}
+          {Q = Counting next next (GoesOn rules false p s m p s m)}
+          (λ es ms within x. (x, reach_least next ms))
+          (goes_missed_on rules lawful p s m rest
           (idle_start rules p s m rest c.requires.going c.requires.heard) a b c.requires.talking c.requires.taking
           c.in-Err.ensures.taken c.in-Err.ensures.moments keeps
-          (λ trusted image is. stands_left a c.args.tables.now s stands image is);
+          (λ trusted image is. stands_left a c.args.tables.now s stands image is));
     }
 
 pub returns-then-count-eq0-clause-turned : goal.returns-then-count-eq0-clause-turned
@@ -103,19 +115,23 @@ returns-then-count-eq0-clause-turned g c = λ s stands rest.
     let m = c.args.talk.now.mute in
     let keeps = c.in-Ok.ensures.call.keeps in
     let none : take c.in-Ok.count c.take.new.buf ≡ [] = grind arith in
+    let next = (bounds_of c.args.tables.now).file in
     record {
       to = s;
       stands = stands_kept a b keeps c.args.tables.now s stands;
-      calls = stretch_one a b (GoesOn rules false p s m p s m)
+      calls = stretch_one a b (Counting next next (GoesOn rules false p s m p s m))
           (entry b.moment (told_count a.beside) (took []) ∷ [])
           (subst (λ (bs : List ℕ). Grows a.beside b.beside
           (entry b.moment (told_count a.beside) (took bs) ∷ [])) none c.in-Ok.ensures.taken)
           c.in-Ok.ensures.moments (keeps.later, omega arith, tt) keeps (
-            goes_end rules p s m rest b.moment (told_count a.beside)
-                (idle_start rules p s m rest c.requires.going c.requires.heard),
-            left_silent rules lawful p s a b
-                (entry b.moment (told_count a.beside) (took []) ∷ []) [] keeps refl
-                (λ trusted image is. stands_left a c.args.tables.now s stands image is),
+            (
+              goes_end rules p s m rest b.moment (told_count a.beside)
+                  (idle_start rules p s m rest c.requires.going c.requires.heard),
+              left_silent rules lawful p s a b
+                  (entry b.moment (told_count a.beside) (took []) ∷ []) [] keeps refl
+                  (λ trusted image is. stands_left a c.args.tables.now s stands image is),
+            ),
+            reach_least next [],
           );
     }
 
@@ -128,11 +144,12 @@ returns-in-Err-extend-clause-turned g c = λ s stands rest.
     let m = c.args.talk.now.mute in
     let keeps = c.in-Ok.ensures.call.keeps in
     let bytes = take c.in-Ok.count c.take.new.buf in
-    stretch_one a b (GoesSomeOn rules NoMemory p s m)
+    let next = (bounds_of c.args.tables.now).file in
+    stretch_one a b (GoesSomeOn rules NoMemory next p s m)
     (entry b.moment (told_count a.beside) (took bytes) ∷ [])
     c.in-Ok.ensures.taken c.in-Ok.ensures.moments (keeps.later, omega arith, tt) keeps (
       goes_some_none rules p s m bytes b.moment (told_count a.beside)
-          (idle_start rules p s m rest c.requires.going c.requires.heard),
+          (idle_start rules p s m rest c.requires.going c.requires.heard) next,
       left_silent rules lawful p s a b (entry b.moment (told_count a.beside) (took bytes) ∷ []) []
           keeps refl
           (λ trusted image is. stands_left a c.args.tables.now s stands image is),

@@ -1,6 +1,7 @@
 use Rattle.std.proofs.Common.{◌≡◌, ◌<◌, ◌++◌, inl, inr, ℕ, List, Bool, true, subst, arith}
 use Rattle.alt_machine.specs.State.{State}
 use Rattle.alt_shell.specs.Log.{Log}
+use Rattle.alt_tables.specs.Stands.{bounds_of}
 use Rattle.alt_talks.specs.TalkStops.{GoesOn, GoesSomeOn, EndsOn}
 use Rattle.alt_talks.specs.TalkRules.{rules}
 use Rattle.alt_talks.specs.TalkViews.{place_of}
@@ -11,6 +12,7 @@ use Rattle.alt_talks.proofs.TalkLeaving.{goes_start_on, goes_then_on, goes_break
 use Rattle.alt_talks.proofs.TalkPulls.{goes_rests}
 use Rattle.alt_talks.proofs.TalkReach.{reach_none, reach_as, reach_then, reach_break}
 use Rattle.alt_talks.proofs.Arriving.{came_none, came_then}
+use Rattle.alt_talks.proofs.TalkWider.{goes_wider}
 use Rattle.alt_talks.proofs.connection.pulls.Goals as goal
 
 pub pulls-init : goal.pulls-init
@@ -45,8 +47,8 @@ pulls-preserved g c =
       λ s stands rest.
           let front = inv.0 s stands rest in
           let here = goes_rests rules lawful true p q s front.to m n front.calls.entries
-          front.calls.told front.calls.holds.0 in
-          reach_then a b d c.pulls.tables c.pull.new.tables
+          front.calls.told front.calls.holds.0.0 in
+          reach_then a b d (bounds_of c.args.tables.now).file c.pulls.tables c.pull.new.tables
           (λ t. GoesOn rules true p s m q t n)
           (λ t u. GoesOn rules x q t n v u o)
           (λ u. GoesOn rules true p s m v u o)
@@ -78,8 +80,8 @@ returns-in-Ok-false-clause-ended g c = λ s stands.
     let going : 0 < c.pulls.talk.left = grind arith in
     let front = c.pulls.invariant.0 s stands rest in
     let here = goes_rests rules lawful true p q s front.to m n front.calls.entries
-    front.calls.told front.calls.holds.0 in
-    reach_then a b d c.pulls.tables c.pull.new.tables
+    front.calls.told front.calls.holds.0.0 in
+    reach_then a b d (bounds_of c.args.tables.now).file c.pulls.tables c.pull.new.tables
     (λ t. GoesOn rules true p s m q t n)
     (λ t u. GoesOn rules x q t n v u o)
     (λ u. EndsOn rules p s m v u o)
@@ -102,15 +104,17 @@ returns-in-Err-clause-ended g c = λ s stands.
     let m = c.args.talk.now.mute in
     let n = c.pulls.talk.mute in
     let fault = c.in-Err.fault in
+    let next = (bounds_of c.args.tables.now).file in
     let going : 0 < c.pulls.talk.left = grind arith in
     let front = c.pulls.invariant.0 s stands rest in
     let here = goes_rests rules lawful true p q s front.to m n front.calls.entries
-    front.calls.told front.calls.holds.0 in
-    reach_break a b d c.pulls.tables
-    (λ t. GoesOn rules true p s m q t n) (λ t. GoesSomeOn rules fault q t n)
-    (GoesSomeOn rules fault p s m)
+    front.calls.told front.calls.holds.0.0 in
+    reach_break a b d next c.pulls.tables
+    (λ t. GoesOn rules true p s m q t n) (λ k t. GoesSomeOn rules fault k q t n)
+    (GoesSomeOn rules fault next p s m)
+    (λ k l t es ms le x. goes_wider rules fault b d k l t es ms le q n x)
     (λ (t : State) (es fs : Log) (ms ns : List ℕ) meet k l.
-    goes_break_on rules lawful a b d fault p q s t m n es fs ms ns meet going k l)
+    goes_break_on rules lawful a b d fault next p q s t m n es fs ms ns meet going k l)
     front (λ t there. c.in-Err.ensures.turned t there here)
 
 pub returns-then-talk-eq0-clause-ended : goal.returns-then-talk-eq0-clause-ended
@@ -122,7 +126,8 @@ returns-then-talk-eq0-clause-ended g c = λ s stands.
     let m = c.args.talk.now.mute in
     let n = c.pulls.talk.mute in
     let none : c.pulls.talk.left ≡ 0 = grind arith in
-    reach_as (state c.args.shell.now) (state c.pulls.shell) c.pulls.tables
+    reach_as (state c.args.shell.now) (state c.pulls.shell)
+    (bounds_of c.args.tables.now).file c.pulls.tables
     (λ t. GoesOn rules true p s m q t n) (λ t. EndsOn rules p s m q t n)
     (λ (t : State) (es : Log) (ms : List ℕ) x.
     (record { more = true; goes = x.0; cause = inr (inr none) }, x.1))
@@ -136,7 +141,8 @@ returns-then-talk-clause-ended g c = λ s stands.
     let q = place_of c.pulls.talk in
     let m = c.args.talk.now.mute in
     let n = c.pulls.talk.mute in
-    reach_as (state c.args.shell.now) (state c.pulls.shell) c.pulls.tables
+    reach_as (state c.args.shell.now) (state c.pulls.shell)
+    (bounds_of c.args.tables.now).file c.pulls.tables
     (λ t. GoesOn rules true p s m q t n) (λ t. EndsOn rules p s m q t n)
     (λ (t : State) (es : Log) (ms : List ℕ) x.
     (record { more = true; goes = x.0; cause = inr (inl c.if-talk.true) }, x.1))

@@ -1,9 +1,9 @@
 use Rattle.std.proofs.Common.{◌≡◌, ◌-◌, ◌^◌, true, false}
 use Rattle.alt_machine.specs.State.{State}
 use Rattle.alt_shell.specs.Log.{takes_missed, says_missed}
-use Rattle.alt_tables.specs.Stands.{Stands}
+use Rattle.alt_tables.specs.Stands.{Stands, bounds_of}
 use Rattle.alt_talks.specs.Arrivals.{Came}
-use Rattle.alt_talks.specs.Runs.{Leads, Passes}
+use Rattle.alt_talks.specs.Runs.{LeadsOn, Passes}
 use Rattle.alt_talks.specs.Stretches.{AtRest}
 use Rattle.alt_talks.specs.TalkStops.{GoesOn}
 use Rattle.alt_talks.specs.TalkRules.{rules}
@@ -16,7 +16,7 @@ invariant-pulls g l =
     let old = state l.initial.shell in
     let new = state l.shell in
     ((s : State) → Stands old l.initial.tables s → AtRest rules (place_of l.initial.talk)
-    → Leads old new l.tables
+    → LeadsOn (bounds_of l.initial.tables).file old new l.tables
     (λ t. GoesOn rules true (place_of l.initial.talk) s l.initial.talk.mute
     (place_of l.talk) t l.talk.mute))
     × Passes old new

@@ -48,7 +48,7 @@ returns-in-Ok-clause-answered g c = λ s here.
     c.utter.ensures.said
 
 pub returns-in-Err-clause-answered : goal.returns-in-Err-clause-answered
-returns-in-Err-clause-answered g c = λ s here.
+returns-in-Err-clause-answered g c = λ s here next.
     let state = g.S.Disk.state in
     let a = state c.args.shell.now in
     let b = state c.now-moment.new.self in
@@ -56,9 +56,9 @@ returns-in-Err-clause-answered g c = λ s here.
     let at = c.now-moment.result in
     let k = c.args.number in
     let keeps = c.now-moment.ensures.call.keeps in
-    told_alone a b {R = AnswersSomeOn rules NoMemory s m (refused k ∷ [])} at
+    told_alone a b {R = AnswersSomeOn rules NoMemory next s m (refused k ∷ [])} at
     c.now-moment.ensures.log c.now-moment.ensures.told keeps.later (trusts-kept a b keeps) (
-      some_refused rules s m k at [] (at ∷ []) (record { nothing = refl; one = refl }),
+      some_refused rules next s m k at [] (at ∷ []) (record { nothing = refl; one = refl }),
       left_untold rules lawful a b s (refused k ∷ []) (at ∷ []) keeps here,
     )
 

@@ -1,16 +1,22 @@
-use Rattle.std.proofs.Common.{◌∙◌, List, ℕ, [], ◌∷◌, Option, sym, subst}
+use Rattle.std.proofs.Common.{◌∙◌, ◌≤◌, ◌+◌, List, ℕ, [], ◌∷◌, Option, sym, subst}
 use Rattle.alt_disk.proofs.Runs.{trusted_back}
 use Rattle.alt_machine.specs.Outcomes.{last_state}
 use Rattle.alt_machine.specs.State.{State}
 use Rattle.alt_machine.specs.Wanted.{Lack}
 use Rattle.alt_tables.proofs.Left.{stands_left}
-use Rattle.alt_tables.specs.Stands.{Stands}
-use Rattle.alt_talks.specs.Faults.{IsCausedBy}
+use Rattle.alt_engine.specs.InHand.{Bounds}
+use Rattle.alt_tables.specs.FilesLeft.{most_files}
+use Rattle.alt_tables.specs.Stands.{Stands, bounds_of}
+use Rattle.alt_talks.specs.Faults.{IsCausedBy, IsFileFault}
+use Rattle.alt_talks.specs.Runs.{Counting}
 use Rattle.alt_talks.specs.Stops.{AtEach, IsAmong}
 use Rattle.alt_talks.specs.TalkRules.{rules, outcome_of}
+use Rattle.alt_talks.specs.TalkStops.{AnswersOn}
 use Rattle.alt_talks.specs.TalkViews.{asking}
-use Rattle.alt_talks.proofs.Responding.{step_made, step_broke}
+use Rattle.alt_talks.specs.Talks.{asked}
+use Rattle.alt_talks.proofs.Responding.{asked_reach, step_made, step_broke}
 use Rattle.alt_talks.proofs.Stopping.{ready_kept, stands_kept}
+use Rattle.alt_talks.proofs.Stretching.{stretch_as}
 use Rattle.alt_talks.proofs.TalkLaws.{lawful, rules-atoms, rules-reply, rules-next, rules-wants}
 use Rattle.alt_talks.proofs.TalkLeaving.{Asked, asked_of, asked_some_on}
 use Rattle.alt_talks.proofs.Arriving.{came_goes, came_silent, came_then}
@@ -54,10 +60,22 @@ returns-in-Ok-step-clause-answered g c = λ s stands.
     let after = subst (λ (u : State). Stands done c.response.new.tables u) (sym (rules-next s q at))
     (c.in-Ok.ensures.state s here) in
     let there = stands_kept done new c.utter.ensures.keeps c.response.new.tables t after in
+    let m = c.args.mute.now in
+    let n = c.utter.new.mute in
+    let next = (bounds_of c.args.tables.now).file in
+    let k = (bounds_of c.step.new.tables).file in
     record {
       to = t;
       stands = c.in-Ok-step.ensures.stands t there;
-      calls = step_made rules lawful old done new last s c.args.mute.now c.utter.new.mute q at
+      calls = stretch_as old last {P = AnswersOn rules s m (asked q ∷ []) t n}
+          {Q = Counting next k (AnswersOn rules s m (asked q ∷ []) t n)}
+          (λ es ms within x. (
+            x,
+            asked_reach rules s t m n q es ms next k x.0.does
+                (subst (λ (b : Bounds). k ≤ b.file + most_files) c.in-Ok.ensures.limits
+                (c.in-Ok-step.ensures.files t there)),
+          ))
+          (step_made rules lawful old done new last s m n q at
           c.deref.result.now
           (asked_of rules old mid done s q at c.now-moment.ensures.call c.now-moment.ensures.log
           c.now-moment.ensures.told c.in-Ok.ensures.goes
@@ -67,7 +85,7 @@ returns-in-Ok-step-clause-answered g c = λ s stands.
           (λ trusted image is. stands_left done c.response.new.tables t after image is)
           c.utter.ensures.keeps
           (c.deref.ensures.value ∙ c.in-Ok.ensures.text s here ∙ sym (rules-reply s q at))
-          c.utter.ensures.said (c.in-Ok-step.ensures.works t there);
+          c.utter.ensures.said (c.in-Ok-step.ensures.works t there));
     }
 
 pub returns-clause-answered : goal.returns-clause-answered
@@ -96,7 +114,9 @@ returns-clause-answered g c = λ s stands.
     c.utter.ensures.keeps
     (c.deref.ensures.value ∙ c.in-Ok.ensures.text s here ∙ sym (rules-reply s q at))
     c.utter.ensures.said (c.in-Err-step.ensures.works t there) c.in-Err-step.fault
-    (c.in-Err-step.ensures.fault t there) c.in-Err-step.ensures.heard
+    (bounds_of c.args.tables.now).file
+    (subst (λ (b : Bounds). IsFileFault (b.file + most_files) c.in-Err-step.fault)
+    c.in-Ok.ensures.limits (c.in-Err-step.ensures.fault t there)) c.in-Err-step.ensures.heard
 
 pub returns-in-Err-clause-answered : goal.returns-in-Err-clause-answered
 returns-in-Err-clause-answered g c = λ s stands.
@@ -113,7 +133,8 @@ returns-in-Err-clause-answered g c = λ s stands.
     aside c.now-moment.ensures.log c.now-moment.ensures.told c.in-Err.ensures.goes
     (subst (λ (atoms : List State). AtEach mid done (λ _ image. IsAmong image s atoms))
     (sym (rules-atoms s q at)) (c.in-Err.ensures.leaves s here)) in
-    asked_some_on rules lawful old done s m q at c.in-Err.fault front
+    asked_some_on rules lawful old done s m q at c.in-Err.fault
+    (bounds_of c.args.tables.now).file front
     (subst (λ (l : Option Lack). IsCausedBy l c.in-Err.fault) (sym (rules-wants s q at))
     (c.in-Err.ensures.cause s here))
 

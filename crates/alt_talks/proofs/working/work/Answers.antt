@@ -11,7 +11,7 @@ use Rattle.alt_tables.specs.FilesLeft.{most_files}
 use Rattle.alt_tables.specs.Stands.{bounds_of, limits_of}
 use Rattle.alt_tables.proofs.Left.{stands_read}
 use Rattle.alt_talks.specs.Works.{AfterWork}
-use Rattle.alt_talks.proofs.FileFaults.{file_told, file_work}
+use Rattle.alt_talks.proofs.FileFaults.{file_told}
 use Rattle.alt_talks.proofs.working.work.Goals as goal
 
 pub returns-in-Ok-clause-entries : goal.returns-in-Ok-clause-entries
@@ -34,11 +34,5 @@ returns-in-Ok-clause-entries g c = by c.args.task refl
 
 pub returns-in-Err-clause-fault : goal.returns-in-Err-clause-fault
 returns-in-Err-clause-fault g c s stands =
-    file_work c.from.result ((bounds_of c.args.tables.now).file + most_files)
-    (file_told c.in-Err.fault c.from.result ((bounds_of c.args.tables.now).file + most_files)
-    c.from.ensures (c.in-Err.ensures.fault s stands))
-
-pub returns-in-Err-clause-reach : goal.returns-in-Err-clause-reach
-returns-in-Err-clause-reach g c s stands =
     file_told c.in-Err.fault c.from.result ((bounds_of c.args.tables.now).file + most_files)
     c.from.ensures (c.in-Err.ensures.fault s stands)

@@ -21,7 +21,7 @@ use Rattle.alt_talks.specs.declared.fault.RunFault.{RunFault}
 use Rattle.alt_talks.specs.declared.fault.RunFault.TheVariants as why
 use Rattle.alt_run.proofs.EndingLaws.{honest_of}
 use Rattle.alt_run.specs.Chains.{Step, IsStep, behind, IsChain, LeftOf, LeftEarly, LeftLater, MayLeave, Holds}
-use Rattle.alt_run.specs.Endings.{HasRun, Done, Broken, BreaksOff, WasDamaged, IsReadable}
+use Rattle.alt_run.specs.Endings.{BrokenFrom, HasRun, Done, Broken, BreaksOff, WasDamaged, IsReadable}
 use Rattle.alt_run.specs.Runs.{Answers, AnswersSome, LeftThen, IsOpening, Opened}
 use Rattle.alt_run.specs.Trials.{Tries, TriesSome, LeftOfTrial, as_turn}
 use Rattle.alt_run.specs.Wholes.{IsWhole, IsFoundBehind}
@@ -86,9 +86,9 @@ done_leaves (Trial seed count) s b c x = record {
   leaves = x.holds.leaves;
 }
 
-broken_leaves : (files : ℕ → Option (List ℕ)) (fault : RunFault) (job : Job) (s : State)
-    (b c : DiskState) → Broken files fault job s b c → LeavesBehind job s b c
-broken_leaves files fault Replay s b c x = record {
+broken_leaves : (next : ℕ) (fault : RunFault) (job : Job) (s : State) (b c : DiskState)
+    → BrokenFrom next fault job s b c → LeavesBehind job s b c
+broken_leaves next fault Replay s b c x = record {
   entries = x.entries;
   told = x.told;
   grows = x.grows;
@@ -96,7 +96,7 @@ broken_leaves files fault Replay s b c x = record {
   within = x.within;
   leaves = x.holds.leaves;
 }
-broken_leaves files fault (Serve per count) s b c x = record {
+broken_leaves next fault (Serve per count) s b c x = record {
   entries = x.entries;
   told = x.told;
   grows = x.grows;
@@ -117,13 +117,13 @@ broken_leaves files fault (Serve per count) s b c x = record {
       ))
       x.holds.1;
 }
-broken_leaves files fault (Trial seed count) s b c x = record {
-  entries = x.2.entries;
-  told = x.2.told;
-  grows = x.2.grows;
-  tells = x.2.tells;
-  within = x.2.within;
-  leaves = x.2.holds.leaves;
+broken_leaves next fault (Trial seed count) s b c x = record {
+  entries = x.entries;
+  told = x.told;
+  grows = x.grows;
+  tells = x.tells;
+  within = x.within;
+  leaves = x.holds.leaves;
 }
 
 -- ---- what a stop leaves of a run
@@ -194,7 +194,7 @@ module _ (old : DiskState) (step : Step) (trusted : IsTrusted old)
   breaks_left : (fault : RunFault) → BreaksOff fault step.job old step.new → LeftOver old step image
   breaks_left fault x = ⊎_elim early
       (opened_left (Broken old.file fault step.job)
-      (λ s b. broken_leaves old.file fault step.job s b step.new))
+      (λ s b x. broken_leaves x.0 fault step.job s b step.new x.2))
       (x trusted)
 
   damaged_left : (fault : RunFault) → WasDamaged fault old step.new → LeftOver old step image
@@ -213,7 +213,7 @@ module _ (old : DiskState) (step : Step) (trusted : IsTrusted old)
   run_left Device x = breaks_left why.Failed x.1
   run_left Memory x = breaks_left why.NoMemory x
   run_left (Spent number) x = opened_left (Broken old.file (why.Spent number) step.job)
-      (λ s b. broken_leaves old.file (why.Spent number) step.job s b step.new) (x.1 trusted)
+      (λ s b x. broken_leaves x.0 (why.Spent number) step.job s b step.new x.2) (x.1 trusted)
 
 -- what a stop leaves of a run over a whole disk stands for a state
 pub left_whole : (old : DiskState) (step : Step) (image : Image) → IsWhole old old.moment

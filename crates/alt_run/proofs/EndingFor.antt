@@ -26,13 +26,13 @@ ended_for a b job NoMemory cause readable answered =
 ended_for a b job (Spent number) cause readable answered =
     spent_done a b job (Spent number) number refl readable answered
 ended_for a b job (Damaged file at) cause readable answered =
-    damaged_done a b job (Damaged file at) (Damaged file at) refl (λ lack h. h) (λ h. h) readable
+    damaged_done a b job (Damaged file at) (Damaged file at) refl (λ lack h. h) (λ n h. h) readable
     answered
 ended_for a b job (DigestDiffers file kept found) cause readable answered =
     damaged_done a b job (DigestDiffers file kept found) (DigestDiffers file kept found) refl
-    (λ lack h. h) (λ h. h) readable answered
+    (λ lack h. h) (λ n h. h) readable answered
 ended_for a b job (BadRow family key) cause readable answered =
-    damaged_done a b job (BadRow family key) (BadRow family key) refl (λ lack h. h) (λ h. h)
+    damaged_done a b job (BadRow family key) (BadRow family key) refl (λ lack h. h) (λ n h. h)
     readable answered
 
 -- what only a run has that wasn't broken off

@@ -9,7 +9,7 @@ use Rattle.alt_shell.specs.Calls.{Aside}
 use Rattle.alt_shell.specs.Log.{Log, Grows, moments_of, taken}
 use Rattle.alt_shell.proofs.Telling.{Grows-then}
 use Rattle.alt_talks.specs.Connections.{ServedSome, turns_of}
-use Rattle.alt_run.specs.Endings.{status_of, HasDone, HasMade, HasRun, HasNumbers, Makes, BreaksOff, WasDamaged, IsReadable, Done, Broken, LacksNumber, SaysNothing, SaysSome}
+use Rattle.alt_run.specs.Endings.{BrokenFrom, status_of, HasDone, HasMade, HasRun, HasNumbers, Makes, BreaksOff, WasDamaged, IsReadable, Done, Broken, LacksNumber, SaysNothing, SaysSome}
 use Rattle.alt_run.specs.Runs.{Answers, AnswersSome, LeftThen, IsOpening, Opened}
 use Rattle.alt_talks.specs.Stretches.{DoesSome}
 use Rattle.alt_talks.specs.TalkRules.{rules}
@@ -35,9 +35,9 @@ use Rattle.alt_machine.specs.Outcomes.{last_state}
 -- ---- what was done, whatever the cause was
 
 -- a run that was broken off is one that was broken off for want of memory
-pub some_answers : (a b : DiskState) (fault : RunFault) (s : State) (es : Log) (ms : List ℕ)
-    → AnswersSome fault s a b es ms → AnswersSome why.NoMemory s a b es ms
-some_answers a b fault s es ms x = record {
+pub some_answers : (a b : DiskState) (fault : RunFault) (next : ℕ) (s : State) (es : Log) (ms : List ℕ)
+    → AnswersSome fault next s a b es ms → AnswersSome why.NoMemory next s a b es ms
+some_answers a b fault next s es ms x = record {
   breaks = record {
     done = x.breaks.done;
     begun = x.breaks.begun;
@@ -56,9 +56,9 @@ some_answers a b fault s es ms x = record {
 }
 
 -- so are turns that broke off
-does_some : (r : Rules) (fault : RunFault) (s : State) (m : Bool) (ts : List Turn) (es : Log)
-    (ms : List ℕ) → DoesSome r fault s m ts es ms → DoesSome r why.NoMemory s m ts es ms
-does_some r fault s m ts es ms x =
+does_some : (r : Rules) (fault : RunFault) (next : ℕ) (s : State) (m : Bool) (ts : List Turn) (es : Log)
+    (ms : List ℕ) → DoesSome r fault next s m ts es ms → DoesSome r why.NoMemory next s m ts es ms
+does_some r fault next s m ts es ms x =
     record {
       said = x.said;
       most = x.most;
@@ -70,9 +70,10 @@ does_some r fault s m ts es ms x =
     }
 
 -- and connections
-some_served : (r : Rules) (per count : ℕ) (fault : RunFault) (s : State) (es : Log) (ms : List ℕ)
-    → ServedSome r per count fault s es ms → ServedSome r per count why.NoMemory s es ms
-some_served r per count fault s es ms x = record {
+some_served : (r : Rules) (per count : ℕ) (fault : RunFault) (next : ℕ) (s : State) (es : Log)
+    (ms : List ℕ) → ServedSome r per count fault next s es ms
+    → ServedSome r per count why.NoMemory next s es ms
+some_served r per count fault next s es ms x = record {
   all = x.all;
   halfway = x.halfway;
   each = x.each;
@@ -85,7 +86,7 @@ some_served r per count fault s es ms x = record {
       one.0,
       one.1,
       record {
-        some = does_some r fault x.halfway _ (turns_of r per one.0) _ _ one.2.some;
+        some = does_some r fault _ x.halfway _ (turns_of r per one.0) _ _ one.2.some;
         idle = one.2.idle;
         before = one.2.before;
         at = one.2.at;
@@ -113,21 +114,19 @@ some_tries a b fault next s seed count es ms x = record {
   leaves = x.leaves;
 }
 
-broken_memory : (files : ℕ → Option (List ℕ)) (job : Job) (fault : RunFault) (s : State)
-    (a b : DiskState) → Broken files fault job s a b → Broken files why.NoMemory job s a b
+broken_memory : (job : Job) (next : ℕ) (fault : RunFault) (s : State) (a b : DiskState)
+    → BrokenFrom next fault job s a b → BrokenFrom next why.NoMemory job s a b
 unfolding some_served
-broken_memory files Replay fault s a b x = stretch_as a b {P = AnswersSome fault s}
-    {Q = AnswersSome why.NoMemory s} (λ es ms within y. some_answers a b fault s es ms y) x
-broken_memory files (Serve per count) fault s a b x = stretch_as a b
-    {P = ServedSomeOn rules per count fault s} {Q = ServedSomeOn rules per count why.NoMemory s}
-    (λ es ms within y. (some_served rules per count fault s es ms y.0, y.1)) x
-broken_memory files (Trial seed count) fault s a b x = (
-  x.0,
-  x.1,
-  stretch_as a b {P = TriesSome fault x.0 s seed count}
-      {Q = TriesSome why.NoMemory x.0 s seed count}
-      (λ es ms within y. some_tries a b fault x.0 s seed count es ms y) x.2,
-)
+broken_memory Replay next fault s a b x = stretch_as a b {P = AnswersSome fault next s}
+    {Q = AnswersSome why.NoMemory next s}
+    (λ es ms within y. some_answers a b fault next s es ms y) x
+broken_memory (Serve per count) next fault s a b x = stretch_as a b
+    {P = ServedSomeOn rules per count fault next s}
+    {Q = ServedSomeOn rules per count why.NoMemory next s}
+    (λ es ms within y. (some_served rules per count fault next s es ms y.0, y.1)) x
+broken_memory (Trial seed count) next fault s a b x = stretch_as a b
+    {P = TriesSome fault next s seed count} {Q = TriesSome why.NoMemory next s seed count}
+    (λ es ms within y. some_tries a b fault next s seed count es ms y) x
 
 opened_memory : (a b : DiskState) (fault : RunFault) (job : Job)
     → Opened a b (Broken a.file fault job) → Opened a b (Broken a.file why.NoMemory job)
@@ -136,7 +135,11 @@ opened_memory a b fault job h = record {
   stood = h.stood;
   opened = h.opened;
   opening = h.opening;
-  behind = broken_memory a.file job fault h.from h.opened b h.behind;
+  behind = (
+    h.behind.0,
+    h.behind.1,
+    broken_memory job h.behind.0 fault h.from h.opened b h.behind.2,
+  );
 }
 
 -- a disk that can be relied on is honest
@@ -222,9 +225,9 @@ module _ (b c : DiskState) (g : Grows b.beside c.beside [])
     last = last_behind (after s (turns s (asks true (taken es)) ms)) x.last;
   }
 
-  some_behind : (a : DiskState) (fault : RunFault) (s : State) (es : Log) (ms : List ℕ)
-      → AnswersSome fault s a b es ms → AnswersSome fault s a c es ms
-  some_behind a fault s es ms x = record {
+  some_behind : (a : DiskState) (fault : RunFault) (next : ℕ) (s : State) (es : Log) (ms : List ℕ)
+      → AnswersSome fault next s a b es ms → AnswersSome fault next s a c es ms
+  some_behind a fault next s es ms x = record {
     breaks = x.breaks;
     inside = x.inside;
     said = x.said;
@@ -315,23 +318,24 @@ module _ (b c : DiskState) (g : Grows b.beside c.beside [])
   done_behind (Trial seed count) s o x = stretch_quiet o b c {P = Tries s seed count}
       (tries_behind o s seed count) x aside g m
 
-  broken_behind : (files : ℕ → Option (List ℕ)) (fault : RunFault) (job : Job) (s : State)
-      (o : DiskState) → Broken files fault job s o b → Broken files fault job s o c
-  broken_behind files fault Replay s o x =
-      stretch_quiet o b c {P = AnswersSome fault s} (some_behind o fault s) x aside g m
-  broken_behind files fault (Serve per count) s o x = stretch_quiet o b c
-      {P = ServedSomeOn rules per count fault s}
+  from_behind : (next : ℕ) (fault : RunFault) (job : Job) (s : State) (o : DiskState)
+      → BrokenFrom next fault job s o b → BrokenFrom next fault job s o c
+  from_behind next fault Replay s o x =
+      stretch_quiet o b c {P = AnswersSome fault next s} (some_behind o fault next s) x aside g m
+  from_behind next fault (Serve per count) s o x = stretch_quiet o b c
+      {P = ServedSomeOn rules per count fault next s}
       (λ es ms y. (
         y.0,
         leaves-before-aside o b c (LeftAmong rules per s (y.0.all ++ y.0.last)) aside y.1,
       ))
       x aside g m
-  broken_behind files fault (Trial seed count) s o x = (
-    x.0,
-    x.1,
-    stretch_quiet o b c {P = TriesSome fault x.0 s seed count}
-        (tries_some_behind o fault x.0 s seed count) x.2 aside g m,
-  )
+  from_behind next fault (Trial seed count) s o x = stretch_quiet o b c
+      {P = TriesSome fault next s seed count} (tries_some_behind o fault next s seed count) x aside
+      g m
+
+  broken_behind : (files : ℕ → Option (List ℕ)) (fault : RunFault) (job : Job) (s : State)
+      (o : DiskState) → Broken files fault job s o b → Broken files fault job s o c
+  broken_behind files fault job s o x = (x.0, x.1, from_behind x.0 fault job s o x.2)
 
   opened_behind : (a : DiskState) (P : State → DiskState → DiskState → Type 0)
       → ((s : State) (o : DiskState) → P s o b → P s o c) → Opened a b P → Opened a c P

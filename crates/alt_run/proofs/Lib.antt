@@ -8,6 +8,7 @@ pub mod Initing
 pub mod Numbers
 pub mod Opening
 pub mod Pulling
+pub mod Reopening
 pub mod Serving
 pub mod Staying
 pub mod Trying

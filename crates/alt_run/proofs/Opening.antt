@@ -10,19 +10,16 @@ use Rattle.alt_shell.proofs.Telling.{Grows-nil}
 use Rattle.alt_faults.specs.Faults.{OnlyDamaged}
 use Rattle.alt_faults.proofs.Telling.{both-damaged, tells-more}
 use Rattle.alt_opening.specs.Faults.{told_by_opening}
-use Rattle.alt_talks.proofs.FileFaults.{file_work}
-use Rattle.alt_talks.specs.Faults.{IsCausedBy, IsWorkFault, told_by_run}
+use Rattle.alt_talks.specs.Faults.{IsCausedBy, IsFileFault, told_by_run}
 use Rattle.alt_run.specs.Faults.{IsUnreadable}
 use Rattle.alt_talks.specs.declared.fault.RunFault.{RunFault}
 use Rattle.alt_talks.specs.declared.fault.RunFault.TheVariants.{Failed, NoMemory, Spent, Damaged, DigestDiffers, BadRow}
-use Rattle.alt_run.specs.Endings.{HasRun, Done, Broken, BreaksOff, WasDamaged, IsReadable}
+use Rattle.alt_run.specs.Endings.{HasRun, Done, Broken, BrokenFrom, BreaksOff, WasDamaged, IsReadable}
 use Rattle.alt_run.specs.declared.ending.Ending.TheVariants as ending
 use Rattle.alt_run.specs.Runs.{IsOpening, Opened}
 use Rattle.alt_run.specs.declared.words.Job.{Job}
 use Rattle.alt_run.specs.declared.words.Job.TheVariants.{Replay, Serve, Trial}
 use Rattle.alt_talks.specs.Stops.{AtEach}
-use Rattle.alt_run.specs.Trials.{Tries, TriesSome}
-use Rattle.alt_talks.specs.Runs.{Stretch}
 use Rattle.alt_tables.specs.FilesLeft.{IsFirstGiven}
 use Rattle.alt_tables.specs.Stands.{Stands}
 use Rattle.alt_tables.specs.Images.{StandsFor}
@@ -85,15 +82,13 @@ readable_cause fault files s stands h =
     (λ d. IsOfFiles files d × ((t : State) → StandsFor files t → ⊥)) (λ d. ⊥) (λ n no. absurd no)
     (λ d both. both.1 s stands) (told_by_run fault) h
 
--- a trial that broke off, by the number of the first file that was made
-pub tried_broken : (files : ℕ → Option (List ℕ)) (next seed count : ℕ) (s : State) (a d : DiskState)
+-- what broke off, by the number of the first file that was made
+pub from_broken : (files : ℕ → Option (List ℕ)) (next : ℕ) (job : Job) (s : State) (a d : DiskState)
     → IsFirstGiven files next → (result : Result Unit RunFault)
-    → MatchResult result (λ _. Stretch a d (Tries s seed count))
-    (λ f. Stretch a d (TriesSome f next s seed count))
-    → MatchResult result (λ _. Done (Trial seed count) s a d)
-    (λ f. Broken files f (Trial seed count) s a d)
-tried_broken files next seed count s a d given (Ok done) h = h
-tried_broken files next seed count s a d given (Err fault) h = (next, given, h)
+    → MatchResult result (λ _. Done job s a d) (λ f. BrokenFrom next f job s a d)
+    → MatchResult result (λ _. Done job s a d) (λ f. Broken files f job s a d)
+from_broken files next job s a d given (Ok done) h = h
+from_broken files next job s a d given (Err fault) h = (next, given, h)
 
 -- however what was done behind the opening ended
 pub opened_result : (a b c : DiskState) (s : State) (job : Job) → StandsFor a.file s → Goes a b
@@ -133,25 +128,24 @@ breaks_done a b job fault why same answered trusted = ⊎_elim
     (answered trusted)
 
 -- what has no cause among requests breaks off no run behind an opening
-broken_well : (files : ℕ → Option (List ℕ)) (job : Job) (fault : RunFault) (s : State)
-    (b c : DiskState)
-    → ((lack : Option Lack) → IsCausedBy lack fault → ⊥) → (IsWorkFault fault → ⊥)
-    → Broken files fault job s b c → ⊥
-broken_well files Replay fault s b c never idle h = ⊎_elim (λ x. never _ x) (λ x. idle x.0)
+broken_well : (next : ℕ) (job : Job) (fault : RunFault) (s : State) (b c : DiskState)
+    → ((lack : Option Lack) → IsCausedBy lack fault → ⊥) → ((n : ℕ) → IsFileFault n fault → ⊥)
+    → BrokenFrom next fault job s b c → ⊥
+broken_well next Replay fault s b c never idle h = ⊎_elim (λ x. never _ x) (λ x. idle _ x.0)
     h.holds.breaks.wants
-broken_well files (Serve per count) fault s b c never idle h = ⊎_elim
+broken_well next (Serve per count) fault s b c never idle h = ⊎_elim
     (λ x. never None x.1)
-    (λ x. ⊎_elim (λ y. never _ y) (λ y. idle y.0) x.2.some.wants)
+    (λ x. ⊎_elim (λ y. never _ y) (λ y. idle _ y.0) x.2.some.wants)
     h.holds.0.some
-broken_well files (Trial seed count) fault s b c never idle h = ⊎_elim (λ x. never _ x)
-    (λ x. idle (file_work fault _ x.0)) h.2.holds.wants
+broken_well next (Trial seed count) fault s b c never idle h = ⊎_elim (λ x. never _ x)
+    (λ x. idle _ x.0) h.holds.wants
 
 trusted_by : (a : DiskState) → IsTrue a.tells → a.honest ≡ true → IsTrusted a
 trusted_by a tells honest = grind (arith, tells, honest)
 
 -- a run that ended for damage
 pub damaged_done : (a b : DiskState) (job : Job) (fault why : RunFault) → fault ≡ why
-    → ((lack : Option Lack) → IsCausedBy lack why → ⊥) → (IsWorkFault why → ⊥)
+    → ((lack : Option Lack) → IsCausedBy lack why → ⊥) → ((n : ℕ) → IsFileFault n why → ⊥)
     → (IsTrue a.tells → (IsOpening a b × IsUnreadable a.file fault) ⊎ IsReadable a.file)
     → (IsTrusted a → (IsOpening a b × IsUnreadable a.file fault) ⊎ Opened a b (Broken a.file fault job))
     → WasDamaged why a b
@@ -166,6 +160,6 @@ damaged_done a b job fault why same never idle readable answered tells =
         → (IsOpening a b × IsUnreadable a.file why) ⊎ (IsReadable a.file × (a.honest ≡ false))
     by_honest stood false e = inr (stood, e)
     by_honest stood true e = ⊎_elim opening
-        (λ o. absurd (broken_well a.file job why o.from o.opened b never idle
-        (subst (λ (f : RunFault). Broken a.file f job o.from o.opened b) same o.behind)))
+        (λ o. absurd (broken_well o.behind.0 job why o.from o.opened b never idle
+        (subst (λ (f : RunFault). BrokenFrom o.behind.0 f job o.from o.opened b) same o.behind.2)))
         (answered (trusted_by a tells e))

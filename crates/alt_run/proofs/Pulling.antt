@@ -1,5 +1,5 @@
 -- Taking and serving, until the end of the input.
-use Rattle.std.proofs.Common.{◌≡◌, ◌<◌, ◌⊎◌, cond, inl, inr, ℕ, List, [], ◌∷◌, ◌++◌, map, length, Bool, true, false, Option, refl, sym, ap, subst, ◌∙◌, append_assoc, append-nil, arith}
+use Rattle.std.proofs.Common.{◌≡◌, ◌≤◌, ◌<◌, ◌+◌, ◌*◌, ◌⊎◌, cond, inl, inr, ℕ, List, [], ◌∷◌, ◌++◌, map, length, Bool, true, false, Option, refl, sym, ap, subst, ◌∙◌, append_assoc, append-nil, arith}
 use Rattle.std.specs.Prelude.{◌||◌, nat_le}
 use Rattle.std.proofs.lemmas.Bool.{le-leb}
 use Rattle.alt_base.specs.Prefix.{IsPrefix}
@@ -10,7 +10,8 @@ use Rattle.alt_machine.specs.State.{State}
 use Rattle.alt_shell.specs.Calls.{Adds, Keeps, ShellCall, Untold}
 use Rattle.alt_shell.proofs.Keeping.{keeps-none}
 use Rattle.alt_shell.specs.Log.{Log, Grows, Tells, moments_of, until, entry, told_count, event_of, took, take_failed, takes_failed, takes_missed, is_end, taken, said_in, ended, crosses}
-use Rattle.alt_tables.specs.Stands.{Stands}
+use Rattle.alt_tables.specs.FilesLeft.{most_files}
+use Rattle.alt_tables.specs.Stands.{Stands, bounds_of}
 use Rattle.alt_tables.specs.declared.tables.Tables.{Tables}
 use Rattle.alt_talks.specs.Turns.{Turn, text_of, after}
 use Rattle.alt_talks.specs.Runs.{OfStretch, Stretch, Leads}
@@ -19,10 +20,10 @@ use Rattle.alt_talks.specs.Stops.{Image, IsLeft, AtEach, AreWithin}
 use Rattle.alt_tables.specs.Images.{StandsFor}
 use Rattle.alt_tables.proofs.Left.{stands_left}
 use Rattle.alt_talks.proofs.Stopping.{Meet, IsPrefix-longer, until-append, until-before, until-behind, said-by, none-shorter, taken-until, ended-until, within-wider, left-more, left-behind, spans_two, keeps-spans, trusts-kept}
-use Rattle.alt_run.proofs.TurnLaws.{turns-more, left-nothing-said, turns-append}
+use Rattle.alt_run.proofs.TurnLaws.{turns-more, left-nothing-said, tasks-append, turns-append}
 use Rattle.alt_talks.specs.declared.fault.RunFault.{RunFault}
 use Rattle.alt_talks.specs.declared.fault.RunFault.TheVariants.{Failed, NoMemory}
-use Rattle.alt_run.specs.Turns.{Asked, turns, asks, asked_of, longest_line}
+use Rattle.alt_run.specs.Turns.{Asked, turns, tasks, asks, asked_of, longest_line}
 use Rattle.alt_shell.proofs.Telling.{Grows-then, Tells-nil}
 use Rattle.alt_talks.proofs.Stretching.{said_in-append, taken-append, ended-append, stretch_none, stretch_then}
 use Rattle.alt_run.proofs.Serving.{breaks_same, turns_both, serves_none, serves_then, serves_break, breaks_none}
@@ -162,14 +163,15 @@ module _ (a b c : DiskState) (call : ShellCall a b true) (t1 : Tables) (s : Stat
         ∙ ap (asked_later u piece) (going [] refl)
         ∙ sym (given_now u piece unended)
 
-    goes_given : (t2 : Tables) (v : Unread) → Leads b c t2 (ServesAtHand s (asked_now given))
-        → HandsOut given v
-        → Leads a c t2 (λ t. GoesOrEnds true s u t v)
-    goes_given t2 v q outs = record {
+    goes_given : (t2 : Tables) (v : Unread) (next now : ℕ)
+        → now ≤ next + tasks (asked_now given) * most_files
+        → Leads b c t2 (ServesAtHand s (asked_now given)) → HandsOut given v
+        → Leads a c t2 (λ t. GoesOrEnds true next s u now t v)
+    goes_given t2 v next now files q outs = record {
       to = q.to;
       stands = q.stands;
       calls = with_take a b c call piece g m
-          {P = ServesAtHand s (asked_now given) q.to} {Q = Goes s u q.to v}
+          {P = ServesAtHand s (asked_now given) q.to} {Q = Goes next s u now q.to v}
           (λ es ms within x. record {
             done = asked_now given;
             serves = record {
@@ -186,26 +188,30 @@ module _ (a b c : DiskState) (call : ShellCall a b true) (t1 : Tables) (s : Stat
             inside = x.rests.inside;
             leaves = leaves_take a b c call piece g m s u (asked_now given) es ms within x.rests here
                 lines_now_given x.leaves;
+            files = files;
           })
           q.calls;
     }
 
     -- and all lines that were whole then were served
-    pub pull_goes : (t2 : Tables) (w v : Unread) → w ≡ given
+    pub pull_goes : (t2 : Tables) (w v : Unread) (next now : ℕ) → w ≡ given
+        → now ≤ next + tasks (asked_now w) * most_files
         → Leads b c t2 (ServesAtHand s (asked_now w)) → HandsOut w v
-        → Leads a c t2 (λ t. GoesOrEnds true s u t v)
-    pull_goes t2 w v same q outs =
-        goes_given t2 v (subst (λ (x : Unread). Leads b c t2 (ServesAtHand s (asked_now x))) same
+        → Leads a c t2 (λ t. GoesOrEnds true next s u now t v)
+    pull_goes t2 w v next now same files q outs =
+        goes_given t2 v next now
+        (subst (λ (x : Unread). now ≤ next + tasks (asked_now x) * most_files) same files)
+        (subst (λ (x : Unread). Leads b c t2 (ServesAtHand s (asked_now x))) same
         q)
         (subst (λ (x : Unread). HandsOut x v) same outs)
 
     -- that broke off
-    pub pull_breaks : (fault : RunFault) → Stretch b c (BreaksAtHand fault s (asked_now given))
-        → Stretch a c (GoesSome fault s u)
-    pull_breaks fault q = with_take a b c call piece g m
-        {P = BreaksAtHand fault s (asked_now given)} {Q = GoesSome fault s u}
+    pub pull_breaks : (fault : RunFault) (next : ℕ) → Stretch b c (BreaksAtHand fault next s (asked_now given))
+        → Stretch a c (GoesSome fault next s u)
+    pull_breaks fault next q = with_take a b c call piece g m
+        {P = BreaksAtHand fault next s (asked_now given)} {Q = GoesSome fault next s u}
         (λ es ms within x. record {
-          breaks = subst (λ (ls : List Asked). Breaks fault s ls (one ∷ es) ms)
+          breaks = subst (λ (ls : List Asked). Breaks fault next s ls (one ∷ es) ms)
               (given_now u piece unended
               ∙ ap (λ (bs : List ℕ). asked_later u bs false) (sym (all es x.rests.silent))
               ∙ ap (asked_later u (taken (one ∷ es))) (sym (going es x.rests.goes_on)))
@@ -219,7 +225,7 @@ module _ (a b c : DiskState) (call : ShellCall a b true) (t1 : Tables) (s : Stat
                 said = x.breaks.said;
                 count = x.breaks.count;
                 enough = x.breaks.enough;
-                wants = breaks_same fault s x.breaks.done x.breaks.begun es (one ∷ es) ms refl x.breaks.wants;
+                wants = breaks_same fault next s x.breaks.done x.breaks.begun es (one ∷ es) ms refl x.breaks.wants;
               });
           inside = x.rests.inside;
           leaves = leaves_take a b c call piece g m s u (asked_now given) es ms within x.rests here
@@ -228,8 +234,8 @@ module _ (a b c : DiskState) (call : ShellCall a b true) (t1 : Tables) (s : Stat
         q
 
     -- there was no memory for them
-    pub pull_memory : Stretch a b (GoesSome NoMemory s u)
-    pull_memory = record {
+    pub pull_memory : (next : ℕ) → Stretch a b (GoesSome NoMemory next s u)
+    pull_memory next = record {
       entries = one ∷ [];
       told = [];
       grows = g;
@@ -238,14 +244,14 @@ module _ (a b c : DiskState) (call : ShellCall a b true) (t1 : Tables) (s : Stat
       later = call.keeps.later;
       trusts = trusts-kept a b call.keeps;
       holds = record {
-        breaks = breaks_took (asked_later u (taken (one ∷ [])) (ended (one ∷ [])));
+        breaks = breaks_took next (asked_later u (taken (one ∷ [])) (ended (one ∷ [])));
         inside = refl;
         leaves = leaves_silent a b t1 s u (one ∷ []) stands call.keeps refl;
       };
     }
       where
-        breaks_took : (ls : List Asked) → Breaks NoMemory s ls (one ∷ []) []
-        breaks_took ls = record {
+        breaks_took : (next : ℕ) (ls : List Asked) → Breaks NoMemory next s ls (one ∷ []) []
+        breaks_took next ls = record {
           done = [];
           begun = [];
           rest = ls;
@@ -275,8 +281,8 @@ module _ (a b c : DiskState) (call : ShellCall a b true) (t1 : Tables) (s : Stat
     -- and the last lines were served
     pub pull_ends : (t2 : Tables) (v : Unread)
         → Leads b c t2 (ServesAtHand s (asked_now (record u { ended = true })))
-        → Leads a c t2 (λ t. GoesOrEnds false s u t v)
-    pull_ends t2 v q = record {
+        → (next now : ℕ) → Leads a c t2 (λ t. GoesOrEnds false next s u now t v)
+    pull_ends t2 v q next now = record {
       to = q.to;
       stands = q.stands;
       calls = with_take a b c call [] at_end m
@@ -300,14 +306,14 @@ module _ (a b c : DiskState) (call : ShellCall a b true) (t1 : Tables) (s : Stat
     }
 
     -- that broke off
-    pub pull_end_breaks : (fault : RunFault)
-        → Stretch b c (BreaksAtHand fault s (asked_now (record u { ended = true })))
-        → Stretch a c (GoesSome fault s u)
-    pull_end_breaks fault q = with_take a b c call [] at_end m
-        {P = BreaksAtHand fault s (asked_now (record u { ended = true }))} {Q =
-        GoesSome fault s u}
+    pub pull_end_breaks : (fault : RunFault) (next : ℕ)
+        → Stretch b c (BreaksAtHand fault next s (asked_now (record u { ended = true })))
+        → Stretch a c (GoesSome fault next s u)
+    pull_end_breaks fault next q = with_take a b c call [] at_end m
+        {P = BreaksAtHand fault next s (asked_now (record u { ended = true }))} {Q =
+        GoesSome fault next s u}
         (λ es ms within x. record {
-          breaks = subst (λ (ls : List Asked). Breaks fault s ls (last ∷ es) ms)
+          breaks = subst (λ (ls : List Asked). Breaks fault next s ls (last ∷ es) ms)
               (ended_now u ∙ ap (λ (bs : List ℕ). asked_later u bs true) (sym x.rests.silent))
               (record {
                 done = x.breaks.done;
@@ -319,7 +325,7 @@ module _ (a b c : DiskState) (call : ShellCall a b true) (t1 : Tables) (s : Stat
                 said = x.breaks.said;
                 count = x.breaks.count;
                 enough = x.breaks.enough;
-                wants = breaks_same fault s x.breaks.done x.breaks.begun es (last ∷ es) ms refl x.breaks.wants;
+                wants = breaks_same fault next s x.breaks.done x.breaks.begun es (last ∷ es) ms refl x.breaks.wants;
               });
           inside = x.rests.inside;
           leaves = leaves_take a b c call [] at_end m s u (asked_now (record u { ended = true })) es ms
@@ -328,9 +334,9 @@ module _ (a b c : DiskState) (call : ShellCall a b true) (t1 : Tables) (s : Stat
         q
 
 -- the take failed
-module _ (a b : DiskState) (call : ShellCall a b false) (tables : Tables) (s : State)
+module _ (a b : DiskState) (call : ShellCall a b false) (tables : Tables) (next : ℕ) (s : State)
     (stands : Stands a tables s) (u : Unread) (m : moments_of b.beside ≡ moments_of a.beside) where
-  pull_untold : Grows a.beside b.beside [] → Stretch a b (GoesSome Failed s u)
+  pull_untold : Grows a.beside b.beside [] → Stretch a b (GoesSome Failed next s u)
   pull_untold g = record {
     entries = [];
     told = [];
@@ -340,13 +346,13 @@ module _ (a b : DiskState) (call : ShellCall a b false) (tables : Tables) (s : S
     later = call.keeps.later;
     trusts = trusts-kept a b call.keeps;
     holds = record {
-      breaks = breaks_none Failed tt s (asked_later u [] false);
+      breaks = breaks_none Failed next tt s (asked_later u [] false);
       inside = refl;
       leaves = leaves_silent a b tables s u [] stands call.keeps refl;
     };
   }
 
-  pull_told : Adds a b take_failed → Stretch a b (GoesSome Failed s u)
+  pull_told : Adds a b take_failed → Stretch a b (GoesSome Failed next s u)
   pull_told g = record {
     entries = entry b.moment (told_count a.beside) take_failed ∷ [];
     told = [];
@@ -377,32 +383,34 @@ module _ (a b : DiskState) (call : ShellCall a b false) (tables : Tables) (s : S
   }
 
   pub pull_failed : (Adds a b take_failed ⊎ Untold a b takes_failed takes_missed)
-      → Stretch a b (GoesSome Failed s u)
+      → Stretch a b (GoesSome Failed next s u)
   pull_failed (inl g) = pull_told g
   pull_failed (inr untold) = pull_untold untold.log
 
 -- ---- one turn of taking after another
 
 pub goes_none : (a : DiskState) (tables : Tables) (s : State) (u : Unread) → Stands a tables s
-    → Leads a a tables (λ t. Goes s u t u)
+    → Leads a a tables (λ t. Goes (bounds_of tables).file s u (bounds_of tables).file t u)
 goes_none a tables s u stands = record {
   to = s;
   stands = stands;
-  calls = stretch_none a {P = Goes s u s u} (record {
-    done = [];
-    serves = serves_none s;
-    lines = λ more e. refl;
-    goes_on = refl;
-    inside = refl;
-    leaves = leaves_silent a a tables s u [] stands (keeps-none a) refl;
-  });
+  calls = stretch_none a
+      {P = Goes (bounds_of tables).file s u (bounds_of tables).file s u} (record {
+        done = [];
+        serves = serves_none s;
+        lines = λ more e. refl;
+        goes_on = refl;
+        inside = refl;
+        leaves = leaves_silent a a tables s u [] stands (keeps-none a) refl;
+        files = omega arith;
+      });
 }
 
 -- what a stop leaves while more is taken and served behind what was
-goes_leaves : (a b c : DiskState) (s r : State) (u v : Unread) (es fs : Log) (ms ns : List ℕ)
-    → Meet a b c es fs → Goes s u r v a b es ms → AtEach b c (LeftBy r v fs ns)
+goes_leaves : (a b c : DiskState) (next now : ℕ) (s r : State) (u v : Unread) (es fs : Log) (ms ns : List ℕ)
+    → Meet a b c es fs → Goes next s u now r v a b es ms → AtEach b c (LeftBy r v fs ns)
     → AtEach a c (LeftBy s u (es ++ fs) (ms ++ ns))
-goes_leaves a b c s r u v es fs ms ns meet x q trusted =
+goes_leaves a b c next now s r u v es fs ms ns meet x q trusted =
     spans_two a b c (LeftBy s u es ms) (LeftBy r v fs ns) (LeftBy s u (es ++ fs) (ms ++ ns))
     (x.leaves trusted) (q (meet.trusts trusted))
     (λ t image before y.
@@ -441,15 +449,17 @@ goes_leaves a b c s r u v es fs ms ns meet x q trusted =
     (left-behind s (turns s x.done ms) (turns r ks ns) (said_in gs) image
     (subst (λ (z : State). IsLeft z (turns r ks ns) (said_in gs) image) x.serves.state y))))))
 
-module _ (a b c : DiskState) (t1 : Tables) (s : State) (u v : Unread)
-    (p : Leads a b t1 (λ t. Goes s u t v)) where
+module _ (a b c : DiskState) (t1 : Tables) (next now : ℕ) (s : State) (u v : Unread)
+    (p : Leads a b t1 (λ t. Goes next s u now t v)) where
   -- once more
-  pub goes_then : (t2 : Tables) (w : Unread) → Leads b c t2 (λ t. Goes p.to v t w)
-      → Leads a c t2 (λ t. Goes s u t w)
-  goes_then t2 w q = record {
+  pub goes_then : (t2 : Tables) (w : Unread) (last : ℕ)
+      → Leads b c t2 (λ t. Goes now p.to v last t w)
+      → Leads a c t2 (λ t. Goes next s u last t w)
+  goes_then t2 w last q = record {
     to = q.to;
     stands = q.stands;
-    calls = stretch_then a b c {P = Goes s u p.to v} {Q = Goes p.to v q.to w} {R = Goes s u q.to w}
+    calls = stretch_then a b c {P = Goes next s u now p.to v} {Q = Goes now p.to v last q.to w}
+        {R = Goes next s u last q.to w}
         (λ es fs ms ns meet x y. record {
           done = x.done ++ y.done;
           serves = serves_then s p.to q.to x.done y.done es fs ms ns x.serves y.serves;
@@ -461,7 +471,9 @@ module _ (a b c : DiskState) (t1 : Tables) (s : State) (u v : Unread)
               ∙ sym (append_assoc x.done y.done (asked_later w more e));
           goes_on = ended-append es fs ∙ ap (λ (e : Bool). e || ended fs) x.goes_on ∙ y.goes_on;
           inside = crosses-append es fs ∙ ap (λ (e : Bool). e || crosses fs) x.inside ∙ y.inside;
-          leaves = goes_leaves a b c s p.to u v es fs ms ns meet x y.leaves;
+          leaves = goes_leaves a b c next now s p.to u v es fs ms ns meet x y.leaves;
+          files = let l = tasks-append x.done y.done in let f = x.files in let g = y.files in
+              omega (arith, l, f, g);
         })
         p.calls q.calls;
   }
@@ -469,7 +481,7 @@ module _ (a b c : DiskState) (t1 : Tables) (s : State) (u v : Unread)
   -- and then to the end
   pub goes_ends : (t2 : Tables) → Leads b c t2 (λ t. Ends p.to v t)
       → Stretch a c (λ old new es ms. (t : State) × Ends s u t old new es ms × LeavesNow new t)
-  goes_ends t2 q = stretch_then a b c {P = Goes s u p.to v} {Q = Ends p.to v q.to} {R =
+  goes_ends t2 q = stretch_then a b c {P = Goes next s u now p.to v} {Q = Ends p.to v q.to} {R =
       λ old new es ms. (t : State) × Ends s u t old new es ms × LeavesNow new t}
       (λ es fs ms ns meet x y. (
         q.to,
@@ -481,27 +493,27 @@ module _ (a b c : DiskState) (t1 : Tables) (s : State) (u v : Unread)
               y.serves);
           at_end = ended-append es fs ∙ ap (λ (e : Bool). e || ended fs) x.goes_on ∙ y.at_end;
           inside = crosses-append es fs ∙ ap (λ (e : Bool). e || crosses fs) x.inside ∙ y.inside;
-          leaves = goes_leaves a b c s p.to u v es fs ms ns meet x y.leaves;
+          leaves = goes_leaves a b c next now s p.to u v es fs ms ns meet x y.leaves;
         },
         λ trusted image is_image. stands_left c t2 q.to q.stands image is_image,
       ))
       p.calls q.calls
 
   -- and then a break
-  pub goes_breaks : (fault : RunFault) → Stretch b c (GoesSome fault p.to v)
-      → Stretch a c (GoesSome fault s u)
-  goes_breaks fault q = stretch_then a b c {P = Goes s u p.to v} {Q = GoesSome fault p.to v} {R =
-      GoesSome fault s u}
+  pub goes_breaks : (fault : RunFault) → Stretch b c (GoesSome fault now p.to v)
+      → Stretch a c (GoesSome fault next s u)
+  goes_breaks fault q = stretch_then a b c {P = Goes next s u now p.to v} {Q = GoesSome fault now p.to v} {R =
+      GoesSome fault next s u}
       (λ es fs ms ns meet x y. record {
-        breaks = subst (λ (ls : List Asked). Breaks fault s ls (es ++ fs) (ms ++ ns))
+        breaks = subst (λ (ls : List Asked). Breaks fault next s ls (es ++ fs) (ms ++ ns))
             (sym (ap (λ (e : Bool). asked_later u (taken (es ++ fs)) e)
             (ended-append es fs ∙ ap (λ (e : Bool). e || ended fs) x.goes_on)
             ∙ ap (λ (bs : List ℕ). asked_later u bs (ended fs)) (taken-append es fs)
             ∙ x.lines (taken fs) (ended fs)))
-            (serves_break fault s p.to x.done
-            (asked_later v (taken fs) (ended fs)) es fs ms ns x.serves y.breaks);
+            (serves_break fault next now s p.to x.done
+            (asked_later v (taken fs) (ended fs)) es fs ms ns x.files x.serves y.breaks);
         inside = crosses-append es fs ∙ ap (λ (e : Bool). e || crosses fs) x.inside ∙ y.inside;
-        leaves = goes_leaves a b c s p.to u v es fs ms ns meet x y.leaves;
+        leaves = goes_leaves a b c next now s p.to u v es fs ms ns meet x y.leaves;
       })
       p.calls q
 
@@ -525,9 +537,9 @@ answers_all a b s t es ms x last = record {
 }
 
 -- some was
-pub answers_some : (a b : DiskState) (fault : RunFault) (s : State) (es : Log) (ms : List ℕ)
-    → GoesSome fault s fresh a b es ms → AnswersSome fault s a b es ms
-answers_some a b fault s es ms x =
+pub answers_some : (a b : DiskState) (fault : RunFault) (next : ℕ) (s : State) (es : Log) (ms : List ℕ)
+    → GoesSome fault next s fresh a b es ms → AnswersSome fault next s a b es ms
+answers_some a b fault next s es ms x =
     let br = x.breaks in
     let front : List Asked = br.done ++ br.begun in
     let lines : asks (ended es) (taken es) ≡ front ++ br.rest =

@@ -1,5 +1,5 @@
 -- Serving lines, one after another: the laws of `Serves` and `Breaks`.
-use Rattle.std.proofs.Common.{◌≡◌, ◌≤◌, ◌⊎◌, ⊎_elim, ℕ, List, [], ◌∷◌, ◌++◌, length, take, drop, true, false, Option, Some, None, refl, sym, ap, subst, ◌∙◌, append_assoc, append-nil, arith, inl, inr, length-append, take-append-drop}
+use Rattle.std.proofs.Common.{◌≡◌, ◌≤◌, ◌+◌, ◌*◌, ◌⊎◌, ⊎_elim, ℕ, List, [], ◌∷◌, ◌++◌, length, take, drop, true, false, Option, Some, None, refl, sym, ap, subst, ◌∙◌, append_assoc, append-nil, arith, inl, inr, length-append, take-append-drop}
 use Rattle.std.specs.Prelude.{◌||◌}
 use Rattle.alt_base.specs.Prefix.{IsPrefix}
 use Rattle.alt_machine.specs.State.{State}
@@ -12,18 +12,20 @@ use Rattle.alt_run.specs.Runs.{Serves, Breaks, BreaksFor, IsAtWork, Rests, Serve
 use Rattle.alt_talks.specs.Stops.{IsLeft, IsAmong, AtEach, AreWithin}
 use Rattle.alt_tables.specs.Stands.{Stands}
 use Rattle.alt_tables.specs.declared.tables.Tables.{Tables}
-use Rattle.alt_talks.specs.Faults.{IsCausedBy}
+use Rattle.alt_tables.specs.FilesLeft.{most_files}
+use Rattle.alt_talks.specs.Faults.{IsCausedBy, IsFileFault}
 use Rattle.alt_talks.specs.declared.fault.RunFault.{RunFault}
 use Rattle.alt_talks.specs.declared.fault.RunFault.TheVariants.{Failed, NoMemory}
 use Rattle.alt_run.specs.Faults.{IsControlFault}
-use Rattle.alt_run.specs.Turns.{Asked, request, control, unread, turns, requests, obeyed}
+use Rattle.alt_run.specs.Turns.{Asked, request, control, unread, turns, requests, tasks, obeyed}
 use Rattle.alt_run.specs.declared.lines.Control.{Control}
 use Rattle.alt_run.specs.declared.lines.Control.TheVariants.{Flush, Merge, Step, Reopen}
 use Rattle.alt_talks.specs.Turns.{Turn, text_of, after, after_turn, wanted, or_next}
 use Rattle.alt_shell.proofs.Telling.{Grows-then, Grows-nil}
 use Rattle.alt_tables.proofs.Left.{stands_left}
 use Rattle.alt_talks.proofs.Stopping.{Meet, IsPrefix-self, IsPrefix-behind, one-by, until-append, until-before, until-behind, within-wider, left-more, left-behind, spans_two, trusts-kept, leaves-weaker, leaves-here, leaves-said, leaves-unsaid, stands_kept}
-use Rattle.alt_run.proofs.TurnLaws.{turns_say, turns-more, left-nothing, requests-append, turns-append}
+use Rattle.alt_run.proofs.TurnLaws.{turns_say, turns-more, left-nothing, requests-append, tasks-append, turns-append}
+use Rattle.alt_talks.proofs.FileFaults.{file_more}
 use Rattle.alt_talks.proofs.TurnLaws.{text_of-append, after-append, wanted-append}
 use Rattle.alt_talks.proofs.Stretching.{said_in-append, taken-append, ended-append}
 use Rattle.alt_talks.proofs.TalkLogs.{crosses-append}
@@ -74,16 +76,20 @@ at_work (control Reopen) A B law h = absurd h
 at_work unread A B law h = absurd h
 
 -- what breaks off lines breaks them off behind others
-breaks_for : (fault : RunFault) (s t : State) (ls done begun : List Asked) (es fs : Log)
-    (ms ns : List ℕ) → Serves s ls t es ms → BreaksFor fault t done begun fs ns
-    → BreaksFor fault s (ls ++ done) begun (es ++ fs) (ms ++ ns)
-breaks_for fault s t ls done begun es fs ms ns p why =
+breaks_for : (fault : RunFault) (next now : ℕ) (s t : State) (ls done begun : List Asked) (es fs : Log)
+    (ms ns : List ℕ) → now ≤ next + tasks ls * most_files → Serves s ls t es ms
+    → BreaksFor fault now t done begun fs ns
+    → BreaksFor fault next s (ls ++ done) begun (es ++ fs) (ms ++ ns)
+breaks_for fault next now s t ls done begun es fs ms ns low p why =
     let same : wanted (turns s ((ls ++ done) ++ begun) (ms ++ ns)) ≡ wanted (turns t (done ++ begun) ns) =
     ap (λ xs. wanted (turns s xs (ms ++ ns))) (append_assoc ls done begun)
     ∙ wanted_both s t t ls (done ++ begun) es fs ms ns p in
     ⊎_elim (λ cause. inl (subst (λ w. IsCausedBy w fault) (sym same) cause))
     (λ work. inr (
-      work.0,
+      file_more fault (now + tasks (done ++ begun) * most_files)
+          (next + tasks ((ls ++ done) ++ begun) * most_files)
+          (let e = ap tasks (append_assoc ls done begun) in
+          let l = tasks-append ls (done ++ begun) in omega (arith, e, l, low)) work.0,
       record {
         line = work.1.line;
         last = work.1.last;
@@ -99,10 +105,10 @@ breaks_for fault s t ls done begun es fs ms ns p why =
     why
 
 -- so does it with entries that say the same
-pub breaks_same : (fault : RunFault) (s : State) (done begun : List Asked) (es fs : Log)
-    (ms : List ℕ) → said_in fs ≡ said_in es → BreaksFor fault s done begun es ms
-    → BreaksFor fault s done begun fs ms
-breaks_same fault s done begun es fs ms same why = ⊎_elim (λ cause. inl cause)
+pub breaks_same : (fault : RunFault) (next : ℕ) (s : State) (done begun : List Asked) (es fs : Log)
+    (ms : List ℕ) → said_in fs ≡ said_in es → BreaksFor fault next s done begun es ms
+    → BreaksFor fault next s done begun fs ms
+breaks_same fault next s done begun es fs ms same why = ⊎_elim (λ cause. inl cause)
     (λ work. inr (
       work.0,
       record {
@@ -116,11 +122,11 @@ breaks_same fault s done begun es fs ms same why = ⊎_elim (λ cause. inl cause
     why
 
 -- lines and then a break
-pub serves_break : (fault : RunFault) (s t : State) (ls ks : List Asked) (es fs : Log)
-    (ms ns : List ℕ)
-    → Serves s ls t es ms → Breaks fault t ks fs ns
-    → Breaks fault s (ls ++ ks) (es ++ fs) (ms ++ ns)
-serves_break fault s t ls ks es fs ms ns p q = record {
+pub serves_break : (fault : RunFault) (next now : ℕ) (s t : State) (ls ks : List Asked) (es fs : Log)
+    (ms ns : List ℕ) → now ≤ next + tasks ls * most_files
+    → Serves s ls t es ms → Breaks fault now t ks fs ns
+    → Breaks fault next s (ls ++ ks) (es ++ fs) (ms ++ ns)
+serves_break fault next now s t ls ks es fs ms ns low p q = record {
   done = ls ++ q.done;
   begun = q.begun;
   rest = q.rest;
@@ -142,13 +148,13 @@ serves_break fault s t ls ks es fs ms ns p q = record {
   count = count_both s t t ls (q.done ++ q.begun) es fs ms ns p q.count
       ∙ ap requests (sym (append_assoc ls q.done q.begun));
   enough = wanted_both s t t ls q.done es fs ms ns p ∙ q.enough;
-  wants = breaks_for fault s t ls q.done q.begun es fs ms ns p q.wants;
+  wants = breaks_for fault next now s t ls q.done q.begun es fs ms ns low p q.wants;
 }
 
 -- a break among lines is one among these and more
-pub breaks_more : (fault : RunFault) (s : State) (ls ks : List Asked) (es : Log) (ms : List ℕ)
-    → Breaks fault s ls es ms → Breaks fault s (ls ++ ks) es ms
-breaks_more fault s ls ks es ms q = record {
+pub breaks_more : (fault : RunFault) (next : ℕ) (s : State) (ls ks : List Asked) (es : Log) (ms : List ℕ)
+    → Breaks fault next s ls es ms → Breaks fault next s (ls ++ ks) es ms
+breaks_more fault next s ls ks es ms q = record {
   done = q.done;
   begun = q.begun;
   rest = q.rest ++ ks;
@@ -163,9 +169,9 @@ breaks_more fault s ls ks es ms q = record {
 }
 
 -- nothing was begun
-pub breaks_none : (fault : RunFault) → IsCausedBy None fault → (s : State) (ls : List Asked)
-    → Breaks fault s ls [] []
-breaks_none fault cause s ls = record {
+pub breaks_none : (fault : RunFault) (next : ℕ) → IsCausedBy None fault → (s : State) (ls : List Asked)
+    → Breaks fault next s ls [] []
+breaks_none fault next cause s ls = record {
   done = [];
   begun = [];
   rest = ls;
@@ -184,12 +190,13 @@ pub serves_none : (s : State) → Serves s [] s [] []
 serves_none s = record { said = refl; state = refl; count = refl; enough = refl }
 
 -- lines that were served whole, and then no more was begun for want of memory
-pub serves_breaks : (s t : State) (ls ks : List Asked) (es : Log) (ms : List ℕ)
-    → Serves s ls t es ms → Breaks NoMemory s (ls ++ ks) es ms
-serves_breaks s t ls ks es ms p =
-    subst (λ (ns : List ℕ). Breaks NoMemory s (ls ++ ks) es ns) (append-nil ms)
-    (subst (λ (fs : Log). Breaks NoMemory s (ls ++ ks) fs (ms ++ [])) (append-nil es)
-    (serves_break NoMemory s t ls ks es [] ms [] p (breaks_none NoMemory tt t ks)))
+pub serves_breaks : (next : ℕ) (s t : State) (ls ks : List Asked) (es : Log) (ms : List ℕ)
+    → Serves s ls t es ms → Breaks NoMemory next s (ls ++ ks) es ms
+serves_breaks next s t ls ks es ms p =
+    subst (λ (ns : List ℕ). Breaks NoMemory next s (ls ++ ks) es ns) (append-nil ms)
+    (subst (λ (fs : Log). Breaks NoMemory next s (ls ++ ks) fs (ms ++ [])) (append-nil es)
+    (serves_break NoMemory next next s t ls ks es [] ms [] (omega arith) p
+    (breaks_none NoMemory next tt t ks)))
 
 -- ---- nothing taken
 
@@ -243,10 +250,11 @@ module _ (a b c : DiskState) (s t u : State) (ls ks : List Asked) (es fs : Log) 
   }
 
   -- lines and then a break
-  pub hand_break : (fault : RunFault) → BreaksAtHand fault t ks b c fs ns
-      → BreaksAtHand fault s (ls ++ ks) a c (es ++ fs) (ms ++ ns)
-  hand_break fault q = record {
-    breaks = serves_break fault s t ls ks es fs ms ns p.serves q.breaks;
+  pub hand_break : (fault : RunFault) (next now : ℕ) → now ≤ next + tasks ls * most_files
+      → BreaksAtHand fault now t ks b c fs ns
+      → BreaksAtHand fault next s (ls ++ ks) a c (es ++ fs) (ms ++ ns)
+  hand_break fault next now low q = record {
+    breaks = serves_break fault next now s t ls ks es fs ms ns low p.serves q.breaks;
     rests = rests_then es fs p.rests q.rests;
     leaves = leaves_then q.leaves;
   }
@@ -262,20 +270,20 @@ leaves_more a b s ls ks es ms p trusted =
     (left-more s (turns s ls ms) more.0 (said_in (until n es)) image more.1 x)) p trusted
 
 -- a break among lines is one among these and more
-pub hand_breaks_more : (a b : DiskState) (fault : RunFault) (s : State) (ls ks : List Asked) (es : Log)
+pub hand_breaks_more : (a b : DiskState) (fault : RunFault) (next : ℕ) (s : State) (ls ks : List Asked) (es : Log)
     (ms : List ℕ)
-    → BreaksAtHand fault s ls a b es ms → BreaksAtHand fault s (ls ++ ks) a b es ms
-hand_breaks_more a b fault s ls ks es ms p = record {
-  breaks = breaks_more fault s ls ks es ms p.breaks;
+    → BreaksAtHand fault next s ls a b es ms → BreaksAtHand fault next s (ls ++ ks) a b es ms
+hand_breaks_more a b fault next s ls ks es ms p = record {
+  breaks = breaks_more fault next s ls ks es ms p.breaks;
   rests = p.rests;
   leaves = leaves_more a b s ls ks es ms p.leaves;
 }
 
 -- lines that were served whole, and then no more was begun for want of memory
-pub hand_stops : (a b : DiskState) (s t : State) (ls ks : List Asked) (es : Log) (ms : List ℕ)
-    → ServesAtHand s ls t a b es ms → BreaksAtHand NoMemory s (ls ++ ks) a b es ms
-hand_stops a b s t ls ks es ms p = record {
-  breaks = serves_breaks s t ls ks es ms p.serves;
+pub hand_stops : (a b : DiskState) (next : ℕ) (s t : State) (ls ks : List Asked) (es : Log) (ms : List ℕ)
+    → ServesAtHand s ls t a b es ms → BreaksAtHand NoMemory next s (ls ++ ks) a b es ms
+hand_stops a b next s t ls ks es ms p = record {
+  breaks = serves_breaks next s t ls ks es ms p.serves;
   rests = p.rests;
   leaves = leaves_more a b s ls ks es ms p.leaves;
 }
@@ -349,9 +357,9 @@ turn_served old mid new tables s l t ms bytes b enough stands call added n e =
     }
 
 -- what a turn lacks is what its line lacks
-lacked : (s : State) (l : Asked) (t : Turn) (ms : List ℕ) (fault : RunFault) (es : Log)
-    → turns s (l ∷ []) ms ≡ t ∷ [] → IsCausedBy t.lacks fault → BreaksFor fault s [] (l ∷ []) es ms
-lacked s l t ms fault es one cause =
+lacked : (next : ℕ) (s : State) (l : Asked) (t : Turn) (ms : List ℕ) (fault : RunFault) (es : Log)
+    → turns s (l ∷ []) ms ≡ t ∷ [] → IsCausedBy t.lacks fault → BreaksFor fault next s [] (l ∷ []) es ms
+lacked next s l t ms fault es one cause =
     inl (subst (λ (ts : List Turn). IsCausedBy (wanted ts) fault) (sym one)
     (lacked_alone fault t.lacks cause))
   where
@@ -362,15 +370,15 @@ lacked s l t ms fault es one cause =
 
 -- a turn that was begun, of which these bytes were said
 turn_begun : (old mid new : DiskState) (s : State) (l : Asked) (t : Turn) (ms : List ℕ)
-    (fault : RunFault) (es : Log)
-    → Begins old mid s l t ms → BreaksFor fault s [] (l ∷ []) es ms
+    (fault : RunFault) (next : ℕ) (es : Log)
+    → Begins old mid s l t ms → BreaksFor fault next s [] (l ∷ []) es ms
     → Rests es → IsPrefix (said_in es) t.text
     → Grows mid.beside new.beside es → moments_of new.beside ≡ moments_of mid.beside
     → AreWithin mid.moment new.moment es → mid.moment ≤ new.moment
     → (IsTrusted mid → IsTrusted new)
     → AtEach old new (LeftAtHand s (l ∷ []) es ms)
-    → Stretch old new (BreaksAtHand fault s (l ∷ []))
-turn_begun old mid new s l t ms fault es b why rests some g m within later trusts leaves =
+    → Stretch old new (BreaksAtHand fault next s (l ∷ []))
+turn_begun old mid new s l t ms fault next es b why rests some g m within later trusts leaves =
     record {
       entries = es;
       told = ms;
@@ -400,15 +408,15 @@ turn_begun old mid new s l t ms fault es b why rests some g m within later trust
     }
 
 -- a turn whose text was said in part
-module _ (old mid new : DiskState) (tables : Tables) (s : State) (l : Asked) (t : Turn) (ms : List ℕ)
-    (bytes : List ℕ) (b : Begins old mid s l t ms) (stands : Stands mid tables (after_turn s t))
+module _ (old mid new : DiskState) (tables : Tables) (next : ℕ) (s : State) (l : Asked) (t : Turn)
+    (ms : List ℕ) (bytes : List ℕ) (b : Begins old mid s l t ms) (stands : Stands mid tables (after_turn s t))
     (call : ShellCall mid new false) (m : moments_of new.beside ≡ moments_of mid.beside)
     (e : bytes ≡ t.text) where
   cut : (es : Log) → Rests es → ((u : ℕ) → IsPrefix (said_in (until u es)) t.text)
       → IsPrefix (said_in es) t.text → Grows mid.beside new.beside es
-      → AreWithin mid.moment new.moment es → Stretch old new (BreaksAtHand Failed s (l ∷ []))
+      → AreWithin mid.moment new.moment es → Stretch old new (BreaksAtHand Failed next s (l ∷ []))
   cut es rests by some g within =
-      turn_begun old mid new s l t ms Failed es b (inl tt) rests some g m within call.keeps.later
+      turn_begun old mid new s l t ms Failed next es b (inl tt) rests some g m within call.keeps.later
       (trusts-kept mid new call.keeps)
       (leaves-said s (turns s (l ∷ []) ms) t b.one (turns_say s (l ∷ []) ms) old mid new es within
       by b.trusts b.leaves
@@ -417,12 +425,12 @@ module _ (old mid new : DiskState) (tables : Tables) (s : State) (l : Asked) (t 
       call.keeps)
 
   -- the failure wasn't told
-  cut_untold : Grows mid.beside new.beside [] → Stretch old new (BreaksAtHand Failed s (l ∷ []))
+  cut_untold : Grows mid.beside new.beside [] → Stretch old new (BreaksAtHand Failed next s (l ∷ []))
   cut_untold g = cut [] (record { silent = refl; goes_on = refl; inside = refl })
       (λ u. (t.text, refl)) (t.text, refl) g tt
 
   cut_part : (n : ℕ) → Adds mid new (say_failed (take n bytes))
-      → Stretch old new (BreaksAtHand Failed s (l ∷ []))
+      → Stretch old new (BreaksAtHand Failed next s (l ∷ []))
   cut_part n added =
       let part : ℕ × List ℕ = entry new.moment (told_count mid.beside) (say_failed (take n bytes)) in
       let some : IsPrefix (said_in (part ∷ [])) t.text = (
@@ -434,38 +442,41 @@ module _ (old mid new : DiskState) (tables : Tables) (s : State) (l : Asked) (t 
       added (call.keeps.later, omega arith, tt)
 
   pub turn_cut : (((n : ℕ) × Adds mid new (say_failed (take n bytes)))
-      ⊎ Untold mid new says_failed says_missed) → Stretch old new (BreaksAtHand Failed s (l ∷ []))
+      ⊎ Untold mid new says_failed says_missed) → Stretch old new (BreaksAtHand Failed next s (l ∷ []))
   turn_cut (inl part) = cut_part part.0 part.1
   turn_cut (inr untold) = cut_untold untold.log
 
 -- a turn of which nothing was said
 unsaid : (old new : DiskState) (s : State) (l : Asked) (t : Turn) (ms : List ℕ) (fault : RunFault)
-    → Begins old new s l t ms → BreaksFor fault s [] (l ∷ []) [] ms
-    → Stretch old new (BreaksAtHand fault s (l ∷ []))
-unsaid old new s l t ms fault b why =
-    turn_begun old new new s l t ms fault [] b why
+    (next : ℕ) → Begins old new s l t ms → BreaksFor fault next s [] (l ∷ []) [] ms
+    → Stretch old new (BreaksAtHand fault next s (l ∷ []))
+unsaid old new s l t ms fault next b why =
+    turn_begun old new new s l t ms fault next [] b why
     (record { silent = refl; goes_on = refl; inside = refl }) (t.text, refl) (Grows-nil new.beside) refl tt
     (omega arith) (λ trusted. trusted)
     (leaves-unsaid s (turns s (l ∷ []) ms) t b.one (turns_say s (l ∷ []) ms) old new b.leaves)
 
 -- since it lacks what it wants or there is no memory
 pub turn_unsaid : (old new : DiskState) (s : State) (l : Asked) (t : Turn) (ms : List ℕ)
-    (fault : RunFault)
+    (fault : RunFault) (next : ℕ)
     → Begins old new s l t ms → IsCausedBy t.lacks fault
-    → Stretch old new (BreaksAtHand fault s (l ∷ []))
-turn_unsaid old new s l t ms fault b cause =
-    unsaid old new s l t ms fault b (lacked s l t ms fault [] b.one cause)
+    → Stretch old new (BreaksAtHand fault next s (l ∷ []))
+turn_unsaid old new s l t ms fault next b cause =
+    unsaid old new s l t ms fault next b (lacked next s l t ms fault [] b.one cause)
 
 -- or since what a word of control asks for isn't done
-pub control_unsaid : (old new : DiskState) (s : State) (word : Control) (fault : RunFault)
-    → Begins old new s (control word) obeyed [] → IsControlFault word fault
-    → Stretch old new (BreaksAtHand fault s (control word ∷ []))
-control_unsaid old new s word fault b cause =
-    unsaid old new s (control word) obeyed [] fault b (because word fault cause)
+pub control_unsaid : (old new : DiskState) (s : State) (word : Control) (fault : RunFault) (next : ℕ)
+    → Begins old new s (control word) obeyed [] → IsControlFault next word fault
+    → Stretch old new (BreaksAtHand fault next s (control word ∷ []))
+control_unsaid old new s word fault next b cause =
+    unsaid old new s (control word) obeyed [] fault next b (because word cause)
   where
-    because : (word : Control) (fault : RunFault) → IsControlFault word fault
-        → BreaksFor fault s [] (control word ∷ []) [] []
-    because Flush fault h = inr (h, record { line = control Flush; last = refl; enough = refl; at = tt })
-    because Merge fault h = inr (h, record { line = control Merge; last = refl; enough = refl; at = tt })
-    because Step fault h = inr (h, record { line = control Step; last = refl; enough = refl; at = tt })
-    because Reopen fault h = inl h
+    one : IsFileFault (next + most_files) fault → IsFileFault (next + 1 * most_files) fault
+    one h = file_more fault (next + most_files) (next + 1 * most_files) (omega arith) h
+
+    because : (word : Control) → IsControlFault next word fault
+        → BreaksFor fault next s [] (control word ∷ []) [] []
+    because Flush h = inr (one h, record { line = control Flush; last = refl; enough = refl; at = tt })
+    because Merge h = inr (one h, record { line = control Merge; last = refl; enough = refl; at = tt })
+    because Step h = inr (one h, record { line = control Step; last = refl; enough = refl; at = tt })
+    because Reopen h = inl h

@@ -1,8 +1,9 @@
 -- The turns of lines, one list of lines after another.
-use Rattle.std.proofs.Common.{◌≡◌, ◌+◌, ℕ, suc, List, [], ◌∷◌, ◌++◌, length, refl, ap, arith, length-append, ◌<◌, sym, subst}
+use Rattle.std.proofs.Common.{◌≡◌, ◌+◌, ℕ, suc, Option, None, Some, List, [], ◌∷◌, ◌++◌, length, refl, ap, arith, length-append, ◌<◌, sym, subst}
 use Rattle.alt_machine.specs.State.{State}
 use Rattle.alt_talks.specs.Turns.{Turn, after, after_turn}
-use Rattle.alt_run.specs.Turns.{Asked, request, control, unread, turns, obeyed, turned_away, carried_out, requests}
+use Rattle.alt_run.specs.Turns.{Asked, request, control, unread, turns, obeyed, turned_away, carried_out, requests, tasks, asked_as}
+use Rattle.alt_run.specs.declared.lines.Control.{Control}
 use Rattle.alt_talks.specs.Stops.{Image, IsLeft}
 use Rattle.alt_tables.specs.Images.{StandsFor}
 use Rattle.alt_talks.proofs.Stopping.{AllSay, left-nothing-of}
@@ -16,6 +17,18 @@ requests-append [] ks = omega arith
 requests-append (request name body ∷ ls) ks = let h = requests-append ls ks in omega (arith, h)
 requests-append (control word ∷ ls) ks = requests-append ls ks
 requests-append (unread ∷ ls) ks = requests-append ls ks
+
+-- tasks of lines and more lines
+pub tasks-append : (ls ks : List Asked) → tasks (ls ++ ks) ≡ tasks ls + tasks ks
+tasks-append [] ks = omega arith
+tasks-append (request name body ∷ ls) ks = let h = tasks-append ls ks in omega (arith, h)
+tasks-append (control word ∷ ls) ks = let h = tasks-append ls ks in omega (arith, h)
+tasks-append (unread ∷ ls) ks = tasks-append ls ks
+
+-- a line that is read has one
+pub one_task : (text : List ℕ) (word : Option Control) → tasks (asked_as text word ∷ []) ≡ 1
+one_task text None = refl
+one_task text (Some word) = refl
 
 -- the turns of lines and more lines are those of the first, and then those of the others from the state that the first left
 pub turns-append : (s : State) (ls ks : List Asked) (ms ns : List ℕ) → length ms ≡ requests ls

@@ -1,5 +1,5 @@
 -- Work behind lines that were served: the state stays, and so does all that was said.
-use Rattle.std.proofs.Common.{◌≡◌, ℕ, List, [], ◌∷◌, inr, length, refl, sym, ap, subst, ◌∙◌, append-nil, arith}
+use Rattle.std.proofs.Common.{◌≡◌, ◌+◌, ◌*◌, ℕ, List, [], ◌∷◌, inr, length, refl, sym, ap, subst, ◌∙◌, append-nil, arith}
 use Rattle.std.proofs.Math.Seq.{take-length}
 use Rattle.alt_disk.specs.Disk.{DiskState, IsTrusted}
 use Rattle.alt_machine.specs.Outcomes.{last_state}
@@ -8,7 +8,8 @@ use Rattle.alt_shell.specs.Log.{Log, until, said_in}
 use Rattle.alt_tables.specs.Images.{StandsFor}
 use Rattle.alt_tables.specs.Stands.{Stands}
 use Rattle.alt_tables.specs.declared.tables.Tables.{Tables}
-use Rattle.alt_talks.specs.Faults.{IsWorkFault}
+use Rattle.alt_tables.specs.FilesLeft.{most_files}
+use Rattle.alt_talks.specs.Faults.{IsFileFault}
 use Rattle.alt_talks.specs.Runs.{Stretch, Leads}
 use Rattle.alt_talks.specs.Stops.{Image, IsLeft, AtEach, AreWithin, atoms_of}
 use Rattle.alt_talks.specs.Turns.{Turn, text_of, after}
@@ -16,6 +17,7 @@ use Rattle.alt_talks.specs.Works.{Works}
 use Rattle.alt_talks.specs.declared.fault.RunFault.{RunFault}
 use Rattle.alt_run.specs.Runs.{ServesAtHand, BreaksAtHand, LeftAtHand}
 use Rattle.alt_run.specs.Turns.{Asked, request, turns}
+use Rattle.alt_talks.proofs.FileFaults.{file_more}
 use Rattle.alt_talks.proofs.Stopping.{answered-few, after-atoms, until-behind, spans_two}
 use Rattle.alt_talks.proofs.Stretching.{stretch_goes}
 
@@ -47,10 +49,11 @@ module _ (a b c : DiskState) (s t : State) (ls : List Asked) (es : Log) (ms : Li
 
 -- behind a request work broke off
 hand_broke : (a b c : DiskState) (s t : State) (name body : List ℕ) (es : Log) (ms : List ℕ)
-    (fault : RunFault) → AreWithin a.moment b.moment es → (IsTrusted a → IsTrusted b)
-    → ServesAtHand s (request name body ∷ []) t a b es ms → Works b c t → IsWorkFault fault
-    → BreaksAtHand fault s (request name body ∷ []) a c es ms
-hand_broke a b c s t name body es ms fault within trusts p works why = record {
+    (fault : RunFault) (next : ℕ) → AreWithin a.moment b.moment es → (IsTrusted a → IsTrusted b)
+    → ServesAtHand s (request name body ∷ []) t a b es ms → Works b c t
+    → IsFileFault (next + most_files) fault
+    → BreaksAtHand fault next s (request name body ∷ []) a c es ms
+hand_broke a b c s t name body es ms fault next within trusts p works why = record {
   breaks = record {
     done = [];
     begun = request name body ∷ [];
@@ -62,7 +65,7 @@ hand_broke a b c s t name body es ms fault within trusts p works why = record {
     count = p.serves.count;
     enough = refl;
     wants = inr (
-      why,
+      file_more fault (next + most_files) (next + 1 * most_files) (omega arith) why,
       record {
         line = request name body;
         last = refl;
@@ -92,12 +95,12 @@ module _ (a b c : DiskState) (t1 : Tables) (s : State) (ls : List Asked)
 -- or it broke off behind a request
 pub leads_broke : (a b c : DiskState) (t1 : Tables) (s : State) (name body : List ℕ)
     → Leads a b t1 (ServesAtHand s (request name body ∷ []))
-    → ((t : State) → Stands b t1 t → Works b c t) → (fault : RunFault)
-    → ((t : State) → Stands b t1 t → IsWorkFault fault)
-    → Stretch a c (BreaksAtHand fault s (request name body ∷ []))
-leads_broke a b c t1 s name body p works fault why =
+    → ((t : State) → Stands b t1 t → Works b c t) → (fault : RunFault) (next : ℕ)
+    → ((t : State) → Stands b t1 t → IsFileFault (next + most_files) fault)
+    → Stretch a c (BreaksAtHand fault next s (request name body ∷ []))
+leads_broke a b c t1 s name body p works fault next why =
     stretch_goes a b c {P = ServesAtHand s (request name body ∷ []) p.to}
-    {Q = BreaksAtHand fault s (request name body ∷ [])}
-    (λ es ms within x. hand_broke a b c s p.to name body es ms fault within p.calls.trusts x
+    {Q = BreaksAtHand fault next s (request name body ∷ [])}
+    (λ es ms within x. hand_broke a b c s p.to name body es ms fault next within p.calls.trusts x
     (works p.to p.stands) (why p.to p.stands))
     p.calls (works p.to p.stands).goes

@@ -136,14 +136,19 @@ Done (Serve per connections) s opened new = Stretch opened new
 Done (Trial seed count) s opened new = Stretch opened new (Tries s seed count)
 
 -- What a job has done that was broken off behind the opening: what it said is a prefix of what there was to say, on each connection by
--- itself. For a number: the first that a request wanted and is never given out, or that of a file that work wanted: in a trial, by the number of
--- the first file that is made behind these.
+-- itself. For a number: the first that a request wanted and is never given out, or that of a file that work wanted, where this is the number of
+-- the next file once the store was opened.
+abbrev pub BrokenFrom : ℕ → RunFault → Job → State → DiskState → DiskState → Type 0
+BrokenFrom next why Replay s opened new = Stretch opened new (AnswersSome why next s)
+BrokenFrom next why (Serve per connections) s opened new = Stretch opened new
+    (ServedSomeOn rules per connections why next s)
+BrokenFrom next why (Trial seed count) s opened new = Stretch opened new
+    (TriesSome why next s seed count)
+
+-- So it was, by the number of the first file that is made behind these files.
 abbrev pub Broken : (ℕ → Option (List ℕ)) → RunFault → Job → State → DiskState → DiskState → Type 0
-Broken files why Replay s opened new = Stretch opened new (AnswersSome why s)
-Broken files why (Serve per connections) s opened new = Stretch opened new
-    (ServedSomeOn rules per connections why s)
-Broken files why (Trial seed count) s opened new = (next : ℕ) × IsFirstGiven files next
-    × Stretch opened new (TriesSome why next s seed count)
+Broken files why job s opened new = (next : ℕ) × IsFirstGiven files next
+    × BrokenFrom next why job s opened new
 
 -- The store was opened, and the run broke off behind that for want of a number that is never given out.
 abbrev pub LacksNumber : Job → DiskState → DiskState → Type 0

@@ -1,18 +1,19 @@
 -- What a part of a run over lines says, takes and leaves, and what an opening does.
-use Rattle.std.specs.Prelude.{◌≡◌, ◌≤◌, ◌⊎◌, ℕ, List, [], ◌∷◌, ◌++◌, length, Bool, false, true, None, map}
+use Rattle.std.specs.Prelude.{◌≡◌, ◌≤◌, ◌+◌, ◌*◌, ◌⊎◌, ℕ, List, [], ◌∷◌, ◌++◌, length, Bool, false, true, None, map}
 use Rattle.alt_base.specs.Prefix.{IsPrefix}
 use Rattle.alt_disk.specs.Disk.{DiskState, IsTrusted}
 use Rattle.alt_lines.specs.Unread.{Unread, lines_now, lines_later}
 use Rattle.alt_machine.specs.State.{State}
 use Rattle.alt_shell.specs.Log.{Log, Grows, moments_of, until, taken, said_in, ended, crosses}
 use Rattle.alt_opening.specs.Recovery.{WasLeft}
+use Rattle.alt_tables.specs.FilesLeft.{most_files}
 use Rattle.alt_tables.specs.Images.{StandsFor}
-use Rattle.alt_talks.specs.Faults.{IsCausedBy, IsWorkFault}
+use Rattle.alt_talks.specs.Faults.{IsCausedBy, IsFileFault}
 use Rattle.alt_talks.specs.declared.fault.RunFault.{RunFault}
 use Rattle.alt_talks.specs.Turns.{text_of, after, wanted}
 use Rattle.alt_run.specs.Moments.{said_by, taken_by, ended_by}
 use Rattle.alt_talks.specs.Stops.{Image, IsLeft, AtEach}
-use Rattle.alt_run.specs.Turns.{Asked, request, control, unread, turns, requests, asks, asked_of, out}
+use Rattle.alt_run.specs.Turns.{Asked, request, control, unread, turns, requests, tasks, asks, asked_of, out}
 use Rattle.alt_run.specs.declared.lines.Control.TheVariants.{Flush, Merge, Step, Reopen}
 use Rattle.alt_talks.specs.Runs.{OfStretch}
 use Rattle.alt_talks.specs.TalkStops.{LeavesNow}
@@ -49,15 +50,17 @@ pub record IsWorking (s : State) (done begun : List Asked) (entries : Log)
   pub enough : wanted (turns s (done ++ begun) told) ≡ None
   pub at : IsAtWork line (said_in entries ≡ text_of (turns s (done ++ begun) told))
 
--- Why serving broke off: a request has no answer, for want of a number that is the first that one wanted, or work broke off.
-abbrev pub BreaksFor : RunFault → State → List Asked → List Asked → Log → List ℕ → Type 0
-BreaksFor fault s done begun entries told =
+-- Why serving broke off: a request has no answer, for want of a number that is the first that one wanted, or work broke off. A file was wanted
+-- then only where as many numbers as the tasks of the lines that were begun take at most, from the next file on before them, reach the last.
+abbrev pub BreaksFor : RunFault → ℕ → State → List Asked → List Asked → Log → List ℕ → Type 0
+BreaksFor fault next s done begun entries told =
     IsCausedBy (wanted (turns s (done ++ begun) told)) fault
-    ⊎ (IsWorkFault fault × IsWorking s done begun entries told)
+    ⊎ (IsFileFault (next + tasks (done ++ begun) * most_files) fault
+    × IsWorking s done begun entries told)
 
 -- Serving these lines broke off. Those that were done were answered, at most one more was begun, and just these had a moment
 -- each. The fault has its cause.
-pub record Breaks (fault : RunFault) (s : State) (ls : List Asked) (entries : Log)
+pub record Breaks (fault : RunFault) (next : ℕ) (s : State) (ls : List Asked) (entries : Log)
     (told : List ℕ) : Type 0 where
   pub done : List Asked
   pub begun : List Asked
@@ -68,7 +71,7 @@ pub record Breaks (fault : RunFault) (s : State) (ls : List Asked) (entries : Lo
   pub said : IsPrefix (said_in entries) (text_of (turns s (done ++ begun) told))
   pub count : length told ≡ requests (done ++ begun)
   pub enough : wanted (turns s done told) ≡ None
-  pub wants : BreaksFor fault s done begun entries told
+  pub wants : BreaksFor fault next s done begun entries told
 
 -- nothing was taken, and no connection came or went: what was said was said on standard output
 pub record Rests (entries : Log) : Type 0 where
@@ -102,9 +105,9 @@ pub record ServesAtHand (s : State) (ls : List Asked) (t : State) (old new : Dis
   pub leaves : AtEach old new (LeftAtHand s ls entries told)
 
 -- that broke off
-pub record BreaksAtHand (fault : RunFault) (s : State) (ls : List Asked) (old new : DiskState)
+pub record BreaksAtHand (fault : RunFault) (next : ℕ) (s : State) (ls : List Asked) (old new : DiskState)
     (entries : Log) (told : List ℕ) : Type 0 where
-  pub breaks : Breaks fault s ls entries told
+  pub breaks : Breaks fault next s ls entries told
   pub rests : Rests entries
   pub leaves : AtEach old new (LeftAtHand s ls entries told)
 
@@ -114,8 +117,9 @@ LeftBy s u entries told t image =
     IsLeft s (turns s (asked_later u (taken (until t entries)) (ended (until t entries))) told)
     (said_in (until t entries)) image
 
--- Some of the input was taken, which has not ended, and all lines that were whole then were served.
-pub record Goes (s : State) (u : Unread) (t : State) (v : Unread) (old new : DiskState)
+-- Some of the input was taken, which has not ended, and all lines that were whole then were served. The number of the next file was the first one
+-- before them, and is the second one now: their tasks took no more than they take at most.
+pub record Goes (next : ℕ) (s : State) (u : Unread) (now : ℕ) (t : State) (v : Unread) (old new : DiskState)
     (entries : Log) (told : List ℕ) : Type 0 where
   pub done : List Asked
   pub serves : Serves s done t entries told
@@ -124,6 +128,7 @@ pub record Goes (s : State) (u : Unread) (t : State) (v : Unread) (old new : Dis
   pub goes_on : ended entries ≡ false
   pub inside : crosses entries ≡ false
   pub leaves : AtEach old new (LeftBy s u entries told)
+  pub files : now ≤ next + tasks done * most_files
 
 -- The rest of the input was taken, and all its lines were served.
 pub record Ends (s : State) (u : Unread) (t : State) (old new : DiskState) (entries : Log)
@@ -134,16 +139,16 @@ pub record Ends (s : State) (u : Unread) (t : State) (old new : DiskState) (entr
   pub leaves : AtEach old new (LeftBy s u entries told)
 
 -- That broke off among the lines that were whole.
-pub record GoesSome (fault : RunFault) (s : State) (u : Unread) (old new : DiskState)
+pub record GoesSome (fault : RunFault) (next : ℕ) (s : State) (u : Unread) (old new : DiskState)
     (entries : Log) (told : List ℕ) : Type 0 where
-  pub breaks : Breaks fault s (asked_later u (taken entries) (ended entries)) entries told
+  pub breaks : Breaks fault next s (asked_later u (taken entries) (ended entries)) entries told
   pub inside : crosses entries ≡ false
   pub leaves : AtEach old new (LeftBy s u entries told)
 
 -- more was taken, or the end was
-abbrev pub GoesOrEnds : Bool → State → Unread → State → Unread → OfStretch
-GoesOrEnds true s u t v = Goes s u t v
-GoesOrEnds false s u t v = Ends s u t
+abbrev pub GoesOrEnds : Bool → ℕ → State → Unread → ℕ → State → Unread → OfStretch
+GoesOrEnds true next s u now t v = Goes next s u now t v
+GoesOrEnds false next s u now t v = Ends s u t
 
 -- ---- a run over all of its input
 
@@ -168,9 +173,9 @@ pub record Answers (s : State) (old new : DiskState) (entries : Log)
   pub last : LeavesNow new (after s (turns s (asks true (taken entries)) told))
 
 -- It broke off among the lines that were whole in what was taken. What was said is a prefix of their Out.
-pub record AnswersSome (fault : RunFault) (s : State) (old new : DiskState) (entries : Log)
+pub record AnswersSome (fault : RunFault) (next : ℕ) (s : State) (old new : DiskState) (entries : Log)
     (told : List ℕ) : Type 0 where
-  pub breaks : Breaks fault s (asks (ended entries) (taken entries)) entries told
+  pub breaks : Breaks fault next s (asks (ended entries) (taken entries)) entries told
   pub inside : crosses entries ≡ false
   pub said : IsPrefix (said_in entries) (out s (ended entries) (taken entries) told)
   pub leaves : AtEach old new (LeftThen s entries told)

@@ -64,6 +64,13 @@ requests (request name body ∷ ls) = suc (requests ls)
 requests (control word ∷ ls) = requests ls
 requests (unread ∷ ls) = requests ls
 
+-- how many of them may have a task: a request, which has a step behind its reply, and a word of control
+abbrev pub tasks : List Asked → ℕ
+tasks [] = 0
+tasks (request name body ∷ ls) = suc (tasks ls)
+tasks (control word ∷ ls) = suc (tasks ls)
+tasks (unread ∷ ls) = tasks ls
+
 -- ---- what they come to
 
 -- the line of an answer: its status, a space, its JSON without spaces, and a line feed

@@ -64,7 +64,8 @@ fn pulls<S: Shell>(
     requires quiet { talks (S.state shell.old).beside ≡ false }
     ensures answered { (s : State) → Stands (S.state shell.old) tables.old s → MatchResult result
         (λ _. Stretch (S.state shell.old) (S.state shell.new) (Answers s))
-        (λ f. Stretch (S.state shell.old) (S.state shell.new) (AnswersSome f s)) }
+        (λ f. Stretch (S.state shell.old) (S.state shell.new)
+        (AnswersSome f (bounds_of tables.old).file s)) }
     ensures last { OnOk result (LastLine limits.flush (S.state shell.old) (S.state shell.new)) }
     ensures cause { IsErrOf result RunFault.Failed
         → Rose (S.state shell.old).faults (S.state shell.new).faults }
@@ -93,7 +94,8 @@ fn replay<S: Shell>(
     requires quiet { talks (S.state shell.old).beside ≡ false }
     ensures answered { (s : State) → Stands (S.state shell.old) tables.old s → MatchResult result
         (λ _. Stretch (S.state shell.old) (S.state shell.new) (Answers s))
-        (λ f. Stretch (S.state shell.old) (S.state shell.new) (AnswersSome f s)) }
+        (λ f. Stretch (S.state shell.old) (S.state shell.new)
+        (AnswersSome f (bounds_of tables.old).file s)) }
     ensures last { OnOk result (LastLine limits.flush (S.state shell.old) (S.state shell.new)) }
     ensures cause { IsErrOf result RunFault.Failed
         → Rose (S.state shell.old).faults (S.state shell.new).faults }
@@ -120,7 +122,7 @@ fn serve<S: Shell>(
         (λ _. Stretch (S.state shell.old) (S.state shell.new)
         (λ a b es ms. (t : State) × ServedOn rules per count s t a b es ms × LeavesNow b t))
         (λ f. Stretch (S.state shell.old) (S.state shell.new)
-        (ServedSomeOn rules per count f s)) }
+        (ServedSomeOn rules per count f (bounds_of tables.old).file s)) }
     ensures came { OnOk result (CameAll count (S.state shell.old) (S.state shell.new)) }
     ensures most { CameAtMost count (S.state shell.old) (S.state shell.new) }
     ensures cause { IsErrOf result RunFault.Failed

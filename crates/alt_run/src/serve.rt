@@ -1,7 +1,7 @@
 //! Serving lines: from the bytes taken to the replies said. Each function says of the calls that it made which lines they
 //! served, or where among them it broke off, so that a run is put together from them.
 
-ghost use Rattle.std.specs.Prelude.{◌≡◌, ◌<◌, ◌^◌, ◌-◌, ◌∷◌, [], ℕ, true, false, Some, None, length, IfOk, IfErr, IfSome, IfNone, OnOk, IsErrOf, MatchResult};
+ghost use Rattle.std.specs.Prelude.{◌≡◌, ◌<◌, ◌≤◌, ◌+◌, ◌*◌, ◌^◌, ◌-◌, ◌∷◌, [], ℕ, true, false, Some, None, length, IfOk, IfErr, IfSome, IfNone, OnOk, IsErrOf, MatchResult};
 ghost use Rattle.alt_base.specs.Counts.{Rose};
 ghost use Rattle.alt_disk.specs.Disk.{Goes, IsTrusted};
 ghost use Rattle.alt_lines.specs.Lines.{Line};
@@ -9,15 +9,16 @@ ghost use Rattle.alt_lines.specs.Reader.{unread};
 ghost use Rattle.alt_lines.specs.Unread.{HasNone, TakesLine, Tells};
 ghost use Rattle.alt_machine.specs.State.{State};
 ghost use Rattle.alt_shell.specs.Log.{talks};
+ghost use Rattle.alt_tables.specs.FilesLeft.{most_files};
 ghost use Rattle.alt_tables.specs.Images.{StandsFor};
-ghost use Rattle.alt_tables.specs.Stands.{AreReady, Stands, limits_of};
+ghost use Rattle.alt_tables.specs.Stands.{AreReady, Stands, bounds_of, limits_of};
 ghost use Rattle.alt_talks.specs.Faults.{IsCausedBy};
 ghost use Rattle.alt_talks.specs.Runs.{Stretch, Passes, Leads};
 ghost use Rattle.alt_talks.specs.Works.{Works};
 ghost use Rattle.alt_run.specs.Behind.{AreReadable, Behind, BringsAtHand, BringsOn};
 ghost use Rattle.alt_run.specs.Faults.{IsControlFault};
 ghost use Rattle.alt_run.specs.Runs.{ServesAtHand, BreaksAtHand, HandsOut, GoesOrEnds, GoesSome, asked_now};
-ghost use Rattle.alt_run.specs.Turns.{request, control, unread as no_request, asked_by, asked_of};
+ghost use Rattle.alt_run.specs.Turns.{request, control, unread as no_request, asked_by, asked_of, tasks};
 
 use crate::lines::{Control, control_of, parts};
 use crate::open::open;
@@ -43,9 +44,11 @@ fn answer_request<S: Shell>(
         (λ _. Leads (S.state shell.old) (S.state shell.new) tables.new
         (ServesAtHand s (request name.now body.now ∷ [])))
         (λ f. Stretch (S.state shell.old) (S.state shell.new)
-        (BreaksAtHand f s (request name.now body.now ∷ []))) }
+        (BreaksAtHand f (bounds_of tables.old).file s (request name.now body.now ∷ []))) }
     ensures brings { OnOk result (BringsAtHand (limits_of tables.old).flush
         (request name.now body.now ∷ []) (S.state shell.old) (S.state shell.new)) }
+    ensures files { (s : State) → Stands (S.state shell.old) tables.old s → OnOk result
+        ((bounds_of tables.new).file ≤ (bounds_of tables.old).file + most_files) }
     ensures limits { limits_of tables.new ≡ limits_of tables.old }
     ensures cause { IsErrOf result RunFault.Failed
         → Rose (S.state shell.old).faults (S.state shell.new).faults }
@@ -73,7 +76,7 @@ fn turn_away<S: Shell>(tables: &Tables, shell: &mut S) -> Result<(), RunFault>
         (λ _. Leads (S.state shell.old) (S.state shell.new) tables.now
         (ServesAtHand s (no_request ∷ [])))
         (λ f. Stretch (S.state shell.old) (S.state shell.new)
-        (BreaksAtHand f s (no_request ∷ []))) }
+        (BreaksAtHand f (bounds_of tables.now).file s (no_request ∷ []))) }
     ensures brings { OnOk result ((flush : ℕ) → BringsAtHand flush (no_request ∷ [])
         (S.state shell.old) (S.state shell.new)) }
     ensures cause { IsErrOf result RunFault.Failed
@@ -104,6 +107,8 @@ fn reopen<D: Disk>(
         → Works (D.state disk.old) (D.state disk.new) s }
     ensures fault { (s : State) → Stands (D.state disk.old) tables.old s
         → IfErr result (IsCausedBy None) }
+    ensures files { (s : State) → Stands (D.state disk.old) tables.old s → OnOk result
+        ((bounds_of tables.new).file ≤ (bounds_of tables.old).file) }
     ensures known { OnOk result (limits_of tables.new ≡ limits) }
     ensures goes { Goes (D.state disk.old) (D.state disk.new) }
     ensures cause { IsErrOf result RunFault.Failed
@@ -133,8 +138,10 @@ fn obey<D: Disk>(
     ensures works { (s : State) → Stands (D.state disk.old) tables.old s
         → Works (D.state disk.old) (D.state disk.new) s }
     ensures fault { (s : State) → Stands (D.state disk.old) tables.old s
-        → IfErr result (IsControlFault word) }
+        → IfErr result (IsControlFault (bounds_of tables.old).file word) }
     ensures behind { OnOk result (Behind limits.flush (Some (control word)) (D.state disk.new)) }
+    ensures files { (s : State) → Stands (D.state disk.old) tables.old s → OnOk result
+        ((bounds_of tables.new).file ≤ (bounds_of tables.old).file + most_files) }
     ensures known { OnOk result (limits_of tables.new ≡ limits) }
     ensures goes { Goes (D.state disk.old) (D.state disk.new) }
     ensures cause { IsErrOf result RunFault.Failed
@@ -163,9 +170,11 @@ fn answer_control<S: Shell>(
         (λ _. Leads (S.state shell.old) (S.state shell.new) tables.new
         (ServesAtHand s (control word ∷ [])))
         (λ f. Stretch (S.state shell.old) (S.state shell.new)
-        (BreaksAtHand f s (control word ∷ []))) }
+        (BreaksAtHand f (bounds_of tables.old).file s (control word ∷ []))) }
     ensures brings { OnOk result (BringsAtHand limits.flush (control word ∷ [])
         (S.state shell.old) (S.state shell.new)) }
+    ensures files { (s : State) → Stands (S.state shell.old) tables.old s → OnOk result
+        ((bounds_of tables.new).file ≤ (bounds_of tables.old).file + most_files) }
     ensures known { OnOk result (limits_of tables.new ≡ limits) }
     ensures cause { IsErrOf result RunFault.Failed
         → Rose (S.state shell.old).faults (S.state shell.new).faults }
@@ -196,9 +205,11 @@ fn answer_whole<S: Shell>(
         (λ _. Leads (S.state shell.old) (S.state shell.new) tables.new
         (ServesAtHand s (asked_by line.now ∷ [])))
         (λ f. Stretch (S.state shell.old) (S.state shell.new)
-        (BreaksAtHand f s (asked_by line.now ∷ []))) }
+        (BreaksAtHand f (bounds_of tables.old).file s (asked_by line.now ∷ []))) }
     ensures brings { OnOk result (BringsAtHand limits.flush (asked_by line.now ∷ [])
         (S.state shell.old) (S.state shell.new)) }
+    ensures files { (s : State) → Stands (S.state shell.old) tables.old s → OnOk result
+        ((bounds_of tables.new).file ≤ (bounds_of tables.old).file + most_files) }
     ensures known { OnOk result (limits_of tables.new ≡ limits) }
     ensures cause { IsErrOf result RunFault.Failed
         → Rose (S.state shell.old).faults (S.state shell.new).faults }
@@ -230,10 +241,14 @@ fn answer_line<S: Shell>(
         (λ _. Leads (S.state shell.old) (S.state shell.new) tables.new
         (ServesAtHand s (asked_of taken ∷ [])))
         (λ f. Stretch (S.state shell.old) (S.state shell.new)
-        (BreaksAtHand f s (asked_of taken ∷ []))) }
+        (BreaksAtHand f (bounds_of tables.old).file s (asked_of taken ∷ []))) }
     ensures brings { OnOk result ((taken : Line) → Tells taken cut [] line.now
         → BringsAtHand limits.flush (asked_of taken ∷ []) (S.state shell.old)
         (S.state shell.new)) }
+    ensures files { (taken : Line) → Tells taken cut [] line.now →
+        (s : State) → Stands (S.state shell.old) tables.old s → OnOk result
+        ((bounds_of tables.new).file ≤ (bounds_of tables.old).file
+        + tasks (asked_of taken ∷ []) * most_files) }
     ensures known { OnOk result (limits_of tables.new ≡ limits) }
     ensures cause { IsErrOf result RunFault.Failed
         → Rose (S.state shell.old).faults (S.state shell.new).faults }
@@ -277,9 +292,12 @@ pub(crate) fn at_hand<S: Shell>(
         (λ _. Leads (S.state shell.old) (S.state shell.new) tables.new
         (ServesAtHand s (asked_now (unread lines.old))))
         (λ f. Stretch (S.state shell.old) (S.state shell.new)
-        (BreaksAtHand f s (asked_now (unread lines.old)))) }
+        (BreaksAtHand f (bounds_of tables.old).file s (asked_now (unread lines.old)))) }
     ensures brings { OnOk result (BringsAtHand limits.flush (asked_now (unread lines.old))
         (S.state shell.old) (S.state shell.new)) }
+    ensures files { (s : State) → Stands (S.state shell.old) tables.old s → OnOk result
+        ((bounds_of tables.new).file ≤ (bounds_of tables.old).file
+        + tasks (asked_now (unread lines.old)) * most_files) }
     ensures known { OnOk result (limits_of tables.new ≡ limits) }
     ensures lines { OnOk result (HandsOut (unread lines.old) (unread lines.new)) }
     ensures cause { IsErrOf result RunFault.Failed
@@ -315,9 +333,10 @@ pub(crate) fn pull<S: Shell>(
     requires going { (unread lines.old).ended ≡ false }
     ensures went { (s : State) → Stands (S.state shell.old) tables.old s → MatchResult result
         (λ more. Leads (S.state shell.old) (S.state shell.new) tables.new
-        (λ t. GoesOrEnds more s (unread lines.old) t (unread lines.new)))
+        (λ t. GoesOrEnds more (bounds_of tables.old).file s (unread lines.old)
+        (bounds_of tables.new).file t (unread lines.new)))
         (λ f. Stretch (S.state shell.old) (S.state shell.new)
-        (GoesSome f s (unread lines.old))) }
+        (GoesSome f (bounds_of tables.old).file s (unread lines.old))) }
     ensures brings { IfOk result (λ more. BringsOn limits.flush more (unread lines.old)
         (unread lines.new) (S.state shell.old) (S.state shell.new)) }
     ensures known { OnOk result (limits_of tables.new ≡ limits) }

@@ -3,11 +3,11 @@ use Rattle.alt_hand.specs.declared.hand.Limits.{Limits}
 use Rattle.alt_talks.specs.Works.{HasFewEntries}
 use Rattle.alt_run.specs.Behind.{AfterJob, ComesWithin, SaysSummary}
 use Rattle.std.specs.Prelude.{MatchResult}
-use Rattle.alt_run.specs.Endings.{Done, Broken}
+use Rattle.alt_run.specs.Endings.{Done, BrokenFrom}
 use Rattle.alt_run.specs.Words.{IsServable}
 use Rattle.alt_run.specs.declared.words.Job.{Job}
 use Rattle.alt_run.proofs.Bringing.{both_ok}
-use Rattle.alt_run.proofs.Opening.{tried_broken}
+use Rattle.alt_run.proofs.Opening.{from_broken}
 use Rattle.alt_tables.specs.Stands.{bounds_of}
 use Rattle.alt_run.proofs.running.carry_out.Goals as goal
 
@@ -16,26 +16,30 @@ returns-in-Replay-clause-done g c = λ files given s stands.
     let state = g.S.Disk.state in
     let a = state c.args.shell.now in
     let d = state c.replay.new.shell in
-    subst (λ (j : Job). MatchResult c.replay.result (λ _. Done j s a d) (λ f. Broken files f j s a d))
-    (sym c.in-Replay.is) (c.replay.ensures.answered s stands)
+    let next = (bounds_of c.args.tables.now).file in
+    from_broken files next c.args.job s a d given c.replay.result
+    (subst (λ (j : Job). MatchResult c.replay.result (λ _. Done j s a d)
+    (λ f. BrokenFrom next f j s a d)) (sym c.in-Replay.is) (c.replay.ensures.answered s stands))
 
 pub returns-in-Serve-clause-done : goal.returns-in-Serve-clause-done
 returns-in-Serve-clause-done g c = λ files given s stands.
     let state = g.S.Disk.state in
     let a = state c.args.shell.now in
     let d = state c.serve.new.shell in
-    subst (λ (j : Job). MatchResult c.serve.result (λ _. Done j s a d) (λ f. Broken files f j s a d))
-    (sym c.in-Serve.is) (c.serve.ensures.served s stands)
+    let next = (bounds_of c.args.tables.now).file in
+    from_broken files next c.args.job s a d given c.serve.result
+    (subst (λ (j : Job). MatchResult c.serve.result (λ _. Done j s a d)
+    (λ f. BrokenFrom next f j s a d)) (sym c.in-Serve.is) (c.serve.ensures.served s stands))
 
 pub returns-in-Trial-clause-done : goal.returns-in-Trial-clause-done
 returns-in-Trial-clause-done g c = λ files given s stands.
     let state = g.S.Disk.state in
     let a = state c.args.shell.now in
     let d = state c.carry_out_trial.new.shell in
-    subst (λ (j : Job). MatchResult c.carry_out_trial.result (λ _. Done j s a d)
-    (λ f. Broken files f j s a d))
-    (sym c.in-Trial.is) (tried_broken files (bounds_of c.args.tables.now).file c.in-Trial.seed
-    c.in-Trial.count s a d given c.carry_out_trial.result (c.carry_out_trial.ensures.tried s stands))
+    let next = (bounds_of c.args.tables.now).file in
+    from_broken files next c.args.job s a d given c.carry_out_trial.result
+    (subst (λ (j : Job). MatchResult c.carry_out_trial.result (λ _. Done j s a d)
+    (λ f. BrokenFrom next f j s a d)) (sym c.in-Trial.is) (c.carry_out_trial.ensures.tried s stands))
 
 pub serve-requires-clause-some : goal.serve-requires-clause-some
 serve-requires-clause-some g c = subst IsServable c.in-Serve.is c.requires.some

@@ -4,6 +4,7 @@ use Rattle.alt_lines.specs.Unread.{Unread}
 use Rattle.alt_machine.specs.State.{State}
 use Rattle.alt_disk.specs.Disk.{DiskState}
 use Rattle.alt_run.specs.Behind.{BringsSome, BringsOn}
+use Rattle.alt_tables.specs.Stands.{bounds_of}
 use Rattle.alt_talks.specs.Runs.{Leads}
 use Rattle.alt_run.specs.Runs.{Goes, GoesOrEnds, GoesSome, Ends, Answers, AnswersSome}
 use Rattle.alt_talks.proofs.Passing.{passes_none, passes_then, passes_back}
@@ -16,7 +17,8 @@ use Rattle.alt_talks.specs.TalkStops.{LeavesNow}
 pub pulls-init : goal.pulls-init
 pulls-init g c =
     let old = g.S.Disk.state c.args.shell.now in (
-      λ s stands. subst (λ (u : Unread). Leads old old c.args.tables.now (λ t. Goes s fresh t u))
+      λ s stands. subst (λ (u : Unread). Leads old old c.args.tables.now
+          (λ t. Goes (bounds_of c.args.tables.now).file s fresh (bounds_of c.args.tables.now).file t u))
           (sym c.new-lines.ensures)
           (goes_none old c.args.tables.now s fresh stands),
       passes_none _,
@@ -33,11 +35,13 @@ pulls-preserved g c =
           let front = c.pulls.invariant.0 s stands in
           let went = subst (λ (more : Bool). Leads (state c.pulls.shell)
           (state c.pull.new.shell) c.pull.new.tables
-          (λ t. GoesOrEnds more front.to (unread c.pulls.lines) t (unread c.pull.new.lines)))
+          (λ t. GoesOrEnds more (bounds_of c.pulls.tables).file front.to (unread c.pulls.lines)
+          (bounds_of c.pull.new.tables).file t (unread c.pull.new.lines)))
           c.in-Ok-true.field-0-test (c.in-Ok-true.ensures.went front.to front.stands) in
           goes_then (state c.args.shell.now) (state c.pulls.shell)
-          (state c.pull.new.shell) c.pulls.tables s fresh (unread c.pulls.lines) front
-          c.pull.new.tables (unread c.pull.new.lines) went,
+          (state c.pull.new.shell) c.pulls.tables (bounds_of c.args.tables.now).file
+          (bounds_of c.pulls.tables).file s fresh (unread c.pulls.lines) front
+          c.pull.new.tables (unread c.pull.new.lines) (bounds_of c.pull.new.tables).file went,
       passes_then _ _ _ c.pulls.invariant.1 c.pull.ensures.passes,
       c.in-Ok-true.ensures.going c.in-Ok-true.field-0-test,
       some_then c.args.limits.flush (state c.args.shell.now) (state c.pulls.shell) (state c.pull.new.shell) fresh
@@ -54,13 +58,15 @@ returns-in-Ok-false-clause-answered g c = λ s stands.
     let front = c.pulls.invariant.0 s stands in
     let went = subst (λ (more : Bool). Leads (state c.pulls.shell)
     (state c.pull.new.shell) c.pull.new.tables
-    (λ t. GoesOrEnds more front.to (unread c.pulls.lines) t (unread c.pull.new.lines)))
+    (λ t. GoesOrEnds more (bounds_of c.pulls.tables).file front.to (unread c.pulls.lines)
+    (bounds_of c.pull.new.tables).file t (unread c.pull.new.lines)))
     c.in-Ok-false.field-0-test (c.in-Ok-false.ensures.went front.to front.stands) in
     stretch_as (state c.args.shell.now) (state c.pull.new.shell)
     {P = λ old new es ms. (t : State) × Ends s fresh t old new es ms × LeavesNow new t}
     {Q = Answers s} (λ es ms within x. answers_all _ _ s x.0 es ms x.1 x.2)
     (goes_ends (state c.args.shell.now) (state c.pulls.shell)
-    (state c.pull.new.shell) c.pulls.tables s fresh (unread c.pulls.lines) front
+    (state c.pull.new.shell) c.pulls.tables (bounds_of c.args.tables.now).file
+    (bounds_of c.pulls.tables).file s fresh (unread c.pulls.lines) front
     c.pull.new.tables went)
 
 pub returns-in-Ok-false-clause-last : goal.returns-in-Ok-false-clause-last
@@ -80,10 +86,12 @@ returns-in-Err-clause-answered g c = λ s stands.
     let state = g.S.Disk.state in
     let front = c.pulls.invariant.0 s stands in
     stretch_as (state c.args.shell.now) (state c.pull.new.shell)
-    {P = GoesSome c.in-Err.fault s fresh} {Q = AnswersSome c.in-Err.fault s}
-    (λ es ms within x. answers_some _ _ c.in-Err.fault s es ms x)
+    {P = GoesSome c.in-Err.fault (bounds_of c.args.tables.now).file s fresh}
+    {Q = AnswersSome c.in-Err.fault (bounds_of c.args.tables.now).file s}
+    (λ es ms within x. answers_some _ _ c.in-Err.fault (bounds_of c.args.tables.now).file s es ms x)
     (goes_breaks (state c.args.shell.now) (state c.pulls.shell)
-    (state c.pull.new.shell) c.pulls.tables s fresh (unread c.pulls.lines) front
+    (state c.pull.new.shell) c.pulls.tables (bounds_of c.args.tables.now).file
+    (bounds_of c.pulls.tables).file s fresh (unread c.pulls.lines) front
     c.in-Err.fault (c.in-Err.ensures.went front.to front.stands))
 
 pub pull-requires-clause-ready : goal.pull-requires-clause-ready

@@ -1,7 +1,7 @@
 use Rattle.std.proofs.Common.{◌≡◌, ◌-◌, ◌^◌, false}
 use Rattle.alt_lines.specs.Reader.{unread}
 use Rattle.alt_machine.specs.State.{State}
-use Rattle.alt_tables.specs.Stands.{Stands, limits_of}
+use Rattle.alt_tables.specs.Stands.{Stands, bounds_of, limits_of}
 use Rattle.alt_run.specs.Behind.{BringsSome}
 use Rattle.alt_talks.specs.Runs.{Passes, Leads}
 use Rattle.alt_run.specs.Runs.{Goes}
@@ -12,7 +12,9 @@ abbrev pub invariant-pulls : goal.invariant-pulls
 invariant-pulls g l =
     let state = g.S.Disk.state in
     ((s : State) → Stands (state l.initial.shell) l.initial.tables s
-    → Leads (state l.initial.shell) (state l.shell) l.tables (λ t. Goes s fresh t (unread l.lines)))
+    → Leads (state l.initial.shell) (state l.shell) l.tables
+    (λ t. Goes (bounds_of l.initial.tables).file s fresh (bounds_of l.tables).file t
+    (unread l.lines)))
     × Passes (state l.initial.shell) (state l.shell)
     × ((unread l.lines).ended ≡ false)
     × BringsSome l.limits.flush fresh (unread l.lines) (state l.initial.shell) (state l.shell)

@@ -1,4 +1,5 @@
 use Rattle.std.proofs.Common.{[], false, refl}
+use Rattle.alt_tables.specs.Stands.{bounds_of}
 use Rattle.alt_run.specs.Turns.{asks}
 use Rattle.alt_run.specs.Runs.{AnswersSome, LeftThen}
 use Rattle.alt_talks.specs.declared.fault.RunFault.TheVariants.{NoMemory}
@@ -13,9 +14,9 @@ use Rattle.alt_run.proofs.running.replay.Goals as goal
 pub returns-in_default-clause-answered : goal.returns-in_default-clause-answered
 returns-in_default-clause-answered g c = λ s stands.
     let here = g.S.Disk.state c.args.shell.now in
-    stretch_none here {P = AnswersSome NoMemory s}
-    (answers_some here here NoMemory s _ _ (record {
-      breaks = breaks_none NoMemory tt s _;
+    stretch_none here {P = AnswersSome NoMemory (bounds_of c.args.tables.now).file s}
+    (answers_some here here NoMemory (bounds_of c.args.tables.now).file s _ _ (record {
+      breaks = breaks_none NoMemory _ tt s _;
       inside = refl;
       leaves = leaves-here here (LeftThen s [] []) (λ trusted t image is_image.
           left-nothing s (asks false []) [] image

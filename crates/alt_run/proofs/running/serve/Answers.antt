@@ -1,6 +1,7 @@
 use Rattle.std.proofs.Common.{arith}
 use Rattle.alt_talks.specs.TalkRules.{rules}
 use Rattle.alt_talks.specs.declared.fault.RunFault.TheVariants.{NoMemory}
+use Rattle.alt_tables.specs.Stands.{bounds_of}
 use Rattle.alt_tables.proofs.Left.{stands_left}
 use Rattle.alt_talks.specs.TalkStops.{ServedSomeOn}
 use Rattle.alt_talks.proofs.Stretching.{stretch_none}
@@ -12,15 +13,17 @@ use Rattle.alt_run.proofs.running.serve.Goals as goal
 pub returns-in_default-clause-served : goal.returns-in_default-clause-served
 returns-in_default-clause-served g c = λ s stands.
     let a = g.S.Disk.state c.args.shell.now in
-    stretch_none a {P = ServedSomeOn rules c.args.per c.args.count NoMemory s}
-    (served_nothing_on rules c.args.per c.args.count a s
+    stretch_none a
+    {P = ServedSomeOn rules c.args.per c.args.count NoMemory (bounds_of c.args.tables.now).file s}
+    (served_nothing_on rules c.args.per c.args.count _ a s
     (λ trusted image is. stands_left a c.args.tables.now s stands image is))
 
 pub returns-clause-served : goal.returns-clause-served
 returns-clause-served g c = λ s stands.
     let state = g.S.Disk.state in
     run_served c.connections.result (state c.args.shell.now) (state c.connections.new.shell)
-    c.connections.new.tables c.args.per c.args.count s (c.connections.ensures.served s stands)
+    c.connections.new.tables c.args.per c.args.count (bounds_of c.args.tables.now).file s
+    (c.connections.ensures.served s stands)
 
 pub returns-in_default-clause-most : goal.returns-in_default-clause-most
 returns-in_default-clause-most g c = (0, omega arith, came_none (g.S.Disk.state c.args.shell.now))

@@ -1,4 +1,5 @@
 use Rattle.std.proofs.Common.{◌∷◌, [], Some, refl}
+use Rattle.alt_tables.specs.Stands.{bounds_of}
 use Rattle.alt_run.specs.Turns.{control, obeyed}
 use Rattle.alt_run.proofs.Beginning.{begins_control}
 use Rattle.alt_run.proofs.Bringing.{at_hand_said, behind_kept, brings_line, silent_of}
@@ -10,7 +11,7 @@ returns-in-Err-clause-served g c = λ s stands.
     let state = g.S.Disk.state in
     let old = state c.args.shell.now in
     let new = state c.obey.new.disk in
-    control_unsaid old new s c.args.word c.in-Err.fault
+    control_unsaid old new s c.args.word c.in-Err.fault (bounds_of c.args.tables.now).file
     (begins_control old new c.args.word s (c.in-Err.ensures.works s stands))
     (c.in-Err.ensures.fault s stands)
 
@@ -42,7 +43,7 @@ returns-in-Err-say-clause-served g c = λ s stands.
     let state = g.S.Disk.state in
     let old = state c.args.shell.now in
     let mid = state c.obey.new.disk in
-    turn_cut old mid (state c.say.new.self) c.obey.new.tables s (control c.args.word) obeyed []
+    turn_cut old mid (state c.say.new.self) c.obey.new.tables (bounds_of c.args.tables.now).file s (control c.args.word) obeyed []
     obeyed.text (begins_control old mid c.args.word s (c.in-Ok.ensures.works s stands))
     (c.in-Ok.ensures.stands s stands)
     c.in-Err-say.ensures.call

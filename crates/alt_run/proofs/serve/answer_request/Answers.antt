@@ -1,8 +1,11 @@
-use Rattle.std.proofs.Common.{◌∷◌, [], ◌∙◌, ap, subst}
+use Rattle.std.proofs.Common.{◌∷◌, [], ◌∙◌, ◌≤◌, ◌+◌, ap, subst}
 use Rattle.alt_disk.proofs.Runs.{trusted_back}
 use Rattle.alt_disk.specs.Disk.{DiskState}
 use Rattle.alt_machine.specs.State.{State}
 use Rattle.alt_engine.specs.InHand.{Bounds}
+use Rattle.alt_tables.specs.FilesLeft.{most_files}
+use Rattle.alt_tables.specs.Stands.{bounds_of}
+use Rattle.alt_talks.specs.Faults.{IsFileFault}
 use Rattle.alt_talks.specs.Works.{HasFewEntries}
 use Rattle.alt_talks.specs.Turns.{after_turn}
 use Rattle.alt_run.specs.Turns.{request, carried_out}
@@ -31,6 +34,7 @@ returns-in-Err-clause-served g c = λ s stands.
     let here = stands_kept old mid c.now-moment.ensures.call.keeps c.args.tables.now s stands in
     turn_unsaid old new s (request c.args.name.now c.args.body.now)
     (carried_out s c.args.name.now c.args.body.now m) (m ∷ []) c.in-Err.fault
+    (bounds_of c.args.tables.now).file
     (begins old mid new s c.args.name.now c.args.body.now m c.now-moment.ensures.call
     c.now-moment.ensures.log c.now-moment.ensures.told c.in-Err.ensures.goes
     (c.in-Err.ensures.leaves s here))
@@ -44,7 +48,8 @@ returns-in-Err-say-clause-served g c = λ s stands.
     let new : DiskState = state c.reply_text.new.disk in
     let m = c.now-moment.result in
     let here = stands_kept old mid c.now-moment.ensures.call.keeps c.args.tables.now s stands in
-    turn_cut old new (state c.say.new.self) c.reply_text.new.tables s
+    turn_cut old new (state c.say.new.self) c.reply_text.new.tables
+    (bounds_of c.args.tables.now).file s
     (request c.args.name.now c.args.body.now)
     (carried_out s c.args.name.now c.args.body.now m) (m ∷ []) c.as_bytes.result.now
     (begins old mid new s c.args.name.now c.args.body.now m c.now-moment.ensures.call
@@ -130,7 +135,23 @@ returns-clause-served g c = λ s stands.
     c.in-Ok-say.ensures.call c.in-Ok-say.ensures.said c.in-Ok-say.ensures.moments
     (c.as_bytes.ensures.value ∙ c.in-Ok.ensures.text s here))
     (λ (t : State) there. c.in-Err-work.ensures.works t there) c.in-Err-work.fault
-    (λ (t : State) there. c.in-Err-work.ensures.fault t there)
+    (bounds_of c.args.tables.now).file
+    (λ (t : State) there.
+    subst (λ (b : Bounds). IsFileFault (b.file + most_files) c.in-Err-work.fault)
+    c.in-Ok.ensures.limits (c.in-Err-work.ensures.fault t there))
+
+pub returns-in-Ok-work-clause-files : goal.returns-in-Ok-work-clause-files
+returns-in-Ok-work-clause-files g c = λ s stands.
+    let state = g.S.Disk.state in
+    let old : DiskState = state c.args.shell.now in
+    let mid : DiskState = state c.now-moment.new.self in
+    let asked : DiskState = state c.reply_text.new.disk in
+    let here = stands_kept old mid c.now-moment.ensures.call.keeps c.args.tables.now s stands in
+    let there = c.in-Ok.ensures.state s here in
+    subst (λ (b : Bounds). (bounds_of c.work.new.tables).file ≤ b.file + most_files)
+    c.in-Ok.ensures.limits (c.in-Ok-work.ensures.files _
+    (stands_kept asked (state c.say.new.self) c.in-Ok-say.ensures.call.keeps c.reply_text.new.tables _
+    there))
 
 pub returns-in-Err-clause-limits : goal.returns-in-Err-clause-limits
 returns-in-Err-clause-limits g c = ap (λ (b : Bounds). b.limits) c.in-Err.ensures.limits

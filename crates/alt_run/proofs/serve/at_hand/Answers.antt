@@ -1,9 +1,10 @@
 use Rattle.std.proofs.Common.{◌∙◌, ℕ, List, [], sym, subst}
 use Rattle.alt_lines.specs.Reader.{unread}
 use Rattle.alt_lines.specs.Unread.{Tells}
+use Rattle.alt_tables.specs.Stands.{bounds_of}
 use Rattle.alt_talks.specs.Runs.{Stretch}
 use Rattle.alt_run.specs.Runs.{BreaksAtHand, asked_now}
-use Rattle.alt_run.proofs.Hands.{at_some, at_none, hands_none, hands_line, hands_break, hands_memory, hands_all, hands_brings, hands_out}
+use Rattle.alt_run.proofs.Hands.{at_some, at_none, hands_none, hands_line, hands_break, hands_memory, hands_all, hands_brings, hands_files, hands_out}
 use Rattle.alt_talks.proofs.Passing.{passes_none, passes_then, passes_back}
 use Rattle.alt_talks.specs.declared.fault.RunFault.{RunFault}
 use Rattle.alt_run.proofs.serve.at_hand.Goals as goal
@@ -21,7 +22,8 @@ lines-preserved g c =
           (unread c.args.lines.now) (unread c.lines.lines)
           (unread c.next_line.new.lines) found.0 c.lines.invariant.0 found.2
           (state c.answer_line.new.shell) c.answer_line.new.tables
-          (c.in-Ok.ensures.served found.0 told) (c.in-Ok.ensures.brings found.0 told),
+          (c.in-Ok.ensures.served found.0 told) (c.in-Ok.ensures.files found.0 told)
+          (c.in-Ok.ensures.brings found.0 told),
       passes_then _ _ _ c.lines.invariant.1 c.in-Ok.ensures.passes,
       c.in-Ok.ensures.known,
     )
@@ -46,6 +48,14 @@ returns-in-Ok-None-clause-served g c = λ s stands.
     (unread c.next_line.new.lines) (at_none _ _ c.in-Ok-None.field-0-is
     c.in-Ok-None.ensures.none) s stands
 
+pub returns-in-Ok-None-clause-files : goal.returns-in-Ok-None-clause-files
+returns-in-Ok-None-clause-files g c = λ s stands.
+    let state = g.S.Disk.state in
+    hands_files c.args.limits.flush (state c.args.shell.now) c.args.tables.now (state c.lines.shell) c.lines.tables
+    (unread c.args.lines.now) (unread c.lines.lines) c.lines.invariant.0
+    (unread c.next_line.new.lines) (at_none _ _ c.in-Ok-None.field-0-is
+    c.in-Ok-None.ensures.none) s stands
+
 pub returns-in-Ok-None-clause-brings : goal.returns-in-Ok-None-clause-brings
 returns-in-Ok-None-clause-brings g c =
     let state = g.S.Disk.state in
@@ -66,10 +76,11 @@ pub returns-in-Err-clause-served : goal.returns-in-Err-clause-served
 returns-in-Err-clause-served g c = λ s stands.
     let state = g.S.Disk.state in
     subst (λ (fault : RunFault). Stretch (state c.args.shell.now) (state c.lines.shell)
-    (BreaksAtHand fault s (asked_now (unread c.args.lines.now))))
+    (BreaksAtHand fault (bounds_of c.args.tables.now).file s (asked_now (unread c.args.lines.now))))
     (sym c.in-Err.ensures.err)
     (hands_memory c.args.limits.flush (state c.args.shell.now) c.args.tables.now (state c.lines.shell) c.lines.tables
-    (unread c.args.lines.now) (unread c.lines.lines) c.lines.invariant.0 s stands)
+    (unread c.args.lines.now) (unread c.lines.lines) c.lines.invariant.0
+    (bounds_of c.args.tables.now).file s stands)
 
 pub answer_line-requires : goal.answer_line-requires
 answer_line-requires g c =

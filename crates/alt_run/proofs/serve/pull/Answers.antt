@@ -1,6 +1,7 @@
 use Rattle.std.proofs.Common.{◌≡◌, ◌∙◌, ◌<◌, [], length, take, length-take, subst, arith}
 use Rattle.alt_lines.specs.Reader.{unread}
 use Rattle.alt_lines.specs.Unread.{Unread}
+use Rattle.alt_tables.specs.Stands.{bounds_of}
 use Rattle.alt_talks.specs.Runs.{Stretch, Leads}
 use Rattle.alt_run.specs.Runs.{ServesAtHand, BreaksAtHand, asked_now}
 use Rattle.alt_run.proofs.Pulling.{pull_goes, pull_breaks, pull_memory, pull_ends, pull_end_breaks, pull_failed}
@@ -12,7 +13,7 @@ pub returns-in_default-clause-went : goal.returns-in_default-clause-went
 returns-in_default-clause-went g c = λ s stands.
     let state = g.S.Disk.state in
     pull_failed (state c.args.shell.now) (state c.take.new.self) c.in_default.ensures.call
-    c.args.tables.now s stands
+    c.args.tables.now (bounds_of c.args.tables.now).file s stands
     (unread c.args.lines.now) c.in_default.ensures.moments c.in_default.ensures.taken
 
 pub returns-in-Ok-at_hand-clause-went : goal.returns-in-Ok-at_hand-clause-went
@@ -28,6 +29,7 @@ returns-in-Ok-at_hand-clause-went g c = λ s stands.
     (state c.at_hand.new.shell) c.at_hand.new.tables (ServesAtHand s (asked_now u)))
     c.end.ensures
     (c.in-Ok-at_hand.ensures.served s (stands_kept _ _ c.in-Ok.ensures.call.keeps _ s stands)))
+    (bounds_of c.args.tables.now).file (bounds_of c.at_hand.new.tables).file
 
 pub returns-in-Ok-at_hand-clause-brings : goal.returns-in-Ok-at_hand-clause-brings
 returns-in-Ok-at_hand-clause-brings g c =
@@ -46,9 +48,9 @@ returns-in-Err-clause-went g c = λ s stands.
     c.in-Ok.ensures.call c.args.tables.now s stands
     (unread c.args.lines.now) c.requires.going
     (take c.in-Ok.count c.take.new.buf) none c.in-Ok.ensures.taken c.in-Ok.ensures.moments
-    c.in-Err.fault
+    c.in-Err.fault (bounds_of c.args.tables.now).file
     (subst (λ (u : Unread). Stretch (state c.take.new.self) (state c.at_hand.new.shell)
-    (BreaksAtHand c.in-Err.fault s (asked_now u)))
+    (BreaksAtHand c.in-Err.fault (bounds_of c.args.tables.now).file s (asked_now u)))
     c.end.ensures (c.in-Err.ensures.served s (stands_kept _ _ c.in-Ok.ensures.call.keeps _ s stands)))
 
 pub returns-in_default-give-clause-went : goal.returns-in_default-give-clause-went
@@ -65,6 +67,7 @@ returns-in_default-give-clause-went g c = λ s stands.
     c.in-Ok.ensures.call c.args.tables.now s stands
     (unread c.args.lines.now) c.requires.going
     (take c.in-Ok.count c.take.new.buf) some c.in-Ok.ensures.taken c.in-Ok.ensures.moments
+    (bounds_of c.args.tables.now).file
 
 pub returns-in-Ok-at_hand-2-clause-went : goal.returns-in-Ok-at_hand-2-clause-went
 returns-in-Ok-at_hand-2-clause-went g c = λ s stands.
@@ -80,7 +83,9 @@ returns-in-Ok-at_hand-2-clause-went g c = λ s stands.
     c.in-Ok.ensures.call c.args.tables.now s stands
     (unread c.args.lines.now) c.requires.going
     (take c.in-Ok.count c.take.new.buf) some c.in-Ok.ensures.taken c.in-Ok.ensures.moments
-    c.at_hand-2.new.tables _ _ c.in-Ok-give.ensures.ok
+    c.at_hand-2.new.tables _ _ (bounds_of c.args.tables.now).file
+    (bounds_of c.at_hand-2.new.tables).file c.in-Ok-give.ensures.ok
+    (c.in-Ok-at_hand-2.ensures.files s (stands_kept _ _ c.in-Ok.ensures.call.keeps _ s stands))
     (c.in-Ok-at_hand-2.ensures.served s (stands_kept _ _ c.in-Ok.ensures.call.keeps _ s stands))
     c.in-Ok-at_hand-2.ensures.lines
 
@@ -113,9 +118,10 @@ returns-in-Err-at_hand-clause-went g c = λ s stands.
     c.in-Ok.ensures.call c.args.tables.now s stands
     (unread c.args.lines.now) c.requires.going
     (take c.in-Ok.count c.take.new.buf) some c.in-Ok.ensures.taken c.in-Ok.ensures.moments
-    c.in-Err-at_hand.fault
+    c.in-Err-at_hand.fault (bounds_of c.args.tables.now).file
     (subst (λ (u : Unread). Stretch (state c.take.new.self)
-    (state c.at_hand-2.new.shell) (BreaksAtHand c.in-Err-at_hand.fault s
+    (state c.at_hand-2.new.shell) (BreaksAtHand c.in-Err-at_hand.fault
+    (bounds_of c.args.tables.now).file s
     (asked_now u)))
     c.in-Ok-give.ensures.ok
     (c.in-Err-at_hand.ensures.served s (stands_kept _ _ c.in-Ok.ensures.call.keeps _ s stands)))

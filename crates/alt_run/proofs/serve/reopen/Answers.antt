@@ -1,9 +1,8 @@
 use Rattle.std.proofs.Common.{IsTrue, subst}
 use Rattle.alt_disk.proofs.Runs.{tells_of}
-use Rattle.alt_opening.specs.Recovery.{WasLeft}
-use Rattle.alt_tables.proofs.Left.{stands_left, stands_read, stands_trusted}
-use Rattle.alt_tables.specs.Images.{StandsFor}
-use Rattle.alt_talks.proofs.Stopping.{leaves-weaker}
+use Rattle.alt_tables.proofs.Left.{stands_read, stands_trusted}
+use Rattle.alt_tables.specs.Stands.{bounds_of}
+use Rattle.alt_run.proofs.Reopening.{files_again}
 use Rattle.alt_run.proofs.Opening.{still_stands, readable_cause, opening_works}
 use Rattle.alt_run.proofs.serve.reopen.Goals as goal
 
@@ -36,3 +35,9 @@ returns-in-Err-clause-fault g c = λ s stands.
     let old = g.D.Disk.state c.args.disk.now in
     readable_cause c.in-Err.fault old.file s (stands_read old c.args.tables.now s stands)
     (c.in-Err.ensures.unreadable (tells_of old (stands_trusted _ _ _ stands)))
+
+pub returns-in-Ok-clause-files : goal.returns-in-Ok-clause-files
+returns-in-Ok-clause-files g c = λ s stands.
+    let old = g.D.Disk.state c.args.disk.now in
+    files_again old c.args.tables.now s stands (bounds_of c.in-Ok.opened).file
+    (c.in-Ok.ensures.next_file (tells_of old (stands_trusted _ _ _ stands)))

@@ -1,4 +1,5 @@
 use Rattle.std.proofs.Common.{◌∷◌, [], refl}
+use Rattle.alt_tables.specs.Stands.{bounds_of}
 use Rattle.alt_run.specs.Turns.{unread, turned_away}
 use Rattle.alt_run.proofs.Serving.{turn_served, turn_cut}
 use Rattle.alt_run.proofs.Beginning.{begins_away}
@@ -26,6 +27,6 @@ pub returns-in-Err-clause-served : goal.returns-in-Err-clause-served
 returns-in-Err-clause-served g c = λ s stands.
     let state = g.S.Disk.state in
     let old = state c.args.shell.now in
-    turn_cut old old (state c.say.new.self) c.args.tables.now s unread turned_away []
+    turn_cut old old (state c.say.new.self) c.args.tables.now (bounds_of c.args.tables.now).file s unread turned_away []
     turned_away.text (begins_away old c.args.tables.now s stands) stands
     c.in-Err.ensures.call c.in-Err.ensures.moments refl c.in-Err.ensures.said

@@ -69,7 +69,7 @@ returns-in-Err-work-clause-counted g c = λ s stands.
     (c.as_bytes.ensures.value ∙ c.in-Ok.ensures.text s stands) tally))
     (c.in-Err-work.ensures.works _ there) c.in-Err-work.fault (bounds_of c.args.tables.now).file
     (subst (λ (b : Bounds). IsFileFault (b.file + most_files) c.in-Err-work.fault)
-    c.in-Ok.ensures.limits (c.in-Err-work.ensures.reach _ there))
+    c.in-Ok.ensures.limits (c.in-Err-work.ensures.fault _ there))
 
 pub returns-in-Ok-work-clause-files : goal.returns-in-Ok-work-clause-files
 returns-in-Ok-work-clause-files g c = λ s stands.

@@ -12,8 +12,10 @@ use Rattle.alt_disk.specs.Runs.{Run}
 use Rattle.alt_disk.proofs.Runs.{run_weaker, run_then}
 use Rattle.alt_disk.proofs.Settled.{settled_front, synced_settled}
 use Rattle.alt_disk.proofs.Shapes.{gap_stays, synced_fits}
-use Rattle.alt_gatelog.specs.Log.{Form, first_form, header, framed, behind_gates, log_front, log_after, gates_from, IsLog, IsShortEntry, BeforeOrAfter}
+use Rattle.alt_gatelog.specs.Log.{header, framed, behind_gates, log_front, log_after, gates_from, IsLog, IsShortEntry, BeforeOrAfter}
 use Rattle.alt_gatelog.specs.InHand.{ReadsAs, StandsAs, AroundWrite, Lasts}
+use Rattle.alt_gatelog.specs.declared.form.Form.{Form}
+use Rattle.alt_gatelog.specs.declared.form.Form.TheVariants.{One, Two}
 
 -- the last of several entries stands behind the others
 behind_push : (entries : List (List ℕ)) (entry rest : List ℕ)
@@ -40,7 +42,8 @@ length-framed entry = length-append (to_be_bytes w64 (length entry)) entry
 -- a header has eight bytes
 pub length-header : (form : Form) → length (header form) ≡ 8
 unfolding header
-length-header first_form = refl
+length-header One = refl
+length-header Two = refl
 
 -- and stands before the entries
 pub length-front : (form : Form) (entries : List (List ℕ))

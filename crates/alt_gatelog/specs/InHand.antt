@@ -3,12 +3,13 @@ use Rattle.std.specs.Prelude.{◌≡◌, ◌≢◌, ◌⊎◌, ℕ, List, length
 use Rattle.std.specs.List.{AllByRecursion}
 use Rattle.alt_disk.specs.Fates.{Fits, synced, wrote}
 use Rattle.alt_disk.specs.Disk.{DiskState, IsSettled, now}
-use Rattle.alt_gatelog.specs.Log.{Form, first_form, log_front, log_bytes, gates_from, IsShortEntry}
+use Rattle.alt_gatelog.specs.Log.{log_front, log_bytes, gates_from, IsShortEntry}
+use Rattle.alt_gatelog.specs.declared.form.Form.{Form}
 use Rattle.alt_gatelog.specs.declared.gatelog.GateLog.{GateLog}
 
--- its form, the one that there is today
+-- its form
 abbrev pub form_of : GateLog → Form
-form_of log = first_form
+form_of log = log.form
 
 -- the number of its file
 abbrev pub file_of : GateLog → ℕ
@@ -64,6 +65,7 @@ Stands s log entries = StandsAs (form_of log) s log.file log.gate log.places.ite
 
 -- it is the same log: a call left it as it was
 pub record SameLog (old new : GateLog) : Type 0 where
+  pub form : new.form ≡ old.form
   pub file : new.file ≡ old.file
   pub gate : new.gate ≡ old.gate
   pub places : new.places.items ≡ old.places.items

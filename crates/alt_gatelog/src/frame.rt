@@ -1,8 +1,8 @@
 //! An entry as it stands in the file: its gate, its length in eight bytes, and its bytes.
 
-ghost use Rattle.std.specs.Prelude.{◌≡◌, ◌≢◌, true, false, ◌<◌, ◌≤◌, ◌+◌, ◌-◌, ◌^◌, ◌∷◌, ◌++◌, [], ℕ, List, IfOk, IfSome, IfNone, length, take, drop};
+ghost use Rattle.std.specs.Prelude.{◌≡◌, ◌<◌, ◌≤◌, ◌+◌, ◌-◌, ◌^◌, ◌∷◌, ◌++◌, [], ℕ, List, IfOk, IfSome, IfNone, length, take, drop};
 ghost use Rattle.std.specs.Int.{w64, to_be_bytes};
-ghost use Rattle.alt_gatelog.specs.Log.{first_form, framed, header, IsCut};
+ghost use Rattle.alt_gatelog.specs.Log.{framed, IsCut};
 ghost use Rattle.alt_gatelog.specs.Parse.{GateIs, HasRoom};
 
 use std::alloc::{AllocError, Global};
@@ -27,14 +27,6 @@ pub(crate) fn frame(alloc: Global, bytes: &[u8]) -> Result<Vec<u8>, AllocError>
     block.extend_from_slice(bytes)?;
     block.push(0)?;
     Ok(block)
-}
-
-/// Whether these bytes are the header of a log.
-pub(crate) fn is_header(head: &[u8]) -> bool
-    ensures yes { result ≡ true → head.now ≡ header first_form }
-    ensures no { result ≡ false → head.now ≢ header first_form }
-{
-    head == b"ALTLOG01".as_slice()
 }
 
 /// What stands at a gate's place, by its first nine bytes and how many bytes there are to the file's end. None where the file ends

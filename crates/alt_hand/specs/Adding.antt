@@ -4,6 +4,8 @@ use Rattle.std.specs.FinMap.{empty}
 use Rattle.alt_disk.specs.Disk.{DiskState}
 use Rattle.alt_families.specs.Families.{rows_in}
 use Rattle.alt_families.specs.declared.family.Family.{Family}
+use Rattle.alt_gatelog.specs.InHand.{file_of as log_file, form_of}
+use Rattle.alt_gatelog.specs.declared.form.Form.TheVariants.{Two}
 use Rattle.alt_layout.specs.Families.{files_of, flushed_of}
 use Rattle.alt_layout.specs.Files.{Image, IsOf}
 use Rattle.alt_layout.specs.Fresh.{versions_file}
@@ -58,11 +60,13 @@ pub record LeavesOut (live : List ℕ) (old new : Hand) : Type 0 where
 
 -- ---- A flush of all.
 
--- The new version names a new segment alone, so none of the old ones, and no family that isn't live.
+-- The new version names a new segment alone, of the second form, so none of the old ones, and no family that isn't live.
 pub record IsOverNewLog (live : List ℕ) (old new : Hand) : Type 0 where
   pub segment : ℕ
   pub segments : (version_in new).segments ≡ segment ∷ []
   pub last : next_file_of new ≡ segment + 1
+  pub log : log_file new.log ≡ segment
+  pub form : form_of new.log ≡ Two
   pub left : (f : ℕ) → IsIn (version_in old).segments f → IsOf (version_in new) f → ⊥
   pub only : (family : ℕ) → IsIn (numbers_of (version_in new).families) family
       → IsIn live family

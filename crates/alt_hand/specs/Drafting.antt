@@ -1,17 +1,15 @@
 -- A draft of the next version, with the families in hand as they are by it. Private contracts alone cite these words.
-use Rattle.std.specs.Prelude.{◌≡◌, ◌⊎◌, ◌≤◌, ◌+◌, ◌-◌, ◌^◌, ℕ, Bool, true, false, List, [], ◌∷◌, ◌++◌, length, map, min, Option}
+use Rattle.std.specs.Prelude.{◌≡◌, ◌⊎◌, ◌≤◌, ◌+◌, ◌-◌, ◌^◌, ℕ, Bool, true, false, List, [], ◌∷◌, ◌++◌, length, Option}
 use Rattle.std.specs.BTreeMap.{get}
 use Rattle.std.specs.FinMap.{empty, entries}
 use Rattle.std.specs.Ordering.{nat_cmp}
 use Rattle.alt_disk.specs.Disk.{DiskState}
 use Rattle.alt_flush.specs.Drafts.{Drafted, without}
-use Rattle.alt_gatelog.specs.InHand.{file_of as log_file, Reads as LogReads}
+use Rattle.alt_gatelog.specs.InHand.{file_of as log_file}
 use Rattle.alt_manifest.specs.InHand.{file_of as manifest_file, version_of, Stands as ManifestStands}
 use Rattle.alt_manifest.specs.Versions.{IsIn}
 use Rattle.alt_manifest.specs.declared.manifest.Manifest.{Manifest}
 use Rattle.alt_manifest.specs.declared.version.Version.{Version}
-use Rattle.alt_memtable.specs.Rows.{most_bytes}
-use Rattle.alt_writes.specs.Bytes.{write_bytes}
 use Rattle.alt_writes.specs.Writes.{Write}
 use Rattle.alt_layout.specs.Families.{Held, files_of, flushed_of, layout_of, with_later}
 use Rattle.alt_layout.specs.Files.{EndsWith, Image, IsLayout, all_of}
@@ -21,7 +19,7 @@ use Rattle.alt_layout.specs.Layout.{Layout}
 use Rattle.alt_families.specs.Families.{Families, rows_in, files_in}
 use Rattle.alt_families.specs.declared.family.Family.{Family}
 use Rattle.alt_rowfile.specs.declared.rowfile.RowFile.{RowFile}
-use Rattle.alt_hand.specs.InHand.{AreOpen, written_bytes}
+use Rattle.alt_hand.specs.InHand.{AreOpen, IsLength, LogHolds}
 use Rattle.alt_hand.specs.declared.hand.Hand.{Hand}
 use Rattle.alt_hand.specs.declared.hand.EngineFault.{EngineFault}
 use Rattle.alt_hand.specs.Faults.{told_by_engine}
@@ -46,8 +44,8 @@ pub record IsReady (s : DiskState) (e : Hand) (u : Version) (l : Layout) : Type 
   pub manifest : ManifestStands s e.manifest
   pub first : manifest_file e.manifest ≡ versions_file
   pub ends : EndsWith u parts (log_file e.log) writes
-  pub log : LogReads s e.log (map write_bytes writes)
-  pub length : e.length ≡ min (written_bytes (all_of parts)) most_bytes
+  pub log : LogHolds s e.log writes
+  pub length : IsLength s.file u.segments e.length
   pub next : e.next ≡ l.next_number
 
 -- The store lies on the disk by the version in hand, with this layout.

@@ -10,6 +10,7 @@ ghost use Rattle.alt_hand.specs.Carrying.{Carries};
 ghost use Rattle.alt_hand.specs.Merging.{files_at};
 ghost use Rattle.alt_hand.specs.InHand.{limits_of, next_file_of, next_of, Reads, Stands, IsSpentAt, batch_write, BeforeOrWith, IsWritten};
 
+use crate::entry::entry_of;
 use crate::full::full_after;
 use alt_base::NoMemory;
 use alt_cells::{Batch, SourceFault};
@@ -17,7 +18,6 @@ use alt_disk::{Disk, DiskFault};
 use alt_families::{Family, put_changes, with_more};
 use alt_gatelog::GateLog;
 use alt_manifest::Manifest;
-use alt_writes::write_of;
 use std::alloc::Global;
 use std::collections::BTreeMap;
 
@@ -150,7 +150,7 @@ impl Hand {
         if self.next >= LAST_NUMBER {
             return Err(EngineFault::Spent { number: self.next });
         }
-        let bytes = write_of(self.alloc, self.next, batch.as_slice())?;
+        let bytes = entry_of(self.alloc, self.log.form(), self.next, batch)?;
 
         // The rows go into memory first, so that nothing but the disk can fail once the entry is on its way.
         put_changes(self.alloc, &mut self.families, self.next, batch.as_slice())?;

@@ -12,10 +12,10 @@ use crate::format::bytes_of;
 use crate::read::{Stop, version_of_bytes};
 use crate::version::Version;
 use alt_disk::{Disk, DiskFault};
-use alt_gatelog::{GateLog, LogFault};
+use alt_gatelog::{Form, GateLog, LogFault};
 use std::alloc::Global;
 
-/// A log of versions in a file, with the last one in memory.
+/// A log of versions in a file, of the first form, with the last one in memory.
 #[derive(Drop)]
 pub struct Manifest {
     pub(crate) alloc: Global,
@@ -56,7 +56,7 @@ impl Manifest {
             Ok(bytes) => bytes,
             Err(_) => return Err(DiskFault::NoMemory),
         };
-        let mut log = GateLog::make(alloc, disk, f)?;
+        let mut log = GateLog::make(alloc, disk, f, Form::One)?;
         log.append(disk, bytes.as_slice())?;
         Ok(Manifest {
             alloc,
@@ -119,7 +119,10 @@ impl Manifest {
             → (D.state disk.new).faults ≡ (D.state disk.old).faults }
     {
         match GateLog::recover(alloc, disk, f) {
-            Ok(log) => last_version(alloc, disk, f, log),
+            Ok(log) => match log.form() {
+                Form::One => last_version(alloc, disk, f, log),
+                Form::Two => Err(LogFault::Damaged { file: f, at: 0 }),
+            },
             Err(fault) => Err(fault),
         }
     }

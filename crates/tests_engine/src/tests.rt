@@ -1,5 +1,6 @@
 mod flushed;
 mod fresh;
+mod kept;
 mod merged;
 mod opened;
 mod written;

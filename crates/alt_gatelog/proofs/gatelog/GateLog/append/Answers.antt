@@ -4,7 +4,7 @@ use Rattle.alt_disk.specs.Fates.{synced}
 use Rattle.alt_disk.specs.Disk.{DiskState, IsTrusted, contents, overwritten}
 use Rattle.alt_disk.specs.Runs.{Run}
 use Rattle.alt_disk.proofs.Runs.{trusted_on}
-use Rattle.alt_gatelog.specs.Log.{first_form, framed}
+use Rattle.alt_gatelog.specs.Log.{framed}
 use Rattle.alt_gatelog.specs.InHand.{AroundWrite, Lasts}
 use Rattle.alt_gatelog.proofs.Append.{first_run, second_run, staged_is, opened_is, after_is, stands_after, below_push}
 use Rattle.alt_gatelog.proofs.gatelog.GateLog.append.Goals as goal
@@ -18,7 +18,7 @@ returns-in_err-write_and_sync-clause-any_moment g c trusted entries stands =
     let s1 : DiskState = g.D.Disk.state c.write_and_sync.new.disk in
     let block : c.as_slice.result.now ≡ framed entry ++ 0 ∷ [] =
     c.as_slice.ensures.value ∙ c.in_ok-block.ensures.block in
-    first_run first_form s0 log.file log.gate log.places.items entries entry
+    first_run log.form s0 log.file log.gate log.places.items entries entry
     c.in_ok-block.ensures.fits stands.reads stands.settled s1
     (subst (λ (b : List ℕ). Run s0 s1 log.file (AroundWrite s0 log.file (log.gate + 1) (length b)))
     block (c.write_and_sync.ensures.any_moment trusted))
@@ -40,10 +40,10 @@ returns-in_err-write_and_sync-2-clause-any_moment g c trusted entries stands =
     subst (λ (b : List ℕ). Run s0 s1 log.file (AroundWrite s0 log.file (log.gate + 1) (length b)))
     block (c.write_and_sync.ensures.any_moment trusted) in
     let written = ap (λ (b : List ℕ). overwritten (contents s0 log.file) (log.gate + 1) b) block
-    ∙ staged_is first_form s0 log.file log.gate log.places.items entries entry short
+    ∙ staged_is log.form s0 log.file log.gate log.places.items entries entry short
     stands.reads in
     let kept = (c.in_ok-write_and_sync.ensures.ok trusted).kept ∙ ap synced written in
-    second_run first_form s0 log.file log.gate log.places.items entries entry short stands.reads
+    second_run log.form s0 log.file log.gate log.places.items entries entry short stands.reads
     stands.settled s1 s2 first kept (c.write_and_sync-2.ensures.any_moment trusted_1)
 
 pub returns-clause-any_moment : goal.returns-clause-any_moment
@@ -62,10 +62,10 @@ returns-clause-any_moment g c trusted entries stands =
     subst (λ (b : List ℕ). Run s0 s1 log.file (AroundWrite s0 log.file (log.gate + 1) (length b)))
     block (c.write_and_sync.ensures.any_moment trusted) in
     let written = ap (λ (b : List ℕ). overwritten (contents s0 log.file) (log.gate + 1) b) block
-    ∙ staged_is first_form s0 log.file log.gate log.places.items entries entry short
+    ∙ staged_is log.form s0 log.file log.gate log.places.items entries entry short
     stands.reads in
     let kept = (c.in_ok-write_and_sync.ensures.ok trusted).kept ∙ ap synced written in
-    second_run first_form s0 log.file log.gate log.places.items entries entry short stands.reads
+    second_run log.form s0 log.file log.gate log.places.items entries entry short stands.reads
     stands.settled s1 s2 first kept (c.write_and_sync-2.ensures.any_moment trusted_1)
 
 pub returns-clause-ok : goal.returns-clause-ok
@@ -81,12 +81,12 @@ returns-clause-ok g c trusted entries reads =
     let short = c.in_ok-block.ensures.fits in
     let first = c.in_ok-write_and_sync.ensures.ok trusted in
     let written = ap (λ (b : List ℕ). overwritten (contents s0 log.file) (log.gate + 1) b) block
-    ∙ staged_is first_form s0 log.file log.gate log.places.items entries entry short reads in
-    let lasts = subst (Lasts s2 log.file) (opened_is first_form s0 log.file log.gate
+    ∙ staged_is log.form s0 log.file log.gate log.places.items entries entry short reads in
+    let lasts = subst (Lasts s2 log.file) (opened_is log.form s0 log.file log.gate
     log.places.items entries entry short reads s1
     (first.file ∙ ap (λ (l : List ℕ). Some l) written))
     (c.in_ok-write_and_sync-2.ensures.ok trusted_1) in
-    stands_after first_form s0 log.file log.gate log.places.items entries entry short reads s2
+    stands_after log.form s0 log.file log.gate log.places.items entries entry short reads s2
     (log.gate + c.len.result) c.push_reserved.new.self.items lasts
     (omega (arith, c.len.ensures, c.in_ok-block.ensures.short))
     (c.push_reserved.ensures.items ∙ ap (λ (l : List ℕ). l ++ log.gate ∷ [])
@@ -104,13 +104,13 @@ returns-clause-bytes g c trusted entries reads =
     let short = c.in_ok-block.ensures.fits in
     let first = c.in_ok-write_and_sync.ensures.ok trusted in
     let written = ap (λ (b : List ℕ). overwritten (contents s0 log.file) (log.gate + 1) b) block
-    ∙ staged_is first_form s0 log.file log.gate log.places.items entries entry short reads in
-    let opened = opened_is first_form s0 log.file log.gate log.places.items entries entry short
+    ∙ staged_is log.form s0 log.file log.gate log.places.items entries entry short reads in
+    let opened = opened_is log.form s0 log.file log.gate log.places.items entries entry short
     reads s1
     (first.file ∙ ap (λ (l : List ℕ). Some l) written) in
     (c.in_ok-write_and_sync-2.ensures.ok trusted_1).file
     ∙ ap (λ (l : List ℕ). Some l)
-    (opened ∙ after_is first_form s0 log.file log.gate log.places.items entries entry short reads)
+    (opened ∙ after_is log.form s0 log.file log.gate log.places.items entries entry short reads)
 
 pub invariant_of-self-2 : goal.invariant_of-self-2
 invariant_of-self-2 g c =

@@ -1,18 +1,18 @@
 -- A batch is an entry of the last segment, and its rows are in memory before.
-use Rattle.std.proofs.Common.{◌≡◌, ◌<◌, ℕ, List, false, ◌+◌, map, min, ap, subst, sym, ◌∙◌}
+use Rattle.std.proofs.Common.{◌≡◌, ◌<◌, ℕ, List, false, ◌+◌, min, ap, subst, sym, ◌∙◌}
 use Rattle.alt_memtable.specs.Rows.{most_bytes}
 use Rattle.alt_disk.specs.Disk.{DiskState}
-use Rattle.alt_writes.specs.Bytes.{write_bytes}
 use Rattle.std.specs.BTreeMap.{get}
 use Rattle.std.specs.Ordering.{nat_cmp}
 use Rattle.alt_cells.specs.declared.batch.RowChange.{RowChange}
 use Rattle.alt_families.specs.Memory.{IsChanged, IsWrittenTo}
 use Rattle.alt_hand.specs.InHand.{bytes_in}
-use Rattle.alt_hand.proofs.ApplyLaws.{at_rest, fits_as, log_stands, spelled_as}
+use Rattle.alt_hand.proofs.ApplyLaws.{at_rest, entry_is, log_stands}
 use Rattle.alt_hand.proofs.CarryLaws.{carries_write}
 use Rattle.alt_hand.proofs.HandLaws.{write_images, with_batch}
 use Rattle.alt_hand.proofs.FullLaws.{still_below}
-use Rattle.alt_gatelog.specs.Log.{BeforeOrAfter, first_form}
+use Rattle.alt_gatelog.specs.Log.{BeforeOrAfter}
+use Rattle.alt_gatelog.specs.InHand.{form_of}
 use Rattle.alt_hand.proofs.hand.Hand.apply.Goals as goal
 
 pub returns-then-self-ge-LAST_NUMBER-clause-any_moment :
@@ -33,73 +33,61 @@ returns-in-Err-Failed-clause-any_moment g c trusted l stands =
     let s : DiskState = g.D.Disk.state c.args.disk.now in
     let e = c.args.self.now in
     let batch = c.args.batch.now in
-    write_images s (g.D.Disk.state c.append.new.disk) e l batch c.as_slice-4.result.now stands
-    (spelled_as s e l c.as_slice.result.now batch c.as_slice-4.result.now _ stands
-    c.as_slice.ensures.changes c.as_slice-4.ensures.value c.in_ok-bytes.ensures.bytes)
-    (fits_as s e l c.as_slice.result.now batch stands c.as_slice.ensures.changes
-    c.in_ok-bytes.ensures.held)
-    (c.append.ensures.any_moment trusted (map write_bytes stands.reads.writes)
-    (log_stands s e l stands))
+    write_images s (g.D.Disk.state c.append.new.disk) e l batch c.as_slice-3.result.now stands
+    (entry_is s e l batch c.form.result c.as_slice-3.result.now c.in_ok-bytes.bytes.items stands
+    c.form.ensures c.as_slice-3.ensures.value c.in_ok-bytes.ensures)
+    (c.append.ensures.any_moment trusted stands.reads.log.entries (log_stands s e l stands))
 
 pub returns-in-Err-NoMemory-clause-any_moment : goal.returns-in-Err-NoMemory-clause-any_moment
 returns-in-Err-NoMemory-clause-any_moment g c trusted l stands =
     let s : DiskState = g.D.Disk.state c.args.disk.now in
     let e = c.args.self.now in
     let batch = c.args.batch.now in
-    write_images s (g.D.Disk.state c.append.new.disk) e l batch c.as_slice-4.result.now stands
-    (spelled_as s e l c.as_slice.result.now batch c.as_slice-4.result.now _ stands
-    c.as_slice.ensures.changes c.as_slice-4.ensures.value c.in_ok-bytes.ensures.bytes)
-    (fits_as s e l c.as_slice.result.now batch stands c.as_slice.ensures.changes
-    c.in_ok-bytes.ensures.held)
-    (c.append.ensures.any_moment trusted (map write_bytes stands.reads.writes)
-    (log_stands s e l stands))
+    write_images s (g.D.Disk.state c.append.new.disk) e l batch c.as_slice-3.result.now stands
+    (entry_is s e l batch c.form.result c.as_slice-3.result.now c.in_ok-bytes.bytes.items stands
+    c.form.ensures c.as_slice-3.ensures.value c.in_ok-bytes.ensures)
+    (c.append.ensures.any_moment trusted stands.reads.log.entries (log_stands s e l stands))
 
 pub returns-clause-any_moment : goal.returns-clause-any_moment
 returns-clause-any_moment g c trusted l stands =
     let s : DiskState = g.D.Disk.state c.args.disk.now in
     let e = c.args.self.now in
     let batch = c.args.batch.now in
-    write_images s (g.D.Disk.state c.append.new.disk) e l batch c.as_slice-4.result.now stands
-    (spelled_as s e l c.as_slice.result.now batch c.as_slice-4.result.now _ stands
-    c.as_slice.ensures.changes c.as_slice-4.ensures.value c.in_ok-bytes.ensures.bytes)
-    (fits_as s e l c.as_slice.result.now batch stands c.as_slice.ensures.changes
-    c.in_ok-bytes.ensures.held)
-    (c.append.ensures.any_moment trusted (map write_bytes stands.reads.writes)
-    (log_stands s e l stands))
+    write_images s (g.D.Disk.state c.append.new.disk) e l batch c.as_slice-3.result.now stands
+    (entry_is s e l batch c.form.result c.as_slice-3.result.now c.in_ok-bytes.bytes.items stands
+    c.form.ensures c.as_slice-3.ensures.value c.in_ok-bytes.ensures)
+    (c.append.ensures.any_moment trusted stands.reads.log.entries (log_stands s e l stands))
 
 pub returns-clause-ok : goal.returns-clause-ok
 returns-clause-ok g c trusted l stands =
     let s : DiskState = g.D.Disk.state c.args.disk.now in
     let e = c.args.self.now in
     let batch = c.args.batch.now in
-    with_batch s (g.D.Disk.state c.append.new.disk) e l batch c.as_slice-4.result.now stands
-    (spelled_as s e l c.as_slice.result.now batch c.as_slice-4.result.now _ stands
-    c.as_slice.ensures.changes c.as_slice-4.ensures.value c.in_ok-bytes.ensures.bytes)
-    (fits_as s e l c.as_slice.result.now batch stands c.as_slice.ensures.changes
-    c.in_ok-bytes.ensures.held)
-    (c.append.ensures.any_moment trusted (map write_bytes stands.reads.writes)
-    (log_stands s e l stands)) c.append.new.self c.with_more-self.result c.put_changes.new.families
-    c.append.ensures.file
-    (c.in-Ok.ensures.ok trusted (map write_bytes stands.reads.writes) stands.reads.log)
+    with_batch s (g.D.Disk.state c.append.new.disk) e l batch c.as_slice-3.result.now stands
+    (entry_is s e l batch c.form.result c.as_slice-3.result.now c.in_ok-bytes.bytes.items stands
+    c.form.ensures c.as_slice-3.ensures.value c.in_ok-bytes.ensures)
+    (c.append.ensures.any_moment trusted stands.reads.log.entries (log_stands s e l stands))
+    c.append.new.self c.with_more-self.result c.put_changes.new.families
+    c.append.ensures.file c.append.ensures.form
+    (c.in-Ok.ensures.ok trusted stands.reads.log.entries stands.reads.log.reads)
     (c.with_more-self.ensures ∙ ap (λ n. min (e.length + n) most_bytes)
-    (c.len.ensures ∙ sym c.as_slice-4.ensures.len))
-    (subst (IsWrittenTo e.families c.put_changes.new.families e.next) c.as_slice-2.ensures.changes
+    (c.len.ensures ∙ sym c.as_slice-3.ensures.len))
+    (subst (IsWrittenTo e.families c.put_changes.new.families e.next) c.as_slice.ensures.changes
     c.in_ok-put_changes.ensures.written) c.full_after-self.result
     (still_below e.families c.put_changes.new.families e.limits.flush e.full batch
     c.full_after-self.result stands.reads.calm
     (subst (λ (cs : List RowChange). (f : ℕ) → (IsChanged cs f → ⊥)
     → get nat_cmp c.put_changes.new.families f ≡ get nat_cmp e.families f)
-    c.as_slice-2.ensures.changes c.in_ok-put_changes.ensures.others) c.full_after-self.ensures.before
+    c.as_slice.ensures.changes c.in_ok-put_changes.ensures.others) c.full_after-self.ensures.before
     (subst (λ (cs : List RowChange). c.full_after-self.result ≡ false → (f : ℕ) → IsChanged cs f
     → bytes_in (get nat_cmp c.put_changes.new.families f) < e.limits.flush)
-    c.as_slice-3.ensures.changes c.full_after-self.ensures.changed))
+    c.as_slice-2.ensures.changes c.full_after-self.ensures.changed))
 
 pub returns-clause-carries : goal.returns-clause-carries
 returns-clause-carries g c trusted l stands family =
     let e = c.args.self.now in
     carries_write (g.D.Disk.state c.args.disk.now) (g.D.Disk.state c.append.new.disk) e l stands
-    (BeforeOrAfter first_form (map write_bytes stands.reads.writes) c.as_slice-4.result.now)
-    (c.append.ensures.any_moment trusted (map write_bytes stands.reads.writes)
-    (log_stands (g.D.Disk.state c.args.disk.now) e l stands)) c.append.new.self
+    (BeforeOrAfter (form_of e.log) stands.reads.log.entries c.as_slice-3.result.now)
+    (c.append.ensures.any_moment trusted stands.reads.log.entries (log_stands (g.D.Disk.state c.args.disk.now) e l stands)) c.append.new.self
     c.with_more-self.result (e.next + 1) c.put_changes.new.families c.full_after-self.result
-    c.as_slice-2.result.now e.next family c.in_ok-put_changes.ensures.written
+    c.as_slice.result.now e.next family c.in_ok-put_changes.ensures.written

@@ -39,6 +39,11 @@ pub length-framed : (entry : List ℕ) → length (framed entry) ≡ 8 + length 
 unfolding framed
 length-framed entry = length-append (to_be_bytes w64 (length entry)) entry
 
+-- and its frame has the next gate behind it
+pub length-block : (entry : List ℕ) → length (framed entry ++ 0 ∷ []) ≡ length entry + 9
+length-block entry =
+    omega (arith, length-append (framed entry) (0 ∷ []), length-framed entry)
+
 -- a header has eight bytes
 pub length-header : (form : Form) → length (header form) ≡ 8
 unfolding header

@@ -2,7 +2,8 @@
 
 ghost use Rattle.std.specs.Prelude.{◌≡◌, ◌<◌, ◌≤◌, ◌+◌, ◌-◌, ◌^◌, ◌∷◌, ◌++◌, [], ℕ, List, IfOk, IfSome, IfNone, length, take, drop};
 ghost use Rattle.std.specs.Int.{w64, to_be_bytes};
-ghost use Rattle.alt_gatelog.specs.Log.{framed, IsCut};
+ghost use Rattle.alt_gatelog.specs.InHand.{IsFramed};
+ghost use Rattle.alt_gatelog.specs.Log.{IsCut};
 ghost use Rattle.alt_gatelog.specs.Parse.{GateIs, HasRoom};
 
 use std::alloc::{AllocError, Global};
@@ -17,10 +18,8 @@ pub(crate) enum Gate {
 }
 
 /// What an append writes behind the closed gate: the entry with its length, and the next closed gate.
-pub(crate) fn frame(alloc: Global, bytes: &[u8]) -> Result<Vec<u8>, AllocError>
-    ensures block { IfOk result (λ block. block.items ≡ framed bytes.now ++ 0 ∷ []) }
-    ensures short { IfOk result (λ block. length bytes.now + 9 ≡ length block.items) }
-    ensures fits { length bytes.now < 2 ^ 64 }
+pub fn frame_of(alloc: Global, bytes: &[u8]) -> Result<Vec<u8>, AllocError>
+    ensures { IfOk result (λ block. IsFramed block.items bytes.now) }
 {
     let mut block = Vec::with_capacity(alloc, bytes.len() + 9)?;
     block.extend_from_slice(&(bytes.len() as u64).to_be_bytes())?;

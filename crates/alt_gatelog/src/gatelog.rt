@@ -7,10 +7,10 @@ ghost use Rattle.std.specs.List.{All};
 use crate::durable::write_and_sync;
 use crate::fault::LogFault;
 use crate::form::{Form, empty_log};
-use crate::frame::frame;
+use crate::frame::frame_of;
 use crate::read::{size_of_log, walk};
-use alt_disk::{Disk, DiskFault};
-use std::alloc::Global;
+use alt_disk::{Disk, DiskFault, Failed};
+use std::alloc::{AllocError, Global};
 
 /// A gated log: the places of its entries, which lie on the disk.
 #[derive(Drop)]
@@ -30,7 +30,7 @@ impl GateLog {
     ghost use Rattle.alt_disk.specs.Disk.{DiskState, IsTrusted, Goes, contents};
     ghost use Rattle.alt_disk.specs.Runs.{Run, Quiet};
     ghost use Rattle.alt_gatelog.specs.Log.{log_bytes, log_after, gate_place, BeforeOrAfter, ExplainsLog};
-    ghost use Rattle.alt_gatelog.specs.InHand.{file_of, form_of, count_of, place_of, Reads, SameLog, Stands};
+    ghost use Rattle.alt_gatelog.specs.InHand.{file_of, form_of, count_of, place_of, HasPlace, IsFramed, Reads, SameLog, Stands};
     ghost use Rattle.alt_gatelog.specs.Parse.{HasNoLog, IsNoDamage, IsDamageAt};
 
     /// Makes an empty log of a form in a missing file, which then has nine bytes.
@@ -43,25 +43,30 @@ impl GateLog {
         requires { IsTrusted (D.state disk.old) → (D.state disk.old).file f ≡ None }
         ensures file { IfOk result (λ log. file_of log ≡ f) }
         ensures given { IfOk result (λ log. form_of log ≡ form) }
+        ensures room { IfOk result HasPlace }
         ensures made { IfOk result (λ log. IsTrusted (D.state disk.old)
             → Stands (D.state disk.new) log []) }
         ensures bytes { IfOk result (λ log. IsTrusted (D.state disk.old)
             → (D.state disk.new).file f ≡ Some (log_bytes (form_of log) [] 0 [])) }
         ensures any_moment { IsTrusted (D.state disk.old)
             → Run (D.state disk.old) (D.state disk.new) f (λ _ _. ⊤) }
+        ensures no_memory { IsErrOf result DiskFault.NoMemory
+            → D.state disk.new ≡ D.state disk.old }
         ensures calls { OnOk result ((D.state disk.new).moment ≡ (D.state disk.old).moment + 2) }
         ensures goes { Goes (D.state disk.old) (D.state disk.new) }
         ensures cause { IsErrOf result DiskFault.Failed
             → Rose (D.state disk.old).faults (D.state disk.new).faults }
         ensures well { OnOk result ((D.state disk.new).faults ≡ (D.state disk.old).faults) }
     {
+        let mut places = Vec::new(alloc);
+        places.reserve(1)?;
         write_and_sync(disk, f, 0, &empty_log(form))?;
         Ok(GateLog {
             alloc,
             form,
             file: f,
             gate: 8,
-            places: Vec::new(alloc),
+            places,
         })
     }
 
@@ -100,9 +105,50 @@ impl GateLog {
             → Rose (D.state disk.old).faults (D.state disk.new).faults }
         ensures well { OnOk result ((D.state disk.new).faults ≡ (D.state disk.old).faults) }
     {
-        let block = frame(self.alloc, bytes)?;
-        self.places.reserve(1)?;
-        write_and_sync(disk, self.file, self.gate + 1, block.as_slice())?;
+        let block = frame_of(self.alloc, bytes)?;
+        self.reserve()?;
+        self.add(disk, block.as_slice())?;
+        Ok(())
+    }
+
+    /// Takes the memory that an entry more wants beside its frame.
+    pub fn reserve(&mut self) -> Result<(), AllocError>
+        ensures same { SameLog self.old self.new }
+        ensures room { OnOk result (HasPlace self.new) }
+    {
+        self.places.reserve(1)
+    }
+
+    /// Adds an entry by its frame, as `append` does. It takes no memory.
+    pub fn add<D: Disk>(&mut self, disk: &mut D, block: &[u8]) -> Result<(), Failed>
+        requires reads { IsTrusted (D.state disk.old)
+            → (entries : List (List ℕ)) × Reads (D.state disk.old) self.old entries }
+        requires room { HasPlace self.old }
+        ensures file { file_of self.new ≡ file_of self.old }
+        ensures form { form_of self.new ≡ form_of self.old }
+        ensures ok { OnOk result (IsTrusted (D.state disk.old)
+            → (entries : List (List ℕ)) (entry : List ℕ) → IsFramed block.now entry
+            → Reads (D.state disk.old) self.old entries
+            → Stands (D.state disk.new) self.new (entries ++ entry ∷ [])) }
+        ensures bytes { OnOk result (IsTrusted (D.state disk.old)
+            → (entries : List (List ℕ)) (entry : List ℕ) → IsFramed block.now entry
+            → (reads : Reads (D.state disk.old) self.old entries)
+            → (D.state disk.new).file (file_of self.old)
+            ≡ Some (log_after (form_of self.old) entries entry reads.rest)) }
+        ensures err { OnErr result (SameLog self.old self.new) }
+        ensures any_moment { IsTrusted (D.state disk.old)
+            → (entries : List (List ℕ)) (entry : List ℕ) → IsFramed block.now entry
+            → Stands (D.state disk.old) self.old entries
+            → Run (D.state disk.old) (D.state disk.new) (file_of self.old)
+            (BeforeOrAfter (form_of self.old) entries entry) }
+        ensures others { IsTrusted (D.state disk.old)
+            → Run (D.state disk.old) (D.state disk.new) (file_of self.old) (λ _ _. ⊤) }
+        ensures calls { OnOk result ((D.state disk.new).moment ≡ (D.state disk.old).moment + 4) }
+        ensures goes { Goes (D.state disk.old) (D.state disk.new) }
+        ensures cause { OnErr result (Rose (D.state disk.old).faults (D.state disk.new).faults) }
+        ensures well { OnOk result ((D.state disk.new).faults ≡ (D.state disk.old).faults) }
+    {
+        write_and_sync(disk, self.file, self.gate + 1, block)?;
         write_and_sync(disk, self.file, self.gate, &[1])?;
         self.places.push_reserved(self.gate);
         self.gate += block.len() as u64;

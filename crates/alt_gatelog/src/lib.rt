@@ -11,5 +11,6 @@ mod read;
 
 pub use fault::LogFault;
 pub use form::Form;
+pub use frame::frame_of;
 pub use gatelog::GateLog;
 pub use laws::log_laws;

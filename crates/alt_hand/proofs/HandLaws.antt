@@ -1,11 +1,9 @@
 -- An engine in hand, by the store that lies on the disk.
-use Rattle.std.proofs.Common.{◌≡◌, ◌≢◌, ◌≤◌, ◌+◌, ◌==◌, ℕ, Bool, true, false, List, [], ◌∷◌, ◌++◌, length, min, Option, refl, sym, ap, subst, ◌∙◌, arith, inl, inr}
+use Rattle.std.proofs.Common.{◌≡◌, ◌≢◌, ◌+◌, ◌==◌, ℕ, Bool, true, false, List, [], ◌∷◌, ◌++◌, length, min, Option, refl, sym, ap, subst, ◌∙◌, arith, inl, inr}
 use Rattle.std.specs.Prelude.{◌⊎◌, if◌then◌else◌}
 use Rattle.std.specs.BTreeMap.{get}
 use Rattle.std.specs.FinMap.{empty}
 use Rattle.std.specs.Ordering.{nat_cmp}
-use Rattle.alt_cells.specs.Joined.{joined_map}
-use Rattle.alt_cells.specs.Rows.{join_row}
 use Rattle.alt_cells.specs.declared.batch.RowChange.{RowChange}
 use Rattle.alt_disk.specs.Disk.{DiskState, IsImage, IsSettled}
 use Rattle.alt_disk.specs.Runs.{Quiet, Run, Spans}
@@ -17,7 +15,8 @@ use Rattle.alt_gatelog.specs.Log.{BeforeOrAfter, IsLog}
 use Rattle.alt_gatelog.proofs.Elsewhere.{reads_log, reads_stays}
 use Rattle.alt_rowfile.specs.declared.rowfile.RowFile.{RowFile}
 use Rattle.alt_layout.specs.Layout.{Layout, IsPast}
-use Rattle.alt_writes.specs.Writes.{Write}
+use Rattle.alt_writes.specs.Writes.{AreRising, Write, numbered}
+use Rattle.alt_writes.proofs.PushLaws.{rising-numbered}
 use Rattle.alt_memtable.specs.Rows.{most_bytes}
 use Rattle.alt_layout.specs.Entries.{HoldWrites, IsEntry}
 use Rattle.alt_layout.specs.Sizes.{AreSized, bytes_in}
@@ -35,13 +34,13 @@ use Rattle.alt_layout.specs.Moments.{Lies, HasEither, IsIt}
 use Rattle.alt_layout.proofs.FileLaws.{all_of-join, apart, distinct_front, in_back, in_front, last_named, layout_join, named_later, stored_on}
 use Rattle.alt_layout.proofs.FamilyLaws.{flushed_below}
 use Rattle.alt_layout.proofs.FlushLaws.{unnamed}
-use Rattle.alt_layout.proofs.RowLaws.{next_after-least, with_later-push, with_one-above}
+use Rattle.alt_layout.proofs.RowLaws.{next_after-least, next_number-numbered, with_later-above, with_later-append}
 use Rattle.alt_layout.proofs.MomentLaws.{in_each_image, lies_quiet, lies_writes, spans_writes}
 use Rattle.alt_layout.proofs.PastLaws.{stored_past}
-use Rattle.alt_layout.specs.Writes.{changes_in, with_write}
-use Rattle.alt_hand.specs.InHand.{Reads, Stands, AreBelow, AreOpen, batch_write, BeforeOrWith, IsLength, IsWritten, LogHolds, family_of}
+use Rattle.alt_layout.specs.Writes.{rows_with, with_writes}
+use Rattle.alt_hand.specs.InHand.{Reads, Stands, AreBelow, AreOpen, batch_writes, BeforeOrAll, IsLength, IsWritten, LogHolds, family_of}
 use Rattle.alt_families.specs.Families.{Families, files_in, rows_in}
-use Rattle.alt_families.specs.Memory.{IsWrittenTo}
+use Rattle.alt_families.specs.Memory.{AreWrittenTo}
 use Rattle.alt_hand.specs.declared.hand.Hand.{Hand}
 use Rattle.alt_hand.proofs.LogLaws.{holds_on, length_on}
 
@@ -140,31 +139,36 @@ stays_quiet a b e l stands quiet = record {
       (lies_of a e l stands) quiet).settled;
 }
 
--- While a batch is added to the last segment each image has the rows before, or with it.
-pub write_images : (a b : DiskState) (e : Hand) (l : Layout) (changes : List RowChange)
+-- The writes of batches have numbers that rise from the next one of the log on.
+pub rise_on : (s : DiskState) (e : Hand) (l : Layout) (batches : List (List RowChange))
+    (reads : Reads s e l)
+    → AreRising (next_after (version_of e.manifest).next_number (all_of reads.parts))
+    (batch_writes l batches)
+rise_on s e l batches reads =
+    subst (λ (n : ℕ). AreRising n (batch_writes l batches))
+    (ap (λ (m : Layout). m.next_number) reads.is) (rising-numbered l.next_number batches)
+
+-- While batches are added to the last segment each image has the rows before, or with all of them.
+pub write_images : (a b : DiskState) (e : Hand) (l : Layout) (batches : List (List RowChange))
     (entry : List ℕ) (stands : Stands a e l)
-    → IsEntry (form_of e.log) entry (batch_write l changes ∷ [])
+    → IsEntry (form_of e.log) entry (batch_writes l batches)
     → Run a b (log_file e.log) (BeforeOrAfter (form_of e.log) stands.reads.log.entries entry)
-    → Spans a b IsWritten (BeforeOrWith l changes)
-write_images a b e l changes entry stands is run =
+    → Spans a b IsWritten (BeforeOrAll l batches)
+write_images a b e l batches entry stands is run =
     let reads = stands.reads in
     let v = version_of e.manifest in
     let before : Layout = layout_of v reads.held (all_of reads.parts) in
-    spans_weaker a b (IsIt (log_file e.log)) IsWritten (BeforeOrWith l changes)
-    (HasEither before (with_write before (batch_write l changes)))
+    spans_weaker a b (IsIt (log_file e.log)) IsWritten (BeforeOrAll l batches)
+    (HasEither before (with_writes before (batch_writes l batches)))
     (spans_writes a b v reads.held reads.parts (log_file e.log) reads.writes (form_of e.log)
-    reads.log.entries entry (batch_write l changes ∷ []) (lies_of a e l stands) reads.ends
-    reads.log.holds is (
-      (let same : l.next_number ≡ before.next_number = ap (λ (m : Layout). m.next_number) reads.is in
-          omega (arith, same)),
-      tt,
-    ) run)
+    reads.log.entries entry (batch_writes l batches) (lies_of a e l stands) reads.ends
+    reads.log.holds is (rise_on a e l batches reads) run)
     (λ g it first. named_later v (log_file e.log) reads.versions.is
     (last_named v reads.parts (log_file e.log) reads.writes reads.ends) (sym it ∙ first))
     (λ t image has. subst (λ (m : Layout). IsLayout image m
-    ⊎ IsLayout image (with_write m (batch_write l changes))) (sym reads.is) has)
+    ⊎ IsLayout image (with_writes m (batch_writes l batches))) (sym reads.is) has)
 
--- ---- a batch more
+-- ---- batches more
 
 -- files in hand read as they read where their files do
 pub open_elsewhere : (a b : DiskState) (held : Held) (gs : List ℕ) (fs : List RowFile)
@@ -193,8 +197,9 @@ in_row_files (f ∷ fs) family g there = by_test (f.family == family) (in_row_fi
     by_test true rest there = in_front f.files (row_files fs) g there
     by_test false rest there = in_back f.files (row_files fs) g (rest there)
 
-module _ (a b : DiskState) (e : Hand) (l : Layout) (changes : List RowChange) (bytes : List ℕ)
-    (stands : Stands a e l) (is_entry : IsEntry (form_of e.log) bytes (batch_write l changes ∷ []))
+module _ (a b : DiskState) (e : Hand) (l : Layout) (batches : List (List RowChange))
+    (bytes : List ℕ) (stands : Stands a e l)
+    (is_entry : IsEntry (form_of e.log) bytes (batch_writes l batches))
     (run : Run a b (log_file e.log)
     (BeforeOrAfter (form_of e.log) stands.reads.log.entries bytes)) where
   abbrev reads : Reads a e l
@@ -206,14 +211,14 @@ module _ (a b : DiskState) (e : Hand) (l : Layout) (changes : List RowChange) (b
   abbrev f : ℕ
   f = log_file e.log
 
-  abbrev w : Write
-  w = batch_write l changes
+  abbrev ws : List Write
+  ws = batch_writes l batches
 
   abbrev before : Layout
   before = layout_of v reads.held (all_of reads.parts)
 
   abbrev parts : List (List Write)
-  parts = reads.ends.fronts ++ (reads.writes ++ w ∷ []) ∷ []
+  parts = reads.ends.fronts ++ (reads.writes ++ ws) ∷ []
 
   lies : Lies a v reads.held reads.parts
   lies = lies_of a e l stands
@@ -224,14 +229,13 @@ module _ (a b : DiskState) (e : Hand) (l : Layout) (changes : List RowChange) (b
   abbrev logged : List (List ℕ)
   logged = reads.log.entries
 
-  later : next_after v.next_number (all_of reads.parts) ≤ w.number
-  later = let same : l.next_number ≡ before.next_number = ap (λ (m : Layout). m.next_number) reads.is in
-      omega (arith, same)
+  later : AreRising (next_after v.next_number (all_of reads.parts)) ws
+  later = rise_on a e l batches reads
 
   -- its writes, in a list
-  all : all_of parts ≡ all_of reads.parts ++ w ∷ []
-  all = all_of-join reads.ends.fronts reads.writes (w ∷ [])
-      ∙ ap (λ x. all_of x ++ w ∷ []) (sym reads.ends.parts_are)
+  all : all_of parts ≡ all_of reads.parts ++ ws
+  all = all_of-join reads.ends.fronts reads.writes ws
+      ∙ ap (λ x. all_of x ++ ws) (sym reads.ends.parts_are)
 
   -- the file of a row file is another than the segment
   other : (g : ℕ) → IsIn (row_files v.families) g → g ≢ f
@@ -245,10 +249,11 @@ module _ (a b : DiskState) (e : Hand) (l : Layout) (changes : List RowChange) (b
       (subst AreDistinct reads.ends.segments
       (distinct_front v.segments (row_files v.families) reads.versions.is.differ)) there (inl refl)
 
-  module _ (log : GateLog) (size : ℕ) (families : Families) (same_file : log_file log ≡ f)
+  module _ (log : GateLog) (size next : ℕ) (families : Families) (same_file : log_file log ≡ f)
       (same_form : form_of log ≡ form_of e.log) (added : LogStands b log (logged ++ bytes ∷ []))
       (size_is : size ≡ min (e.length + length bytes) most_bytes)
-      (written : IsWrittenTo e.families families e.next changes) (full : Bool)
+      (next_is : next ≡ e.next + length batches)
+      (written : AreWrittenTo e.families families (numbered e.next batches)) (full : Bool)
       (calm : full ≡ false → AreBelow e.limits.flush families) where
     -- the segment is a log with the entry
     written_there : IsLog (form_of e.log) (logged ++ bytes ∷ []) (b.file f)
@@ -258,7 +263,7 @@ module _ (a b : DiskState) (e : Hand) (l : Layout) (changes : List RowChange) (b
 
     lies_after : Lies b v reads.held parts
     lies_after = lies_writes a b v reads.held reads.parts f reads.writes (form_of e.log) logged bytes
-        (w ∷ []) lies reads.ends reads.log.holds is_entry (later, tt)
+        ws lies reads.ends reads.log.holds is_entry later
         (BeforeOrAfter (form_of e.log) logged bytes) run written_there
         (subst (IsSettled b) same_file added.settled)
 
@@ -300,14 +305,15 @@ module _ (a b : DiskState) (e : Hand) (l : Layout) (changes : List RowChange) (b
     memory family =
         let flushed = flushed_of v.families family in
         written.rows family
-        ∙ (λ i. joined_map join_row (reads.memory family i) (changes_in (reads.next i) family changes))
+        ∙ (λ i. rows_with family (reads.memory family i) (numbered (reads.next i) batches))
         ∙ sym (ap (with_later flushed family empty) all
-        ∙ with_later-push flushed family empty (all_of reads.parts) w
-        ∙ with_one-above flushed family (with_later flushed family empty (all_of reads.parts)) w
+        ∙ with_later-append flushed family empty (all_of reads.parts) ws
+        ∙ with_later-above flushed family (next_after v.next_number (all_of reads.parts))
+        (with_later flushed family empty (all_of reads.parts)) ws
         (let low = flushed_below v.next_number v.families family reads.versions.is.next_number.0
         reads.versions.is.families in
         let least = next_after-least v.next_number (all_of reads.parts) in
-        let late = later in omega (arith, low, least, late)))
+        omega (arith, low, least)) later)
 
     opened : (family : ℕ) → AreOpen b reads.held (files_of v.families family)
         (files_in (get nat_cmp families family))
@@ -317,19 +323,19 @@ module _ (a b : DiskState) (e : Hand) (l : Layout) (changes : List RowChange) (b
         (λ g there. run.file g (other g (in_row_files v.families family g there)))
         (reads.opened family))
 
-    -- then the engine stands with the batch
-    pub with_batch : Stands b (record e {
+    -- then the engine stands with the batches
+    pub with_batches : Stands b (record e {
       log = log;
       length = size;
-      next = e.next + 1;
+      next = next;
       families = families;
       full = full;
-    }) (with_write l w)
-    with_batch = record {
+    }) (with_writes l ws)
+    with_batches = record {
       reads = record {
         held = reads.held;
         parts = parts;
-        writes = reads.writes ++ w ∷ [];
+        writes = reads.writes ++ ws;
         versions = record {
           before = reads.versions.before;
           log = reads_stays a b e.manifest.log (reads.versions.before ++ version_bytes v ∷ [])
@@ -349,14 +355,15 @@ module _ (a b : DiskState) (e : Hand) (l : Layout) (changes : List RowChange) (b
         log = record {
           entries = logged ++ bytes ∷ [];
           reads = added.reads;
-          holds = subst (λ (x : Form). HoldWrites x (logged ++ bytes ∷ []) (reads.writes ++ w ∷ []))
-              (sym same_form) (holds_push (form_of e.log) logged reads.writes bytes (w ∷ [])
+          holds = subst (λ (x : Form). HoldWrites x (logged ++ bytes ∷ []) (reads.writes ++ ws))
+              (sym same_form) (holds_push (form_of e.log) logged reads.writes bytes ws
               reads.log.holds is_entry);
         };
-        is = ap (λ (m : Layout). with_write m w) reads.is
-            ∙ sym (layout_join v reads.held reads.parts f reads.writes (w ∷ []) reads.versions.is
-            reads.ends (later, tt));
-        next = ap (λ n. n + 1) reads.next;
+        is = ap (λ (m : Layout). with_writes m ws) reads.is
+            ∙ sym (layout_join v reads.held reads.parts f reads.writes ws reads.versions.is
+            reads.ends later);
+        next = next_is ∙ ap (λ n. n + length batches) reads.next
+            ∙ sym (next_number-numbered l l.next_number batches refl);
         length = size_after;
         free = reads.free;
         fresh = λ g le. run.file g (λ same. unnamed v g reads.versions.is

@@ -6,7 +6,7 @@ use Rattle.std.specs.FinMap.{empty}
 use Rattle.std.specs.Ordering.{nat_cmp}
 use Rattle.alt_disk.specs.Disk.{DiskState}
 use Rattle.alt_disk.specs.Runs.{Run, Spans}
-use Rattle.alt_disk.proofs.Runs.{spans_on, spans_weaker}
+use Rattle.alt_disk.proofs.Runs.{run_spans, spans_on, spans_weaker}
 use Rattle.alt_flush.specs.Drafts.{From, renumbered, with_segment}
 use Rattle.alt_flush.proofs.DraftLaws.{from_untouched, layout_still, old_file, with_segment_drafted}
 use Rattle.alt_flush.proofs.SegmentLaws.{all_of-none, in_inserted, with_segment_same}
@@ -21,21 +21,24 @@ use Rattle.alt_layout.specs.Sizes.{IsSized}
 use Rattle.alt_memtable.specs.Rows.{most_bytes}
 use Rattle.alt_layout.proofs.SizeLaws.{sized_on, sized_with}
 use Rattle.alt_layout.proofs.FileLaws.{in_front}
-use Rattle.alt_manifest.specs.InHand.{version_of}
+use Rattle.alt_manifest.specs.InHand.{file_of as manifest_file, version_of, OldOrNew, Stands as ManifestStands}
+use Rattle.alt_manifest.specs.declared.manifest.Manifest.{Manifest}
 use Rattle.alt_manifest.specs.Versions.{IsIn, files_named, row_files}
 use Rattle.alt_manifest.specs.declared.version.Version.{Version}
 use Rattle.alt_writes.specs.Writes.{Write}
 use Rattle.alt_families.specs.Families.{Families, files_in}
-use Rattle.alt_hand.specs.Carrying.{AreStill, CarriesDraft}
+use Rattle.alt_hand.specs.Carrying.{AreStill, Carries, CarriesDraft}
 use Rattle.alt_hand.specs.Drafting.{IsReady, Makes}
-use Rattle.alt_hand.specs.InHand.{Stands}
+use Rattle.alt_hand.specs.InHand.{Stands, family_of}
 use Rattle.alt_hand.specs.Merging.{MayEnd}
 use Rattle.alt_hand.specs.declared.hand.Hand.{Hand}
 use Rattle.alt_hand.proofs.BesideLaws.{each_on, may_end_on}
-use Rattle.alt_hand.proofs.FlushesLaws.{versions_still}
+use Rattle.alt_hand.proofs.CarryLaws.{carries_published}
+use Rattle.alt_hand.proofs.FlushesLaws.{lying, versions_still}
 use Rattle.alt_hand.proofs.HandLaws.{lies_of}
 use Rattle.alt_hand.proofs.LogLaws.{holds_empty}
 use Rattle.alt_hand.proofs.MakesLaws.{makes_first, named_of, open_still}
+use Rattle.alt_hand.proofs.PublishLaws.{published, publishing}
 
 -- The draft over it holds what the one before holds.
 pub makes_segment : (a b : DiskState) (u : Version) (families : Families)
@@ -153,3 +156,51 @@ pub keeping_on : (a b c : DiskState) (l : Layout) → Spans a b (λ g. Unit {0})
 keeping_on a b c l first later = spans_on a b c (λ g. Unit {0}) (Has l) first
     (spans_weaker b c (λ g. Unit {0}) (λ g. Unit {0}) (Has l) (HasEither l l) later (λ g it. tt)
     (λ t image has. ⊎_elim (λ (old : IsLayout image l). old) (λ (new : IsLayout image l). new) has))
+
+-- ---- a new segment, and then the version that names it
+
+-- calls on the file of the new segment touch files from the next one on
+pub spans_of : (a b : DiskState) (f : ℕ) → Run a b f (λ t left. Unit {0})
+    → Spans a b (From f) (λ t image. Unit {0})
+spans_of a b f run = run_spans a b f (λ t left. Unit {0}) (From f) (λ t image. Unit {0}) run
+    (omega arith) (λ t image here others. tt)
+
+module _ (a d z : DiskState) (e : Hand) (l : Layout) (stands : Stands a e l) (u : Version)
+    (is : u ≡ with_segment (renumbered (version_of e.manifest) e.next_file e.next))
+    (log : GateLog) (room : e.next_file + 1 < 2 ^ 32)
+    (run : Run a d e.next_file (λ t left. Unit {0})) (log_is : log_file log ≡ e.next_file)
+    (log_stands : LogStands d log [])
+    (added : Run d z (manifest_file e.manifest) (OldOrNew (version_of e.manifest) u)) where
+  abbrev first : Version
+  first = renumbered (version_of e.manifest) e.next_file e.next
+
+  spans : Spans a d (From e.next_file) (λ t image. Unit {0})
+  spans = spans_of a d e.next_file run
+
+  ready : IsReady d (record e { log = log }) u l
+  ready = subst (λ (v : Version). IsReady d (record e { log = log }) v l) (sym is)
+      (ready_segment a d e l [] stands (λ t left. Unit {0}) log room run spans log_is log_stands)
+
+  -- at each moment a stop leaves the rows
+  pub renew_images : Spans a z (λ g. Unit {0}) (Has l)
+  renew_images = keeping_on a d z l (keeping a d e l stands spans)
+      (publishing d z (record e { log = log }) u l l (lying a d e l [] stands spans) ready added)
+
+  module _ (n : Manifest) (same : manifest_file n ≡ manifest_file e.manifest)
+      (version : version_of n ≡ u) (manifest : ManifestStands z n) where
+    abbrev new : Hand
+    new = record e { manifest = n; log = log; next_file = u.next_file }
+
+    -- then the engine stands as it stood
+    pub renewed : Stands z new l
+    renewed = published d z (record e { log = log }) u l n (OldOrNew (version_of e.manifest) u) ready
+        added same version manifest e.full stands.reads.calm
+
+    -- and merges are carried
+    pub renew_carries : (family : ℕ) → Carries a z e new family
+    renew_carries family = carries_published a d z e new u e.families ready.parts l [] family spans
+        (subst (λ (v : Version). CarriesDraft a d first v (family_of e family) (family_of e family) family)
+        (sym is) (carries_segment a d first e.families stands.reads.parts l
+        (makes_first a e l stands (omega (arith, room))) (λ t left. Unit {0}) run family))
+        ready.makes (λ g there. absurd there)
+        (λ g other left. added.file g (λ e. other (e ∙ stands.reads.first))) refl version refl

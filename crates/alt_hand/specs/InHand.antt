@@ -1,16 +1,18 @@
 -- An engine in hand over files, and the disk on which they lie.
-use Rattle.std.specs.Prelude.{◌≡◌, ◌⊎◌, ◌≤◌, ◌+◌, ◌-◌, ◌^◌, ℕ, List, [], ◌∷◌, map, min, Option, None, ◌<◌, false, Some}
+use Rattle.std.specs.Prelude.{◌≡◌, ◌⊎◌, ◌≤◌, ◌+◌, ◌-◌, ◌^◌, ℕ, List, [], ◌∷◌, map, max, min, Option, None, ◌<◌, false, Some}
 use Rattle.std.specs.BTreeMap.{get}
 use Rattle.std.specs.FinMap.{empty, entries}
 use Rattle.std.specs.Ordering.{nat_cmp}
 use Rattle.alt_cells.specs.declared.batch.RowChange.{RowChange}
 use Rattle.alt_disk.specs.Disk.{DiskState, IsSettled}
 use Rattle.alt_gatelog.specs.InHand.{file_of as log_file, form_of, Reads as LogReads}
+use Rattle.alt_gatelog.specs.declared.form.Form.{Form}
+use Rattle.alt_gatelog.specs.declared.form.Form.TheVariants.{One, Two}
 use Rattle.alt_gatelog.specs.declared.gatelog.GateLog.{GateLog}
 use Rattle.alt_rowfile.specs.InHand.{file_of as row_file, Reads as RowReads}
 use Rattle.alt_rowfile.specs.declared.rowfile.RowFile.{RowFile}
 use Rattle.alt_layout.specs.Layout.{Layout, RowMap}
-use Rattle.alt_writes.specs.Writes.{Write}
+use Rattle.alt_writes.specs.Writes.{Write, numbered}
 use Rattle.alt_layout.specs.Entries.{HoldWrites}
 use Rattle.alt_layout.specs.Sizes.{AreSized}
 use Rattle.alt_layout.specs.Fresh.{versions_file}
@@ -18,7 +20,7 @@ use Rattle.alt_memtable.specs.Rows.{most_bytes}
 use Rattle.alt_manifest.specs.InHand.{file_of as manifest_file, version_of, Reads as ManifestReads}
 use Rattle.alt_layout.specs.Families.{Held, flushed_of, files_of, layout_of, with_later}
 use Rattle.alt_layout.specs.Files.{EndsWith, Image, IsLayout, IsOf, Stored, all_of}
-use Rattle.alt_layout.specs.Writes.{with_write}
+use Rattle.alt_layout.specs.Writes.{with_write, with_writes}
 use Rattle.alt_hand.specs.declared.hand.Hand.{Hand}
 use Rattle.alt_hand.specs.declared.hand.EngineFault.{EngineFault}
 use Rattle.alt_hand.specs.Faults.{told_by_engine}
@@ -54,6 +56,15 @@ limits_of e = e.limits
 -- The number of the next file that it makes.
 abbrev pub next_file_of : Hand → ℕ
 next_file_of e = e.next_file
+
+-- The form of its last segment.
+abbrev pub last_form_of : Hand → Form
+last_form_of e = form_of e.log
+
+-- How many files a write makes: behind a segment of the first form it makes one of the second.
+abbrev pub files_made : Form → ℕ
+files_made One = 1
+files_made Two = 0
 
 -- The bytes of the entries of all segments, counted up to 2^62.
 abbrev pub length_of : Hand → ℕ
@@ -116,10 +127,31 @@ abbrev pub BeforeOrWith : Layout → List RowChange → ℕ → (ℕ → Option 
 BeforeOrWith l changes t image = IsLayout image l
     ⊎ IsLayout image (with_write l (batch_write l changes))
 
--- A fault that tells a spent number names the next one, which is 2^62 - 1; and no damage is told.
-abbrev pub IsSpentAt : ℕ → EngineFault → Type 0
-IsSpentAt next f = OnlySpent (λ number. (number ≡ next) × (2 ^ 62 - 1 ≤ next)) (told_by_engine f)
+-- The writes of batches have the next number and those behind it, in order.
+abbrev pub batch_writes : Layout → List (List RowChange) → List Write
+batch_writes l batches = numbered l.next_number batches
 
--- A write touches any file but the one of the versions.
+-- The image has the layout before, or the one with all batches.
+abbrev pub BeforeOrAll : Layout → List (List RowChange) → ℕ → (ℕ → Option (List ℕ)) → Type 0
+BeforeOrAll l batches t image = IsLayout image l
+    ⊎ IsLayout image (with_writes l (batch_writes l batches))
+
+-- One of so many numbers from the next one on is 2^62 - 1, and it is named.
+abbrev pub WantsNumber : ℕ → ℕ → ℕ → Type 0
+WantsNumber next count number =
+    (2 ^ 62 - 1 < next + count) × (number ≡ max next (2 ^ 62 - 1))
+
+-- Behind a segment of the first form the next file is 2^32 - 1, and it is named.
+abbrev pub WantsFile : Form → ℕ → ℕ → Type 0
+WantsFile One file number = (2 ^ 32 - 1 ≤ file) × (number ≡ file)
+WantsFile Two file number = ⊥
+
+-- A fault that tells a spent number tells one of so many writes, or else the file of the segment that they want; and no damage is told.
+abbrev pub IsSpentBy : Hand → ℕ → EngineFault → Type 0
+IsSpentBy e count f = OnlySpent (λ number. WantsNumber (next_of e) count number
+    ⊎ ((next_of e + count ≤ 2 ^ 62 - 1) × WantsFile (last_form_of e) (next_file_of e) number))
+    (told_by_engine f)
+
+-- An entry touches any file but the one of the versions.
 abbrev pub IsWritten : ℕ → Type 0
 IsWritten f = f ≡ versions_file → ⊥

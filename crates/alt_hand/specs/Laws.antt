@@ -1,5 +1,5 @@
 -- What follows of engines in hand from their definitions, for those who use them.
-use Rattle.std.specs.Prelude.{ℕ, List, [], ◌∷◌, Option}
+use Rattle.std.specs.Prelude.{ℕ, List, Option}
 use Rattle.alt_cells.specs.declared.batch.RowChange.{RowChange}
 use Rattle.alt_disk.specs.Disk.{DiskState, IsImage}
 use Rattle.alt_disk.specs.Runs.{Quiet, Run, Spans}
@@ -8,7 +8,7 @@ use Rattle.alt_gatelog.specs.Log.{BeforeOrAfter}
 use Rattle.alt_layout.specs.Layout.{Layout, IsPast}
 use Rattle.alt_layout.specs.Entries.{IsEntry}
 use Rattle.alt_layout.specs.Files.{IsLayout}
-use Rattle.alt_hand.specs.InHand.{Reads, Stands, batch_write, BeforeOrWith, IsWritten}
+use Rattle.alt_hand.specs.InHand.{Reads, Stands, batch_writes, BeforeOrAll, IsWritten}
 use Rattle.alt_hand.specs.declared.hand.Hand.{Hand}
 
 -- Each timestamp of an engine's rows is below its next number.
@@ -32,10 +32,10 @@ ReadsQuiet = (a b : DiskState) (e : Hand) (l : Layout) → Reads a e l → Quiet
 abbrev pub StaysQuiet : Type 0
 StaysQuiet = (a b : DiskState) (e : Hand) (l : Layout) → Stands a e l → Quiet a b → Stands b e l
 
--- While a batch is added to the last segment each image has the layout before, or the one with the batch.
+-- While batches are added to the last segment as one entry each image has the layout before, or the one with all of them.
 abbrev pub WritesImages : Type 0
-WritesImages = (a b : DiskState) (e : Hand) (l : Layout) (changes : List RowChange)
+WritesImages = (a b : DiskState) (e : Hand) (l : Layout) (batches : List (List RowChange))
     (entry : List ℕ) → (stands : Stands a e l)
-    → IsEntry (form_of e.log) entry (batch_write l changes ∷ [])
+    → IsEntry (form_of e.log) entry (batch_writes l batches)
     → Run a b (log_file e.log) (BeforeOrAfter (form_of e.log) stands.reads.log.entries entry)
-    → Spans a b IsWritten (BeforeOrWith l changes)
+    → Spans a b IsWritten (BeforeOrAll l batches)

@@ -1,61 +1,56 @@
 //! A new segment behind the others, for a store whose last one is of the first form.
 
-ghost use Rattle.std.specs.Prelude.{◌≡◌, ◌+◌, ℕ, OnOk, IfErr, IsErrOf, ⊤};
+ghost use Rattle.std.specs.Prelude.{◌≡◌, ◌≤◌, ◌<◌, ◌+◌, ◌-◌, ◌^◌, ℕ, Bool, IfOk, IfErr, OnOk, IsErrOf, ⊤};
 ghost use Rattle.alt_base.specs.Counts.{Rose};
 ghost use Rattle.alt_disk.specs.Disk.{IsTrusted, Goes};
 ghost use Rattle.alt_disk.specs.Runs.{Spans};
-ghost use Rattle.alt_gatelog.specs.InHand.{form_of};
-ghost use Rattle.alt_gatelog.specs.declared.form.Form.TheVariants.{Two};
+ghost use Rattle.alt_families.specs.Families.{Families};
+ghost use Rattle.alt_gatelog.specs.InHand.{HasPlace};
+ghost use Rattle.alt_gatelog.specs.declared.form.Form.TheVariants.{One};
 ghost use Rattle.alt_layout.specs.Layout.{Layout};
 ghost use Rattle.alt_layout.specs.Moments.{Has};
+ghost use Rattle.alt_hand.specs.Adding.{IsBehind};
 ghost use Rattle.alt_hand.specs.Carrying.{Carries};
-ghost use Rattle.alt_hand.specs.Drafting.{IsSpentFor};
-ghost use Rattle.alt_hand.specs.InHand.{Stands, limits_of, next_file_of, next_of};
+ghost use Rattle.alt_hand.specs.Drafting.{IsPrepared, IsSameHand, IsUnspent, with_rows};
+ghost use Rattle.alt_hand.specs.InHand.{Stands, files_made, last_form_of, next_file_of};
 
 use crate::hand::{EngineFault, Hand};
-use alt_disk::Disk;
+use alt_base::NoMemory;
+use alt_disk::{Disk, Failed};
 use alt_flush::{renumbered, with_segment};
 use alt_gatelog::{Form, GateLog};
+use alt_manifest::Version;
+
+/// A version with a segment more, and its frame.
+#[derive(Drop)]
+pub(crate) struct Renewal {
+    pub(crate) draft: Version,
+    pub(crate) block: Vec<u8>,
+}
 
 impl Hand {
-    /// Puts a new and empty segment of the second form behind the others, where the last one is of the first, so that no other is
-    /// written any more. After an Err the engine is spent, unless it is Spent.
-    pub fn renew<D: Disk>(&mut self, disk: &mut D) -> Result<(), EngineFault>
-        requires { IsTrusted (D.state disk.old)
-            → (l : Layout) × Stands (D.state disk.old) self.old l }
-        ensures ok { OnOk result (IsTrusted (D.state disk.old) → (l : Layout)
-            → Stands (D.state disk.old) self.old l → Stands (D.state disk.new) self.new l) }
-        ensures renewed { OnOk result (form_of self.new.log ≡ Two) }
-        ensures next { next_of self.new ≡ next_of self.old }
-        ensures limits { limits_of self.new ≡ limits_of self.old }
-        ensures families { self.new.families ≡ self.old.families }
-
-        // A merge of files of a family under way stays one.
-        ensures carries { OnOk result (IsTrusted (D.state disk.old) → (l : Layout)
-            → Stands (D.state disk.old) self.old l → (family : ℕ)
-            → Carries (D.state disk.old) (D.state disk.new) self.old self.new family) }
-
-        // A stop at any moment of the call, also one that fails, leaves the rows.
-        ensures any_moment { IsTrusted (D.state disk.old) → (l : Layout)
-            → Stands (D.state disk.old) self.old l
-            → Spans (D.state disk.old) (D.state disk.new) (λ _. ⊤) (Has l) }
-
-        // A number is spent where the segment needs file 2^32 - 1.
-        ensures spent { IfErr result (IsSpentFor (next_file_of self.old + 1)) }
-        ensures goes { Goes (D.state disk.old) (D.state disk.new) }
-        ensures cause { IsErrOf result EngineFault.Failed
-            → Rose (D.state disk.old).faults (D.state disk.new).faults }
-        ensures well { OnOk result ((D.state disk.new).faults ≡ (D.state disk.old).faults) }
+    /// Takes the memory for an entry more. Where the last segment is of the first form, that is all memory for a new one.
+    pub(crate) fn prepare(&mut self) -> Result<Option<Renewal>, NoMemory>
+        requires { last_form_of self.old ≡ One → next_file_of self.old < 2 ^ 32 - 1 }
+        ensures same { IsSameHand self.old self.new }
+        ensures ok { IfOk result (IsPrepared self.new) }
     {
         match self.log.form() {
-            Form::Two => return Ok(()),
-            Form::One => {}
+            Form::One => self.draft_segment(),
+            Form::Two => {
+                self.log.reserve()?;
+                Ok(None)
+            }
         }
-        if self.next_file == u32::MAX {
-            return Err(EngineFault::Spent {
-                number: self.next_file as u64,
-            });
-        }
+    }
+
+    /// The version with a new segment, and all memory for both.
+    fn draft_segment(&mut self) -> Result<Option<Renewal>, NoMemory>
+        requires form { last_form_of self.old ≡ One }
+        requires file { next_file_of self.old < 2 ^ 32 - 1 }
+        ensures same { IsSameHand self.old self.new }
+        ensures ok { IfOk result (IsPrepared self.new) }
+    {
         let first = renumbered(
             self.alloc,
             self.manifest.current(),
@@ -63,8 +58,62 @@ impl Hand {
             self.next,
         )?;
         let draft = with_segment(self.alloc, &first)?;
+        let block = self.manifest.prepare(&draft)?;
+        Ok(Some(Renewal { draft, block }))
+    }
+
+    /// Makes the segment that was prepared, if one was, so that no entry is added to one of the first form. It doesn't look at the rows
+    /// in memory. After an Err the engine is spent.
+    pub(crate) fn renew<D: Disk>(
+        &mut self,
+        disk: &mut D,
+        renewal: Option<Renewal>,
+    ) -> Result<(), EngineFault>
+        requires prepared { IsPrepared self.old renewal }
+        requires stands { IsTrusted (D.state disk.old)
+            → (families : Families) × (full : Bool) × (l : Layout)
+            × Stands (D.state disk.old) (with_rows self.old families full) l }
+        ensures ok { OnOk result (IsTrusted (D.state disk.old)
+            → (families : Families) (full : Bool) (l : Layout)
+            → Stands (D.state disk.old) (with_rows self.old families full) l
+            → Stands (D.state disk.new) (with_rows self.new families full) l) }
+        ensures room { OnOk result (HasPlace self.new.log) }
+        ensures segment { OnOk result (IsBehind (last_form_of self.old) self.old self.new) }
+        ensures others { self.new ≡ record self.old { manifest = self.new.manifest;
+            log = self.new.log; next_file = self.new.next_file } }
+        ensures most { next_file_of self.new
+            ≤ next_file_of self.old + files_made (last_form_of self.old) }
+        ensures least { next_file_of self.old ≤ next_file_of self.new }
+
+        // A merge of files of a family under way stays one.
+        ensures carries { OnOk result (IsTrusted (D.state disk.old)
+            → (families : Families) (full : Bool) (l : Layout)
+            → Stands (D.state disk.old) (with_rows self.old families full) l → (family : ℕ)
+            → Carries (D.state disk.old) (D.state disk.new) (with_rows self.old families full)
+            (with_rows self.new families full) family) }
+
+        // A stop at any moment of the call, also one that fails, leaves the rows.
+        ensures any_moment { IsTrusted (D.state disk.old)
+            → (families : Families) (full : Bool) (l : Layout)
+            → Stands (D.state disk.old) (with_rows self.old families full) l
+            → Spans (D.state disk.old) (D.state disk.new) (λ _. ⊤) (Has l) }
+        ensures no_memory { IsErrOf result EngineFault.NoMemory
+            → D.state disk.new ≡ D.state disk.old }
+        ensures unspent { IfErr result IsUnspent }
+        ensures goes { Goes (D.state disk.old) (D.state disk.new) }
+        ensures cause { IsErrOf result EngineFault.Failed
+            → Rose (D.state disk.old).faults (D.state disk.new).faults }
+        ensures well { OnOk result ((D.state disk.new).faults ≡ (D.state disk.old).faults) }
+    {
+        let Some(Renewal { draft, block }) = renewal else {
+            return Ok(());
+        };
         let log = GateLog::make(self.alloc, disk, self.next_file, Form::Two)?;
         self.log = log;
-        self.publish(disk, draft, &[])
+        self.next_file = draft.next_file;
+        match self.manifest.add(disk, draft, block.as_slice()) {
+            Ok(()) => Ok(()),
+            Err(Failed) => Err(EngineFault::Failed),
+        }
     }
 }

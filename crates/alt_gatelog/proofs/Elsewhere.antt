@@ -1,5 +1,5 @@
 -- A log in hand, while other files change or nothing does.
-use Rattle.std.proofs.Common.{◌≡◌, ◌≢◌, ℕ, List, Option, Some, length, ap, sym, ◌∙◌, subst, arith}
+use Rattle.std.proofs.Common.{◌≡◌, ◌≢◌, ℕ, List, Option, Some, length, refl, ap, sym, ◌∙◌, subst, arith}
 use Rattle.alt_disk.specs.Fates.{Fates, Fits}
 use Rattle.alt_disk.specs.Disk.{DiskState, IsSettled, Same, now}
 use Rattle.alt_disk.specs.Runs.{Run, Quiet}
@@ -55,6 +55,13 @@ reads_same s old new entries same reads = record {
       ∙ ap (λ (f : Form). length (log_front f entries)) (sym same.form);
   are_at = same.places ∙ reads.are_at;
 }
+
+-- with what stood behind its closed gate
+pub rest-same : (s : DiskState) (old new : GateLog) (entries : List (List ℕ))
+    (same : SameLog old new) (reads : Reads s old entries)
+    → (reads_same s old new entries same reads).rest ≡ reads.rest
+unfolding reads_same
+rest-same s old new entries same reads = refl
 
 -- which stands too
 pub stands_same_log : (s : DiskState) (old new : GateLog) (entries : List (List ℕ))

@@ -165,42 +165,45 @@ pub spans_of : (a b : DiskState) (f : ℕ) → Run a b f (λ t left. Unit {0})
 spans_of a b f run = run_spans a b f (λ t left. Unit {0}) (From f) (λ t image. Unit {0}) run
     (omega arith) (λ t image here others. tt)
 
-module _ (a d z : DiskState) (e : Hand) (l : Layout) (stands : Stands a e l) (u : Version)
+module _ (a d : DiskState) (e : Hand) (l : Layout) (stands : Stands a e l) (u : Version)
     (is : u ≡ with_segment (renumbered (version_of e.manifest) e.next_file e.next))
     (log : GateLog) (room : e.next_file + 1 < 2 ^ 32)
     (run : Run a d e.next_file (λ t left. Unit {0})) (log_is : log_file log ≡ e.next_file)
-    (log_stands : LogStands d log [])
-    (added : Run d z (manifest_file e.manifest) (OldOrNew (version_of e.manifest) u)) where
+    (log_stands : LogStands d log []) where
   abbrev first : Version
   first = renumbered (version_of e.manifest) e.next_file e.next
 
   spans : Spans a d (From e.next_file) (λ t image. Unit {0})
   spans = spans_of a d e.next_file run
 
-  ready : IsReady d (record e { log = log }) u l
-  ready = subst (λ (v : Version). IsReady d (record e { log = log }) v l) (sym is)
+  -- once the segment is made the engine is ready for the version
+  pub ready_by : IsReady d (record e { log = log }) u l
+  ready_by = subst (λ (v : Version). IsReady d (record e { log = log }) v l) (sym is)
       (ready_segment a d e l [] stands (λ t left. Unit {0}) log room run spans log_is log_stands)
 
-  -- at each moment a stop leaves the rows
-  pub renew_images : Spans a z (λ g. Unit {0}) (Has l)
-  renew_images = keeping_on a d z l (keeping a d e l stands spans)
-      (publishing d z (record e { log = log }) u l l (lying a d e l [] stands spans) ready added)
+  module _ (z : DiskState)
+      (added : Run d z (manifest_file e.manifest) (OldOrNew (version_of e.manifest) u)) where
+    -- at each moment a stop leaves the rows
+    pub renew_images : Spans a z (λ g. Unit {0}) (Has l)
+    renew_images = keeping_on a d z l (keeping a d e l stands spans)
+        (publishing d z (record e { log = log }) u l l (lying a d e l [] stands spans) ready_by added)
 
-  module _ (n : Manifest) (same : manifest_file n ≡ manifest_file e.manifest)
-      (version : version_of n ≡ u) (manifest : ManifestStands z n) where
-    abbrev new : Hand
-    new = record e { manifest = n; log = log; next_file = u.next_file }
+    module _ (n : Manifest) (same : manifest_file n ≡ manifest_file e.manifest)
+        (version : version_of n ≡ u) (manifest : ManifestStands z n) where
+      abbrev new : Hand
+      new = record e { manifest = n; log = log; next_file = u.next_file }
 
-    -- then the engine stands as it stood
-    pub renewed : Stands z new l
-    renewed = published d z (record e { log = log }) u l n (OldOrNew (version_of e.manifest) u) ready
-        added same version manifest e.full stands.reads.calm
+      -- then the engine stands as it stood
+      pub renewed : Stands z new l
+      renewed = published d z (record e { log = log }) u l n (OldOrNew (version_of e.manifest) u)
+          ready_by added same version manifest e.full stands.reads.calm
 
-    -- and merges are carried
-    pub renew_carries : (family : ℕ) → Carries a z e new family
-    renew_carries family = carries_published a d z e new u e.families ready.parts l [] family spans
-        (subst (λ (v : Version). CarriesDraft a d first v (family_of e family) (family_of e family) family)
-        (sym is) (carries_segment a d first e.families stands.reads.parts l
-        (makes_first a e l stands (omega (arith, room))) (λ t left. Unit {0}) run family))
-        ready.makes (λ g there. absurd there)
-        (λ g other left. added.file g (λ e. other (e ∙ stands.reads.first))) refl version refl
+      -- and merges are carried
+      pub renew_carries : (family : ℕ) → Carries a z e new family
+      renew_carries family = carries_published a d z e new u e.families ready_by.parts l [] family
+          spans
+          (subst (λ (v : Version). CarriesDraft a d first v (family_of e family) (family_of e family)
+          family) (sym is) (carries_segment a d first e.families stands.reads.parts l
+          (makes_first a e l stands (omega (arith, room))) (λ t left. Unit {0}) run family))
+          ready_by.makes (λ g there. absurd there)
+          (λ g other left. added.file g (λ e. other (e ∙ stands.reads.first))) refl version refl

@@ -1,5 +1,5 @@
 -- A draft of the next version, with the families in hand as they are by it. Private contracts alone cite these words.
-use Rattle.std.specs.Prelude.{◌≡◌, ◌⊎◌, ◌≤◌, ◌+◌, ◌-◌, ◌^◌, ℕ, Bool, true, false, List, [], ◌∷◌, ◌++◌, length, Option, Some, None}
+use Rattle.std.specs.Prelude.{◌≡◌, ◌⊎◌, ◌≤◌, ◌<◌, ◌+◌, ◌-◌, ◌^◌, ℕ, Bool, true, false, List, [], ◌∷◌, ◌++◌, length, Option, Some, None}
 use Rattle.std.specs.BTreeMap.{get}
 use Rattle.std.specs.FinMap.{empty, entries}
 use Rattle.std.specs.Ordering.{nat_cmp}
@@ -122,12 +122,12 @@ pub record IsSameHand (old new : Hand) : Type 0 where
   pub log : SameLog old.log new.log
   pub others : new ≡ record old { manifest = new.manifest; log = new.log }
 
--- Behind a segment of the first form the version is made that names one more, and there is memory to add it; behind one of the second there is memory for
--- an entry.
+-- Behind a segment of the first form the version is made that names one more, its file is free, and there is memory to add it; behind one of the second
+-- there is memory for an entry.
 abbrev pub IsPrepared : Hand → Option Renewal → Type 0
 IsPrepared e None = (form_of e.log ≡ Two) × HasPlace e.log
-IsPrepared e (Some r) = (form_of e.log ≡ One) × HasPlace e.manifest.log
-    × (r.draft ≡ with_segment (renumbered (version_of e.manifest) e.next_file e.next))
+IsPrepared e (Some r) = (form_of e.log ≡ One) × (e.next_file < 2 ^ 32 - 1)
+    × HasPlace e.manifest.log × (r.draft ≡ with_segment (renumbered (version_of e.manifest) e.next_file e.next))
     × IsFramed r.block.items (version_bytes r.draft)
 
 -- The same engine with other rows in memory.

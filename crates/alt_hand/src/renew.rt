@@ -5,14 +5,17 @@ ghost use Rattle.alt_base.specs.Counts.{Rose};
 ghost use Rattle.alt_disk.specs.Disk.{IsTrusted, Goes};
 ghost use Rattle.alt_disk.specs.Runs.{Spans};
 ghost use Rattle.alt_families.specs.Families.{Families};
-ghost use Rattle.alt_gatelog.specs.InHand.{HasPlace};
+ghost use Rattle.alt_flush.specs.Drafts.{renumbered, with_segment};
+ghost use Rattle.alt_gatelog.specs.InHand.{HasPlace, IsFramed};
 ghost use Rattle.alt_gatelog.specs.declared.form.Form.TheVariants.{One};
 ghost use Rattle.alt_layout.specs.Layout.{Layout};
 ghost use Rattle.alt_layout.specs.Moments.{Has};
-ghost use Rattle.alt_hand.specs.Adding.{IsBehind};
+ghost use Rattle.alt_manifest.specs.Versions.{version_bytes};
+ghost use Rattle.alt_hand.specs.Adding.{IsBehind, IsSegmentMore};
 ghost use Rattle.alt_hand.specs.Carrying.{Carries};
 ghost use Rattle.alt_hand.specs.Drafting.{IsPrepared, IsSameHand, IsUnspent, with_rows};
 ghost use Rattle.alt_hand.specs.InHand.{Stands, files_made, last_form_of, next_file_of};
+ghost use Rattle.alt_hand.specs.Merging.{version_in};
 
 use crate::hand::{EngineFault, Hand};
 use alt_base::NoMemory;
@@ -105,13 +108,58 @@ impl Hand {
             → Rose (D.state disk.old).faults (D.state disk.new).faults }
         ensures well { OnOk result ((D.state disk.new).faults ≡ (D.state disk.old).faults) }
     {
-        let Some(Renewal { draft, block }) = renewal else {
-            return Ok(());
-        };
+        match renewal {
+            Some(Renewal { draft, block }) => self.add_segment(disk, draft, block.as_slice()),
+            None => Ok(()),
+        }
+    }
+
+    /// Makes a new segment, and adds the version that names it, by its frame.
+    fn add_segment<D: Disk>(
+        &mut self,
+        disk: &mut D,
+        draft: Version,
+        block: &[u8],
+    ) -> Result<(), EngineFault>
+        requires draft { draft
+            ≡ with_segment (renumbered (version_in self.old) self.old.next_file self.old.next) }
+        requires framed { IsFramed block.now (version_bytes draft) }
+        requires room { HasPlace self.old.manifest.log }
+        requires file { next_file_of self.old < 2 ^ 32 - 1 }
+        requires stands { IsTrusted (D.state disk.old)
+            → (families : Families) × (full : Bool) × (l : Layout)
+            × Stands (D.state disk.old) (with_rows self.old families full) l }
+        ensures ok { OnOk result (IsTrusted (D.state disk.old)
+            → (families : Families) (full : Bool) (l : Layout)
+            → Stands (D.state disk.old) (with_rows self.old families full) l
+            → Stands (D.state disk.new) (with_rows self.new families full) l) }
+        ensures room { OnOk result (HasPlace self.new.log) }
+        ensures segment { OnOk result (IsSegmentMore self.old self.new) }
+        ensures others { self.new ≡ record self.old { manifest = self.new.manifest;
+            log = self.new.log; next_file = self.new.next_file } }
+        ensures most { next_file_of self.new ≤ next_file_of self.old + 1 }
+        ensures least { next_file_of self.old ≤ next_file_of self.new }
+        ensures carries { OnOk result (IsTrusted (D.state disk.old)
+            → (families : Families) (full : Bool) (l : Layout)
+            → Stands (D.state disk.old) (with_rows self.old families full) l → (family : ℕ)
+            → Carries (D.state disk.old) (D.state disk.new) (with_rows self.old families full)
+            (with_rows self.new families full) family) }
+        ensures any_moment { IsTrusted (D.state disk.old)
+            → (families : Families) (full : Bool) (l : Layout)
+            → Stands (D.state disk.old) (with_rows self.old families full) l
+            → Spans (D.state disk.old) (D.state disk.new) (λ _. ⊤) (Has l) }
+        ensures no_memory { IsErrOf result EngineFault.NoMemory
+            → D.state disk.new ≡ D.state disk.old }
+        ensures unspent { IfErr result IsUnspent }
+        ensures goes { Goes (D.state disk.old) (D.state disk.new) }
+        ensures cause { IsErrOf result EngineFault.Failed
+            → Rose (D.state disk.old).faults (D.state disk.new).faults }
+        ensures well { OnOk result ((D.state disk.new).faults ≡ (D.state disk.old).faults) }
+    {
         let log = GateLog::make(self.alloc, disk, self.next_file, Form::Two)?;
         self.log = log;
         self.next_file = draft.next_file;
-        match self.manifest.add(disk, draft, block.as_slice()) {
+        match self.manifest.add(disk, draft, block) {
             Ok(()) => Ok(()),
             Err(Failed) => Err(EngineFault::Failed),
         }

@@ -3,4 +3,5 @@ mod fresh;
 mod kept;
 mod merged;
 mod opened;
+mod several;
 mod written;

@@ -1,13 +1,15 @@
 //! A store whose segment is of the first form, as builds before the second one left it.
 
 use crate::tests::flushed::{MORE, flush};
-use crate::tests::written::{opened, put, shows};
-use alt_disk::{Disk, MemoryDisk};
+use crate::tests::several::{disk_of, put_all};
+use crate::tests::written::{opened, shows};
+use alt_disk::MemoryDisk;
 use alt_engine::Engine;
 use alt_gatelog::{Form, GateLog};
+use alt_manifest::Manifest;
 use std::alloc::Global;
 
-// Its files after the writes of `written`.
+// Its files after the writes of `written`, as the last build before the second form left them.
 static KEPT: [(u32, &[u8]); 2] = [
     (
         1,
@@ -21,11 +23,7 @@ static KEPT: [(u32, &[u8]); 2] = [
 
 // A disk with these files.
 fn kept(alloc: Global) -> Option<MemoryDisk> {
-    let mut disk = MemoryDisk::new(alloc);
-    for (file, bytes) in &KEPT {
-        disk.write_at(*file, 0, bytes).ok()?;
-    }
-    Some(disk)
+    disk_of(alloc, &KEPT)
 }
 
 // Whether all rows are shown, in either direction, and the next number is this one.
@@ -45,31 +43,107 @@ fn lasts(alloc: Global, disk: &MemoryDisk, next: u64) -> Option<bool> {
     shows_all(alloc, &mut engine, &mut left, next)
 }
 
-// The form of a log as a stop now leaves it.
-fn form_of(alloc: Global, disk: &MemoryDisk, f: u32) -> Option<Form> {
+// The forms of the segments that the last version names, as a stop now leaves them.
+fn forms(alloc: Global, disk: &MemoryDisk) -> Option<Vec<Form>> {
     let (now, _) = disk.counts();
     let mut left = disk.stopped(now, &[]).ok()?;
-    match GateLog::recover(alloc, &mut left, f) {
-        Ok(log) => Some(log.form()),
-        Err(_) => None,
+    let manifest = Manifest::recover(alloc, &mut left, 1).ok()?;
+    let mut forms = Vec::new(alloc);
+    for f in manifest.current().segments.as_slice() {
+        let log = GateLog::recover(alloc, &mut left, *f).ok()?;
+        forms.push(log.form()).ok()?;
     }
+    Some(forms)
 }
 
-// Whether it is opened, written and flushed, and its segment is of the second form from then on.
-fn goes_on(alloc: Global) -> Option<bool> {
+// Whether it is opened as it is, and its first write makes a segment of the second form behind the others, and the next ones none.
+fn is_written(alloc: Global) -> Option<bool> {
     let mut disk = kept(alloc)?;
     let mut engine = opened(alloc, &mut disk)?;
     let read = shows_all(alloc, &mut engine, &mut disk, 7)?;
-    for write in &MORE {
-        let _ = put(alloc, &mut engine, &mut disk, write)?;
-    }
+    let before = forms(alloc, &disk)?;
+    put_all(alloc, &mut engine, &mut disk, &MORE)?;
+    let after = forms(alloc, &disk)?;
     let written = lasts(alloc, &disk, 11)?;
-    flush(&mut engine, &mut disk)?;
-    let renewed = form_of(alloc, &disk, 2).is_none() && form_of(alloc, &disk, 4)? == Form::Two;
-    Some(read && written && renewed && lasts(alloc, &disk, 11)?)
+    put_all(alloc, &mut engine, &mut disk, &MORE)?;
+    let later = forms(alloc, &disk)?;
+    Some(
+        read && before.as_slice() == &[Form::One]
+            && after.as_slice() == &[Form::One, Form::Two]
+            && written
+            && later.as_slice() == &[Form::One, Form::Two]
+            && lasts(alloc, &disk, 15)?,
+    )
 }
 
 #[test]
-fn a_store_of_the_first_form_is_opened_written_and_flushed(rt: HostRuntime) {
-    assert!(rt; goes_on(rt.alloc()) == Some(true));
+fn the_first_write_makes_a_segment_of_the_second_form(rt: HostRuntime) {
+    assert!(rt; is_written(rt.alloc()) == Some(true));
+}
+
+// Whether a batch and a flush leave no segment of the first form, also where it is opened again.
+fn is_flushed(alloc: Global) -> Option<bool> {
+    let mut disk = kept(alloc)?;
+    let mut engine = opened(alloc, &mut disk)?;
+    put_all(alloc, &mut engine, &mut disk, &MORE)?;
+    flush(&mut engine, &mut disk)?;
+    let flushed = forms(alloc, &disk)?;
+    let (now, _) = disk.counts();
+    let mut left = disk.stopped(now, &[]).ok()?;
+    let mut again = opened(alloc, &mut left)?;
+    put_all(alloc, &mut again, &mut left, &MORE)?;
+    Some(
+        flushed.as_slice() == &[Form::Two]
+            && forms(alloc, &left)?.as_slice() == &[Form::Two]
+            && lasts(alloc, &disk, 11)?
+            && lasts(alloc, &left, 15)?,
+    )
+}
+
+#[test]
+fn a_flush_leaves_no_segment_of_the_first_form(rt: HostRuntime) {
+    assert!(rt; is_flushed(rt.alloc()) == Some(true));
+}
+
+// Whether a flush before the first write makes its segment of the second form, and the write none.
+fn is_flushed_first(alloc: Global) -> Option<bool> {
+    let mut disk = kept(alloc)?;
+    let mut engine = opened(alloc, &mut disk)?;
+    flush(&mut engine, &mut disk)?;
+    let flushed = forms(alloc, &disk)?;
+    put_all(alloc, &mut engine, &mut disk, &MORE)?;
+    Some(
+        flushed.as_slice() == &[Form::Two]
+            && forms(alloc, &disk)?.as_slice() == &[Form::Two]
+            && lasts(alloc, &disk, 11)?,
+    )
+}
+
+#[test]
+fn behind_a_flush_a_write_makes_no_segment(rt: HostRuntime) {
+    assert!(rt; is_flushed_first(rt.alloc()) == Some(true));
+}
+
+// Whether a stop at each moment of the first write leaves the rows that were written or are written then: either way the same rows,
+// with one of these next numbers.
+fn stops(alloc: Global) -> Option<bool> {
+    let mut disk = kept(alloc)?;
+    let mut engine = opened(alloc, &mut disk)?;
+    let (begun, _) = disk.counts();
+    put_all(alloc, &mut engine, &mut disk, &MORE)?;
+    let (ended, _) = disk.counts();
+    for moment in begun..ended {
+        let mut left = disk.stopped(moment, &[2, 0, 255, 7, 1, 1, 0, 3]).ok()?;
+        let mut again = opened(alloc, &mut left)?;
+        let next = again.next_number();
+        if (next != 7 && next != 11) || !shows_all(alloc, &mut again, &mut left, next)? {
+            return Some(false);
+        }
+    }
+    Some(ended - begun == 10)
+}
+
+#[test]
+fn a_stop_within_the_first_write_leaves_all_of_it_or_none(rt: HostRuntime) {
+    assert!(rt; stops(rt.alloc()) == Some(true));
 }

@@ -32,7 +32,7 @@ pub returns-clause-written : goal.returns-clause-written
 returns-clause-written c = c.loop-batch.invariant.written c.loop-batch.families
     (subst (λ (bs : List (List RowChange)).
     AreWrittenTo c.loop-batch.families c.loop-batch.families (numbered c.loop-batch.next bs))
-    (sym (drop_all c.args.batches.now c.loop-batch.batch-index (omega (arith, c.loop-batch-test.false))))
+    (sym (drop_all c.loop-batch.batch-index c.args.batches.now (omega (arith, c.loop-batch-test.false))))
     (record { rows = λ f. refl; files = λ f. refl }))
 
 pub returns-clause-others : goal.returns-clause-others

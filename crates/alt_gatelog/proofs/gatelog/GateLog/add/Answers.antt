@@ -79,10 +79,10 @@ returns-clause-ok g c trusted entries entry is reads =
     (first.file ∙ ap (λ (l : List ℕ). Some l) written))
     (c.in_ok-write_and_sync-2.ensures.ok trusted_1) in
     stands_after log.form s0 log.file log.gate log.places.items entries entry short reads s2
-    (log.gate + c.len.result) c.push_reserved.new.self.items lasts
+    (log.gate + length c.args.block.now) c.push_reserved.new.self.items lasts
     (let long : length c.args.block.now ≡ length entry + 9 =
     ap (λ (l : List ℕ). length l) block ∙ length-block entry in
-    omega (arith, c.len.ensures, long)) c.push_reserved.ensures.items
+    omega (arith, long)) c.push_reserved.ensures.items
 
 pub returns-clause-bytes : goal.returns-clause-bytes
 returns-clause-bytes g c trusted entries entry is reads =
@@ -102,14 +102,13 @@ returns-clause-bytes g c trusted entries entry is reads =
     ∙ ap (λ (l : List ℕ). Some l)
     (opened ∙ after_is log.form s0 log.file log.gate log.places.items entries entry short reads)
 
-pub invariant_of-self-2 : goal.invariant_of-self-2
-invariant_of-self-2 g c =
+pub invariant_of-self : goal.invariant_of-self
+invariant_of-self g c =
     let log = c.args.self.now in
     record {
       small = omega (
         arith,
         c.in_ok-write_and_sync.ensures.fits,
-        c.len.ensures,
       );
       within = subst (All (λ at. at < 2 ^ 62))
           (sym c.push_reserved.ensures.items)

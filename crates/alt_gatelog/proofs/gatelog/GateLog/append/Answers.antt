@@ -6,7 +6,7 @@ use Rattle.alt_gatelog.specs.InHand.{IsFramed, SameLog}
 use Rattle.alt_gatelog.specs.Log.{BeforeOrAfter, log_after}
 use Rattle.alt_gatelog.specs.declared.form.Form.{Form}
 use Rattle.alt_gatelog.specs.declared.gatelog.GateLog.{GateLog}
-use Rattle.alt_gatelog.proofs.Elsewhere.{reads_same, stands_same_log}
+use Rattle.alt_gatelog.proofs.Elsewhere.{reads_same, rest-same, stands_same_log}
 use Rattle.alt_gatelog.proofs.gatelog.GateLog.append.Goals as goal
 
 -- the slice of a frame is one
@@ -63,4 +63,6 @@ returns-clause-bytes g c trusted entries reads =
     (framed_by c.in_ok-block.block.items c.as_slice.result.now c.args.bytes.now
     c.as_slice.ensures.value c.in_ok-block.ensures)
     (reads_same (g.D.Disk.state c.args.disk.now) c.args.self.now c.reserve.new.self entries same reads)
-    ∙ ap (λ (form : Form). Some (log_after form entries c.args.bytes.now reads.rest)) same.form
+    ∙ (λ i. Some (log_after (same.form i) entries c.args.bytes.now
+    (rest-same (g.D.Disk.state c.args.disk.now) c.args.self.now c.reserve.new.self entries same
+    reads i)))

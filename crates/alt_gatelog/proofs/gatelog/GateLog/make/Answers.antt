@@ -47,7 +47,7 @@ returns-clause-made g c trusted =
         lengths =
             tt;
         is_at = omega (arith, length-front form none);
-        are_at = c.new.ensures.items;
+        are_at = c.reserve.ensures.items ∙ c.new-places.ensures.items;
       };
       settled = synced_settled s1 f (log_bytes form [] 0 []) lasts.file lasts.kept;
     }

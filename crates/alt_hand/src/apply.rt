@@ -9,6 +9,7 @@ ghost use Rattle.alt_layout.specs.Layout.{Layout};
 ghost use Rattle.alt_layout.specs.Writes.{with_write, with_writes};
 ghost use Rattle.alt_hand.specs.Adding.{IsBehind};
 ghost use Rattle.alt_hand.specs.Carrying.{Carries};
+ghost use Rattle.alt_hand.specs.Drafting.{IsUnspent};
 ghost use Rattle.alt_hand.specs.Merging.{files_at};
 ghost use Rattle.alt_hand.specs.InHand.{BeforeOrAll, BeforeOrWith, IsSpentBy, Stands, WantsFile, WantsNumber, batch_write, batch_writes, files_made, last_form_of, limits_of, next_file_of, next_of};
 
@@ -77,25 +78,10 @@ impl Hand {
             → Rose (D.state disk.old).faults (D.state disk.new).faults }
         ensures well { OnOk result ((D.state disk.new).faults ≡ (D.state disk.old).faults) }
     {
-        if let Some(number) = self.wanting(batches.len()) {
-            return Err(EngineFault::Spent { number });
+        match self.wanting(batches.len()) {
+            Some(number) => Err(EngineFault::Spent { number }),
+            None => self.write(disk, batches),
         }
-
-        // All memory is taken first, and the rows go into it, so that nothing but the disk can fail once the entry is on its way.
-        let group = group_of(self.alloc, self.next, batches)?;
-        let entry = frame_of(self.alloc, group.as_slice())?;
-        let renewal = self.prepare()?;
-        put_batches(self.alloc, &mut self.families, self.next, batches)?;
-        self.full = full_after(self.full, &self.families, batches, self.limits.flush);
-        self.renew(disk, renewal)?;
-        match self.log.add(disk, entry.as_slice()) {
-            Ok(()) => {}
-            Err(Failed) => return Err(EngineFault::Failed),
-        }
-        self.length = with_more(self.length, group.len());
-        let number = self.next;
-        self.next = number + batches.len() as u64;
-        Ok(number)
     }
 
     /// Joins a batch to the rows, as `apply_all` of it alone.
@@ -142,6 +128,56 @@ impl Hand {
         ensures well { OnOk result ((D.state disk.new).faults ≡ (D.state disk.old).faults) }
     {
         self.apply_all(disk, std::slice::from_ref(batch))
+    }
+
+    /// The same where the numbers and the file are free.
+    fn write<D: Disk>(&mut self, disk: &mut D, batches: &[Batch]) -> Result<u64, EngineFault>
+        requires some { 0 < length batches.now }
+        requires numbers { next_of self.old + length batches.now ≤ 2 ^ 62 - 1 }
+        requires file { last_form_of self.old ≡ One → next_file_of self.old < 2 ^ 32 - 1 }
+        requires stands { IsTrusted (D.state disk.old)
+            → (l : Layout) × Stands (D.state disk.old) self.old l }
+        ensures ok { OnOk result (IsTrusted (D.state disk.old) → (l : Layout)
+            → Stands (D.state disk.old) self.old l → Stands (D.state disk.new) self.new
+            (with_writes l (batch_writes l batches.now))) }
+        ensures number { IfOk result (λ n. n ≡ next_of self.old) }
+        ensures next { OnOk result (next_of self.new ≡ next_of self.old + length batches.now) }
+        ensures limits { limits_of self.new ≡ limits_of self.old }
+        ensures segment { OnOk result (IsBehind (last_form_of self.old) self.old self.new) }
+        ensures most { next_file_of self.new
+            ≤ next_file_of self.old + files_made (last_form_of self.old) }
+        ensures least { next_file_of self.old ≤ next_file_of self.new }
+        ensures files { OnOk result ((family : ℕ)
+            → files_at self.new family ≡ files_at self.old family) }
+        ensures carries { OnOk result (IsTrusted (D.state disk.old) → (l : Layout)
+            → Stands (D.state disk.old) self.old l → (family : ℕ)
+            → Carries (D.state disk.old) (D.state disk.new) self.old self.new family) }
+        ensures any_moment { IsTrusted (D.state disk.old) → (l : Layout)
+            → Stands (D.state disk.old) self.old l
+            → Spans (D.state disk.old) (D.state disk.new) (λ _. ⊤) (BeforeOrAll l batches.now) }
+        ensures unspent { IfErr result IsUnspent }
+        ensures no_memory { IsErrOf result EngineFault.NoMemory
+            → D.state disk.new ≡ D.state disk.old }
+        ensures goes { Goes (D.state disk.old) (D.state disk.new) }
+        ensures cause { IsErrOf result EngineFault.Failed
+            → Rose (D.state disk.old).faults (D.state disk.new).faults }
+        ensures well { OnOk result ((D.state disk.new).faults ≡ (D.state disk.old).faults) }
+    {
+        // All memory is taken first, and the rows go into it, so that nothing but the disk can fail once the entry is on its way.
+        let group = group_of(self.alloc, self.next, batches)?;
+        let entry = frame_of(self.alloc, group.as_slice())?;
+        let renewal = self.prepare()?;
+        put_batches(self.alloc, &mut self.families, self.next, batches)?;
+        self.full = full_after(self.full, &self.families, batches, self.limits.flush);
+        self.renew(disk, renewal)?;
+        match self.log.add(disk, entry.as_slice()) {
+            Ok(()) => {}
+            Err(Failed) => return Err(EngineFault::Failed),
+        }
+        self.length = with_more(self.length, group.len());
+        let number = self.next;
+        self.next = number + batches.len() as u64;
+        Ok(number)
     }
 
     /// The number that so many writes want and can't have: 2^62 - 1, or else that of the file of the segment that they make.

@@ -1,5 +1,5 @@
 -- The frame of the bytes of the version.
-use Rattle.std.proofs.Common.{◌≡◌, ℕ, List, subst, ◌∙◌}
+use Rattle.std.proofs.Common.{ℕ, List, subst, ◌∙◌}
 use Rattle.alt_gatelog.specs.InHand.{IsFramed}
 use Rattle.alt_manifest.proofs.manifest.Manifest.prepare.Goals as goal
 

@@ -11,7 +11,7 @@ use alt_disk::DiskFault;
 use alt_families::Family;
 use alt_gatelog::GateLog;
 use alt_manifest::Manifest;
-use std::alloc::Global;
+use std::alloc::{AllocError, Global};
 use std::collections::BTreeMap;
 
 /// Why a call of the engine wasn't done.
@@ -34,6 +34,17 @@ impl From<NoMemory> for EngineFault {
     ghost from_gives = { λ _ f. f ≡ fault.NoMemory };
 
     fn from(_: NoMemory) -> Self {
+        EngineFault::NoMemory
+    }
+}
+
+impl From<AllocError> for EngineFault {
+    ghost use Rattle.std.specs.Prelude.{◌≡◌};
+    ghost use Rattle.alt_hand.specs.declared.hand.EngineFault.TheVariants as fault;
+
+    ghost from_gives = { λ _ f. f ≡ fault.NoMemory };
+
+    fn from(_: AllocError) -> Self {
         EngineFault::NoMemory
     }
 }

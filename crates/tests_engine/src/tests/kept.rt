@@ -68,10 +68,10 @@ fn is_written(alloc: Global) -> Option<bool> {
     put_all(alloc, &mut engine, &mut disk, &MORE)?;
     let later = forms(alloc, &disk)?;
     Some(
-        read && before.as_slice() == &[Form::One]
-            && after.as_slice() == &[Form::One, Form::Two]
+        read && before.as_slice() == [Form::One].as_slice()
+            && after.as_slice() == [Form::One, Form::Two].as_slice()
             && written
-            && later.as_slice() == &[Form::One, Form::Two]
+            && later.as_slice() == [Form::One, Form::Two].as_slice()
             && lasts(alloc, &disk, 15)?,
     )
 }
@@ -93,8 +93,8 @@ fn is_flushed(alloc: Global) -> Option<bool> {
     let mut again = opened(alloc, &mut left)?;
     put_all(alloc, &mut again, &mut left, &MORE)?;
     Some(
-        flushed.as_slice() == &[Form::Two]
-            && forms(alloc, &left)?.as_slice() == &[Form::Two]
+        flushed.as_slice() == [Form::Two].as_slice()
+            && forms(alloc, &left)?.as_slice() == [Form::Two].as_slice()
             && lasts(alloc, &disk, 11)?
             && lasts(alloc, &left, 15)?,
     )
@@ -113,8 +113,8 @@ fn is_flushed_first(alloc: Global) -> Option<bool> {
     let flushed = forms(alloc, &disk)?;
     put_all(alloc, &mut engine, &mut disk, &MORE)?;
     Some(
-        flushed.as_slice() == &[Form::Two]
-            && forms(alloc, &disk)?.as_slice() == &[Form::Two]
+        flushed.as_slice() == [Form::Two].as_slice()
+            && forms(alloc, &disk)?.as_slice() == [Form::Two].as_slice()
             && lasts(alloc, &disk, 11)?,
     )
 }

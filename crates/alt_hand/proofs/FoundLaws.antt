@@ -147,7 +147,9 @@ module _ (a b d : DiskState) (m : Manifest) (families : Families) (flushed : BTr
         bytes = last.bytes;
         sized = subst (λ (n : Manifest). AreSized d.file (version_of n).segments last.bytes)
             (sym manifest) last.sized;
-        is = length ∙ replays.length (omega arith);
+        is = length ∙ replays.length (omega arith)
+            ∙ (let same : min (0 + last.bytes) most_bytes ≡ min last.bytes most_bytes = omega arith in
+            same);
       };
       file = file ∙ ap (λ (n : Manifest). (version_of n).next_file) (sym manifest);
       memory = λ family. memory family

@@ -82,8 +82,11 @@ impl Hand {
             → Stands (D.state disk.new) (with_rows self.new families full) l) }
         ensures room { OnOk result (HasPlace self.new.log) }
         ensures segment { OnOk result (IsBehind (last_form_of self.old) self.old self.new) }
-        ensures others { self.new ≡ record self.old { manifest = self.new.manifest;
-            log = self.new.log; next_file = self.new.next_file } }
+        ensures others { self.new ≡ record self.old {
+          manifest = self.new.manifest;
+          log = self.new.log;
+          next_file = self.new.next_file;
+        } }
         ensures most { next_file_of self.new
             ≤ next_file_of self.old + files_made (last_form_of self.old) }
         ensures least { next_file_of self.old ≤ next_file_of self.new }
@@ -135,8 +138,11 @@ impl Hand {
             → Stands (D.state disk.new) (with_rows self.new families full) l) }
         ensures room { OnOk result (HasPlace self.new.log) }
         ensures segment { OnOk result (IsSegmentMore self.old self.new) }
-        ensures others { self.new ≡ record self.old { manifest = self.new.manifest;
-            log = self.new.log; next_file = self.new.next_file } }
+        ensures others { self.new ≡ record self.old {
+          manifest = self.new.manifest;
+          log = self.new.log;
+          next_file = self.new.next_file;
+        } }
         ensures most { next_file_of self.new ≤ next_file_of self.old + 1 }
         ensures least { next_file_of self.old ≤ next_file_of self.new }
         ensures carries { OnOk result (IsTrusted (D.state disk.old)

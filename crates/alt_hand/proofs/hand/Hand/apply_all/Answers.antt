@@ -68,12 +68,14 @@ returns-in-Some-clause-cause_spent g c = of_some c.wanting.result c.in-Some.numb
     c.in-Some.is c.wanting.ensures.number
 
 pub returns-in-Some-clause-spent_number : goal.returns-in-Some-clause-spent_number
+unfolding Wants
 returns-in-Some-clause-spent_number g c more = ap (λ n. Err (Spent n))
     (number_is c.args.self.now (length c.args.batches.now) c.in-Some.number more
     (of_some c.wanting.result c.in-Some.number
     (Wants c.args.self.now (length c.args.batches.now)) c.in-Some.is c.wanting.ensures.number))
 
 pub returns-in-Some-clause-spent_file : goal.returns-in-Some-clause-spent_file
+unfolding Wants
 returns-in-Some-clause-spent_file g c few one last = ap (λ n. Err (Spent n))
     (file_is c.args.self.now (length c.args.batches.now) c.in-Some.number few one
     (of_some c.wanting.result c.in-Some.number

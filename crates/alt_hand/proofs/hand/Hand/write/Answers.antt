@@ -36,9 +36,13 @@ returns-in_err-put_batches-clause-any_moment g c trusted l stands =
 pub renew-requires-clause-stands : goal.renew-requires-clause-stands
 renew-requires-clause-stands g c trusted =
     let given = c.requires.stands trusted in
-    let f = c.prepare.new.self in
-    (f.families, f.full, given.0, stands_prepared (g.D.Disk.state c.args.disk.now) c.args.self.now f
-    given.0 c.prepare.ensures.same given.1)
+    let f = c.prepare.new.self in (
+      f.families,
+      f.full,
+      given.0,
+      stands_prepared (g.D.Disk.state c.args.disk.now) c.args.self.now f
+          given.0 c.prepare.ensures.same given.1,
+    )
 
 pub add-requires-clause-reads : goal.add-requires-clause-reads
 add-requires-clause-reads g c at_end =
@@ -135,7 +139,8 @@ returns-clause-ok g c trusted l stands =
     last keeps c.renew.ensures.others group entry run c.add.new.self c.with_more-self.result
     (k.next + length c.args.batches.now) c.add.ensures.file c.add.ensures.form
     (c.in-Ok.ensures.ok told last.reads.log.entries group framed last.reads.log.reads)
-    c.with_more-self.ensures refl c.in_ok-put_batches.ensures.written
+    (c.with_more-self.ensures ∙ ap (λ n. min (k.length + n) most_bytes) c.len.ensures) refl
+    c.in_ok-put_batches.ensures.written
     (still_below f.families c.put_batches.new.families f.limits.flush f.full c.args.batches.now
     c.full_after-self.result first.reads.calm c.in_ok-put_batches.ensures.others
     c.full_after-self.ensures.before c.full_after-self.ensures.changed)
@@ -171,7 +176,8 @@ returns-clause-carries g c trusted l stands family =
     c.full_after-self.result first last keeps c.renew.ensures.others group entry run c.add.new.self
     c.with_more-self.result (k.next + length c.args.batches.now) c.add.ensures.file c.add.ensures.form
     (c.in-Ok.ensures.ok told last.reads.log.entries group framed last.reads.log.reads)
-    c.with_more-self.ensures refl c.in_ok-put_batches.ensures.written
+    (c.with_more-self.ensures ∙ ap (λ n. min (k.length + n) most_bytes) c.len.ensures) refl
+    c.in_ok-put_batches.ensures.written
     (still_below f.families c.put_batches.new.families f.limits.flush f.full c.args.batches.now
     c.full_after-self.result first.reads.calm c.in_ok-put_batches.ensures.others
     c.full_after-self.ensures.before c.full_after-self.ensures.changed) family

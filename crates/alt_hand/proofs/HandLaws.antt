@@ -38,7 +38,7 @@ use Rattle.alt_layout.proofs.RowLaws.{next_after-least, next_number-numbered, wi
 use Rattle.alt_layout.proofs.MomentLaws.{in_each_image, lies_quiet, lies_writes, spans_writes}
 use Rattle.alt_layout.proofs.PastLaws.{stored_past}
 use Rattle.alt_layout.specs.Writes.{rows_with, with_writes}
-use Rattle.alt_hand.specs.InHand.{Reads, Stands, AreBelow, AreOpen, batch_writes, BeforeOrAll, IsLength, IsWritten, LogHolds, family_of}
+use Rattle.alt_hand.specs.InHand.{Reads, Stands, AreBelow, AreOpen, batch_writes, BeforeOrAll, IsLength, IsWritten, family_of}
 use Rattle.alt_families.specs.Families.{Families, files_in, rows_in}
 use Rattle.alt_families.specs.Memory.{AreWrittenTo}
 use Rattle.alt_hand.specs.declared.hand.Hand.{Hand}

@@ -1,5 +1,5 @@
 -- A draft with a new segment behind the others: the engine is ready for it, and its layout is the one before.
-use Rattle.std.proofs.Common.{◌≡◌, ◌<◌, ◌+◌, ◌^◌, ⊎_elim, inl, inr, ℕ, List, [], ◌∷◌, ◌++◌, Option, refl, sym, ap, subst, ◌∙◌, min, arith}
+use Rattle.std.proofs.Common.{◌≡◌, ◌<◌, ◌+◌, ◌^◌, ⊎_elim, ℕ, List, [], ◌∷◌, ◌++◌, Option, refl, sym, ap, subst, ◌∙◌, min, arith}
 use Rattle.std.proofs.lemmas.List.{append-nil}
 use Rattle.std.specs.BTreeMap.{get}
 use Rattle.std.specs.FinMap.{empty}
@@ -30,7 +30,6 @@ use Rattle.alt_families.specs.Families.{Families, files_in}
 use Rattle.alt_hand.specs.Carrying.{AreStill, Carries, CarriesDraft}
 use Rattle.alt_hand.specs.Drafting.{IsReady, Makes}
 use Rattle.alt_hand.specs.InHand.{Stands, family_of}
-use Rattle.alt_hand.specs.Merging.{MayEnd}
 use Rattle.alt_hand.specs.declared.hand.Hand.{Hand}
 use Rattle.alt_hand.proofs.BesideLaws.{each_on, may_end_on}
 use Rattle.alt_hand.proofs.CarryLaws.{carries_published}

@@ -126,7 +126,8 @@ impl Hand {
     ) -> Result<(), EngineFault>
         requires draft { draft
             ≡ with_segment (renumbered (version_in self.old) self.old.next_file self.old.next) }
-        requires framed { IsFramed block.now (version_bytes draft) }
+        requires framed { IsFramed block.now (version_bytes (with_segment
+            (renumbered (version_in self.old) self.old.next_file self.old.next))) }
         requires room { HasPlace self.old.manifest.log }
         requires file { next_file_of self.old < 2 ^ 32 - 1 }
         requires stands { IsTrusted (D.state disk.old)

@@ -1,5 +1,5 @@
 -- A batch more.
-use Rattle.std.proofs.Common.{◌≡◌, ⊎_elim, List, take, subst, sym}
+use Rattle.std.proofs.Common.{⊎_elim, List, take, subst, sym}
 use Rattle.alt_cells.specs.declared.batch.RowChange.{RowChange}
 use Rattle.alt_families.specs.Memory.{AreChanged, IsChanged}
 use Rattle.alt_hand.proofs.FullLaws.{changed_batch}

@@ -1,9 +1,10 @@
 -- A segment more, and then the version that names it, whatever rows are in memory.
-use Rattle.std.proofs.Common.{◌≡◌, ◌<◌, ◌+◌, ◌^◌, ℕ, Bool, ap, ◌∙◌, arith}
-use Rattle.alt_disk.specs.Disk.{DiskState, IsTrusted}
+use Rattle.std.proofs.Common.{ap, subst, sym, ◌∙◌, arith}
+use Rattle.alt_disk.specs.Disk.{DiskState}
 use Rattle.alt_disk.proofs.Runs.{run_spans, trusted_back, trusted_on}
 use Rattle.alt_flush.specs.Drafts.{From}
-use Rattle.alt_flush.proofs.RemoveLaws.{none_removed}
+use Rattle.alt_gatelog.specs.InHand.{IsFramed}
+use Rattle.alt_manifest.specs.Versions.{version_bytes}
 use Rattle.alt_manifest.specs.declared.version.Version.{Version}
 use Rattle.alt_hand.specs.Drafting.{with_rows}
 use Rattle.alt_hand.proofs.RenewLaws.{keeping, ready_by, renew_carries, renew_images, renewed}
@@ -35,6 +36,11 @@ add-requires-clause-version g c at_end =
     c.requires.draft c.in_ok-log.log (omega (arith, c.requires.file))
     (c.in_ok-log.ensures.any_moment trusted) c.in_ok-log.ensures.file
     (c.in_ok-log.ensures.made trusted)).makes.drafted.is
+
+pub add-requires-clause-framed : goal.add-requires-clause-framed
+add-requires-clause-framed g c =
+    subst (λ (v : Version). IsFramed c.args.block.now (version_bytes v)) (sym c.requires.draft)
+    c.requires.framed
 
 pub returns-in_err-log-clause-any_moment : goal.returns-in_err-log-clause-any_moment
 returns-in_err-log-clause-any_moment g c trusted families full l stands =

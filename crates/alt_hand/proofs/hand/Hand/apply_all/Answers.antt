@@ -1,7 +1,6 @@
 -- A number is wanting, or the batches are written.
-use Rattle.std.proofs.Common.{◌≡◌, ◌<◌, ◌≤◌, ◌+◌, ◌-◌, ◌^◌, ⊎_elim, ℕ, Result, Ok, Err, IfErr, Option, Some, None, IfSome, length, max, ap, sym, subst, ◌∙◌, arith}
+use Rattle.std.proofs.Common.{◌≡◌, ◌<◌, ◌≤◌, ◌+◌, ◌-◌, ◌^◌, ⊎_elim, ℕ, Result, Ok, Err, IfErr, Option, Some, IfSome, length, max, ap, subst, arith}
 use Rattle.std.specs.Prelude.{◌⊎◌, IsErrOf}
-use Rattle.alt_faults.specs.Faults.{OnlySpent}
 use Rattle.alt_faults.proofs.Telling.{outside-tells}
 use Rattle.alt_gatelog.specs.declared.form.Form.{Form}
 use Rattle.alt_gatelog.specs.declared.form.Form.TheVariants.{One, Two}

@@ -1,18 +1,17 @@
 -- The segment that was prepared, or none.
-use Rattle.std.proofs.Common.{◌≡◌, ◌≤◌, ◌+◌, Option, Some, None, OnOk, refl, sym, ap, subst, ◌∙◌, arith}
+use Rattle.std.proofs.Common.{refl, sym, ap, subst, arith}
 use Rattle.std.proofs.lemmas.Result.{on_ok_weaker}
 use Rattle.alt_disk.specs.Disk.{DiskState}
-use Rattle.alt_flush.specs.Drafts.{From}
+use Rattle.alt_flush.specs.Drafts.{From, renumbered, with_segment}
 use Rattle.alt_flush.proofs.RemoveLaws.{none_removed}
-use Rattle.alt_gatelog.specs.InHand.{IsFramed, form_of}
+use Rattle.alt_gatelog.specs.InHand.{IsFramed}
 use Rattle.alt_gatelog.specs.declared.form.Form.{Form}
-use Rattle.alt_gatelog.specs.declared.form.Form.TheVariants.{One}
 use Rattle.alt_manifest.specs.Versions.{version_bytes}
 use Rattle.alt_manifest.specs.declared.version.Version.{Version}
 use Rattle.alt_hand.specs.Adding.{IsBehind, IsSegmentMore}
 use Rattle.alt_hand.specs.Drafting.{IsPrepared, with_rows}
 use Rattle.alt_hand.specs.InHand.{files_made}
-use Rattle.alt_hand.specs.declared.renew.Renewal.{Renewal}
+use Rattle.alt_hand.specs.Merging.{version_in}
 use Rattle.alt_hand.proofs.CarryLaws.{carries_none}
 use Rattle.alt_hand.proofs.RenewLaws.{keeping}
 use Rattle.alt_hand.proofs.hand.Hand.renew.Goals as goal
@@ -23,10 +22,12 @@ add_segment-requires-clause-draft g c =
 
 pub add_segment-requires-clause-framed : goal.add_segment-requires-clause-framed
 add_segment-requires-clause-framed g c =
-    let prepared = subst (IsPrepared c.args.self.now) c.in-Some.is c.requires.prepared in
-    subst (λ b. IsFramed b (version_bytes c.in-Some.draft)) (sym c.as_slice.ensures.value)
+    let e = c.args.self.now in
+    let prepared = subst (IsPrepared e) c.in-Some.is c.requires.prepared in
+    subst (λ b. IsFramed b (version_bytes (with_segment
+    (renumbered (version_in e) e.next_file e.next)))) (sym c.as_slice.ensures.value)
     (subst (λ (v : Version). IsFramed c.in-Some.field-0.block.items (version_bytes v))
-    (prepared.3 ∙ sym (add_segment-requires-clause-draft g c)) prepared.4)
+    prepared.3 prepared.4)
 
 pub add_segment-requires-clause-room : goal.add_segment-requires-clause-room
 add_segment-requires-clause-room g c =

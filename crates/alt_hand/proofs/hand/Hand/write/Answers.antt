@@ -1,12 +1,9 @@
 -- Batches are an entry of the last segment, and their rows are in memory before.
-use Rattle.std.proofs.Common.{◌≡◌, ◌<◌, ◌+◌, ℕ, List, false, length, min, refl, ap, subst, sym, ◌∙◌, arith}
+use Rattle.std.proofs.Common.{◌+◌, ℕ, List, length, min, refl, ap, subst, sym, ◌∙◌}
 use Rattle.alt_memtable.specs.Rows.{most_bytes}
-use Rattle.alt_cells.specs.declared.batch.RowChange.{RowChange}
-use Rattle.alt_disk.specs.Disk.{DiskState, IsTrusted}
+use Rattle.alt_disk.specs.Disk.{DiskState}
 use Rattle.alt_disk.proofs.Runs.{trusted_back, trusted_on}
 use Rattle.alt_gatelog.specs.InHand.{IsFramed, form_of}
-use Rattle.alt_layout.specs.Layout.{Layout}
-use Rattle.alt_writes.specs.Writes.{numbered}
 use Rattle.alt_hand.specs.Drafting.{with_rows}
 use Rattle.alt_hand.specs.InHand.{Stands}
 use Rattle.alt_hand.specs.Merging.{files_at}

@@ -3,7 +3,6 @@ use Rattle.alt_disk.specs.Disk.{DiskState, IsTrusted, IsSettled}
 use Rattle.alt_disk.proofs.Runs.{trusted_on, tells_of}
 use Rattle.alt_gatelog.specs.Log.{log_after, log_bytes}
 use Rattle.alt_gatelog.specs.declared.form.Form.{Form}
-use Rattle.alt_gatelog.specs.declared.form.Form.TheVariants.{One, Two}
 use Rattle.alt_layout.specs.Fresh.{first_version}
 use Rattle.alt_hand.proofs.Fresh.{fresh_layout, settled_on, rest_none}
 use Rattle.alt_hand.proofs.make.make_store.Goals as goal

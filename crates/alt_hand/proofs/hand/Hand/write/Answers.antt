@@ -136,7 +136,8 @@ returns-clause-ok g c trusted l stands =
     last keeps c.renew.ensures.others group entry run c.add.new.self c.with_more-self.result
     (k.next + length c.args.batches.now) c.add.ensures.file c.add.ensures.form
     (c.in-Ok.ensures.ok told last.reads.log.entries group framed last.reads.log.reads)
-    (c.with_more-self.ensures ∙ ap (λ n. min (k.length + n) most_bytes) c.len.ensures) refl
+    (c.with_more-self.ensures ∙ ap (λ n. min (k.length + n) most_bytes) (c.len.ensures
+    ∙ sym c.as_slice.ensures.len ∙ ap (λ (x : List ℕ). length x) c.as_slice.ensures.value)) refl
     c.in_ok-put_batches.ensures.written
     (still_below f.families c.put_batches.new.families f.limits.flush f.full c.args.batches.now
     c.full_after-self.result first.reads.calm c.in_ok-put_batches.ensures.others
@@ -173,7 +174,8 @@ returns-clause-carries g c trusted l stands family =
     c.full_after-self.result first last keeps c.renew.ensures.others group entry run c.add.new.self
     c.with_more-self.result (k.next + length c.args.batches.now) c.add.ensures.file c.add.ensures.form
     (c.in-Ok.ensures.ok told last.reads.log.entries group framed last.reads.log.reads)
-    (c.with_more-self.ensures ∙ ap (λ n. min (k.length + n) most_bytes) c.len.ensures) refl
+    (c.with_more-self.ensures ∙ ap (λ n. min (k.length + n) most_bytes) (c.len.ensures
+    ∙ sym c.as_slice.ensures.len ∙ ap (λ (x : List ℕ). length x) c.as_slice.ensures.value)) refl
     c.in_ok-put_batches.ensures.written
     (still_below f.families c.put_batches.new.families f.limits.flush f.full c.args.batches.now
     c.full_after-self.result first.reads.calm c.in_ok-put_batches.ensures.others

@@ -17,6 +17,7 @@ from disks import lay
 from stores import MADE, SHOW, Script, at_once, batch, delete, ends, init, put, replay, seen, short, word
 
 PROGRAM, TRIES = sys.argv[1], int(sys.argv[2])
+FORMS = [b"ALTLOG01", b"ALTLOG02"]
 ROW = re.compile(r"alternator: row: family \d+ key [0-9a-f]*\n")
 
 
@@ -58,8 +59,8 @@ class Fields:
 
 
 def log_of(number, data):
-    """The entries of a gated log, each with the place of its gate."""
-    if data[:8] != b"ALTLOG01":
+    """The form of a gated log, and its entries, each with the place of its gate."""
+    if data[:8] not in FORMS:
         raise damaged(number, 0)
     entries, at = [], 8
     while at < len(data) and data[at] == 1:
@@ -70,7 +71,7 @@ def log_of(number, data):
         at += 9 + size
     if at >= len(data):
         raise damaged(number, at)
-    return entries
+    return FORMS.index(data[:8]) + 1, entries
 
 
 def rising(numbers):
@@ -103,9 +104,8 @@ def counted(fields):
     return count
 
 
-def write_of(data):
+def number_of(fields):
     """The number of a write, whose changes are read to their end."""
-    fields = Fields(data)
     number = fields.number()
     for _ in range(counted(fields)):
         fields.number(4), fields.field(), fields.flag()
@@ -113,10 +113,20 @@ def write_of(data):
             fields.field()
             if fields.flag():
                 fields.field()
-    fields.end()
     if not 1 <= number < 2**62 - 1:
         raise IndexError
     return number
+
+
+def numbers_of(form, data):
+    """The numbers of the writes of an entry: of one in the first form, of a group in the second."""
+    fields = Fields(data)
+    count = 1 if form == 1 else counted(fields)
+    numbers = [number_of(fields) for _ in range(count)]
+    fields.end()
+    if not numbers or not rising(numbers):
+        raise IndexError
+    return numbers
 
 
 def test_rows(number, data, greatest):
@@ -149,7 +159,9 @@ def store_of(files):
     def file(number):
         return files.get("%08x.alt" % number, b"")
 
-    versions = log_of(1, file(1))
+    form, versions = log_of(1, file(1))
+    if form != 1:
+        raise damaged(1, 0)
     if not versions:
         raise damaged(1, 8)
     at, last = versions[-1]
@@ -162,14 +174,15 @@ def store_of(files):
             test_rows(number, file(number), greatest)
     writes, before = [], 0
     for number in segments:
-        for at, data in log_of(number, file(number)):
+        form, entries = log_of(number, file(number))
+        for at, data in entries:
             try:
-                found = write_of(data)
+                found = numbers_of(form, data)
             except IndexError:
-                found = 0
-            if found <= before:
+                found = [0]
+            if found[0] <= before:
                 raise damaged(number, at)
-            before = found
+            before = found[-1]
             writes.append(data)
     return segments, families, writes
 
@@ -228,7 +241,8 @@ def five(faults):
     versions, log = "00000001.alt", "00000002.alt"
     field = lambda data: len(data).to_bytes(8, "big") + data
     change = bytes(4) + field(b"Tab") + b"\0" + (1).to_bytes(8, "big") + field(b"t") + b"\1" + field(b"\0")
-    entry = b"\1" + field((1).to_bytes(8, "big") + (1).to_bytes(8, "big") + change)
+    one = (1).to_bytes(8, "big")
+    entry = b"\1" + field(one + one + one + change)
     stores = [
         ({**fresh, versions: b"\0" + fresh[versions][1:]}, "damaged: file 1 at 0"),
         ({**fresh, versions: fresh[versions][:8] + b"\0" + fresh[versions][9:]}, "damaged: file 1 at 8"),

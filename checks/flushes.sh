@@ -34,7 +34,7 @@ entries() {
   local file sum=0
   for file in "$work/$1"/*.alt; do
     [ "${file##*/}" != 00000001.alt ] || continue
-    [ "$(head -c 8 "$file")" = ALTLOG01 ] || continue
+    case "$(head -c 8 "$file")" in ALTLOG0[12]) ;; *) continue ;; esac
     sum=$((sum + $(wc -c <"$file") - 9))
   done
   echo $sum

@@ -70,7 +70,7 @@ mkdir "$work/part" && : >"$work/part/0000001f.alt" && : >"$work/part/1f.alt" && 
 expect 'where another file of a store is' 2 'alternator: store not empty: file 31' ./alternator "$work/part" 0 init
 rm "$work/part/0000001f.alt"
 says 'other names are passed over' 0 ok ./alternator "$work/part" 0 init
-[ "$(cat "$work/made/"*.alt | od -An -tx1 | tr -d ' \n')" = 414c544c4f473031010000000000000020000000030000000000000001000000000000000100000002000000000000000000414c544c4f47303100 ] \
+[ "$(cat "$work/made/"*.alt | od -An -tx1 | tr -d ' \n')" = 414c544c4f473031010000000000000020000000030000000000000001000000000000000100000002000000000000000000414c544c4f47303200 ] \
   && passed=$((passed + 1)) || { failed=$((failed + 1)); echo 'the bytes of an empty store'; }
 
 # ---- closed standard streams: no file of a store comes into the place of one, so nothing is said or noted into it
@@ -81,7 +81,7 @@ mkdir "$work/tabled"
 printf '%s\n' 'CreateTable {"TableName":"Tab","KeySchema":[{"AttributeName":"k","KeyType":"HASH"}],"AttributeDefinitions":[{"AttributeName":"k","AttributeType":"S"}]}' \
   | ./alternator "$work/tabled" 0 replay 65536 4 >/dev/null
 cp -r "$work/tabled" "$work/crooked"
-printf 'ALTLOG02\0' | dd of="$work/crooked/00000002.alt" conv=notrunc 2>/dev/null
+printf 'ALTLOG03\0' | dd of="$work/crooked/00000002.alt" conv=notrunc 2>/dev/null
 # without STREAMS COMMAND..: runs it without these standard streams, some of the digits 0, 1 and 2
 without() {
   local streams=$1
@@ -188,10 +188,12 @@ spoilt() {
   printf "$4" >"$work/spoilt/$3"
   expect "$1" 3 "$2" ./alternator "$work/spoilt" 0 replay 65536 4
 }
-spoilt 'a log without its header' 'alternator: damaged: file 2 at 0' 00000002.alt 'ALTLOG02\0'
+spoilt 'a log without its header' 'alternator: damaged: file 2 at 0' 00000002.alt 'ALTLOG03\0'
 spoilt 'a log without an end' 'alternator: damaged: file 2 at 8' 00000002.alt 'ALTLOG01'
 spoilt 'an entry past the end' 'alternator: damaged: file 2 at 8' 00000002.alt 'ALTLOG01\1\0\0\0\0\0\0\0\5\0'
 spoilt 'an entry that is no write' 'alternator: damaged: file 2 at 8' 00000002.alt 'ALTLOG01\1\0\0\0\0\0\0\0\0\0'
+spoilt 'a group of no write' 'alternator: damaged: file 2 at 8' 00000002.alt 'ALTLOG02\1\0\0\0\0\0\0\0\10\0\0\0\0\0\0\0\0\0'
+spoilt 'versions of the second form' 'alternator: damaged: file 1 at 0' 00000001.alt 'ALTLOG02\0'
 spoilt 'a version of an empty log' 'alternator: damaged: file 1 at 8' 00000001.alt 'ALTLOG01\0'
 # logged NAME NOTE HEX..: a store whose log has these entries
 logged() {

@@ -3,7 +3,8 @@ use Rattle.std.specs.Prelude.{◌≡◌, ℕ, false, Option, Some, None}
 use Rattle.alt_cells.specs.Walks.{RowList}
 use Rattle.alt_disk.specs.Disk.{DiskState}
 use Rattle.alt_layout.specs.Layout.{Layout}
-use Rattle.alt_hand.specs.InHand.{limits_of as hand_limits, next_file_of as hand_file, next_of as hand_number, Reads as HandReads, Stands as HandStands}
+use Rattle.alt_gatelog.specs.declared.form.Form.{Form}
+use Rattle.alt_hand.specs.InHand.{last_form_of as hand_form, limits_of as hand_limits, next_file_of as hand_file, next_of as hand_number, Reads as HandReads, Stands as HandStands}
 use Rattle.alt_hand.specs.Merging.{HasMany}
 use Rattle.alt_hand.specs.declared.hand.Hand.{Hand}
 use Rattle.alt_hand.specs.declared.hand.Limits.{Limits}
@@ -26,6 +27,10 @@ next_of e = hand_number e.hand
 -- The number of the next file that it makes.
 abbrev pub next_file_of : Engine → ℕ
 next_file_of e = hand_file e.hand
+
+-- The form of its last segment.
+abbrev pub last_form_of : Engine → Form
+last_form_of e = hand_form e.hand
 
 -- From how many bytes on a family is flushed, and from how many files on merged.
 abbrev pub limits_of : Engine → Limits

@@ -10,7 +10,7 @@ use Rattle.alt_machine.specs.Ops.BatchWriteItem.{Written, written_by, writes_ask
 use Rattle.alt_machine.specs.State.{Texts}
 use Rattle.alt_machine.proofs.Batches as machine
 use Rattle.alt_machine.proofs.Batches.{MayStand, asked_may, asked_named, asked_once, may_be_left}
-use Rattle.alt_ops_batch.specs.private.Changed.{Every, MayWrite, AreApart, AreAllApart}
+use Rattle.alt_tables.specs.Several.{Every, MayWrite, AreApart, AreAllApart}
 use Rattle.alt_schema.specs.declared.schema.TableSchema.{TableSchema}
 use Rattle.alt_opening.proofs.OneColumn.{bytes_differ}
 

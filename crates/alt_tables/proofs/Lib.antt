@@ -1,7 +1,10 @@
+pub mod Ahead
+pub mod Batches
 pub mod Behind
 pub mod CatalogLaws
 pub mod ChangeLaws
 pub mod ChangePages
+pub mod Differing
 pub mod Elsewhere
 pub mod FilesLaws
 pub mod FrontLaws
@@ -15,9 +18,11 @@ pub mod LeftoverLaws
 pub mod LeftoverRows
 pub mod Making
 pub mod Moving
+pub mod Noting
 pub mod Pages
 pub mod Paying
 pub mod Rising
+pub mod Staged
 pub mod Standing
 pub mod Starting
 pub mod StreamShows

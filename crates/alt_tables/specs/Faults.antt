@@ -1,8 +1,9 @@
 -- What a call that gives no answer tells, and what it leaves.
-use Rattle.std.specs.Prelude.{take, length, ◌≡◌, ◌≤◌, ◌-◌, ◌^◌, ℕ, List, Some, None, Result, Ok, Err}
+use Rattle.std.specs.Prelude.{take, length, ◌≡◌, ◌≤◌, ◌<◌, ◌+◌, ◌-◌, ◌^◌, ℕ, List, Some, None, Result, Ok, Err}
 use Rattle.alt_disk.specs.Disk.{DiskState}
 use Rattle.alt_faults.specs.Faults as view
 use Rattle.alt_faults.specs.Faults.{Fault, failed, no_memory, spent, damaged, bad_bytes, bad_row, IsMemory, IsOutside, OnlySpent}
+use Rattle.alt_machine.specs.declared.TheConstants.{NUMBERS_END}
 use Rattle.alt_machine.specs.Outcomes.{Wants, last_state, state_after}
 use Rattle.alt_machine.specs.State.{State}
 use Rattle.alt_machine.specs.Wanted.{lack_among}
@@ -52,6 +53,22 @@ abbrev pub Writes : {A : Type 0} → (State → Type 0) → Wants → State → 
     → Result A TableFault → Type 0
 Writes now wants s atoms (Ok x) = AreMade now wants s atoms
 Writes now wants s atoms (Err fault) = BreakOff now wants s atoms fault
+
+-- These writes are made together: the tables stand for the state after the last of them, and there were numbers for all of them.
+pub record AreAllMade (now : State → Type 0) (s : State) (writes : List State) : Type 0 where
+  pub state : now (last_state s writes)
+  pub enough : s.next_number + length writes ≤ NUMBERS_END
+
+-- They broke off, and none of them is made: where there aren't numbers for all of them the tables stand for the state from before.
+abbrev pub BreakOffAll : (State → Type 0) → State → List State → TableFault → Type 0
+BreakOffAll now s writes fault = OnlySpent (λ number. (number ≡ NUMBERS_END)
+    × (NUMBERS_END < s.next_number + length writes) × now s) (told_by_tables fault)
+
+-- A call that makes these writes together makes them all, or breaks off with the fault.
+abbrev pub WritesAll : {A : Type 0} → (State → Type 0) → State → List State
+    → Result A TableFault → Type 0
+WritesAll now s writes (Ok x) = AreAllMade now s writes
+WritesAll now s writes (Err fault) = BreakOffAll now s writes fault
 
 -- a fault of a step that asks nothing of the disk and writes nothing: memory was wanting
 abbrev pub IsReadFault : TableFault → Type 0

@@ -229,7 +229,7 @@ impl Tables {
     }
 
     /// Makes known what a write at a moment leaves of the front of a table's stream.
-    fn know(&mut self, table: &str, moment: u64, trim: &Trim) -> Result<(), NoMemory>
+    pub(crate) fn know(&mut self, table: &str, moment: u64, trim: &Trim) -> Result<(), NoMemory>
         requires there { map.contains_key (catalog_of self.old) table.now ≡ true }
         ensures trimmed { OnOk result (IsRenumbered table.now trim.now.number (trimmed_of self.old)
             (trimmed_of self.new)) }
@@ -364,7 +364,7 @@ impl Tables {
     }
 
     /// The place of a key in a table that is there.
-    fn place_in(&self, table: &str, key: &Item) -> Result<Bytes, TableFault>
+    pub(crate) fn place_in(&self, table: &str, key: &Item) -> Result<Bytes, TableFault>
         requires there { map.contains_key (catalog_of self.now) table.now ≡ true }
         requires key { (d : TableSchema) → map.get (catalog_of self.now) table.now ≡ Some d
             → IsSome (place_of d key.now) }
@@ -399,7 +399,7 @@ fn item_of(alloc: Global, row: &Option<ShownRow>) -> Result<Option<Item>, Unread
 
 /// The row changes of an item by the write of a number at a moment: in its table, in the indexes and in the stream, which tells who made
 /// the write. `row` is that of the old item.
-fn item_batch(
+pub(crate) fn item_batch(
     alloc: Global,
     schema: &TableSchema,
     number: u64,
@@ -431,7 +431,7 @@ fn item_batch(
 }
 
 /// Puts what a write does to the rows of the changes that the stream of a table trimmed behind the row changes of the item.
-fn put_trim(
+pub(crate) fn put_trim(
     alloc: Global,
     schema: &TableSchema,
     before: u64,
@@ -497,7 +497,7 @@ fn change_of(
 }
 
 /// The row of an item, where there is one.
-fn row_of(alloc: Global, item: &Option<Item>) -> Result<Option<ShownRow>, NoMemory>
+pub(crate) fn row_of(alloc: Global, item: &Option<Item>) -> Result<Option<ShownRow>, NoMemory>
     ensures row { IfOk result (λ row. row ≡ option_map item_columns item.now) }
     ensures held { IfSome item.now IsItemOfValues }
 {
@@ -511,7 +511,7 @@ fn row_of(alloc: Global, item: &Option<Item>) -> Result<Option<ShownRow>, NoMemo
 }
 
 /// An item of its own, where one is given.
-fn copy_of(item: Option<&Item>) -> Result<Option<Item>, NoMemory>
+pub(crate) fn copy_of(item: Option<&Item>) -> Result<Option<Item>, NoMemory>
     ensures { IfOk result (λ o. o ≡ option_map (λ i. i.now) item.entry) }
 {
     match item {

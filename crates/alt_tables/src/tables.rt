@@ -18,6 +18,7 @@ ghost use Rattle.alt_tables.specs.Faults.{IsFindFault, Writes};
 ghost use Rattle.alt_tables.specs.Images.{Leaves};
 ghost use Rattle.alt_opening.specs.Order.{first_after};
 ghost use Rattle.alt_tables.specs.RowChanges.{Turns, changed_rows, creation_changes, drop_changes};
+ghost use Rattle.alt_tables.specs.Several.{AreDistinct, TurnsAll, with_batches};
 ghost use Rattle.alt_tables.specs.Stands.{AreReady, HasRows, Stands, catalog_of, number_of, family_of, bounds_of, trimmed_of};
 ghost use Rattle.alt_opening.specs.Opened.{Holds};
 ghost use Rattle.alt_opening.specs.Trimmed.{number_at};
@@ -213,6 +214,45 @@ impl Tables {
         let _changes = batch.as_slice();
         match self.engine.apply(disk, batch) {
             Ok(number) => Ok(number),
+            Err(fault) => Err(TableFault::from(fault)),
+        }
+    }
+
+    /// Makes these batches of row changes one entry, in which each is a write with the next number. What is known without the disk
+    /// stays, but for the number. After an Err the engine is spent.
+    pub(crate) fn make_all<D: Disk>(
+        &mut self,
+        disk: &mut D,
+        batches: &[Batch],
+    ) -> Result<(), TableFault>
+        requires ready { IsTrusted (D.state disk.old)
+            → (s : State) × Holds (D.state disk.old) self.old.engine s }
+        requires some { 1 ≤ length batches.now }
+        requires room { number_of self.old + length batches.now ≤ NUMBERS_END }
+        requires distinct { AreDistinct batches.now }
+        ensures ok { OnOk result ((s r : State) → Holds (D.state disk.old) self.old.engine s
+            → TurnsAll batches.now s r → Holds (D.state disk.new) self.new.engine r) }
+        ensures rows { OnOk result (IsTrusted (D.state disk.old) → (l : Layout)
+            → HasRows (D.state disk.old) self.old l
+            → HasRows (D.state disk.new) self.new (with_batches l batches.now)) }
+        ensures next { OnOk result (number_of self.new
+            ≡ number_of self.old + length batches.now) }
+        ensures kept { (self.new.catalog ≡ self.old.catalog) × (self.new.live ≡ self.old.live)
+            × (self.new.family ≡ self.old.family) × (self.new.trimmed ≡ self.old.trimmed)
+            × (self.new.fronts ≡ self.old.fronts) }
+        ensures limits { bounds_of self.new ≡ bounds_of self.old }
+        ensures fault { IfErr result IsFindFault }
+        ensures no_memory { IsErrOf result TableFault.NoMemory
+            → D.state disk.new ≡ D.state disk.old }
+        ensures disk { (s r : State) → Holds (D.state disk.old) self.old.engine s → IsValid s
+            → TurnsAll batches.now s r
+            → Leaves (D.state disk.old) (D.state disk.new) s (r ∷ []) }
+        ensures goes { Goes (D.state disk.old) (D.state disk.new) }
+        ensures cause { IsErrOf result TableFault.Failed
+            → Rose (D.state disk.old).faults (D.state disk.new).faults }
+    {
+        match self.engine.apply_all(disk, batches) {
+            Ok(_) => Ok(()),
             Err(fault) => Err(TableFault::from(fault)),
         }
     }

@@ -1,6 +1,7 @@
 pub mod Ahead
 pub mod Batches
 pub mod Behind
+pub mod ByKeys
 pub mod CatalogLaws
 pub mod ChangeLaws
 pub mod ChangePages
@@ -17,6 +18,7 @@ pub mod Left
 pub mod LeftoverLaws
 pub mod LeftoverRows
 pub mod Making
+pub mod MakingAll
 pub mod Moving
 pub mod Noting
 pub mod Pages

@@ -1,5 +1,5 @@
 -- What is known of streams behind several writes: what each of them noted, and else what was.
-use Rattle.std.proofs.Common.{◌≡◌, ◌≤◌, ◌+◌, refl, sym, ap, subst, ◌∙◌, ℕ, Bool, true, false, cond, List, [], ◌∷◌, ◌++◌, Option, Some, None, IsSome, All, ◌<◌, option_map, arith}
+use Rattle.std.proofs.Common.{append-nil, append_assoc, ◌≡◌, ◌≤◌, ◌+◌, refl, sym, ap, subst, ◌∙◌, ℕ, Bool, true, false, cond, List, [], ◌∷◌, ◌++◌, Option, Some, None, IsSome, All, ◌<◌, option_map, arith}
 use Rattle.std.proofs.lemmas.Bool.{false≢true}
 use Rattle.std.proofs.lemmas.Slice.Eq.{bytes_eq-Decides}
 use Rattle.std.specs.FinMap as map
@@ -139,6 +139,48 @@ module _ (catalog : Texts TableSchema) (moment : ℕ) (x : Noted) (notes : List 
       front q false e = subst (λ (b : Bool). IsFrontKnown catalog moment q
           (cond b (Some x) (note_at q notes)) old new) (sym e)
           (moved q (other_fronts q e) (note_at q notes) (so.fronts q))
+
+-- The last of the notes are known, and those that are left stand before them.
+pub record AreLastKnown (catalog : Texts TableSchema) (moment : ℕ) (all left : List Noted)
+    (old_trimmed now_trimmed : List Trimmed) (old now : List Front) : Type 0 where
+  pub back : List Noted
+  pub whole : all ≡ left ++ back
+  pub known : AreKnown catalog moment back old_trimmed now_trimmed old now
+
+-- before the first none is
+pub last_none : (catalog : Texts TableSchema) (moment : ℕ) (all : List Noted)
+    (trimmed : List Trimmed) (fronts : List Front)
+    → AreLastKnown catalog moment all all trimmed trimmed fronts fronts
+last_none catalog moment all trimmed fronts = record {
+  back = [];
+  whole = sym (append-nil all);
+  known = none_known catalog moment trimmed fronts;
+}
+
+-- one more is
+pub last_more : (catalog : Texts TableSchema) (moment : ℕ) (all left before : List Noted) (x : Noted)
+    (old_trimmed mid_trimmed new_trimmed : List Trimmed) (old mid new : List Front)
+    → before ≡ left ++ x ∷ []
+    → AreLastKnown catalog moment all before old_trimmed mid_trimmed old mid
+    → IsRenumbered x.table x.trim.number mid_trimmed new_trimmed → (d : TableSchema)
+    → map.get catalog x.table ≡ Some d → IsNoted d x.table moment x.trim mid new
+    → AreLastKnown catalog moment all left old_trimmed new_trimmed old new
+last_more catalog moment all left before x old_trimmed mid_trimmed new_trimmed old mid new taken so
+    renumbered d at noted = record {
+  back = x ∷ so.back;
+  whole = so.whole ∙ ap (λ ns. ns ++ so.back) taken ∙ append_assoc left (x ∷ []) so.back;
+  known = one_known catalog moment x so.back old_trimmed mid_trimmed new_trimmed old mid new so.known
+      renumbered d at noted;
+}
+
+-- at the end all are
+pub last_all : (catalog : Texts TableSchema) (moment : ℕ) (all left : List Noted)
+    (old_trimmed now_trimmed : List Trimmed) (old now : List Front) → left ≡ []
+    → AreLastKnown catalog moment all left old_trimmed now_trimmed old now
+    → AreKnown catalog moment all old_trimmed now_trimmed old now
+last_all catalog moment all left old_trimmed now_trimmed old now none so =
+    subst (λ ns. AreKnown catalog moment ns old_trimmed now_trimmed old now)
+    (sym (so.whole ∙ ap (λ ns. ns ++ so.back) none)) so.known
 
 -- ---- all of them
 

@@ -39,7 +39,7 @@ use Rattle.alt_tables.proofs.Batches.{with_batches-append}
 use Rattle.alt_tables.proofs.Differing.{differ_one, differ_rows, stay_found}
 use Rattle.alt_tables.proofs.FrontTrims.{trimmed_then}
 use Rattle.alt_tables.proofs.Noting.{fronts_all, trimmed_all}
-use Rattle.alt_tables.proofs.Standing.{keeps_then, known, rows_kept, stands_kept, still_live}
+use Rattle.alt_tables.proofs.Standing.{keeps_nothing, keeps_then, known, rows_kept, stands_kept, still_live}
 use Rattle.alt_value.specs.Tree.{Pair}
 use Rattle.alt_value.specs.Values.{IsItemOfValues}
 
@@ -238,6 +238,28 @@ pub record IsStaging (a : DiskState) (old : Tables) (b : DiskState) (now : Table
   pub notes : AreNotes (catalog_of old) (number_of old) staged.notes.items
   pub so : (s : State) (l : Layout) → Stands a old s → HasRows a old l
       → AreUnderWay l s moment writer all rest staged.notes.items staged.batches.items
+
+-- before the first of them none is
+pub staging_none : (a : DiskState) (old : Tables) (moment : ℕ) (writer : Writer)
+    (all rest : List ItemChange) (staged : Staged) → rest ≡ all → staged.batches.items ≡ []
+    → staged.notes.items ≡ [] → Every (MayWrite (catalog_of old)) (each written_at all)
+    → AreAllApart (each written_at all) → Every Differs all
+    → ((s : State) → Stands a old s → Every (IsFound s) all)
+    → IsStaging a old a old moment writer all rest staged
+staging_none a old moment writer all rest staged same empty none may apart differ found =
+    subst (λ cs. IsStaging a old a old moment writer all cs staged) (sym same) (record {
+      keeps = keeps_nothing a old;
+      may = may;
+      apart = apart;
+      differ = differ;
+      distinct = subst AreDistinct (sym empty) tt;
+      count = let e : length staged.batches.items ≡ 0 = ap length empty in omega (arith, e);
+      notes = subst (AreNotes (catalog_of old) (number_of old)) (sym none) tt;
+      so = λ s l stands rows. subst (λ bs. AreUnderWay l s moment writer all all
+          staged.notes.items bs) (sym empty)
+          (subst (λ ns. AreUnderWay l s moment writer all all ns []) (sym none)
+          (none_staged l s moment writer all all refl (found s stands) a old stands));
+    })
 
 -- one more is
 pub staging_more : (a b d : DiskState) (old now new : Tables) (moment : ℕ) (writer : Writer)

@@ -90,8 +90,8 @@ impl Tables {
         ensures cause { IfErr result (λ fault. fault ≡ TableFault.NoMemory) }
     {
         let mut changes = Vec::with_capacity(self.alloc, writes.len())?;
-        for i in 0..writes.len() {
-            match self.placed(&writes[i]) {
+        for write in writes {
+            match self.placed(write) {
                 Ok(change) => changes.push(change)?,
                 Err(fault) => return Err(fault),
             }

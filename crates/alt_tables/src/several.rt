@@ -1,6 +1,6 @@
 //! Writes of several items at one moment: one entry of the log, so a stop leaves all of them or none.
 
-ghost use Rattle.std.specs.Prelude.{◌≡◌, ◌<◌, ◌≤◌, ◌+◌, ◌++◌, ◌∷◌, ◌^◌, [], false, length, map as each, option_map, ℕ, List, Ok, Some, IsSome, IfOk, IfErr, IfSome, OnOk, IsErrOf};
+ghost use Rattle.std.specs.Prelude.{◌≡◌, ◌<◌, ◌≤◌, ◌+◌, ◌++◌, ◌∷◌, ◌^◌, [], false, length, map as each, option_map, ℕ, true, List, Ok, Some, IsSome, IfOk, IfErr, IfSome, OnOk, IsErrOf};
 ghost use Rattle.std.specs.FinMap as map;
 ghost use Rattle.alt_base.specs.Counts.{Rose};
 ghost use Rattle.alt_changes.specs.TrimRows.{trim_changes};

@@ -1,6 +1,6 @@
 //! The engine in hand, from its opening on, and its writes.
 
-ghost use Rattle.std.specs.Prelude.{ℕ, ◌≡◌, ◌<◌, ◌≤◌, ◌+◌, ◌-◌, ◌^◌, ⊤, Err, IfOk, IfErr, OnOk, IsErrOf, IsTrue, length, max};
+ghost use Rattle.std.specs.Prelude.{ℕ, ◌≡◌, ◌<◌, ◌≤◌, ◌+◌, ◌-◌, ◌^◌, ⊤, Err, IfOk, IfErr, IfSome, None, OnOk, IsErrOf, IsTrue, length, max};
 ghost use Rattle.alt_base.specs.Counts.{Rose};
 ghost use Rattle.alt_disk.specs.Disk.{DiskState, IsTrusted, Goes};
 ghost use Rattle.alt_disk.specs.Runs.{Spans};
@@ -12,7 +12,7 @@ ghost use Rattle.alt_manifest.specs.Versions.{HasVersion};
 ghost use Rattle.alt_manifest.specs.declared.version.Version.{Version};
 ghost use Rattle.alt_gatelog.specs.declared.form.Form.TheVariants.{One};
 ghost use Rattle.alt_hand.specs.Adding.{IsBehind};
-ghost use Rattle.alt_hand.specs.InHand.{BeforeOrAll, BeforeOrWith, IsSpentBy, batch_write, batch_writes, files_made};
+ghost use Rattle.alt_hand.specs.InHand.{BeforeOrAll, BeforeOrWith, IsSpentBy, WantsFile, batch_write, batch_writes, files_made, work_file_of};
 ghost use Rattle.alt_hand.specs.Recovery.{ExplainsStore, HasNoLayout, IsNextFile, LeavesFiles, LeavesStore, LeftLike};
 ghost use Rattle.alt_hand.specs.Syncing.{AllSynced};
 ghost use Rattle.alt_engine.specs.InHand.{hand_of, last_form_of, limits_of, next_file_of, next_of, Reads, Stands};
@@ -105,6 +105,15 @@ impl Engine {
         self.hand.next_number()
     }
 
+    /// The number of the file that the segment of a write wants and can't have.
+    pub fn wanting_file(&self) -> Option<u64>
+        ensures none { result ≡ None → last_form_of self.now ≡ One
+            → next_file_of self.now < 2 ^ 32 - 1 }
+        ensures some { IfSome result (WantsFile (last_form_of self.now) (next_file_of self.now)) }
+    {
+        self.hand.wanting_file()
+    }
+
     /// Joins batches to the rows as one entry, each as a write, which are numbered in order from the next number on; the first one is
     /// answered. Behind a segment of the first form a new one is made before. A merge under way stays one. After an Err the engine is
     /// spent, unless it is Spent.
@@ -129,6 +138,8 @@ impl Engine {
         ensures most { next_file_of self.new
             ≤ next_file_of self.old + files_made (last_form_of self.old) }
         ensures least { next_file_of self.old ≤ next_file_of self.new }
+        // A write takes no number from work: the file that it may make is counted before.
+        ensures given { work_file_of (hand_of self.new) ≡ work_file_of (hand_of self.old) }
 
         // A stop at any moment of the call, also one that fails, leaves the rows from before it or with all batches.
         ensures any_moment { IsTrusted (D.state disk.old) → (l : Layout)
@@ -171,6 +182,8 @@ impl Engine {
         ensures most { next_file_of self.new
             ≤ next_file_of self.old + files_made (last_form_of self.old) }
         ensures least { next_file_of self.old ≤ next_file_of self.new }
+        // A write takes no number from work: the file that it may make is counted before.
+        ensures given { work_file_of (hand_of self.new) ≡ work_file_of (hand_of self.old) }
 
         // A stop at any moment of the call, also one that fails, leaves the rows from before it or with the whole batch.
         ensures any_moment { IsTrusted (D.state disk.old) → (l : Layout)

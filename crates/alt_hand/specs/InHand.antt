@@ -66,6 +66,10 @@ abbrev pub files_made : Form → ℕ
 files_made One = 1
 files_made Two = 0
 
+-- The number of the first file that work makes: behind a segment of the first form the first write makes one before.
+abbrev pub work_file_of : Hand → ℕ
+work_file_of e = next_file_of e + files_made (last_form_of e)
+
 -- The bytes of the entries of all segments, counted up to 2^62.
 abbrev pub length_of : Hand → ℕ
 length_of e = e.length
@@ -143,7 +147,7 @@ WantsNumber next count number =
 
 -- Behind a segment of the first form the next file is 2^32 - 1, and it is named.
 abbrev pub WantsFile : Form → ℕ → ℕ → Type 0
-WantsFile One file number = (2 ^ 32 - 1 ≤ file) × (number ≡ file)
+WantsFile One file number = (2 ^ 32 - 1 ≤ file) × (number ≡ file) × (number ≡ 2 ^ 32 - 1)
 WantsFile Two file number = ⊥
 
 -- A fault that tells a spent number tells one of so many writes, or else the file of the segment that they want; and no damage is told.

@@ -11,7 +11,7 @@ ghost use Rattle.alt_hand.specs.Adding.{IsBehind};
 ghost use Rattle.alt_hand.specs.Carrying.{Carries};
 ghost use Rattle.alt_hand.specs.Drafting.{IsUnspent};
 ghost use Rattle.alt_hand.specs.Merging.{files_at};
-ghost use Rattle.alt_hand.specs.InHand.{BeforeOrAll, BeforeOrWith, IsSpentBy, Stands, WantsFile, WantsNumber, batch_write, batch_writes, files_made, last_form_of, limits_of, next_file_of, next_of};
+ghost use Rattle.alt_hand.specs.InHand.{BeforeOrAll, BeforeOrWith, IsSpentBy, Stands, WantsFile, WantsNumber, batch_write, batch_writes, files_made, last_form_of, limits_of, next_file_of, next_of, work_file_of};
 
 use crate::full::full_after;
 use crate::hand::{EngineFault, Hand};
@@ -47,6 +47,7 @@ impl Hand {
         ensures most { next_file_of self.new
             ≤ next_file_of self.old + files_made (last_form_of self.old) }
         ensures least { next_file_of self.old ≤ next_file_of self.new }
+        ensures given { work_file_of self.new ≡ work_file_of self.old }
 
         // The files of each family stay, and a merge of them under way stays one.
         ensures files { OnOk result ((family : ℕ)
@@ -98,6 +99,7 @@ impl Hand {
         ensures most { next_file_of self.new
             ≤ next_file_of self.old + files_made (last_form_of self.old) }
         ensures least { next_file_of self.old ≤ next_file_of self.new }
+        ensures given { work_file_of self.new ≡ work_file_of self.old }
         ensures files { OnOk result ((family : ℕ)
             → files_at self.new family ≡ files_at self.old family) }
         ensures carries { OnOk result (IsTrusted (D.state disk.old) → (l : Layout)
@@ -147,6 +149,7 @@ impl Hand {
         ensures most { next_file_of self.new
             ≤ next_file_of self.old + files_made (last_form_of self.old) }
         ensures least { next_file_of self.old ≤ next_file_of self.new }
+        ensures given { work_file_of self.new ≡ work_file_of self.old }
         ensures files { OnOk result ((family : ℕ)
             → files_at self.new family ≡ files_at self.old family) }
         ensures carries { OnOk result (IsTrusted (D.state disk.old) → (l : Layout)
@@ -200,7 +203,7 @@ impl Hand {
     }
 
     /// The number of the file that the segment of a write wants and can't have.
-    fn wanting_file(&self) -> Option<u64>
+    pub fn wanting_file(&self) -> Option<u64>
         ensures none { result ≡ None → last_form_of self.now ≡ One
             → next_file_of self.now < 2 ^ 32 - 1 }
         ensures some { IfSome result (WantsFile (last_form_of self.now) (next_file_of self.now)) }

@@ -14,7 +14,7 @@ ghost use Rattle.alt_manifest.specs.Versions.{version_bytes};
 ghost use Rattle.alt_hand.specs.Adding.{IsBehind, IsSegmentMore};
 ghost use Rattle.alt_hand.specs.Carrying.{Carries};
 ghost use Rattle.alt_hand.specs.Drafting.{IsPrepared, IsSameHand, IsUnspent, with_rows};
-ghost use Rattle.alt_hand.specs.InHand.{Stands, files_made, last_form_of, next_file_of};
+ghost use Rattle.alt_hand.specs.InHand.{Stands, files_made, last_form_of, next_file_of, work_file_of};
 ghost use Rattle.alt_hand.specs.Merging.{version_in};
 
 use crate::hand::{EngineFault, Hand};
@@ -90,6 +90,7 @@ impl Hand {
         ensures most { next_file_of self.new
             ≤ next_file_of self.old + files_made (last_form_of self.old) }
         ensures least { next_file_of self.old ≤ next_file_of self.new }
+        ensures given { work_file_of self.new ≡ work_file_of self.old }
 
         // A merge of files of a family under way stays one.
         ensures carries { OnOk result (IsTrusted (D.state disk.old)
@@ -146,6 +147,8 @@ impl Hand {
         } }
         ensures most { next_file_of self.new ≤ next_file_of self.old + 1 }
         ensures least { next_file_of self.old ≤ next_file_of self.new }
+        ensures given { last_form_of self.old ≡ One
+            → work_file_of self.new ≡ work_file_of self.old }
         ensures carries { OnOk result (IsTrusted (D.state disk.old)
             → (families : Families) (full : Bool) (l : Layout)
             → Stands (D.state disk.old) (with_rows self.old families full) l → (family : ℕ)

@@ -7,6 +7,7 @@ use Rattle.alt_gatelog.specs.InHand.{IsFramed}
 use Rattle.alt_manifest.specs.Versions.{version_bytes}
 use Rattle.alt_manifest.specs.declared.version.Version.{Version}
 use Rattle.alt_hand.specs.Drafting.{with_rows}
+use Rattle.alt_hand.specs.InHand.{files_made}
 use Rattle.alt_hand.proofs.RenewLaws.{keeping, ready_by, renew_carries, renew_images, renewed}
 use Rattle.alt_hand.proofs.hand.Hand.add_segment.Goals as goal
 
@@ -88,9 +89,21 @@ pub returns-in-Err-clause-most : goal.returns-in-Err-clause-most
 returns-in-Err-clause-most g c =
     let is = ap (λ (v : Version). v.next_file) c.requires.draft in omega (arith, is)
 
+pub returns-in-Ok-clause-given : goal.returns-in-Ok-clause-given
+returns-in-Ok-clause-given g c one =
+    let is = ap (λ (v : Version). v.next_file) c.requires.draft in
+    let two = ap files_made c.in_ok-log.ensures.given in
+    let was = ap files_made one in omega (arith, is, two, was)
+
 pub returns-in-Ok-clause-least : goal.returns-in-Ok-clause-least
 returns-in-Ok-clause-least g c =
     let is = ap (λ (v : Version). v.next_file) c.requires.draft in omega (arith, is)
+
+pub returns-in-Err-clause-given : goal.returns-in-Err-clause-given
+returns-in-Err-clause-given g c one =
+    let is = ap (λ (v : Version). v.next_file) c.requires.draft in
+    let two = ap files_made c.in_ok-log.ensures.given in
+    let was = ap files_made one in omega (arith, is, two, was)
 
 pub returns-in-Err-clause-least : goal.returns-in-Err-clause-least
 returns-in-Err-clause-least g c =

@@ -49,6 +49,10 @@ returns-in-Some-clause-most g c =
     let made = ap files_made (subst (IsPrepared c.args.self.now) c.in-Some.is c.requires.prepared).0 in
     omega (arith, made, c.add_segment.ensures.most)
 
+pub returns-in-Some-clause-given : goal.returns-in-Some-clause-given
+returns-in-Some-clause-given g c =
+    c.add_segment.ensures.given (subst (IsPrepared c.args.self.now) c.in-Some.is c.requires.prepared).0
+
 pub returns-in-None-clause-room : goal.returns-in-None-clause-room
 returns-in-None-clause-room g c =
     (subst (IsPrepared c.args.self.now) c.in-None.is c.requires.prepared).1

@@ -12,10 +12,10 @@ ghost use Rattle.alt_manifest.specs.Versions.{HasVersion};
 ghost use Rattle.alt_manifest.specs.declared.version.Version.{Version};
 ghost use Rattle.alt_gatelog.specs.declared.form.Form.TheVariants.{One};
 ghost use Rattle.alt_hand.specs.Adding.{IsBehind};
-ghost use Rattle.alt_hand.specs.InHand.{BeforeOrAll, BeforeOrWith, IsSpentBy, WantsFile, batch_write, batch_writes, files_made, work_file_of};
+ghost use Rattle.alt_hand.specs.InHand.{BeforeOrAll, BeforeOrWith, IsSpentBy, WantsFile, batch_write, batch_writes, files_made};
 ghost use Rattle.alt_hand.specs.Recovery.{ExplainsStore, HasNoLayout, IsNextFile, LeavesFiles, LeavesStore, LeftLike};
 ghost use Rattle.alt_hand.specs.Syncing.{AllSynced};
-ghost use Rattle.alt_engine.specs.InHand.{hand_of, last_form_of, limits_of, next_file_of, next_of, Reads, Stands};
+ghost use Rattle.alt_engine.specs.InHand.{bounds_of, hand_of, last_form_of, limits_of, next_file_of, next_of, Reads, Stands};
 
 use alt_cells::Batch;
 use alt_disk::Disk;
@@ -110,6 +110,7 @@ impl Engine {
         ensures none { result ≡ None → last_form_of self.now ≡ One
             → next_file_of self.now < 2 ^ 32 - 1 }
         ensures some { IfSome result (WantsFile (last_form_of self.now) (next_file_of self.now)) }
+        ensures fits { next_file_of self.now < 2 ^ 32 }
     {
         self.hand.wanting_file()
     }
@@ -138,8 +139,8 @@ impl Engine {
         ensures most { next_file_of self.new
             ≤ next_file_of self.old + files_made (last_form_of self.old) }
         ensures least { next_file_of self.old ≤ next_file_of self.new }
-        // A write takes no number from work: the file that it may make is counted before.
-        ensures given { work_file_of (hand_of self.new) ≡ work_file_of (hand_of self.old) }
+        // A write takes no number of a file from work: that which it may take is counted before.
+        ensures bounds { bounds_of self.new ≡ bounds_of self.old }
 
         // A stop at any moment of the call, also one that fails, leaves the rows from before it or with all batches.
         ensures any_moment { IsTrusted (D.state disk.old) → (l : Layout)
@@ -182,8 +183,8 @@ impl Engine {
         ensures most { next_file_of self.new
             ≤ next_file_of self.old + files_made (last_form_of self.old) }
         ensures least { next_file_of self.old ≤ next_file_of self.new }
-        // A write takes no number from work: the file that it may make is counted before.
-        ensures given { work_file_of (hand_of self.new) ≡ work_file_of (hand_of self.old) }
+        // A write takes no number of a file from work: that which it may take is counted before.
+        ensures bounds { bounds_of self.new ≡ bounds_of self.old }
 
         // A stop at any moment of the call, also one that fails, leaves the rows from before it or with the whole batch.
         ensures any_moment { IsTrusted (D.state disk.old) → (l : Layout)

@@ -207,12 +207,14 @@ impl Hand {
         ensures none { result ≡ None → last_form_of self.now ≡ One
             → next_file_of self.now < 2 ^ 32 - 1 }
         ensures some { IfSome result (WantsFile (last_form_of self.now) (next_file_of self.now)) }
+        ensures fits { next_file_of self.now < 2 ^ 32 }
     {
+        let next = self.next_file;
         match self.log.form() {
             Form::Two => None,
             Form::One => {
-                if self.next_file == u32::MAX {
-                    return Some(self.next_file as u64);
+                if next == u32::MAX {
+                    return Some(next as u64);
                 }
                 None
             }

@@ -4,6 +4,11 @@ use Rattle.alt_gatelog.specs.declared.form.Form.{Form}
 use Rattle.alt_gatelog.specs.declared.form.Form.TheVariants.{One, Two}
 use Rattle.alt_hand.specs.InHand.{WantsFile, files_made}
 
+-- a write makes one file at most
+pub files_made-few : (form : Form) → files_made form ≤ 1
+files_made-few One = let made : files_made One ≡ 1 = refl in omega (arith, made)
+files_made-few Two = let made : files_made Two ≡ 0 = refl in omega (arith, made)
+
 -- a file that a write wants and can't have is the last one, and work has none either
 pub wants-last : (form : Form) (next n : ℕ) → WantsFile form next n
     → (n ≡ 2 ^ 32 - 1) × (2 ^ 32 ≤ next + files_made form)

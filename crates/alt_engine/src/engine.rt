@@ -12,7 +12,7 @@ ghost use Rattle.alt_manifest.specs.Versions.{HasVersion};
 ghost use Rattle.alt_manifest.specs.declared.version.Version.{Version};
 ghost use Rattle.alt_gatelog.specs.declared.form.Form.TheVariants.{One};
 ghost use Rattle.alt_hand.specs.Adding.{IsBehind};
-ghost use Rattle.alt_hand.specs.InHand.{BeforeOrAll, BeforeOrWith, IsSpentBy, WantsFile, batch_write, batch_writes, files_made};
+ghost use Rattle.alt_hand.specs.InHand.{BeforeOrAll, BeforeOrWith, IsSpentBy, batch_write, batch_writes, files_made};
 ghost use Rattle.alt_hand.specs.Recovery.{ExplainsStore, HasNoLayout, IsNextFile, LeavesFiles, LeavesStore, LeftLike};
 ghost use Rattle.alt_hand.specs.Syncing.{AllSynced};
 ghost use Rattle.alt_engine.specs.InHand.{bounds_of, hand_of, last_form_of, limits_of, next_file_of, next_of, Reads, Stands};
@@ -107,10 +107,9 @@ impl Engine {
 
     /// The number of the file that the segment of a write wants and can't have.
     pub fn wanting_file(&self) -> Option<u64>
-        ensures none { result ≡ None → last_form_of self.now ≡ One
-            → next_file_of self.now < 2 ^ 32 - 1 }
-        ensures some { IfSome result (WantsFile (last_form_of self.now) (next_file_of self.now)) }
-        ensures fits { next_file_of self.now < 2 ^ 32 }
+        ensures none { result ≡ None → (bounds_of self.now).file < 2 ^ 32 }
+        ensures last { IfSome result (λ n. (n ≡ 2 ^ 32 - 1)
+            × (2 ^ 32 ≤ (bounds_of self.now).file)) }
     {
         self.hand.wanting_file()
     }

@@ -1,4 +1,4 @@
--- Writes behind other writes: what a stop leaves of both, and how they break off.
+-- Writes behind other writes: what a stop leaves of both, and where memory was wanting.
 use Rattle.std.proofs.Common.{◌≡◌, refl, sym, subst, ℕ, ◌+◌, ◌≤◌, List, [], ◌∷◌, ◌++◌, length, Option, None, arith}
 use Rattle.std.proofs.lemmas.List.{length-append}
 use Rattle.alt_disk.specs.Disk.{DiskState, Goes}
@@ -17,36 +17,6 @@ use Rattle.alt_tables.specs.declared.faults.TableFault.TheVariants.{Spent, Damag
 use Rattle.alt_tables.specs.declared.tables.Tables.{Tables}
 use Rattle.alt_tables.proofs.Left.{leaves_after, leaves_images, leaves_reads}
 use Rattle.alt_tables.proofs.Making.{none_made}
-
--- ---- how they break off
-
--- the first of some writes broke off
-pub broke_front : (now : State → Type 0) (wants : Wants) (s : State) (a b : List State)
-    (f : TableFault) → BreakOff now wants s a f → BreakOff now wants s (a ++ b) f
-broke_front now wants s a b (Spent n) h = (
-  h.0,
-  lacks_front wants a b (record { number = n; before = h.0 }) s h.1,
-  subst (λ l. now (last_state s l)) (sym (take_front h.0 a b
-      (lacks_within wants a (record { number = n; before = h.0 }) s h.1))) h.2,
-)
-broke_front now wants s a b (Damaged file at) h = absurd h
-broke_front now wants s a b (BadRow family key) h = absurd h
-broke_front now wants s a b Failed h = tt
-broke_front now wants s a b NoMemory h = tt
-
--- writes broke off behind others that were made
-pub broke_behind : (now : State → Type 0) (wants : Wants) (s : State) (a b : List State)
-    (f : TableFault) → lack_among wants s a ≡ None → 1 ≤ length b
-    → BreakOff now wants (last_state s a) b f → BreakOff now wants s (a ++ b) f
-broke_behind now wants s a b (Spent n) none some h = (
-  length a + h.0,
-  lacks_behind wants a n h.0 (length a + h.0) s b refl none h.1,
-  subst now (sym (after_behind a (length a + h.0) h.0 s b refl)) h.2,
-)
-broke_behind now wants s a b (Damaged file at) none some h = absurd h
-broke_behind now wants s a b (BadRow family key) none some h = absurd h
-broke_behind now wants s a b Failed none some h = tt
-broke_behind now wants s a b NoMemory none some h = tt
 
 -- ---- where memory was wanting
 

@@ -1,5 +1,5 @@
 -- What the rows beneath the tables show, in reads and in whatever a stop leaves, and what a write makes of it.
-use Rattle.std.proofs.Common.{◌≡◌, ◌&&◌, Bool, IsTrue, T, ◌⊎◌, ⊎_elim, refl, sym, ap, subst, ℕ, List, [], ◌∷◌, Option, Result, Err, ◌∙◌}
+use Rattle.std.proofs.Common.{◌≡◌, ◌<◌, ◌≤◌, ◌+◌, ◌-◌, ◌^◌, arith, ◌&&◌, Bool, IsTrue, T, ◌⊎◌, ⊎_elim, refl, sym, ap, subst, ℕ, List, [], ◌∷◌, Option, Result, Err, ◌∙◌}
 use Rattle.std.specs.Prelude.{⊤}
 use Rattle.alt_cells.specs.Batches.{is_distinct}
 use Rattle.alt_cells.specs.declared.batch.RowChange.{RowChange}
@@ -8,18 +8,19 @@ use Rattle.alt_disk.specs.Runs.{Spans, Quiet}
 use Rattle.alt_disk.proofs.Runs.{spans_on, spans_weaker, quiet_spans, quiet_then, trusted_on}
 use Rattle.alt_layout.specs.Files.{IsLayout}
 use Rattle.alt_engine.specs.InHand.{Stands as EngineStands}
-use Rattle.alt_engine.specs.Several.{BeforeOrAll, batch_writes}
-use Rattle.alt_hand.specs.InHand.{batch_write, BeforeOrWith, IsWritten}
+use Rattle.alt_hand.specs.InHand.{batch_write, batch_writes, last_form_of, next_file_of, next_of, work_file_of, BeforeOrAll, BeforeOrWith, IsSpentBy, WantsFile, WantsNumber}
 use Rattle.alt_layout.specs.Layout.{Layout}
 use Rattle.alt_layout.specs.Writes.{with_write, with_writes}
 use Rattle.alt_engine.specs.declared.engine.Engine.{Engine}
+use Rattle.alt_hand.proofs.SegmentFiles.{none-wanting}
+use Rattle.alt_hand.specs.declared.hand.Hand.{Hand}
 use Rattle.alt_hand.specs.declared.hand.EngineFault.{EngineFault}
 use Rattle.alt_hand.specs.declared.hand.EngineFault.TheVariants as engine
 use Rattle.alt_machine.specs.State.{State}
 use Rattle.alt_machine.specs.Valid.{IsValid}
 use Rattle.alt_hand.specs.Faults.{told_by_engine}
-use Rattle.alt_faults.specs.Faults.{no_memory}
-use Rattle.alt_tables.specs.Faults.{told_by_tables}
+use Rattle.alt_faults.specs.Faults.{no_memory, IsOutside}
+use Rattle.alt_tables.specs.Faults.{IsFindFault, told_by_tables}
 use Rattle.alt_tables.specs.declared.faults.TableFault.{TableFault}
 use Rattle.alt_tables.specs.declared.faults.TableFault.TheVariants.{NoMemory}
 use Rattle.alt_opening.specs.Images.{StandsFor}
@@ -79,10 +80,10 @@ module _ (old new : DiskState) (engine : Engine) (s r : State) (changes : List R
     after = with_write holds.layout (batch_write holds.layout changes)
 
     -- what a stop leaves is the state before it or the one after
-    pub write_images : IsValid s → Spans old new IsWritten (BeforeOrWith holds.layout changes)
+    pub write_images : IsValid s → Spans old new (λ _. ⊤) (BeforeOrWith holds.layout changes)
         → Leaves old new s (r ∷ [])
-    write_images valid spans = spans_weaker old new IsWritten (λ _. ⊤) (AfterSome s (r ∷ []))
-        (BeforeOrWith holds.layout changes) spans (λ g is. tt) (λ t image here. ⊎_elim
+    write_images valid spans = spans_weaker old new (λ _. ⊤) (λ _. ⊤) (AfterSome s (r ∷ []))
+        (BeforeOrWith holds.layout changes) spans (λ g is. is) (λ t image here. ⊎_elim
         (λ (is : IsLayout image holds.layout). (
           0,
           record {
@@ -203,6 +204,22 @@ memory_wanted given fault same none = by given (sym (ap told_by_tables none) ∙
     by (engine.Damaged file at) e = absurd (let g : ⊥ = cc in g)
     by engine.Failed e = absurd (let g : ⊥ = cc in g)
     by engine.NoMemory e = refl
+
+-- where the numbers and the file of a write can be had, what the engine tells is a failure of the device, or want of memory
+pub found_fault : (e : Hand) (count : ℕ) (given : EngineFault) (fault : TableFault)
+    → told_by_tables fault ≡ told_by_engine given → next_of e + count ≤ 2 ^ 62 - 1
+    → work_file_of e < 2 ^ 32 → IsSpentBy e count given → IsFindFault fault
+found_fault e count given fault same few room why = subst IsOutside (sym same) (by given why)
+  where
+    by : (given : EngineFault) → IsSpentBy e count given → IsOutside (told_by_engine given)
+    by (engine.Spent n) why = absurd (⊎_elim
+        (λ (number : WantsNumber (next_of e) count n).
+        let over = number.0 in let g : ⊥ = absurd (omega (arith, over, few)) in g)
+        (λ (file : (next_of e + count ≤ 2 ^ 62 - 1) × WantsFile (last_form_of e) (next_file_of e) n).
+        none-wanting (last_form_of e) (next_file_of e) n room file.1) why)
+    by (engine.Damaged file at) why = absurd why
+    by engine.Failed why = tt
+    by engine.NoMemory why = tt
 
 -- a result has one fault
 pub same_Err : {A B : Type 0} (r : Result A B) (x y : B) → r ≡ Err x → r ≡ Err y → x ≡ y

@@ -167,11 +167,11 @@ pub last_more : (catalog : Texts TableSchema) (moment : ℕ) (all left before : 
     → AreLastKnown catalog moment all left old_trimmed new_trimmed old new
 last_more catalog moment all left before x old_trimmed mid_trimmed new_trimmed old mid new taken so
     renumbered d at noted = record {
-  back = x ∷ so.back;
-  whole = so.whole ∙ ap (λ ns. ns ++ so.back) taken ∙ append_assoc left (x ∷ []) so.back;
-  known = one_known catalog moment x so.back old_trimmed mid_trimmed new_trimmed old mid new so.known
-      renumbered d at noted;
-}
+      back = x ∷ so.back;
+      whole = so.whole ∙ ap (λ ns. ns ++ so.back) taken ∙ append_assoc left (x ∷ []) so.back;
+      known = one_known catalog moment x so.back old_trimmed mid_trimmed new_trimmed old mid new so.known
+          renumbered d at noted;
+    }
 
 -- at the end all are
 pub last_all : (catalog : Texts TableSchema) (moment : ℕ) (all left : List Noted)

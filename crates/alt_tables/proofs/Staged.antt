@@ -336,8 +336,8 @@ together_last s [] some = absurd (omega (arith, some))
 together_last s (t ∷ ts) some = refl
 
 -- a fault of a call that reads, or that makes them, breaks them off
-pub broke_all : (now : State → Type 0) (s : State) (ws : List State) (f : TableFault)
-    → IsFindFault f → BreakOffAll now s ws f
+pub broke_all : {file : ℕ} (now : State → Type 0) (s : State) (ws : List State) (f : TableFault)
+    → IsFindFault f → BreakOffAll file now s ws f
 broke_all now s ws (Spent n) known = absurd known
 broke_all now s ws (Damaged file at) known = absurd known
 broke_all now s ws (BadRow family key) known = absurd known

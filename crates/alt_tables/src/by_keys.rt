@@ -47,7 +47,7 @@ impl Tables {
         requires apart { AreAllApart (each (written_in (catalog_of self.old)) writes.now) }
         requires few { length writes.now < 2 ^ 32 }
         ensures writes { (s : State) → Stands (D.state disk.old) self.old s
-            → WritesAll (Stands (D.state disk.new) self.new) s
+            → WritesAll (bounds_of self.old).file (Stands (D.state disk.new) self.new) s
             (writes_of_all s moment (each (written_in (catalog_of self.old)) writes.now)) result }
         ensures count { (s : State) → Stands (D.state disk.old) self.old s
             → IfOk result (λ n. n ≡ length (writes_of_all s moment

@@ -103,7 +103,7 @@ impl Tables {
             → IfSome new (IsStored d found.place) }
         ensures writes { (s : State) (t : Table) → Stands (D.state disk.old) self.old s
             → map.get s.tables table.now ≡ Some t
-            → Writes (Stands (D.state disk.new) self.new) a_number s
+            → Writes (bounds_of self.old).file (Stands (D.state disk.new) self.new) a_number s
             (item_writes s moment table.now t found.place new) result }
         ensures number { (s : State) (t : Table) → Stands (D.state disk.old) self.old s
             → map.get s.tables table.now ≡ Some t
@@ -149,6 +149,9 @@ impl Tables {
         if number >= NUMBERS_END {
             return Err(TableFault::Spent { number });
         }
+        if let Some(number) = self.engine.wanting_file() {
+            return Err(TableFault::Spent { number });
+        }
         let trim = match self.trim(disk, table, moment) {
             Ok(trim) => trim,
             Err(fault) => return Err(fault),
@@ -175,6 +178,7 @@ impl Tables {
             → IfSome new (IsStored d found.place) }
         requires differ { is_same found.item new ≡ false }
         requires room { number_of self.old < NUMBERS_END }
+        requires file { (bounds_of self.old).file < 2 ^ 32 }
         requires trim { (s : State) (t : Table) (l : Layout) → Stands (D.state disk.old) self.old s
             → map.get s.tables table.now ≡ Some t → HasRows (D.state disk.old) self.old l
             → IsTrim l t moment trim }
@@ -183,7 +187,7 @@ impl Tables {
             → IsWithin (number_at table.now (trimmed_of self.old)) (number_of self.old) trim }
         ensures writes { (s : State) (t : Table) → Stands (D.state disk.old) self.old s
             → map.get s.tables table.now ≡ Some t
-            → Writes (Stands (D.state disk.new) self.new) a_number s
+            → Writes (bounds_of self.old).file (Stands (D.state disk.new) self.new) a_number s
             (after_item s moment table.now t found.place new ∷ []) result }
         ensures number { IfOk result (λ n. n ≡ Some (number_of self.old)) }
         ensures disk { (s : State) (t : Table) → Stands (D.state disk.old) self.old s
@@ -313,7 +317,7 @@ impl Tables {
         ensures writes { (s : State) (t : Table) (place : List ℕ)
             → Stands (D.state disk.old) self.old s → map.get s.tables table.now ≡ Some t
             → place_of t.description key.now ≡ Some place
-            → Writes (Stands (D.state disk.new) self.new) a_number s
+            → Writes (bounds_of self.old).file (Stands (D.state disk.new) self.new) a_number s
             (item_writes s moment table.now t place (option_map (λ i. i.now) new.entry)) result }
         ensures number { (s : State) (t : Table) (place : List ℕ)
             → Stands (D.state disk.old) self.old s → map.get s.tables table.now ≡ Some t

@@ -75,7 +75,7 @@ impl Tables {
         requires found { (s : State) → Stands (D.state disk.old) self.old s
             → Every (IsFound s) changes.items }
         ensures writes { (s : State) → Stands (D.state disk.old) self.old s
-            → WritesAll (Stands (D.state disk.new) self.new) s
+            → WritesAll (bounds_of self.old).file (Stands (D.state disk.new) self.new) s
             (writes_of_all_by s moment by (each written_at changes.items)) result }
         ensures count { (s : State) → Stands (D.state disk.old) self.old s
             → IfOk result (λ n. n
@@ -109,6 +109,9 @@ impl Tables {
             return Err(TableFault::Spent {
                 number: NUMBERS_END,
             });
+        }
+        if let Some(number) = self.engine.wanting_file() {
+            return Err(TableFault::Spent { number });
         }
         let staged = match self.stage_all(disk, changes, moment, by) {
             Ok(staged) => staged,

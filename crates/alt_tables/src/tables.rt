@@ -109,7 +109,7 @@ impl Tables {
         requires family { table_lack (number_of self.old) (family_of self.old) ≡ None
             → schema.family ≡ family_of self.old }
         ensures writes { (s : State) → Stands (D.state disk.old) self.old s
-            → Writes (Stands (D.state disk.new) self.new) a_table s
+            → Writes (bounds_of self.old).file (Stands (D.state disk.new) self.new) a_table s
             (with_table s schema ∷ []) result }
         ensures disk { (s : State) → Stands (D.state disk.old) self.old s
             → Leaves (D.state disk.old) (D.state disk.new) s (with_table s schema ∷ []) }
@@ -132,6 +132,9 @@ impl Tables {
                 number: u64::from(self.family),
             });
         }
+        if let Some(number) = self.engine.wanting_file() {
+            return Err(TableFault::Spent { number });
+        }
         held(&schema);
         let after = self.family + family_count(&schema) as u32;
         let batch = creation(self.alloc, self.family, after, &schema)?;
@@ -152,7 +155,7 @@ impl Tables {
         requires ready { AreReady (D.state disk.old) self.old }
         requires there { map.contains_key (catalog_of self.old) name.now ≡ true }
         ensures writes { (s : State) → Stands (D.state disk.old) self.old s
-            → Writes (Stands (D.state disk.new) self.new) a_number s
+            → Writes (bounds_of self.old).file (Stands (D.state disk.new) self.new) a_number s
             (without_table s name.now ∷ []) result }
         ensures disk { (s : State) → Stands (D.state disk.old) self.old s
             → Leaves (D.state disk.old) (D.state disk.new) s (without_table s name.now ∷ []) }
@@ -165,6 +168,9 @@ impl Tables {
     {
         let number = self.engine.next_number();
         if number >= NUMBERS_END {
+            return Err(TableFault::Spent { number });
+        }
+        if let Some(number) = self.engine.wanting_file() {
             return Err(TableFault::Spent { number });
         }
         let Some(schema) = self.catalog.get(name) else {
@@ -189,6 +195,7 @@ impl Tables {
         requires ready { IsTrusted (D.state disk.old)
             → (s : State) × Holds (D.state disk.old) self.old.engine s }
         requires room { number_of self.old < NUMBERS_END }
+        requires file { (bounds_of self.old).file < 2 ^ 32 }
         ensures ok { OnOk result ((s r : State) → Holds (D.state disk.old) self.old.engine s
             → Turns batch.now s r → Holds (D.state disk.new) self.new.engine r) }
         ensures rows { OnOk result (IsTrusted (D.state disk.old) → (l : Layout)
@@ -229,6 +236,7 @@ impl Tables {
             → (s : State) × Holds (D.state disk.old) self.old.engine s }
         requires some { 1 ≤ length batches.now }
         requires room { number_of self.old + length batches.now ≤ NUMBERS_END }
+        requires file { (bounds_of self.old).file < 2 ^ 32 }
         requires distinct { AreDistinct batches.now }
         ensures ok { OnOk result ((s r : State) → Holds (D.state disk.old) self.old.engine s
             → TurnsAll batches.now s r → Holds (D.state disk.new) self.new.engine r) }

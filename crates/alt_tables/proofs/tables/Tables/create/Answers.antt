@@ -7,10 +7,10 @@ use Rattle.alt_machine.proofs.Families.{families_differ}
 use Rattle.alt_machine.proofs.Lacks.{has_table, lacks_table_family}
 use Rattle.alt_machine.specs.Wanted.{table_lack}
 use Rattle.alt_tables.specs.Faults.{BreakOff}
-use Rattle.alt_tables.specs.Stands.{Stands}
+use Rattle.alt_tables.specs.Stands.{Stands, bounds_of}
 use Rattle.alt_tables.specs.declared.faults.TableFault.TheVariants.{Spent}
 use Rattle.alt_tables.proofs.Holding.{leaves_quiet}
-use Rattle.alt_tables.proofs.Making.{broke, not_lacking, one_made, spent, table_lacked, table_stands, table_turned, want_told}
+use Rattle.alt_tables.proofs.Making.{broke, not_lacking, one_made, spent, spent_file, table_lacked, table_stands, table_turned, want_told}
 use Rattle.alt_tables.proofs.tables.Tables.create.Goals as goal
 
 pub returns-then-number-ge-NUMBERS_END-clause-disk :
@@ -23,7 +23,8 @@ returns-then-number-ge-NUMBERS_END-clause-disk g c s stands =
 
 pub returns-then-self-clause-writes : goal.returns-then-self-clause-writes
 returns-then-self-clause-writes g c s stands =
-    subst (λ (n : ℕ). BreakOff (Stands (g.D.Disk.state c.args.disk.now) c.args.self.now) a_table s
+    subst (λ (n : ℕ). BreakOff (bounds_of c.args.self.now).file
+    (Stands (g.D.Disk.state c.args.disk.now) c.args.self.now) a_table s
     (with_table s c.args.schema ∷ []) (Spent n))
     (sym c.from.ensures)
     (spent (Stands (g.D.Disk.state c.args.disk.now) c.args.self.now) a_table s
@@ -38,6 +39,18 @@ returns-then-self-clause-writes g c s stands =
 
 pub returns-then-self-clause-disk : goal.returns-then-self-clause-disk
 returns-then-self-clause-disk g c s stands =
+    leaves_quiet (g.D.Disk.state c.args.disk.now)
+    (g.D.Disk.state c.args.disk.now) c.args.self.now.engine s
+    (with_table s c.args.schema ∷ []) stands.rows stands.valid
+    (quiet_start (g.D.Disk.state c.args.disk.now))
+
+pub returns-in-Some-clause-writes : goal.returns-in-Some-clause-writes
+returns-in-Some-clause-writes g c s stands =
+    spent_file (Stands (g.D.Disk.state c.args.disk.now) c.args.self.now) a_table s
+    (with_table s c.args.schema) c.in-Some.number c.in-Some.ensures.last stands
+
+pub returns-in-Some-clause-disk : goal.returns-in-Some-clause-disk
+returns-in-Some-clause-disk g c s stands =
     leaves_quiet (g.D.Disk.state c.args.disk.now)
     (g.D.Disk.state c.args.disk.now) c.args.self.now.engine s
     (with_table s c.args.schema ∷ []) stands.rows stands.valid

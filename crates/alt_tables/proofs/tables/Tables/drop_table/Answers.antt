@@ -11,12 +11,23 @@ use Rattle.alt_opening.specs.Trimmed.{without}
 use Rattle.alt_tables.specs.Fronts.{without_front}
 use Rattle.alt_tables.specs.Stands.{Stands}
 use Rattle.alt_tables.proofs.Holding.{leaves_quiet}
-use Rattle.alt_tables.proofs.Making.{broke, drop_stands, drop_turned, one_made}
+use Rattle.alt_tables.proofs.Making.{broke, drop_stands, drop_turned, one_made, spent_file}
 use Rattle.alt_tables.proofs.tables.Tables.drop_table.Goals as goal
 
 pub returns-then-number-ge-NUMBERS_END-clause-disk :
     goal.returns-then-number-ge-NUMBERS_END-clause-disk
 returns-then-number-ge-NUMBERS_END-clause-disk g c s stands =
+    leaves_quiet (g.D.Disk.state c.args.disk.now) (g.D.Disk.state c.args.disk.now)
+    c.args.self.now.engine s (without_table s c.args.name.now ∷ []) stands.rows stands.valid
+    (quiet_start (g.D.Disk.state c.args.disk.now))
+
+pub returns-in-Some-clause-writes : goal.returns-in-Some-clause-writes
+returns-in-Some-clause-writes g c s stands =
+    spent_file (Stands (g.D.Disk.state c.args.disk.now) c.args.self.now) a_number s
+    (without_table s c.args.name.now) c.in-Some.number c.in-Some.ensures.last stands
+
+pub returns-in-Some-clause-disk : goal.returns-in-Some-clause-disk
+returns-in-Some-clause-disk g c s stands =
     leaves_quiet (g.D.Disk.state c.args.disk.now) (g.D.Disk.state c.args.disk.now)
     c.args.self.now.engine s (without_table s c.args.name.now ∷ []) stands.rows stands.valid
     (quiet_start (g.D.Disk.state c.args.disk.now))

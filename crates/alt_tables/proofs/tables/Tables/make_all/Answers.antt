@@ -1,8 +1,8 @@
 -- Writes of the state are one entry of the engine.
-use Rattle.std.proofs.Common.{refl, sym, ap, subst, Err}
+use Rattle.std.proofs.Common.{refl, sym, ap, subst, length, Err, arith}
 use Rattle.alt_engine.specs.InHand.{Stands as EngineStands}
 use Rattle.alt_tables.proofs.Batches.{with_batches-writes}
-use Rattle.alt_tables.proofs.Holding.{all_hold, all_images, memory_wanted, same_Err}
+use Rattle.alt_tables.proofs.Holding.{all_hold, all_images, found_fault, memory_wanted, same_Err}
 use Rattle.alt_tables.proofs.tables.Tables.make_all.Goals as goal
 
 pub apply_all-requires-clause-stands : goal.apply_all-requires-clause-stands
@@ -37,3 +37,8 @@ returns-in-Err-clause-disk g c s r holds valid turns =
     all_images (g.D.Disk.state c.args.disk.now) (g.D.Disk.state c.apply_all.new.disk)
     c.args.self.now.engine s r c.args.batches.now holds turns c.requires.distinct
     valid (c.in-Err.ensures.any_moment holds.trusted holds.layout holds.is)
+
+pub returns-in-Err-clause-fault : goal.returns-in-Err-clause-fault
+returns-in-Err-clause-fault g c =
+    found_fault c.args.self.now.engine.hand (length c.args.batches.now) c.in-Err.fault c.from.result
+    c.from.ensures (omega (arith, c.requires.room)) c.requires.file c.in-Err.ensures.cause_spent

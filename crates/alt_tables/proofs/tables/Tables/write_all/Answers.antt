@@ -1,10 +1,11 @@
 -- Those that change something are got ready, and then they are made as one entry.
-use Rattle.std.proofs.Common.{◌≡◌, ◌≤◌, ◌<◌, ◌+◌, ◌-◌, ◌^◌, ◌==◌, refl, sym, ap, subst, ◌∙◌, ℕ, zero, suc, Bool, true, false, cond, List, [], ◌∷◌, length, map as each, min, arith}
+use Rattle.std.proofs.Common.{◌≡◌, ◌≤◌, ◌<◌, ◌+◌, ◌-◌, ◌^◌, ◌==◌, inl, inr, refl, sym, ap, subst, ◌∙◌, ℕ, zero, suc, Bool, true, false, cond, List, [], ◌∷◌, length, map as each, min, arith}
 use Rattle.std.proofs.Math.Nat.{min-le_left}
 use Rattle.std.specs.Prelude.{not}
 use Rattle.alt_cells.specs.declared.batch.RowChange.{RowChange}
 use Rattle.alt_disk.specs.Disk.{DiskState}
 use Rattle.alt_disk.proofs.Runs.{quiet_start, trusted_back, trusted_on}
+use Rattle.alt_engine.specs.InHand.{Bounds, bounds_of as engine_bounds}
 use Rattle.alt_layout.specs.Layout.{Layout}
 use Rattle.alt_machine.specs.declared.TheConstants.{NUMBERS_END}
 use Rattle.alt_machine.specs.Ops.BatchWriteItem.{writes_of_all_by}
@@ -109,17 +110,37 @@ returns-then-saturating_add-gt-NUMBERS_END-clause-writes g c s stands =
     let count = count_left (catalog_of old) cs ds c.differing-changes.ensures c.requires.may
     c.requires.apart s (c.requires.found s stands) c.args.moment c.args.by a old refl stands in
     let more = over _ _ c.saturating_add.result c.saturating_add.ensures
-    c.if-saturating_add-gt-NUMBERS_END.true in
-    (
-      refl,
-      omega (arith, count, more, stands.number, c.next_number.ensures.next, c.len-count.ensures,
-          c.differing-changes.result.ok.0),
+    c.if-saturating_add-gt-NUMBERS_END.true in (
+      inl (
+        refl,
+        omega (
+          arith,
+          count,
+          more,
+          stands.number,
+          c.next_number.ensures.next,
+          c.len-count.ensures,
+          c.differing-changes.result.ok.0,
+        ),
+      ),
       stands,
     )
 
 pub returns-then-saturating_add-gt-NUMBERS_END-clause-disk :
     goal.returns-then-saturating_add-gt-NUMBERS_END-clause-disk
 returns-then-saturating_add-gt-NUMBERS_END-clause-disk g c s stands =
+    leaves_quiet (g.D.Disk.state c.args.disk.now) (g.D.Disk.state c.args.disk.now)
+    c.args.self.now.engine s (together s
+    (writes_of_all_by s c.args.moment c.args.by (each written_at c.args.changes.items)))
+    stands.rows stands.valid (quiet_start (g.D.Disk.state c.args.disk.now))
+
+-- ---- there is no file for their segment
+
+pub returns-in-Some-clause-writes : goal.returns-in-Some-clause-writes
+returns-in-Some-clause-writes g c s stands = (inr c.in-Some.ensures.last, stands)
+
+pub returns-in-Some-clause-disk : goal.returns-in-Some-clause-disk
+returns-in-Some-clause-disk g c s stands =
     leaves_quiet (g.D.Disk.state c.args.disk.now) (g.D.Disk.state c.args.disk.now)
     c.args.self.now.engine s (together s
     (writes_of_all_by s c.args.moment c.args.by (each written_at c.args.changes.items)))
@@ -181,12 +202,16 @@ make_all-requires-clause-ready g c trusted =
     let a : DiskState = g.D.Disk.state c.args.disk.now in
     let m : DiskState = g.D.Disk.state c.stage_all.new.disk in
     let (s, stands) = c.requires.ready (trusted_back a m c.stage_all.ensures.keeps.reads.goes
-    trusted) in
-    (
+    trusted) in (
       s,
       still_holds a m c.args.self.now c.stage_all.new.self c.know_all.new.self
           c.stage_all.ensures.keeps c.know_all.ensures.kept.0 s stands,
     )
+
+pub make_all-requires-clause-file : goal.make_all-requires-clause-file
+make_all-requires-clause-file g c = subst (λ (b : Bounds). b.file < 2 ^ 32)
+    (sym (ap engine_bounds c.know_all.ensures.kept.0 ∙ c.stage_all.ensures.keeps.limits))
+    (c.wanting_file.ensures.none c.in-None.is)
 
 pub returns-in-Ok-make_all-clause-writes : goal.returns-in-Ok-make_all-clause-writes
 returns-in-Ok-make_all-clause-writes g c s stands =
@@ -231,8 +256,15 @@ returns-in-Ok-make_all-clause-writes g c s stands =
           c.in-Ok-make_all.ensures.next));
       enough = let low = under (c.next_number.result + c.len-count.result) c.saturating_add.result
           c.saturating_add.ensures c.if-saturating_add-gt-NUMBERS_END.false in
-          omega (arith, count, low, stands.number, c.next_number.ensures.next, c.len-count.ensures,
-          c.differing-changes.result.ok.0);
+          omega (
+            arith,
+            count,
+            low,
+            stands.number,
+            c.next_number.ensures.next,
+            c.len-count.ensures,
+            c.differing-changes.result.ok.0,
+          );
     }
 
 pub returns-in-Ok-make_all-clause-count : goal.returns-in-Ok-make_all-clause-count

@@ -1,5 +1,5 @@
 -- A batch that is refused, and one whose members are known.
-use Rattle.std.proofs.Common.{◌≡◌, sym, ap, subst, ◌∙◌, Result, Ok, Err}
+use Rattle.std.proofs.Common.{ℕ, ◌≡◌, sym, ap, subst, ◌∙◌, Result, Ok, Err}
 use Rattle.std.specs.Result.{IsErr, IsErrAnd}
 use Rattle.alt_disk.specs.Disk.{DiskState}
 use Rattle.alt_machine.specs.Outcomes.{Outcome, with_found}
@@ -24,7 +24,7 @@ pub asked_unfailed : {A X : Type 0} (P : Type 0) (of : X → A) (r : Result A An
 asked_unfailed P of r (Refused q) h = tt
 asked_unfailed P of r (Fault f) h = unfailed_fault f P h
 
-module _ {A X : Type 0} (disk : DiskState) (tables : Tables) (of : X → A)
+module _ {file : ℕ} {A X : Type 0} (disk : DiskState) (tables : Tables) (of : X → A)
     (asked : Texts TableSchema → Result A Answer) (outcome : State → Outcome)
     (go : State → A → Outcome)
     (is : (s : State) → outcome s ≡ with_found (asked (descriptions s.tables)) (go s)) where
@@ -32,7 +32,7 @@ module _ {A X : Type 0} (disk : DiskState) (tables : Tables) (of : X → A)
   asked_stopped : (now : State → Type 0) (stop : Stop)
       → Comes of (asked (catalog_of tables)) (Err stop)
       → ((s : State) → Stands disk tables s → now s)
-      → Carries outcome (Stands disk tables) now (Err stop)
+      → Carries file outcome (Stands disk tables) now (Err stop)
   asked_stopped now (Refused r) h stays = refused_so outcome (Stands disk tables) now r h.1
       (λ s stands. is s ∙ missed (asked (descriptions s.tables)) (go s) (refused r)
       (ap asked (sym stands.catalog) ∙ h.0)) stays
@@ -41,8 +41,8 @@ module _ {A X : Type 0} (disk : DiskState) (tables : Tables) (of : X → A)
   -- the same, where the refusal comes through a result that was passed on
   pub asked_passed : (now : State → Type 0) (r : Result Reply Stop) (stop : Stop)
       → IsErr r × IsErrAnd r (λ e. e ≡ stop) → Comes of (asked (catalog_of tables)) (Err stop)
-      → ((s : State) → Stands disk tables s → now s) → Carries outcome (Stands disk tables) now r
-  asked_passed now r stop same h stays = subst (Carries outcome (Stands disk tables) now)
+      → ((s : State) → Stands disk tables s → now s) → Carries file outcome (Stands disk tables) now r
+  asked_passed now r stop same h stays = subst (Carries file outcome (Stands disk tables) now)
       (sym (err_is r stop same)) (asked_stopped now stop h stays)
 
   -- a batch whose members are known comes to what its run makes of them

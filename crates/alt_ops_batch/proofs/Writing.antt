@@ -26,9 +26,9 @@ together_made now s (t ∷ ts) made = record {
 }
 
 -- or none is
-pub together_broke : (now : State → Type 0) (s : State) (ws : List State) (f : TableFault)
-    → s.next_number ≤ NUMBERS_END → BreakOffAll now s ws f
-    → BreakOff now (numbers (length ws)) s (together s ws) f
+pub together_broke : {file : ℕ} (now : State → Type 0) (s : State) (ws : List State) (f : TableFault)
+    → s.next_number ≤ NUMBERS_END → BreakOffAll file now s ws f
+    → BreakOff file now (numbers (length ws)) s (together s ws) f
 together_broke now s [] (Spent n) valid h = let more = h.1 in absurd (omega (arith, valid, more))
 together_broke now s (t ∷ ts) (Spent n) valid h = (
   0,
@@ -47,17 +47,17 @@ together_broke now s ws NoMemory valid h = tt
 
 -- ---- the contract of the operation
 
-module _ (outcome : State → Outcome) (old now : State → Type 0) where
+module _ {file : ℕ} (outcome : State → Outcome) (old now : State → Type 0) where
   -- the writes are made, and answered
   pub batch_wrote : (reply : Reply) → has_float (body_json reply.body) ≡ false
       → ((s : State) → old s → (ws : List State)
       × (outcome s ≡ writes_together s ws (answer_of reply)) × AreAllMade now s ws)
-      → Carries outcome old now (Ok reply)
+      → Carries file outcome old now (Ok reply)
   batch_wrote reply plain h = record {
     does = λ s stands.
         let (ws, is, all) = h s stands in
         let made = together_made now s ws all in
-        subst (λ o. Does now s o (Ok reply)) (sym is)
+        subst (λ o. Does file now s o (Ok reply)) (sym is)
         (record { reply = refl; state = made.state; enough = made.enough });
     plain = plain;
   }
@@ -65,12 +65,12 @@ module _ (outcome : State → Outcome) (old now : State → Type 0) where
   -- they broke off, and none is made
   pub batch_broke : (f : TableFault) → ((s : State) → old s → (ws : List State)
       × (answer : Answer) × (outcome s ≡ writes_together s ws answer)
-      × (s.next_number ≤ NUMBERS_END) × BreakOffAll now s ws f)
-      → Carries outcome old now (Err (Fault f))
+      × (s.next_number ≤ NUMBERS_END) × BreakOffAll file now s ws f)
+      → Carries file outcome old now (Err (Fault f))
   batch_broke f h = record {
     does = λ s stands.
         let (ws, answer, is, valid, broke) = h s stands in
-        subst (λ o. Does now s o (Err (Fault f))) (sym is)
+        subst (λ o. Does file now s o (Err (Fault f))) (sym is)
         (together_broke now s ws f valid broke);
     plain = tt;
   }

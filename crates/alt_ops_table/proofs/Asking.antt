@@ -168,10 +168,10 @@ unfit_asked tables moment ms (Refused r) h = (h.1, λ s same. create-unfit s mom
 unfit_asked tables moment ms (Fault f) h = h
 
 -- what is asked stops the request
-pub asked_stops : (tables : Tables) (disk : DiskState) (now : State → Type 0) (moment : ℕ)
+pub asked_stops : {file : ℕ} (tables : Tables) (disk : DiskState) (now : State → Type 0) (moment : ℕ)
     (ms : Members) (stop : Stop) → IsAsked tables moment ms (Err stop)
     → ((s : State) → Stands disk tables s → now s)
-    → Carries (λ s. create_table s moment ms) (Stands disk tables) now (Err stop)
+    → Carries file (λ s. create_table s moment ms) (Stands disk tables) now (Err stop)
 asked_stops tables disk now moment ms (Refused r) h stays =
     refused_so (λ s. create_table s moment ms) (Stands disk tables) now r h.0
     (λ s stands. h.1 s (sym stands.catalog)) stays
@@ -230,7 +230,7 @@ lacks_nothing s t e = by (table_lack s.next_number s.next_family) e
     by None e = refl
     by (Some n) e = absurd (let f : ⊥ = cc in f)
 
-module _ (s t u : State) (now : State → Type 0)
+module _ {file : ℕ} (s t u : State) (now : State → Type 0)
     (same : table_lack s.next_number s.next_family ≡ None → t ≡ u) where
   -- where the first of the lacks is none, nothing is lacked
   nothing_lacked : (o : Option ℕ) → or_later o None ≡ None → o ≡ None
@@ -257,8 +257,8 @@ module _ (s t u : State) (now : State → Type 0)
       before_of (Some lack) = lack.before
 
   -- where tables are alike, making one breaks off as making the other does
-  pub broken_alike : (f : TableFault) → BreakOff now a_table s (t ∷ []) f
-      → BreakOff now a_table s (u ∷ []) f
+  pub broken_alike : (f : TableFault) → BreakOff file now a_table s (t ∷ []) f
+      → BreakOff file now a_table s (u ∷ []) f
   broken_alike (Spent n) (before, lacks, h) =
       let first : before ≡ 0 = at_first (table_lack s.next_number s.next_family) n before lacks in (
         before,

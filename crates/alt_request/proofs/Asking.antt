@@ -48,7 +48,7 @@ same_Some : {A : Type 0} (x y : A) → Some x ≡ Some y → x ≡ y
 same_Some x y e = cc
 
 -- The shape, the rules and so on, as the calls of the operation gave them.
-module _ (w : Writer) (moment : ℕ) (ms bs : Members) (ahead : Option (List Pair))
+module _ {file : ℕ} (w : Writer) (moment : ℕ) (ms bs : Members) (ahead : Option (List Pair))
     (asked : IsAsked w ms bs ahead) (broken : Option Broken) (shape : broken ≡ w.shape bs)
     (rules : Rules) (ruled : rules ≡ w.rules) (sought : Sought) (seeks : sought ≡ w.sought)
     (texts : words.Texts) (takes : texts ≡ w.texts) where
@@ -73,7 +73,7 @@ module _ (w : Writer) (moment : ℕ) (ms bs : Members) (ahead : Option (List Pai
   module _ (disk : DiskState) (tables : Tables) where
     -- the item isn't reached
     pub unreached : (stop : Stop) → OnItem tests sought texts (catalog_of tables) ms (Err stop)
-        → Works (λ s. writes_item w s moment ms) (Stands disk tables) (Stands disk tables) disk disk
+        → Works file (λ s. writes_item w s moment ms) (Stands disk tables) (Stands disk tables) disk disk
         (Err stop)
     unreached stop h = record {
       carries = item_stopped disk tables tests ms (λ s. writes_item w s moment ms) sought texts go
@@ -87,7 +87,7 @@ module _ (w : Writer) (moment : ℕ) (ms bs : Members) (ahead : Option (List Pai
       -- its table refuses it
       pub untaken : (stop : Stop)
           → Tested {X = Unit {0}} (w.takes target.schema.now target.item) (Err stop)
-          → Works (λ s. writes_item w s moment ms) (Stands disk tables) (Stands disk tables)
+          → Works file (λ s. writes_item w s moment ms) (Stands disk tables) (Stands disk tables)
           disk disk (Err stop)
       untaken stop h = record {
         carries = untested (λ s. writes_item w s moment ms) (Stands disk tables)
@@ -117,15 +117,15 @@ module _ (w : Writer) (moment : ℕ) (ms bs : Members) (ahead : Option (List Pai
 
         -- what was done at its place was done for the request
         module _ (after : DiskState) (now : State → Type 0) (r : Result Reply Stop)
-            (works : (t : Table) → Works
+            (works : (t : Table) → Works file
             (λ s. changes w s moment bs target.said target.item t target.place)
             (λ s. Stands disk tables s × (map.get s.tables (table_name bs) ≡ Some t))
             now disk after r) where
-          pub done : Works (λ s. writes_item w s moment ms) (Stands disk tables) now disk after r
+          pub done : Works file (λ s. writes_item w s moment ms) (Stands disk tables) now disk after r
           done = record {
             carries = item_done disk tables tests ms (λ s. writes_item w s moment ms) sought texts
                 go whole_is now target at r (works (new_table target.schema.now)).carries.plain
-                (λ s t stands there same. subst (λ o. Does now s o r) (sym (goes_on s t same))
+                (λ s t stands there same. subst (λ o. Does file now s o r) (sym (goes_on s t same))
                 ((works t).carries.does s
                 (stands, ap (map.get s.tables) (sym same_name) ∙ there)));
             moves = item_moved disk after tables tests ms (λ s. writes_item w s moment ms) sought

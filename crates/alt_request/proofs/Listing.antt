@@ -119,7 +119,7 @@ pub list_unfailed : (P : Type 0) (tests : List (Option Answer)) (texts : machine
 list_unfailed P tests texts catalog ms (Refused r) h = tt
 list_unfailed P tests texts catalog ms (Fault f) h = unfailed_fault f P h
 
-module _ (disk : DiskState) (tables : Tables) (tests : List (Option Answer)) (ms : Members)
+module _ {file : ℕ} (disk : DiskState) (tables : Tables) (tests : List (Option Answer)) (ms : Members)
     (outcome : State → Outcome) (texts : machine.Texts)
     (go : State → Expressions → Option (List Pair) → Table → Option ℕ → Outcome)
     (is : (s : State) → outcome s ≡ on_list tests texts s ms (go s)) where
@@ -127,7 +127,7 @@ module _ (disk : DiskState) (tables : Tables) (tests : List (Option Answer)) (ms
   list_stopped : (now : State → Type 0) (stop : Stop)
       → OnList tests texts (catalog_of tables) ms (Err stop)
       → ((s : State) → Stands disk tables s → now s)
-      → Carries outcome (Stands disk tables) now (Err stop)
+      → Carries file outcome (Stands disk tables) now (Err stop)
   list_stopped now (Refused r) h stays = refused_so outcome (Stands disk tables) now r h.0
       (λ s stands. is s ∙ h.1 s (go s) (sym stands.catalog)) stays
   list_stopped now (Fault f) h stays = faulted outcome (Stands disk tables) now f h stays
@@ -137,8 +137,8 @@ module _ (disk : DiskState) (tables : Tables) (tests : List (Option Answer)) (ms
       → IsErr r × IsErrAnd r (λ e. e ≡ stop)
       → OnList tests texts (catalog_of tables) ms (Err stop)
       → ((s : State) → Stands disk tables s → now s)
-      → Carries outcome (Stands disk tables) now r
-  list_passed now r stop same h stays = subst (Carries outcome (Stands disk tables) now)
+      → Carries file outcome (Stands disk tables) now r
+  list_passed now r stop same h stays = subst (Carries file outcome (Stands disk tables) now)
       (sym (err_is r stop same)) (list_stopped now stop h stays)
 
   -- it is, and the operation goes on

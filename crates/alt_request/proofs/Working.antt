@@ -24,14 +24,14 @@ use Rattle.alt_tables.specs.declared.tables.Tables.{Tables}
 use Rattle.alt_value.specs.Tree.{Pair}
 
 -- Calls that read led from `before` to `read`, and the tables stood for the same states there.
-module _ (outcome : State → Outcome) (old now : State → Type 0) (tables : Tables)
+module _ {file : ℕ} (outcome : State → Outcome) (old now : State → Type 0) (tables : Tables)
     (before read : DiskState) (stood : (s : State) → old s → Stands before tables s)
     (reads : Reads before read) where
   -- what is there couldn't be read
   pub works_unfound : {A : Type 0} (f : TableFault) → ((s : State) → old s → IsFindFault f)
       → ((s : State) → old s → now s)
       → (IsErrOf {T = A} (Err f) Failed → Rose before.faults read.faults)
-      → Works outcome old now before read (Err (Fault f))
+      → Works file outcome old now before read (Err (Fault f))
   works_unfound f known stays cause = record {
     carries = unfound outcome old now f known stays;
     moves = reads_move outcome old tables before stood read (Err (Fault f)) reads
@@ -43,7 +43,7 @@ module _ (outcome : State → Outcome) (old now : State → Type 0) (tables : Ta
       (is : (s : State) → old s → outcome s ≡ comes_to s moment name t place d) where
     -- an answer without a write
     pub works_told : ((s : State) → old s → now s) → (reply : Reply)
-        → Decides d (Ok (Told reply)) → Works outcome old now before read (Ok reply)
+        → Decides d (Ok (Told reply)) → Works file outcome old now before read (Ok reply)
     works_told stays reply h = record {
       carries = said outcome old now reply h.1
           (λ s o. is s o ∙ ap (comes_to s moment name t place) h.0) stays;
@@ -52,7 +52,7 @@ module _ (outcome : State → Outcome) (old now : State → Type 0) (tables : Ta
 
     -- a refusal, or want of memory
     pub works_stopped : ((s : State) → old s → now s) → (stop : Stop) → Decides d (Err stop)
-        → Works outcome old now before read (Err stop)
+        → Works file outcome old now before read (Err stop)
     works_stopped stays (Refused r) h = record {
       carries = refused_so outcome old now r h.1
           (λ s o. is s o ∙ ap (comes_to s moment name t place) h.0) stays;
@@ -80,7 +80,7 @@ module _ (outcome : State → Outcome) (old now : State → Type 0) (tables : Ta
         -- it was written
         pub works_wrote : ((s : State) → old s
             → AreMade now a_number s (item_writes s moment name t place new))
-            → reply.status ≡ 200 → Works outcome old now before after (Ok reply)
+            → reply.status ≡ 200 → Works file outcome old now before after (Ok reply)
         works_wrote made well = record {
           carries = wrote outcome old now reply h.1 a_number
               (λ s o. (item_writes s moment name t place new, comes s o, made s o));
@@ -90,10 +90,10 @@ module _ (outcome : State → Outcome) (old now : State → Type 0) (tables : Ta
 
         -- the write broke off
         pub works_broke : {A : Type 0} (f : TableFault) → ((s : State) → old s
-            → BreakOff now a_number s (item_writes s moment name t place new) f)
+            → BreakOff file now a_number s (item_writes s moment name t place new) f)
             → (IsErrOf {T = A} (Err f) Failed → Rose read.faults after.faults)
             → (IsErrOf {T = A} (Err f) NoMemory → Reads read after)
-            → Works outcome old now before after (Err (Fault f))
+            → Works file outcome old now before after (Err (Fault f))
         works_broke f broke cause unwritten = record {
           carries = broke_off outcome old now f a_number (λ s o. (
             item_writes s moment name t place new,

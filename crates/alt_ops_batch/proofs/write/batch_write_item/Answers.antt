@@ -22,7 +22,7 @@ use Rattle.alt_schema.specs.declared.schema.TableSchema.{TableSchema}
 use Rattle.alt_shape.specs.Refusals.{Answer}
 use Rattle.alt_tables.specs.Faults.{AreAllMade, BreakOffAll}
 use Rattle.alt_tables.specs.Images.{Leaves}
-use Rattle.alt_tables.specs.Stands.{Stands, catalog_of}
+use Rattle.alt_tables.specs.Stands.{Stands, catalog_of, bounds_of}
 use Rattle.alt_tables.specs.declared.several.ItemChange.{ItemChange}
 use Rattle.alt_tables.proofs.Left.{ready_on}
 use Rattle.alt_ops_batch.proofs.write.batch_write_item.Goals as goal
@@ -59,7 +59,7 @@ pub returns-in_err-changes-clause-carried : goal.returns-in_err-changes-clause-c
 returns-in_err-changes-clause-carried g c =
     let ms : Members = members_view c.args.body.now.entries in
     let now : State → Type 0 = Stands (g.D.Disk.state c.find_all.new.disk) c.find_all.new.tables in
-    subst (Carries (λ s. batch_write_item s c.args.moment ms)
+    subst (Carries (bounds_of c.args.tables.now).file (λ s. batch_write_item s c.args.moment ms)
     (Stands (g.D.Disk.state c.args.disk.now) c.args.tables.now) now)
     (sym (err_is c.from_residual-in_err-changes.result (Fault c.in_err-changes.field-0.0)
     c.from_residual-in_err-changes.ensures))
@@ -82,7 +82,7 @@ pub returns-in_err-reply-clause-carried : goal.returns-in_err-reply-clause-carri
 returns-in_err-reply-clause-carried g c =
     let ms : Members = members_view c.args.body.now.entries in
     let now : State → Type 0 = Stands (g.D.Disk.state c.find_all.new.disk) c.find_all.new.tables in
-    subst (Carries (λ s. batch_write_item s c.args.moment ms)
+    subst (Carries (bounds_of c.args.tables.now).file (λ s. batch_write_item s c.args.moment ms)
     (Stands (g.D.Disk.state c.args.disk.now) c.args.tables.now) now)
     (sym (err_is c.from_residual-in_err-reply.result c.in_err-reply.field-0.0
     c.from_residual-in_err-reply.ensures))
@@ -125,7 +125,7 @@ returns-in_err-write_all-clause-carried g c =
     let ms : Members = members_view c.args.body.now.entries in
     let now : State → Type 0 =
     Stands (g.D.Disk.state c.write_all.new.disk) c.write_all.new.self in
-    subst (Carries (λ s. batch_write_item s c.args.moment ms)
+    subst (Carries (bounds_of c.args.tables.now).file (λ s. batch_write_item s c.args.moment ms)
     (Stands (g.D.Disk.state c.args.disk.now) c.args.tables.now) now)
     (sym (err_is c.from_residual-in_err-write_all.result (Fault c.in_err-write_all.field-0.0)
     c.from_residual-in_err-write_all.ensures))
@@ -139,7 +139,7 @@ returns-in_err-write_all-clause-carried g c =
           (go c.args.moment) (write_is c.args.moment ms) c.in_ok-members.members
           c.in_ok-members.ensures.asked s stands,
       stands.valid.next_number.1,
-      subst (λ ws. BreakOffAll now s (writes_of_all s c.args.moment ws)
+      subst (λ ws. BreakOffAll (bounds_of c.args.tables.now).file now s (writes_of_all s c.args.moment ws)
           c.in_err-write_all.field-0.0) c.in_ok-changes.ensures.written
           (c.in_err-write_all.ensures.writes s ((c.in_ok-changes.ensures.stays s).0 stands)),
     )))

@@ -11,7 +11,7 @@ use Rattle.alt_request.proofs.Carrying.{does_say, unread, says_so, plain_so}
 use Rattle.alt_request.proofs.Moving.{reads_move, reply_unfailed, failed_fault}
 use Rattle.alt_request.proofs.Reaching.{err_is}
 use Rattle.alt_shape.specs.Refusals.{Answer}
-use Rattle.alt_tables.specs.Stands.{Stands, catalog_of}
+use Rattle.alt_tables.specs.Stands.{Stands, catalog_of, bounds_of}
 use Rattle.alt_value.specs.Tree.{Pair}
 use Rattle.alt_request.proofs.reads.found_reply.Goals as goal
 
@@ -25,7 +25,7 @@ find-requires g c = record {
 pub returns-in_err-found-clause-does : goal.returns-in_err-found-clause-does
 returns-in_err-found-clause-does g c s t stands there =
     let now : State → Type 0 = Stands (g.D.Disk.state c.find.new.disk) c.find.new.self in
-    subst (Does now s (finds g.R.ItemRead.answer c.args.said.now t c.args.place))
+    subst (Does (bounds_of c.args.tables.now).file now s (finds g.R.ItemRead.answer c.args.said.now t c.args.place))
     (sym (err_is c.from_residual.result (Fault c.in_err-found.field-0.0) c.from_residual.ensures))
     (unread now s (finds g.R.ItemRead.answer c.args.said.now t c.args.place) c.in_err-found.field-0.0
     (c.in_err-found.ensures.fault s stands) ((c.in_err-found.ensures.stays s).0 stands))
@@ -43,7 +43,7 @@ returns-clause-does g c s t stands there =
     c.in_ok-found.ensures.item s stands t
     (ap (map.get s.tables) c.table_name.ensures.name ∙ there)
     ∙ ap (map.get t.items) c.in_ok-found.ensures.place in
-    subst (λ o. Does now s (says (answer o)) c.reply.result) at
+    subst (λ o. Does (bounds_of c.args.tables.now).file now s (says (answer o)) c.reply.result) at
     (does_say now (answer c.in_ok-found.found.item) s c.reply.result
     (says_so (answer c.in_ok-found.found.item) c.reply.result c.reply.ensures.reply
     c.reply.ensures.plain c.reply.ensures.cause)

@@ -14,7 +14,7 @@ pub wants-last : (form : Form) (next n : ℕ) → WantsFile form next n
     → (n ≡ 2 ^ 32 - 1) × (2 ^ 32 ≤ next + files_made form)
 wants-last One next n wants =
     let low = wants.0 in
-    let made : files_made One ≡ 1 = refl in (wants.1.1, omega (arith, low, made))
+    let made : files_made One ≡ 1 = refl in (wants.2, omega (arith, low, made))
 wants-last Two next n wants = absurd wants
 
 -- where it can be had, work has one too

@@ -32,7 +32,7 @@ number_is e count n more wants = ⊎_elim (λ (is : WantsNumber (next_of e) coun
 
 -- and so is a file
 file_of_one : (form : Form) (file n : ℕ) → form ≡ One → WantsFile form file n → n ≡ file
-file_of_one One file n is wants = wants.1.0
+file_of_one One file n is wants = wants.1
 file_of_one Two file n is wants = absurd wants
 
 file_is : (e : Hand) (count n : ℕ) → next_of e + count ≤ 2 ^ 62 - 1 → last_form_of e ≡ One

@@ -14,18 +14,18 @@ use Rattle.alt_request.specs.declared.stop.Stop.TheVariants.{Refused}
 use Rattle.alt_shape.specs.Refusals.{unreadable}
 use Rattle.alt_shape.specs.declared.refusal.Reply.{Reply}
 
-module _ {file : ℕ} (op : Operation) (moment : ℕ) (body found : Option Members)
+module _ (op : Operation) (moment : ℕ) (body found : Option Members)
     (enough : Suffices op body found) where
   same : ◌≡◌ {A = State → Outcome} (λ s. with_body s op moment found)
       (λ s. with_body s op moment body)
   same = λ i s. sym (enough.comes s moment) i
 
   -- it carries out what the body asks for
-  pub carries_on : (old now : State → Type 0) (r : Result Reply Stop)
+  pub carries_on : {file : ℕ} (old now : State → Type 0) (r : Result Reply Stop)
       → Carries file (λ s. with_body s op moment found) old now r
       → Carries file (λ s. with_body s op moment body) old now r
   carries_on old now r carried =
-      subst (λ (outcome : State → Outcome). Carries file outcome old now r) same carried
+      subst (λ (outcome : State → Outcome). Carries _ outcome old now r) same carried
 
   -- and does to the disk what that does
   pub moves_on : (old : State → Type 0) (before after : DiskState) (r : Result Reply Stop)

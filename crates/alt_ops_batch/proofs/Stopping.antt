@@ -24,12 +24,12 @@ pub asked_unfailed : {A X : Type 0} (P : Type 0) (of : X → A) (r : Result A An
 asked_unfailed P of r (Refused q) h = tt
 asked_unfailed P of r (Fault f) h = unfailed_fault f P h
 
-module _ {file : ℕ} {A X : Type 0} (disk : DiskState) (tables : Tables) (of : X → A)
+module _ {A X : Type 0} (disk : DiskState) (tables : Tables) (of : X → A)
     (asked : Texts TableSchema → Result A Answer) (outcome : State → Outcome)
     (go : State → A → Outcome)
     (is : (s : State) → outcome s ≡ with_found (asked (descriptions s.tables)) (go s)) where
   -- a batch whose members the tables refuse changes nothing, and is answered by that refusal
-  asked_stopped : (now : State → Type 0) (stop : Stop)
+  asked_stopped : {file : ℕ} (now : State → Type 0) (stop : Stop)
       → Comes of (asked (catalog_of tables)) (Err stop)
       → ((s : State) → Stands disk tables s → now s)
       → Carries file outcome (Stands disk tables) now (Err stop)
@@ -39,10 +39,10 @@ module _ {file : ℕ} {A X : Type 0} (disk : DiskState) (tables : Tables) (of : 
   asked_stopped now (Fault f) h stays = faulted outcome (Stands disk tables) now f h stays
 
   -- the same, where the refusal comes through a result that was passed on
-  pub asked_passed : (now : State → Type 0) (r : Result Reply Stop) (stop : Stop)
+  pub asked_passed : {file : ℕ} (now : State → Type 0) (r : Result Reply Stop) (stop : Stop)
       → IsErr r × IsErrAnd r (λ e. e ≡ stop) → Comes of (asked (catalog_of tables)) (Err stop)
       → ((s : State) → Stands disk tables s → now s) → Carries file outcome (Stands disk tables) now r
-  asked_passed now r stop same h stays = subst (Carries file outcome (Stands disk tables) now)
+  asked_passed now r stop same h stays = subst (Carries _ outcome (Stands disk tables) now)
       (sym (err_is r stop same)) (asked_stopped now stop h stays)
 
   -- a batch whose members are known comes to what its run makes of them

@@ -1,5 +1,5 @@
 -- The writes of a batch become lasting together: what a call that makes them all comes to is what the machine's one write comes to.
-use Rattle.std.proofs.Common.{◌≡◌, ◌≤◌, refl, sym, ap, subst, ℕ, List, [], ◌∷◌, length, Some, Ok, Err, false, arith}
+use Rattle.std.proofs.Common.{◌≡◌, ◌<◌, ◌≤◌, ◌+◌, ⊎_elim, inl, inr, refl, sym, ap, subst, ℕ, List, [], ◌∷◌, length, Some, Ok, Err, false, arith}
 use Rattle.serde_json.specs.Written.{has_float}
 use Rattle.alt_machine.specs.declared.TheConstants.{NUMBERS_END}
 use Rattle.alt_machine.specs.Outcomes.{Outcome, last_state, numbers, together, writes_together}
@@ -29,13 +29,18 @@ together_made now s (t ∷ ts) made = record {
 pub together_broke : {file : ℕ} (now : State → Type 0) (s : State) (ws : List State) (f : TableFault)
     → s.next_number ≤ NUMBERS_END → BreakOffAll file now s ws f
     → BreakOff file now (numbers (length ws)) s (together s ws) f
-together_broke now s [] (Spent n) valid h = let more = h.1 in absurd (omega (arith, valid, more))
-together_broke now s (t ∷ ts) (Spent n) valid h = (
-  0,
-  subst (λ m. one_lack m) (sym h.0) (one_lacks (numbers (length (t ∷ ts))) s (last_state t ts)
-      NUMBERS_END (lacks_numbers (length (t ∷ ts)) s.next_number h.1)),
-  h.2,
-)
+together_broke now s [] (Spent n) valid h = ⊎_elim
+    (λ (over : (n ≡ NUMBERS_END) × (NUMBERS_END < s.next_number + 0)).
+    let more = over.1 in absurd (omega (arith, valid, more)))
+    (λ last. (0, inr (refl, last), h.1)) h.0
+together_broke now s (t ∷ ts) (Spent n) valid h = ⊎_elim
+    (λ (over : (n ≡ NUMBERS_END) × (NUMBERS_END < s.next_number + length (t ∷ ts))). (
+      0,
+      inl (subst (λ m. one_lack m) (sym over.0) (one_lacks (numbers (length (t ∷ ts))) s
+          (last_state t ts) NUMBERS_END (lacks_numbers (length (t ∷ ts)) s.next_number over.1))),
+      h.1,
+    ))
+    (λ last. (0, inr (refl, last), h.1)) h.0
   where
     one_lack : ℕ → Type 0
     one_lack m = lack_among (numbers (length (t ∷ ts))) s (last_state t ts ∷ [])

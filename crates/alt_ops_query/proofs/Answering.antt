@@ -120,7 +120,7 @@ page_does now s d x ms ask list filling (Ok reply) stands filled counts told pla
     does_say now (answer_with d x ms ask list) s (Ok reply)
     (told ask list filled counts, plain) stands
 page_does now s d x ms ask list filling (Err stop) stands filled counts told plain cause =
-    subst (λ e. Does file now s (says (answer_with d x ms ask list)) (Err e)) (sym cause)
+    subst (λ e. Does _ now s (says (answer_with d x ms ask list)) (Err e)) (sym cause)
     (does_say now (answer_with d x ms ask list) s (Err (Fault NoMemory)) refl stands)
 
 -- the walk stopped before it
@@ -138,7 +138,7 @@ pub does_fault : {file : ℕ} (now : State → Type 0) (s : State) (outcome : Ou
     (stop : Stop) → IsErr r × IsErrAnd r (λ e. e ≡ stop) → IsFault stop → now s
     → Does file now s outcome r
 does_fault now s outcome r stop same fault stands =
-    subst (Does file now s outcome) (sym (err_is r stop same))
+    subst (Does _ now s outcome) (sym (err_is r stop same))
     (fault_does now s outcome stop fault stands)
 
 -- what is asked of the page is what the request asks

@@ -66,7 +66,7 @@ scan_is ms broken mismatched e f s =
 
 -- ---- the page of a list
 
-module _ {file : ℕ} (disk : DiskState) (tables : Tables) (s : State) (stands : Stands disk tables s)
+module _ (disk : DiskState) (tables : Tables) (s : State) (stands : Stands disk tables s)
     (name : List ℕ) (t : Table) (at : map.get s.tables name ≡ Some t) (d : TableSchema)
     (same : t.description ≡ d) (index : Option ℕ)
     (within : (x : TableSchema) → map.get (catalog_of tables) name ≡ Some x
@@ -88,12 +88,12 @@ module _ {file : ℕ} (disk : DiskState) (tables : Tables) (s : State) (stands :
     there = index_at t.description index
 
     -- the page of the range that is asked for is that of the Query
-    pub query_page : (start : Option (List Pair))
+    pub query_page : {file : ℕ} (start : Option (List Pair))
         → IsAsked d (index_at d index) said.key_condition start (goes_forward ms) range
         → Does file now s (pages t.description there ms said
         (items_between t there range.from range.to (goes_forward ms))) r
         → Does file now s (queries ms said start t index) r
-    query_page start asked does = subst (λ o. Does file now s o r)
+    query_page start asked does = subst (λ o. Does _ now s o r)
         (ap (pages t.description there ms said) (list_is (goes_forward ms) asked.place
         (passes said.key_condition) range asked.holds) ∙ sym found) does
       where
@@ -110,12 +110,12 @@ module _ {file : ℕ} (disk : DiskState) (tables : Tables) (s : State) (stands :
             ∙ asked.starts)
 
     -- and that of a segment's range is that of the Scan
-    pub scan_page : (start : Option (List Pair))
+    pub scan_page : {file : ℕ} (start : Option (List Pair))
         → IsOfSegment d (index_at d index) (segment_of ms) start range
         → Does file now s (pages t.description there ms said
         (items_between t there range.from range.to true)) r
         → Does file now s (scans ms said start t index) r
-    scan_page start asked does = subst (λ o. Does file now s o r)
+    scan_page start asked does = subst (λ o. Does _ now s o r)
         (ap (pages t.description there ms said) (list_is true asked.place
         (is_in (hash_of t.description there) (segment_of ms)) range
         (subst (λ x. HoldsListed true asked.place

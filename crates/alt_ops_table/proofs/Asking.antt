@@ -1,5 +1,5 @@
 -- The refusals of a CreateTable, step by step, and what it comes to.
-use Rattle.std.proofs.Common.{◌≡◌, refl, sym, ap, subst, ◌∙◌, ℕ, zero, suc, ◌+◌, ◌<◌, ◌≤◌, take, Err, Bool, true, false, cond, not, nat_le, [], ◌∷◌, Option, Some, None, option_map, is_some, arith}
+use Rattle.std.proofs.Common.{◌≡◌, ⊎_elim, refl, sym, ap, subst, ◌∙◌, ℕ, zero, suc, ◌+◌, ◌<◌, ◌≤◌, take, Err, Bool, true, false, cond, not, nat_le, [], ◌∷◌, Option, Some, None, option_map, is_some, arith}
 use Rattle.std.specs.Prelude.{IsSome}
 use Rattle.std.proofs.lemmas.Bool.{le-leb}
 use Rattle.std.specs.FinMap as map
@@ -230,7 +230,7 @@ lacks_nothing s t e = by (table_lack s.next_number s.next_family) e
     by None e = refl
     by (Some n) e = absurd (let f : ⊥ = cc in f)
 
-module _ {file : ℕ} (s t u : State) (now : State → Type 0)
+module _ (s t u : State) (now : State → Type 0)
     (same : table_lack s.next_number s.next_family ≡ None → t ≡ u) where
   -- where the first of the lacks is none, nothing is lacked
   nothing_lacked : (o : Option ℕ) → or_later o None ≡ None → o ≡ None
@@ -257,10 +257,12 @@ module _ {file : ℕ} (s t u : State) (now : State → Type 0)
       before_of (Some lack) = lack.before
 
   -- where tables are alike, making one breaks off as making the other does
-  pub broken_alike : (f : TableFault) → BreakOff file now a_table s (t ∷ []) f
+  pub broken_alike : {file : ℕ} (f : TableFault) → BreakOff file now a_table s (t ∷ []) f
       → BreakOff file now a_table s (u ∷ []) f
   broken_alike (Spent n) (before, lacks, h) =
-      let first : before ≡ 0 = at_first (table_lack s.next_number s.next_family) n before lacks in (
+      let first : before ≡ 0 = ⊎_elim
+      (λ (lack : lack_among a_table s (t ∷ []) ≡ Some (record { number = n; before = before })).
+      at_first (table_lack s.next_number s.next_family) n before lack) (λ last. last.0) lacks in (
         before,
         lacks,
         subst (λ k. now (state_after k s (u ∷ []))) (sym first)

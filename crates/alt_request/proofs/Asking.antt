@@ -48,7 +48,7 @@ same_Some : {A : Type 0} (x y : A) → Some x ≡ Some y → x ≡ y
 same_Some x y e = cc
 
 -- The shape, the rules and so on, as the calls of the operation gave them.
-module _ {file : ℕ} (w : Writer) (moment : ℕ) (ms bs : Members) (ahead : Option (List Pair))
+module _ (w : Writer) (moment : ℕ) (ms bs : Members) (ahead : Option (List Pair))
     (asked : IsAsked w ms bs ahead) (broken : Option Broken) (shape : broken ≡ w.shape bs)
     (rules : Rules) (ruled : rules ≡ w.rules) (sought : Sought) (seeks : sought ≡ w.sought)
     (texts : words.Texts) (takes : texts ≡ w.texts) where
@@ -72,7 +72,7 @@ module _ {file : ℕ} (w : Writer) (moment : ℕ) (ms bs : Members) (ahead : Opt
 
   module _ (disk : DiskState) (tables : Tables) where
     -- the item isn't reached
-    pub unreached : (stop : Stop) → OnItem tests sought texts (catalog_of tables) ms (Err stop)
+    pub unreached : {file : ℕ} (stop : Stop) → OnItem tests sought texts (catalog_of tables) ms (Err stop)
         → Works file (λ s. writes_item w s moment ms) (Stands disk tables) (Stands disk tables) disk disk
         (Err stop)
     unreached stop h = record {
@@ -85,7 +85,7 @@ module _ {file : ℕ} (w : Writer) (moment : ℕ) (ms bs : Members) (ahead : Opt
     -- it is
     module _ (target : Target) (at : IsAt tests sought texts (catalog_of tables) ms target) where
       -- its table refuses it
-      pub untaken : (stop : Stop)
+      pub untaken : {file : ℕ} (stop : Stop)
           → Tested {X = Unit {0}} (w.takes target.schema.now target.item) (Err stop)
           → Works file (λ s. writes_item w s moment ms) (Stands disk tables) (Stands disk tables)
           disk disk (Err stop)
@@ -116,7 +116,7 @@ module _ {file : ℕ} (w : Writer) (moment : ℕ) (ms bs : Members) (ahead : Opt
         same_name = asked.at_hand.beside.table
 
         -- what was done at its place was done for the request
-        module _ (after : DiskState) (now : State → Type 0) (r : Result Reply Stop)
+        module _ {file : ℕ} (after : DiskState) (now : State → Type 0) (r : Result Reply Stop)
             (works : (t : Table) → Works file
             (λ s. changes w s moment bs target.said target.item t target.place)
             (λ s. Stands disk tables s × (map.get s.tables (table_name bs) ≡ Some t))

@@ -43,7 +43,7 @@ does_say now answer s (Err (Refused q)) h stands = record {
   unwritten = refl;
 }
 does_say now answer s (Err (Fault f)) h stands =
-    subst (λ g. Does file now s (says answer) (Err (Fault g))) (sym h) tt
+    subst (λ g. Does _ now s (says answer) (Err (Fault g))) (sym h) tt
 
 -- a fault before anything was written
 pub unread : {file : ℕ} (now : State → Type 0) (s : State) (outcome : Outcome) (f : TableFault)
@@ -168,12 +168,12 @@ module _ {file : ℕ} (outcome : State → Outcome) (old now : State → Type 0)
 
 -- ---- behind a table, or an item and its place
 
-module _ {file : ℕ} (disk : DiskState) (tables : Tables) (tests : List (Option Answer)) (ms : Members)
+module _ (disk : DiskState) (tables : Tables) (tests : List (Option Answer)) (ms : Members)
     (outcome : State → Outcome) where
   module _ (go : State → Table → Outcome) (is : (s : State)
       → outcome s ≡ on_table tests s ms (go s)) where
     -- it isn't reached
-    pub table_stopped : (now : State → Type 0) (stop : Stop)
+    pub table_stopped : {file : ℕ} (now : State → Type 0) (stop : Stop)
         → OnTable tests (catalog_of tables) ms (Err stop)
         → ((s : State) → Stands disk tables s → now s)
         → Carries file outcome (Stands disk tables) now (Err stop)
@@ -182,12 +182,12 @@ module _ {file : ℕ} (disk : DiskState) (tables : Tables) (tests : List (Option
     table_stopped now (Fault f) h stays = faulted outcome (Stands disk tables) now f h stays
 
     -- as it is passed on
-    pub table_passed : (now : State → Type 0) (r : Result Reply Stop) (stop : Stop)
+    pub table_passed : {file : ℕ} (now : State → Type 0) (r : Result Reply Stop) (stop : Stop)
         → IsErr r × IsErrAnd r (λ e. e ≡ stop)
         → OnTable tests (catalog_of tables) ms (Err stop)
         → ((s : State) → Stands disk tables s → now s)
         → Carries file outcome (Stands disk tables) now r
-    table_passed now r stop same h stays = subst (Carries file outcome (Stands disk tables) now)
+    table_passed now r stop same h stays = subst (Carries _ outcome (Stands disk tables) now)
         (sym (err_is r stop same)) (table_stopped now stop h stays)
 
     -- it is, and the operation goes on
@@ -208,7 +208,7 @@ module _ {file : ℕ} (disk : DiskState) (tables : Tables) (tests : List (Option
   module _ (sought : Sought) (texts : machine.Texts)
       (go : State → Expressions → List Pair → Table → List ℕ → Outcome)
       (is : (s : State) → outcome s ≡ on_item tests sought texts s ms (go s)) where
-    pub item_stopped : (now : State → Type 0) (stop : Stop)
+    pub item_stopped : {file : ℕ} (now : State → Type 0) (stop : Stop)
         → OnItem tests sought texts (catalog_of tables) ms (Err stop)
         → ((s : State) → Stands disk tables s → now s)
         → Carries file outcome (Stands disk tables) now (Err stop)
@@ -216,12 +216,12 @@ module _ {file : ℕ} (disk : DiskState) (tables : Tables) (tests : List (Option
         (λ s stands. is s ∙ h.1 s (go s) (sym stands.catalog)) stays
     item_stopped now (Fault f) h stays = faulted outcome (Stands disk tables) now f h stays
 
-    pub item_passed : (now : State → Type 0) (r : Result Reply Stop) (stop : Stop)
+    pub item_passed : {file : ℕ} (now : State → Type 0) (r : Result Reply Stop) (stop : Stop)
         → IsErr r × IsErrAnd r (λ e. e ≡ stop)
         → OnItem tests sought texts (catalog_of tables) ms (Err stop)
         → ((s : State) → Stands disk tables s → now s)
         → Carries file outcome (Stands disk tables) now r
-    item_passed now r stop same h stays = subst (Carries file outcome (Stands disk tables) now)
+    item_passed now r stop same h stays = subst (Carries _ outcome (Stands disk tables) now)
         (sym (err_is r stop same)) (item_stopped now stop h stays)
 
     pub item_reached : (target : Target) → IsAt tests sought texts (catalog_of tables) ms target
@@ -243,7 +243,7 @@ module _ {file : ℕ} (disk : DiskState) (tables : Tables) (tests : List (Option
         )
 
     -- what is done there is done for the whole request
-    pub item_done : (now : State → Type 0) (target : Target)
+    pub item_done : {file : ℕ} (now : State → Type 0) (target : Target)
         → IsAt tests sought texts (catalog_of tables) ms target
         → (r : Result Reply Stop) → IsPlain r
         → ((s : State) (t : Table) → Stands disk tables s
@@ -252,6 +252,6 @@ module _ {file : ℕ} (disk : DiskState) (tables : Tables) (tests : List (Option
         → Carries file outcome (Stands disk tables) now r
     item_done now target h r plain does = record {
       does = λ s stands. let at = item_reached target h s stands in
-          subst (λ o. Does file now s o r) (sym at.3) (does s at.0 stands at.1 at.2);
+          subst (λ o. Does _ now s o r) (sym at.3) (does s at.0 stands at.1 at.2);
       plain = plain;
     }

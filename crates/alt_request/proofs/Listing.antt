@@ -119,12 +119,12 @@ pub list_unfailed : (P : Type 0) (tests : List (Option Answer)) (texts : machine
 list_unfailed P tests texts catalog ms (Refused r) h = tt
 list_unfailed P tests texts catalog ms (Fault f) h = unfailed_fault f P h
 
-module _ {file : ℕ} (disk : DiskState) (tables : Tables) (tests : List (Option Answer)) (ms : Members)
+module _ (disk : DiskState) (tables : Tables) (tests : List (Option Answer)) (ms : Members)
     (outcome : State → Outcome) (texts : machine.Texts)
     (go : State → Expressions → Option (List Pair) → Table → Option ℕ → Outcome)
     (is : (s : State) → outcome s ≡ on_list tests texts s ms (go s)) where
   -- a list that isn't reached is carried out as that says, and nothing is written
-  list_stopped : (now : State → Type 0) (stop : Stop)
+  list_stopped : {file : ℕ} (now : State → Type 0) (stop : Stop)
       → OnList tests texts (catalog_of tables) ms (Err stop)
       → ((s : State) → Stands disk tables s → now s)
       → Carries file outcome (Stands disk tables) now (Err stop)
@@ -133,12 +133,12 @@ module _ {file : ℕ} (disk : DiskState) (tables : Tables) (tests : List (Option
   list_stopped now (Fault f) h stays = faulted outcome (Stands disk tables) now f h stays
 
   -- it isn't reached
-  pub list_passed : (now : State → Type 0) (r : Result Reply Stop) (stop : Stop)
+  pub list_passed : {file : ℕ} (now : State → Type 0) (r : Result Reply Stop) (stop : Stop)
       → IsErr r × IsErrAnd r (λ e. e ≡ stop)
       → OnList tests texts (catalog_of tables) ms (Err stop)
       → ((s : State) → Stands disk tables s → now s)
       → Carries file outcome (Stands disk tables) now r
-  list_passed now r stop same h stays = subst (Carries file outcome (Stands disk tables) now)
+  list_passed now r stop same h stays = subst (Carries _ outcome (Stands disk tables) now)
       (sym (err_is r stop same)) (list_stopped now stop h stays)
 
   -- it is, and the operation goes on

@@ -31,11 +31,11 @@ pub something : (o : Option Table) (d : TableSchema) → option_map (λ t. t.des
 something None d e = absurd (let f : ⊥ = cc in f)
 something (Some t) d e = (t, refl, some t.description d e)
 
-module _ {file : ℕ} (disk : DiskState) (tables : Tables) (arn : List ℕ) (outcome : State → Outcome)
+module _ (disk : DiskState) (tables : Tables) (arn : List ℕ) (outcome : State → Outcome)
     (go : State → Table → Outcome)
     (is : (s : State) → outcome s ≡ with_found (stream_at s arn) (go s)) where
   -- it isn't reached
-  stream_stopped : (now : State → Type 0) (stop : Stop)
+  stream_stopped : {file : ℕ} (now : State → Type 0) (stop : Stop)
       → OnStream (catalog_of tables) arn (Err stop)
       → ((s : State) → Stands disk tables s → now s)
       → Carries file outcome (Stands disk tables) now (Err stop)
@@ -47,11 +47,11 @@ module _ {file : ℕ} (disk : DiskState) (tables : Tables) (arn : List ℕ) (out
   stream_stopped now (Fault f) h stays = faulted outcome (Stands disk tables) now f h stays
 
   -- as it is passed on
-  pub stream_passed : (now : State → Type 0) (r : Result Reply Stop) (stop : Stop)
+  pub stream_passed : {file : ℕ} (now : State → Type 0) (r : Result Reply Stop) (stop : Stop)
       → IsErr r × IsErrAnd r (λ e. e ≡ stop) → OnStream (catalog_of tables) arn (Err stop)
       → ((s : State) → Stands disk tables s → now s)
       → Carries file outcome (Stands disk tables) now r
-  stream_passed now r stop same h stays = subst (Carries file outcome (Stands disk tables) now)
+  stream_passed now r stop same h stays = subst (Carries _ outcome (Stands disk tables) now)
       (sym (err_is r stop same)) (stream_stopped now stop h stays)
 
   -- it is, and the operation goes on

@@ -7,6 +7,7 @@ use Rattle.alt_machine.specs.declared.PlacedMember.{PlacedMember}
 use Rattle.alt_machine.specs.Ops.BatchWriteItem.{all_processed, batch_write_item, written_by, writes_asked, writes_of_all}
 use Rattle.alt_machine.specs.Outcomes.{Outcome, together, writes_together}
 use Rattle.alt_machine.specs.State.{State, Texts}
+use Rattle.alt_tables.proofs.Standing.{file_stays}
 use Rattle.alt_tables.specs.Several.{AreAllApart, Every, MayWrite, written_at}
 use Rattle.alt_ops_batch.proofs.Asked.{asked_may_write, all_apart}
 use Rattle.alt_machine.proofs.Batches.{asked_once}
@@ -141,7 +142,11 @@ returns-in_err-write_all-clause-carried g c =
       stands.valid.next_number.1,
       subst (λ ws. BreakOffAll (bounds_of c.args.tables.now).file now s (writes_of_all s c.args.moment ws)
           c.in_err-write_all.field-0.0) c.in_ok-changes.ensures.written
-          (c.in_err-write_all.ensures.writes s ((c.in_ok-changes.ensures.stays s).0 stands)),
+          (subst (λ (n : ℕ). BreakOffAll n now s
+          (writes_of_all s c.args.moment (map written_at c.in_ok-changes.changes.items))
+          c.in_err-write_all.field-0.0)
+          (file_stays c.args.tables.now c.find_all.new.tables c.in_ok-changes.ensures.catalog.limits)
+          (c.in_err-write_all.ensures.writes s ((c.in_ok-changes.ensures.stays s).0 stands))),
     )))
 
 pub returns-clause-carried : goal.returns-clause-carried

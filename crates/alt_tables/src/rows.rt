@@ -1,6 +1,6 @@
 //! The items of tables: what stands at a place, and what is to stand there.
 
-ghost use Rattle.std.specs.Prelude.{◌≡◌, ◌↔◌, ◌<◌, ◌++◌, ◌∷◌, [], drop, ℕ, true, false, None, Some, IsSome, IfOk, IfErr, IfSome, OnOk, IsErrOf, Ok, Err, List, Option, option_map};
+ghost use Rattle.std.specs.Prelude.{◌^◌, ◌≡◌, ◌↔◌, ◌<◌, ◌++◌, ◌∷◌, [], drop, ℕ, true, false, None, Some, IsSome, IfOk, IfErr, IfSome, OnOk, IsErrOf, Ok, Err, List, Option, option_map};
 ghost use Rattle.std.specs.FinMap as map;
 ghost use Rattle.alt_base.specs.Counts.{Rose};
 ghost use Rattle.alt_cells.specs.Changes.{change_between};

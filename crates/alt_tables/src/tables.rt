@@ -1,6 +1,6 @@
 //! All tables: what is known of them by their names, the numbers and families that are left, and the writes of the catalog.
 
-ghost use Rattle.std.specs.Prelude.{◌≡◌, ◌∷◌, [], ◌+◌, ◌<◌, ◌≤◌, length, true, None, Some, IsSome, IfOk, IfErr, OnOk, IsErrOf, option_map, slice_get, T};
+ghost use Rattle.std.specs.Prelude.{◌^◌, ◌≡◌, ◌∷◌, [], ◌+◌, ◌<◌, ◌≤◌, length, true, None, Some, IsSome, IfOk, IfErr, OnOk, IsErrOf, option_map, slice_get, T};
 ghost use Rattle.std.specs.FinMap as map;
 ghost use Rattle.alt_base.specs.Counts.{Rose};
 ghost use Rattle.alt_cells.specs.Batches.{is_distinct};

@@ -11,7 +11,7 @@ use Rattle.alt_request.specs.declared.stop.Stop.TheVariants.{Fault}
 use Rattle.alt_shape.specs.Body.{body_json}
 use Rattle.alt_shape.specs.Refusals.{Answer, answer_of}
 use Rattle.alt_shape.specs.declared.refusal.Reply.{Reply}
-use Rattle.alt_tables.specs.Faults.{AreAllMade, AreMade, BreakOff, BreakOffAll}
+use Rattle.alt_tables.specs.Faults.{AreAllMade, AreMade, BreakOff, BreakOffAll, IsLastFile}
 use Rattle.alt_tables.specs.declared.faults.TableFault.{TableFault}
 use Rattle.alt_tables.specs.declared.faults.TableFault.TheVariants.{Spent, Damaged, BadRow, Failed, NoMemory}
 
@@ -32,7 +32,8 @@ pub together_broke : {file : ℕ} (now : State → Type 0) (s : State) (ws : Lis
 together_broke now s [] (Spent n) valid h = ⊎_elim
     (λ (over : (n ≡ NUMBERS_END) × (NUMBERS_END < s.next_number + 0)).
     let more = over.1 in absurd (omega (arith, valid, more)))
-    (λ last. (0, inr (refl, last), h.1)) h.0
+    (λ (last : (s.next_number + 0 ≤ NUMBERS_END) × IsLastFile _ n).
+    (0, inr (refl, refl, last.1), h.1)) h.0
 together_broke now s (t ∷ ts) (Spent n) valid h = ⊎_elim
     (λ (over : (n ≡ NUMBERS_END) × (NUMBERS_END < s.next_number + length (t ∷ ts))). (
       0,
@@ -40,7 +41,17 @@ together_broke now s (t ∷ ts) (Spent n) valid h = ⊎_elim
           (last_state t ts) NUMBERS_END (lacks_numbers (length (t ∷ ts)) s.next_number over.1))),
       h.1,
     ))
-    (λ last. (0, inr (refl, last), h.1)) h.0
+    (λ (last : (s.next_number + length (t ∷ ts) ≤ NUMBERS_END) × IsLastFile _ n). (
+      0,
+      inr (
+        refl,
+        one_has (numbers (length (t ∷ ts))) s (last_state t ts)
+            (has_numbers (length (t ∷ ts)) s.next_number last.0),
+        last.1,
+      ),
+      h.1,
+    ))
+    h.0
   where
     one_lack : ℕ → Type 0
     one_lack m = lack_among (numbers (length (t ∷ ts))) s (last_state t ts ∷ [])

@@ -36,12 +36,12 @@ AreSome k atoms = k ≤ length atoms - 1
 abbrev pub IsLastFile : ℕ → ℕ → Type 0
 IsLastFile reach number = (number ≡ 2 ^ 32 - 1) × (2 ^ 32 ≤ reach)
 
--- The writes lack this number behind so many of them: a number or a family, of which that one is the first that does, or, before any of them,
--- the file of the segment that the first one makes on a store of the first form.
+-- The writes lack this number behind so many of them: a number or a family, of which that one is the first that does, or else, before any of
+-- them, the file of the segment that the first one makes on a store of the first form.
 abbrev pub AreLacking : ℕ → Wants → State → List State → ℕ → ℕ → Type 0
 AreLacking file wants s atoms number before =
     (lack_among wants s atoms ≡ Some (record { number = number; before = before }))
-    ⊎ ((before ≡ 0) × IsLastFile file number)
+    ⊎ ((before ≡ 0) × (lack_among wants s atoms ≡ None) × IsLastFile file number)
 
 -- The writes broke off: where a number, a family or a file can't be had, just before the one that lacks it, and then the tables stand for
 -- the state after those before it. Where the device failed or memory was wanting they stand for no state from then on, and what is left is
@@ -71,12 +71,13 @@ pub record AreAllMade (now : State → Type 0) (s : State) (writes : List State)
   pub state : now (last_state s writes)
   pub enough : s.next_number + length writes ≤ NUMBERS_END
 
--- They broke off, and none of them is made: where there aren't numbers for all of them, or no file for their segment, the tables stand
--- for the state from before.
+-- They broke off, and none of them is made: where there aren't numbers for all of them, or else no file for their segment, the
+-- tables stand for the state from before.
 abbrev pub BreakOffAll : ℕ → (State → Type 0) → State → List State → TableFault → Type 0
 BreakOffAll file now s writes fault = OnlySpent (λ number.
     (((number ≡ NUMBERS_END) × (NUMBERS_END < s.next_number + length writes))
-    ⊎ IsLastFile file number) × now s) (told_by_tables fault)
+    ⊎ ((s.next_number + length writes ≤ NUMBERS_END) × IsLastFile file number)) × now s)
+    (told_by_tables fault)
 
 -- A call that makes these writes together makes them all, or breaks off with the fault.
 abbrev pub WritesAll : {A : Type 0} → ℕ → (State → Type 0) → State → List State

@@ -47,7 +47,12 @@ returns-then-self-clause-disk g c s stands =
 pub returns-in-Some-clause-writes : goal.returns-in-Some-clause-writes
 returns-in-Some-clause-writes g c s stands =
     spent_file (Stands (g.D.Disk.state c.args.disk.now) c.args.self.now) a_table s
-    (with_table s c.args.schema) c.in-Some.number c.in-Some.ensures.last stands
+    (with_table s c.args.schema) c.in-Some.number
+    (sym (λ i. table_lack (stands.number i) (stands.family i))
+    ∙ has_table c.args.self.now.engine.hand.next c.args.self.now.family
+    (omega (arith, c.next_number-number.ensures.next, c.if-number-ge-NUMBERS_END.false))
+    (omega (arith, c.if-self.false)))
+    c.in-Some.ensures.last stands
 
 pub returns-in-Some-clause-disk : goal.returns-in-Some-clause-disk
 returns-in-Some-clause-disk g c s stands =

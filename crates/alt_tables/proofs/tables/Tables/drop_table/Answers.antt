@@ -24,7 +24,13 @@ returns-then-number-ge-NUMBERS_END-clause-disk g c s stands =
 pub returns-in-Some-clause-writes : goal.returns-in-Some-clause-writes
 returns-in-Some-clause-writes g c s stands =
     spent_file (Stands (g.D.Disk.state c.args.disk.now) c.args.self.now) a_number s
-    (without_table s c.args.name.now) c.in-Some.number c.in-Some.ensures.last stands
+    (without_table s c.args.name.now) c.in-Some.number (has_number s.next_number (omega (
+      arith,
+      stands.number,
+      c.next_number-number.ensures.next,
+      c.if-number-ge-NUMBERS_END.false,
+    )))
+    c.in-Some.ensures.last stands
 
 pub returns-in-Some-clause-disk : goal.returns-in-Some-clause-disk
 returns-in-Some-clause-disk g c s stands =

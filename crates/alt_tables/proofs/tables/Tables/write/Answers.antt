@@ -13,7 +13,7 @@ use Rattle.alt_machine.specs.Outcomes.{a_number}
 use Rattle.alt_machine.specs.State.{State, Table}
 use Rattle.alt_machine.specs.Wanted.{number_lack}
 use Rattle.alt_machine.specs.Writes.{after_item, item_writes}
-use Rattle.alt_machine.proofs.Lacks.{lacks_number}
+use Rattle.alt_machine.proofs.Lacks.{has_number, lacks_number}
 use Rattle.alt_opening.specs.Trimmed.{number_at}
 use Rattle.alt_schema.specs.declared.schema.TableSchema.{TableSchema}
 use Rattle.alt_tables.specs.Faults.{BreakOff, Writes}
@@ -69,7 +69,13 @@ returns-in-Some-clause-writes g c s t stands at =
     (c.requires.found s stands t at) (sym c.if-same.ensures)))
     (spent_file (Stands (g.D.Disk.state c.args.disk.now) c.args.self.now) a_number s
     (after_item s c.args.moment c.args.table.now t c.args.found.place c.args.new)
-    c.in-Some.number c.in-Some.ensures.last stands)
+    c.in-Some.number (has_number s.next_number (omega (
+      arith,
+      stands.number,
+      c.next_number-number.ensures.next,
+      c.if-number-ge-NUMBERS_END.false,
+    )))
+    c.in-Some.ensures.last stands)
 
 pub returns-in-Some-clause-disk : goal.returns-in-Some-clause-disk
 returns-in-Some-clause-disk g c s t stands at =

@@ -137,7 +137,29 @@ returns-then-saturating_add-gt-NUMBERS_END-clause-disk g c s stands =
 -- ---- there is no file for their segment
 
 pub returns-in-Some-clause-writes : goal.returns-in-Some-clause-writes
-returns-in-Some-clause-writes g c s stands = (inr c.in-Some.ensures.last, stands)
+returns-in-Some-clause-writes g c s stands =
+    let a : DiskState = g.D.Disk.state c.args.disk.now in
+    let old : Tables = c.args.self.now in
+    let cs : List ItemChange = c.args.changes.items in
+    let ds : List ItemChange = c.differing-changes.result.items in
+    let count = count_left (catalog_of old) cs ds c.differing-changes.ensures c.requires.may
+    c.requires.apart s (c.requires.found s stands) c.args.moment c.args.by a old refl stands in
+    let low = under (c.next_number.result + c.len-count.result) c.saturating_add.result
+    c.saturating_add.ensures c.if-saturating_add-gt-NUMBERS_END.false in (
+      inr (
+        omega (
+          arith,
+          count,
+          low,
+          stands.number,
+          c.next_number.ensures.next,
+          c.len-count.ensures,
+          c.differing-changes.result.ok.0,
+        ),
+        c.in-Some.ensures.last,
+      ),
+      stands,
+    )
 
 pub returns-in-Some-clause-disk : goal.returns-in-Some-clause-disk
 returns-in-Some-clause-disk g c s stands =

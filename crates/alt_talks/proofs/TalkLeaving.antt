@@ -12,7 +12,7 @@ use Rattle.alt_shell.specs.Calls.{Adds, Aside, Keeps, Untold, IsUntoldBy}
 use Rattle.alt_shell.specs.Log.{Log, Grows, Tells, moments_of, until, entry, told_count, took, take_failed, takes_failed, takes_missed, talks, accepted, hung_up, said_in, taken, bytes_said, bytes_taken, event_of}
 use Rattle.alt_shell.proofs.Telling.{Grows-then, Tells-then}
 use Rattle.alt_tables.specs.Images.{StandsFor}
-use Rattle.alt_talks.specs.Faults.{IsCausedBy, IsFileFault, reach}
+use Rattle.alt_talks.specs.Faults.{IsAnswerFault, IsFileFault, reach}
 use Rattle.alt_talks.specs.Works.{Works}
 use Rattle.alt_talks.specs.Runs.{OfStretch, Stretch}
 use Rattle.alt_talks.specs.Stops.{Image, IsLeft, IsAmong, AtEach, AreWithin}
@@ -151,7 +151,7 @@ asked_on r w a b c s m n q moment fs ns front enough here keeps within u =
 -- or it broke off
 pub asked_some_on : (r : Rules) (w : Lawful r) (a b : DiskState) (s : State) (m : Bool) (q : Request)
     (moment : ℕ) (fault : RunFault) (next : ℕ) → Asked r a b s q moment
-    → IsCausedBy (r.wants s q moment) fault → Stretch a b (AnswersSomeOn r fault next s m (asked q ∷ []))
+    → IsAnswerFault next (r.wants s q moment) fault → Stretch a b (AnswersSomeOn r fault next s m (asked q ∷ []))
 asked_some_on r w a b s m q moment fault next front cause =
     told_alone a b {R = AnswersSomeOn r fault next s m (asked q ∷ [])} moment front.silent front.told
     front.later front.trusts (

@@ -7,7 +7,7 @@ use Rattle.alt_tables.proofs.Left.{stands_left}
 use Rattle.alt_engine.specs.InHand.{Bounds}
 use Rattle.alt_tables.specs.FilesLeft.{most_files}
 use Rattle.alt_tables.specs.Stands.{Stands, bounds_of}
-use Rattle.alt_talks.specs.Faults.{IsCausedBy, IsFileFault}
+use Rattle.alt_talks.specs.Faults.{IsAnswerFault, IsFileFault}
 use Rattle.alt_talks.specs.Runs.{Counting}
 use Rattle.alt_talks.specs.Stops.{AtEach, IsAmong}
 use Rattle.alt_talks.specs.TalkRules.{rules, outcome_of}
@@ -135,7 +135,8 @@ returns-in-Err-clause-answered g c = λ s stands.
     (sym (rules-atoms s q at)) (c.in-Err.ensures.leaves s here)) in
     asked_some_on rules lawful old done s m q at c.in-Err.fault
     (bounds_of c.args.tables.now).file front
-    (subst (λ (l : Option Lack). IsCausedBy l c.in-Err.fault) (sym (rules-wants s q at))
+    (subst (λ (l : Option Lack). IsAnswerFault (bounds_of c.args.tables.now).file l c.in-Err.fault)
+    (sym (rules-wants s q at))
     (c.in-Err.ensures.cause s here))
 
 pub returns-in-Ok-step-clause-none : goal.returns-in-Ok-step-clause-none

@@ -1,6 +1,6 @@
 -- What a stop leaves of a run, whatever it was to do and however it ended, and of runs one after another.
-use Rattle.std.proofs.Common.{◌≡◌, ◌≤◌, ◌<◌, ◌⊎◌, inl, inr, ⊎_elim, ℕ, List, [], ◌∷◌, ◌++◌, IsTrue, Bool, false, refl, sym, subst, ◌∙◌, arith, append-nil, Option}
-use Rattle.std.specs.Prelude.{⊤}
+use Rattle.std.proofs.Common.{◌≡◌, ◌≤◌, ◌<◌, ◌⊎◌, inl, inr, ⊎_elim, ℕ, List, [], ◌∷◌, ◌++◌, IsTrue, Bool, false, refl, sym, subst, ◌∙◌, arith, append-nil, Option, None}
+use Rattle.std.specs.Prelude.{⊤, suc}
 use Rattle.std.proofs.lemmas.Grind.{flat_map-append}
 use Rattle.alt_disk.specs.Fates.{Fates, Fits}
 use Rattle.alt_disk.specs.Disk.{DiskState, IsImage, IsTrusted}
@@ -11,6 +11,7 @@ use Rattle.alt_shell.specs.Log.{Log, Grows, Tells, moments_of, entry, accepted}
 use Rattle.alt_shell.proofs.Telling.{Grows-then}
 use Rattle.alt_tables.specs.Images.{StandsFor}
 use Rattle.alt_talks.specs.Connections.{Connection, entries_of, told_of}
+use Rattle.alt_talks.specs.Own.{last_told}
 use Rattle.alt_talks.specs.Runs.{Stretch}
 use Rattle.alt_talks.specs.Stops.{Image, AtEach, AreWithin}
 use Rattle.alt_talks.specs.TalkRules.{rules}
@@ -32,17 +33,19 @@ use Rattle.alt_run.specs.declared.words.Job.TheVariants.{Replay, Serve, Trial}
 
 -- ---- files that a job leaves stand for a state
 
-among_stands : (r : Rules) (per : ℕ) (ks : List Connection) (s : State) (t : ℕ) (image : Image)
-    → LeftAmong r per s ks t image → IsReadable image
-among_stands r per [] s t image left = (s, left)
-among_stands r per (k ∷ ks) s t image (inl x) = (_, x.0.stands)
-among_stands r per (k ∷ ks) s t image (inr x) = among_stands r per ks _ t image x.1
+among_stands : (r : Rules) (per n : ℕ) (m : Option ℕ) (ks : List Connection) (s : State) (t : ℕ)
+    (image : Image) → LeftAmong r per n m s ks t image → IsReadable image
+among_stands r per n m [] s t image left = (s, left)
+among_stands r per n m (k ∷ ks) s t image (inl x) = (_, x.0.stands)
+among_stands r per n m (k ∷ ks) s t image (inr (inl x)) = (_, x.2.1)
+among_stands r per n m (k ∷ ks) s t image (inr (inr x)) =
+    among_stands r per (suc n) (last_told m k.told) ks _ t image x.1
 
 left_stands : (job : Job) (s : State) (t : ℕ) (es : Log) (ms : List ℕ) (image : Image)
     → LeftOf job s t es ms image → IsReadable image
 left_stands Replay s t es ms image left = (_, left.stands)
 left_stands (Serve per count) s t es ms image left =
-    among_stands rules per left.0 s t image left.4
+    among_stands rules per 1 None left.0 s t image left.4
 left_stands (Trial seed count) s t es ms image left = (_, left.stands)
 
 -- ---- what a job leaves behind an opening, done or broken off
@@ -72,7 +75,7 @@ done_leaves (Serve per count) s b c x = record {
   within = x.within;
   leaves =
       let served = x.holds.1 in
-      leaves-weaker b c (LeftAmong rules per s served.0.all)
+      leaves-weaker b c (LeftAmong rules per 1 None s served.0.all)
       (λ t image. LeftOf (Serve per count) s t x.entries x.told image)
       (λ t image left. (served.0.all, served.0.last, served.0.made, served.0.moments, left))
       served.1;
@@ -104,7 +107,7 @@ broken_leaves next fault (Serve per count) s b c x = record {
   within = x.within;
   leaves =
       let served = x.holds.0 in
-      leaves-weaker b c (LeftAmong rules per s (served.all ++ served.last))
+      leaves-weaker b c (LeftAmong rules per 1 None s (served.all ++ served.last))
       (λ t image. LeftOf (Serve per count) s t x.entries x.told image)
       (λ t image left. (
         served.all ++ served.last,

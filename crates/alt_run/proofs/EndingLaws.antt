@@ -82,7 +82,7 @@ some_served r per count fault next s es ms x = record {
   moments = x.moments;
   some = elim x.some [
     | inl none ↦ inl (none.0, tt)
-    | inr one ↦ inr (
+    | inr (inl one) ↦ inr (inl (
       one.0,
       one.1,
       record {
@@ -94,7 +94,12 @@ some_served r per count fault next s es ms x = record {
         hung = one.2.hung;
         inside = one.2.inside;
       },
-    )
+    ))
+    | inr (inr one) ↦ inr (inr (
+      one.0,
+      one.1,
+      record { left = one.2.left; serves = one.2.serves; cause = tt },
+    ))
   ];
   most = x.most;
 }
@@ -310,7 +315,7 @@ module _ (b c : DiskState) (g : Grows b.beside c.beside [])
         y.0,
         (
           y.1.0,
-          leaves-before-aside o b c (LeftAmong rules per s y.1.0.all) aside y.1.1,
+          leaves-before-aside o b c (LeftAmong rules per 1 None s y.1.0.all) aside y.1.1,
         ),
         last_behind y.0 y.2,
       ))
@@ -326,7 +331,7 @@ module _ (b c : DiskState) (g : Grows b.beside c.beside [])
       {P = ServedSomeOn rules per count fault next s}
       (λ es ms y. (
         y.0,
-        leaves-before-aside o b c (LeftAmong rules per s (y.0.all ++ y.0.last)) aside y.1,
+        leaves-before-aside o b c (LeftAmong rules per 1 None s (y.0.all ++ y.0.last)) aside y.1,
       ))
       x aside g m
   from_behind next fault (Trial seed count) s o x = stretch_quiet o b c

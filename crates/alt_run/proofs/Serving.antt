@@ -2,8 +2,10 @@
 use Rattle.std.proofs.Common.{◌≡◌, ◌≤◌, ◌+◌, ◌*◌, ◌⊎◌, ⊎_elim, ℕ, List, [], ◌∷◌, ◌++◌, length, take, drop, true, false, Option, Some, None, refl, sym, ap, subst, ◌∙◌, append_assoc, append-nil, arith, inl, inr, length-append, take-append-drop}
 use Rattle.std.specs.Prelude.{◌||◌}
 use Rattle.alt_base.specs.Prefix.{IsPrefix}
+use Rattle.alt_machine.specs.Outcomes.{last_state}
 use Rattle.alt_machine.specs.State.{State}
 use Rattle.alt_disk.specs.Disk.{DiskState, IsTrusted}
+use Rattle.alt_disk.proofs.Runs.{trusted_on}
 use Rattle.alt_machine.specs.Wanted.{Lack}
 use Rattle.alt_shell.specs.Calls.{Adds, ShellCall, Untold}
 use Rattle.alt_shell.specs.Log.{Log, Grows, Tells, moments_of, until, entry, told_count, said, say_failed, says_failed, says_missed, taken, said_in, ended, crosses}
@@ -21,9 +23,11 @@ use Rattle.alt_run.specs.Turns.{Asked, request, control, unread, turns, requests
 use Rattle.alt_run.specs.declared.lines.Control.{Control}
 use Rattle.alt_run.specs.declared.lines.Control.TheVariants.{Flush, Merge, Step, Reopen}
 use Rattle.alt_talks.specs.Turns.{Turn, text_of, after, after_turn, wanted, or_next}
+use Rattle.alt_talks.specs.Works.{Follows}
 use Rattle.alt_shell.proofs.Telling.{Grows-then, Grows-nil}
 use Rattle.alt_tables.proofs.Left.{stands_left}
-use Rattle.alt_talks.proofs.Stopping.{Meet, IsPrefix-self, IsPrefix-behind, one-by, until-append, until-before, until-behind, within-wider, left-more, left-behind, spans_two, trusts-kept, leaves-weaker, leaves-here, leaves-said, leaves-unsaid, stands_kept}
+use Rattle.alt_talks.proofs.Stopping.{Meet, IsPrefix-self, IsPrefix-behind, one-by, until-append, until-before, until-behind, within-wider, left-more, left-behind, spans_two, trusts-kept, leaves-weaker, leaves-here, leaves-followed, leaves-said, leaves-unsaid, stands_kept}
+use Rattle.alt_talks.proofs.Owning.{follows_none}
 use Rattle.alt_run.proofs.TurnLaws.{turns_say, turns-more, left-nothing, requests-append, tasks-append, turns-append}
 use Rattle.alt_talks.proofs.FileFaults.{file_more}
 use Rattle.alt_talks.proofs.TurnLaws.{text_of-append, after-append, wanted-append}
@@ -311,51 +315,6 @@ pub record Begins (old mid : DiskState) (s : State) (l : Asked) (t : Turn)
   pub trusts : IsTrusted old → IsTrusted mid
   pub leaves : AtEach old mid (λ _ image. IsAmong image s t.atoms)
 
--- a turn whose whole text was said
-pub turn_served : (old mid new : DiskState) (tables : Tables) (s : State) (l : Asked) (t : Turn)
-    (ms : List ℕ) (bytes : List ℕ)
-    → Begins old mid s l t ms → t.lacks ≡ None → Stands mid tables (after_turn s t)
-    → ShellCall mid new true
-    → Adds mid new (said bytes) → moments_of new.beside ≡ moments_of mid.beside
-    → bytes ≡ t.text
-    → Leads old new tables (ServesAtHand s (l ∷ []))
-turn_served old mid new tables s l t ms bytes b enough stands call added n e =
-    let es : Log = entry new.moment (told_count mid.beside) (said bytes) ∷ [] in
-    let within : AreWithin mid.moment new.moment es =
-    (call.keeps.later, omega arith, tt) in
-    let text : said_in es ≡ t.text = append-nil bytes ∙ e in
-    record {
-      to = after_turn s t;
-      stands = stands_kept mid new call.keeps tables (after_turn s t) stands;
-      calls = record {
-        entries = es;
-        told = ms;
-        grows = Grows-then old.beside mid.beside new.beside [] es b.silent added;
-        tells = subst (λ (k : Option (List ℕ)). Tells (moments_of old.beside) k ms) (sym n) b.told;
-        within = within-wider old.moment mid.moment new.moment new.moment es within b.later
-            (omega arith);
-        later = let k = call.keeps.later in omega (arith, b.later, k);
-        trusts = λ trusted. trusts-kept mid new call.keeps (b.trusts trusted);
-        holds = record {
-          serves = record {
-            said = text ∙ sym (append-nil t.text) ∙ ap text_of (sym b.one);
-            state = ap (after s) (sym b.one);
-            count = b.count;
-            enough = ap wanted b.one ∙ ap (λ w. or_next w None) enough;
-          };
-          rests = record { silent = refl; goes_on = refl; inside = refl };
-          leaves = leaves-said s (turns s (l ∷ []) ms) t b.one (turns_say s (l ∷ []) ms) old mid new
-              es within
-              (one-by (entry new.moment (told_count mid.beside) (said bytes)) t.text
-              (subst (λ (bs : List ℕ). IsPrefix bs t.text) (sym text) (IsPrefix-self t.text)))
-              b.trusts b.leaves
-              (λ trusted image is_image. stands_left mid tables (after_turn s t) stands
-              image is_image)
-              call.keeps;
-        };
-      };
-    }
-
 -- what a turn lacks is what its line lacks
 lacked : (next : ℕ) (s : State) (l : Asked) (t : Turn) (ms : List ℕ) (fault : RunFault) (es : Log)
     → turns s (l ∷ []) ms ≡ t ∷ [] → IsCausedBy t.lacks fault → BreaksFor fault next s [] (l ∷ []) es ms
@@ -407,9 +366,128 @@ turn_begun old mid new s l t ms fault next es b why rests some g m within later 
       };
     }
 
+-- a turn whose whole text was said, and what follows it
+module _ (old mid done new : DiskState) (tables : Tables) (s : State) (l : Asked) (t : Turn)
+    (ms bytes : List ℕ) (b : Begins old mid s l t ms) (stands : Stands mid tables (last_state s t.atoms))
+    (call : ShellCall mid done true) (added : Adds mid done (said bytes))
+    (n : moments_of done.beside ≡ moments_of mid.beside) (e : bytes ≡ t.text)
+    (follows : Follows done new (last_state s t.atoms) t.own) where
+  abbrev told_text : Log
+  told_text = entry done.moment (told_count mid.beside) (said bytes) ∷ []
+
+  said_text : said_in told_text ≡ t.text
+  said_text = append-nil bytes ∙ e
+
+  grows_text : Grows mid.beside new.beside told_text
+  grows_text = subst (λ (log : Log). Grows mid.beside log told_text) (sym follows.goes.beside) added
+
+  moments_same : moments_of new.beside ≡ moments_of mid.beside
+  moments_same = ap moments_of follows.goes.beside ∙ n
+
+  within_said : AreWithin mid.moment done.moment told_text
+  within_said = (call.keeps.later, omega arith, tt)
+
+  within_all : AreWithin mid.moment new.moment told_text
+  within_all = within-wider mid.moment mid.moment done.moment new.moment told_text within_said
+      (omega arith) follows.goes.later
+
+  later_all : mid.moment ≤ new.moment
+  later_all = let k = call.keeps.later in omega (arith, k, follows.goes.later)
+
+  trusts_all : IsTrusted mid → IsTrusted new
+  trusts_all trusted = trusted_on done new follows.goes (trusts-kept mid done call.keeps trusted)
+
+  rests_text : Rests told_text
+  rests_text = record { silent = refl; goes_on = refl; inside = refl }
+
+  leaves_text : AtEach old new (LeftAtHand s (l ∷ []) told_text ms)
+  leaves_text = leaves-followed s (turns s (l ∷ []) ms) t b.one (turns_say s (l ∷ []) ms) old mid done
+      new told_text within_said
+      (one-by (entry done.moment (told_count mid.beside) (said bytes)) t.text
+      (subst (λ (bs : List ℕ). IsPrefix bs t.text) (sym said_text) (IsPrefix-self t.text)))
+      b.trusts b.leaves
+      (λ trusted image is_image. stands_left mid tables (last_state s t.atoms) stands image is_image)
+      call.keeps follows.leaves
+
+  pub turn_served : (after_it : Tables) → t.lacks ≡ None → Stands new after_it (after_turn s t)
+      → Leads old new after_it (ServesAtHand s (l ∷ []))
+  turn_served after_it enough there = record {
+    to = after_turn s t;
+    stands = there;
+    calls = record {
+      entries = told_text;
+      told = ms;
+      grows = Grows-then old.beside mid.beside new.beside [] told_text b.silent grows_text;
+      tells = subst (λ (k : Option (List ℕ)). Tells (moments_of old.beside) k ms)
+          (sym moments_same) b.told;
+      within = within-wider old.moment mid.moment new.moment new.moment told_text within_all b.later
+          (omega arith);
+      later = let k = later_all in omega (arith, b.later, k);
+      trusts = λ trusted. trusts_all (b.trusts trusted);
+      holds = record {
+        serves = record {
+          said = said_text ∙ sym (append-nil t.text) ∙ ap text_of (sym b.one);
+          state = ap (after s) (sym b.one);
+          count = b.count;
+          enough = ap wanted b.one ∙ ap (λ w. or_next w None) enough;
+        };
+        rests = rests_text;
+        leaves = leaves_text;
+      };
+    };
+  }
+
+  -- it broke off behind the text
+  pub turn_broke : (fault : RunFault) (next : ℕ) → BreaksFor fault next s [] (l ∷ []) told_text ms
+      → Stretch old new (BreaksAtHand fault next s (l ∷ []))
+  turn_broke fault next why = turn_begun old mid new s l t ms fault next told_text b why rests_text
+      (subst (λ (bs : List ℕ). IsPrefix bs t.text) (sym said_text) (IsPrefix-self t.text))
+      grows_text moments_same within_all later_all trusts_all leaves_text
+
+  -- since work did, where nothing was lacked
+  pub work_broke : (fault : RunFault) (next : ℕ) → t.lacks ≡ None
+      → IsFileFault (next + tasks (l ∷ []) * most_files) fault
+      → IsAtWork l (said_in told_text ≡ text_of (turns s (l ∷ []) ms))
+      → Stretch old new (BreaksAtHand fault next s (l ∷ []))
+  work_broke fault next enough why at = turn_broke fault next (inr (
+    why,
+    record {
+      line = l;
+      last = refl;
+      enough = ap wanted b.one ∙ ap (λ w. or_next w None) enough;
+      at = at;
+    },
+  ))
+
+  -- all of its text was said
+  pub all_said : said_in told_text ≡ text_of (turns s (l ∷ []) ms)
+  all_said = said_text ∙ sym (append-nil t.text) ∙ ap text_of (sym b.one)
+
+  -- since what follows it lacks something
+  pub own_broke : (fault : RunFault) (next : ℕ) → IsCausedBy t.lacks fault
+      → Stretch old new (BreaksAtHand fault next s (l ∷ []))
+  own_broke fault next cause =
+      turn_broke fault next (lacked next s l t ms fault told_text b.one cause)
+
+-- a turn that nothing follows
+pub turn_alone : (old mid new : DiskState) (tables : Tables) (s : State) (l : Asked) (t : Turn)
+    (ms bytes : List ℕ) → Begins old mid s l t ms → t.lacks ≡ None → t.own ≡ []
+    → Stands mid tables (last_state s t.atoms) → ShellCall mid new true → Adds mid new (said bytes)
+    → moments_of new.beside ≡ moments_of mid.beside → bytes ≡ t.text
+    → Leads old new tables (ServesAtHand s (l ∷ []))
+turn_alone old mid new tables s l t ms bytes b enough none stands call added n e =
+    let here = stands_kept mid new call.keeps tables (last_state s t.atoms) stands in
+    turn_served old mid new new tables s l t ms bytes b stands call added n e
+    (subst (λ (xs : List State). Follows new new (last_state s t.atoms) xs) (sym none)
+    (follows_none new tables (last_state s t.atoms) here))
+    tables enough
+    (subst (λ (xs : List State). Stands new tables (last_state (last_state s t.atoms) xs)) (sym none)
+    here)
+
 -- a turn whose text was said in part
 module _ (old mid new : DiskState) (tables : Tables) (next : ℕ) (s : State) (l : Asked) (t : Turn)
-    (ms : List ℕ) (bytes : List ℕ) (b : Begins old mid s l t ms) (stands : Stands mid tables (after_turn s t))
+    (ms : List ℕ) (bytes : List ℕ) (b : Begins old mid s l t ms)
+    (stands : Stands mid tables (last_state s t.atoms))
     (call : ShellCall mid new false) (m : moments_of new.beside ≡ moments_of mid.beside)
     (e : bytes ≡ t.text) where
   cut : (es : Log) → Rests es → ((u : ℕ) → IsPrefix (said_in (until u es)) t.text)
@@ -420,7 +498,7 @@ module _ (old mid new : DiskState) (tables : Tables) (next : ℕ) (s : State) (l
       (trusts-kept mid new call.keeps)
       (leaves-said s (turns s (l ∷ []) ms) t b.one (turns_say s (l ∷ []) ms) old mid new es within
       by b.trusts b.leaves
-      (λ trusted image is_image. stands_left mid tables (after_turn s t) stands
+      (λ trusted image is_image. stands_left mid tables (last_state s t.atoms) stands
       image is_image)
       call.keeps)
 

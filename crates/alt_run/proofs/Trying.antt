@@ -14,7 +14,7 @@ use Rattle.alt_lines.specs.Trial.{Generator, next_line, next_lines, after_line, 
 use Rattle.alt_lines.specs.TrialTexts.{Draws, line_of_kind, put_item_line, keyed_line, update_item_line, query_line, query_index_line}
 use Rattle.alt_machine.specs.Outcomes.{last_state}
 use Rattle.alt_machine.specs.State.{State}
-use Rattle.alt_machine.specs.Wanted.{Lack}
+use Rattle.alt_machine.specs.Wanted.{Lack, wanted as wanted_by}
 use Rattle.alt_shell.specs.Calls.{Adds, Keeps, ShellCall, Untold}
 use Rattle.alt_shell.specs.Log.{Log, Grows, moments_of, until, entry, told_count, said, say_failed, says_failed, says_missed, said_in}
 use Rattle.alt_shell.proofs.Telling.{Grows-then, Grows-nil, Tells-nil}
@@ -24,18 +24,20 @@ use Rattle.alt_tables.specs.Stands.{Stands, bounds_of}
 use Rattle.alt_tables.specs.declared.tables.Tables.{Tables}
 use Rattle.alt_tables.proofs.Left.{stands_left}
 use Rattle.alt_talks.specs.Faults.{IsCausedBy, IsFileFault}
-use Rattle.alt_talks.specs.Works.{Works}
+use Rattle.alt_talks.specs.Own.{FollowsNot, after_behind, own_behind}
+use Rattle.alt_talks.specs.Works.{Follows}
 use Rattle.alt_talks.specs.Runs.{Stretch}
 use Rattle.alt_run.specs.Runs.{Rests}
 use Rattle.alt_talks.specs.Stops.{Image, atoms_of, AtEach, IsAmong, AreWithin}
 use Rattle.alt_run.specs.Trials.{trial_asks, trial_moment, trial_turns, beginning, as_turn, IsTried, LeftOfTrial, Tries, TriesFor, TriesSome, IsTally, Counted, CountedSome}
-use Rattle.alt_run.specs.Turns.{Asked, request, control_of, asked_as, asked_by, is_space, carried_out, turns, requests}
-use Rattle.alt_talks.specs.Turns.{Turn, after, after_turn, wanted, or_next}
+use Rattle.alt_run.specs.Turns.{Asked, request, control_of, asked_as, asked_by, is_space, carried_out, left_by, outcome_of, turns, requests}
+use Rattle.alt_talks.specs.Turns.{Turn, all_of, after, wanted, or_next}
 use Rattle.alt_talks.specs.declared.fault.RunFault.{RunFault}
 use Rattle.alt_talks.specs.declared.fault.RunFault.TheVariants.{Failed, NoMemory}
 use Rattle.alt_run.specs.declared.tally.Tally.{Tally}
 use Rattle.alt_talks.proofs.Stopping.{atoms_of-append, last_state-append, after-atoms, one-by, until-before, take-within, trusts-kept, leaves-weaker, leaves-here, spans_two, keeps-spans, within-wider, stands_kept}
 use Rattle.alt_talks.proofs.FileFaults.{file_more}
+use Rattle.alt_talks.proofs.Owning.{cause_behind, enough_both}
 use Rattle.alt_run.proofs.TurnLaws.{requests-append, turns-append}
 use Rattle.alt_talks.proofs.TurnLaws.{after-append, wanted-append}
 
@@ -201,28 +203,28 @@ lacked_alone : (fault : RunFault) (lack : Option Lack) → IsCausedBy lack fault
 lacked_alone fault None h = h
 lacked_alone fault (Some x) h = h
 
+-- its writes, and those of what follows it
+module _ (s : State) (name body : List ℕ) where
+  abbrev one_turn : Turn
+  one_turn = carried_out s name body trial_moment
+
+  abbrev one_atoms : List State
+  one_atoms = atoms_of (trial_turns s (request name body ∷ []))
+
+  all_one : one_atoms ≡ one_turn.atoms ++ one_turn.own
+  all_one = append-nil (all_of one_turn)
+
+  before_one : (image : Image) → IsAmong image s one_turn.atoms → IsAmong image s one_atoms
+  before_one image h = subst (λ (xs : List State). IsAmong image s xs) (sym all_one)
+      (among_more image s one_turn.atoms one_turn.own h)
+
+  behind_one : (image : Image) → IsAmong image (last_state s one_turn.atoms) one_turn.own
+      → IsAmong image s one_atoms
+  behind_one image h = subst (λ (xs : List State). IsAmong image s xs) (sym all_one)
+      (among_behind image s one_turn.atoms one_turn.own h)
+
 module _ (a b : DiskState) (s : State) (name body : List ℕ)
     (leaves : AtEach a b (λ _ image. IsAmong image s (carried_out s name body trial_moment).atoms)) where
-  leaves_one : AtEach a b (λ _ image. IsAmong image s
-      (atoms_of (trial_turns s (request name body ∷ []))))
-  leaves_one = leaves-weaker a b
-      (λ _ image. IsAmong image s (carried_out s name body trial_moment).atoms)
-      (λ _ image. IsAmong image s (atoms_of (trial_turns s (request name body ∷ []))))
-      (λ t image h. subst (λ (xs : List State). IsAmong image s xs)
-      (sym (append-nil (carried_out s name body trial_moment).atoms)) h) leaves
-
-  -- it was carried out, and its reply counted
-  pub one_done : (tables : Tables) (x y : Tally) → (carried_out s name body trial_moment).lacks ≡ None
-      → Stands b tables (after_turn s (carried_out s name body trial_moment))
-      → ((ts : List Turn) → IsTally x ts → IsTally y (ts ++ carried_out s name body trial_moment ∷ []))
-      → Counted s (request name body ∷ []) x y a b tables
-  one_done tables x y enough stands counts = record {
-    stands = stands;
-    enough = ap (λ w. or_next w None) enough;
-    counts = counts;
-    leaves = leaves_one;
-  }
-
   -- it broke off
   pub one_broke : (fault : RunFault) (next : ℕ)
       → IsCausedBy (carried_out s name body trial_moment).lacks fault
@@ -232,50 +234,60 @@ module _ (a b : DiskState) (s : State) (name body : List ℕ)
     rest = [];
     lines = refl;
     wants = inl (lacked_alone fault (carried_out s name body trial_moment).lacks cause);
-    leaves = leaves_one;
+    leaves = leaves-weaker a b
+        (λ _ image. IsAmong image s (carried_out s name body trial_moment).atoms)
+        (λ _ image. IsAmong image s (one_atoms s name body))
+        (λ u image h. before_one s name body image h) leaves;
   }
 
--- and then a step of work was made
-module _ (a b c : DiskState) (t1 : Tables) (s : State) (name body : List ℕ) (x y : Tally)
-    (trusts : IsTrusted a → IsTrusted b) (p : Counted s (request name body ∷ []) x y a b t1)
-    (works : Works b c (reached_by s (request name body ∷ []))) where
-  leaves_worked : AtEach a c (λ _ image. IsAmong image s
-      (atoms_of (trial_turns s (request name body ∷ []))))
-  leaves_worked trusted =
-      let atoms : List State = atoms_of (trial_turns s (request name body ∷ [])) in
-      spans_two a b c (λ _ image. IsAmong image s atoms)
-      (λ _ image. StandsFor image (reached_by s (request name body ∷ [])))
-      (λ _ image. IsAmong image s atoms)
-      (p.leaves trusted) (works.leaves (trusts trusted))
-      (λ u image before h. h)
-      (λ u image from h. (
-        length atoms,
-        subst (λ (xs : List State). StandsFor image (last_state s xs)) (sym (take-length atoms))
-            (subst (StandsFor image) (after-atoms s (trial_turns s (request name body ∷ []))) h),
-      ))
+-- it was carried out, and its reply counted
+module _ (a b c : DiskState) (s : State) (name body : List ℕ)
+    (leaves : AtEach a b (λ _ image. IsAmong image s (carried_out s name body trial_moment).atoms))
+    (trusts : IsTrusted a → IsTrusted b)
+    (follows : Follows b c (left_by s name body trial_moment)
+    (own_behind (left_by s name body trial_moment)).atoms)
+    (enough : wanted_by s (outcome_of s name body trial_moment) ≡ None) where
+  leaves_followed : AtEach a c (λ _ image. IsAmong image s (one_atoms s name body))
+  leaves_followed trusted =
+      spans_two a b c (λ _ image. IsAmong image s (carried_out s name body trial_moment).atoms)
+      (λ _ image. IsAmong image (left_by s name body trial_moment)
+      (own_behind (left_by s name body trial_moment)).atoms)
+      (λ _ image. IsAmong image s (one_atoms s name body))
+      (leaves trusted) (follows.leaves (trusts trusted))
+      (λ u image before h. before_one s name body image h)
+      (λ u image from h. behind_one s name body image h)
 
-  pub one_worked : (t2 : Tables) → Stands c t2 (reached_by s (request name body ∷ []))
-      → Counted s (request name body ∷ []) x y a c t2
-  one_worked t2 stands = record {
+  -- what follows it was done
+  pub one_done : (tables : Tables) (x y : Tally)
+      → (own_behind (left_by s name body trial_moment)).lacks ≡ None
+      → Stands c tables (after_behind (left_by s name body trial_moment))
+      → ((ts : List Turn) → IsTally x ts → IsTally y (ts ++ carried_out s name body trial_moment ∷ []))
+      → Counted s (request name body ∷ []) x y a c tables
+  one_done tables x y own stands counts = record {
     stands = stands;
-    enough = p.enough;
-    counts = p.counts;
-    leaves = leaves_worked;
+    enough = ap (λ w. or_next w None) (enough_both _ _ enough own);
+    counts = counts;
+    leaves = leaves_followed;
   }
 
-  -- or that broke off
-  pub one_worked_some : (fault : RunFault) (next : ℕ) → IsFileFault (next + most_files) fault
+  -- or it broke off
+  pub one_followed_some : (fault : RunFault) (next : ℕ)
+      → FollowsNot true (next + most_files) (own_behind (left_by s name body trial_moment)).lacks fault
       → CountedSome fault next s (request name body ∷ []) a c
-  one_worked_some fault next why = record {
+  one_followed_some fault next why = record {
     begun = request name body ∷ [];
     rest = [];
     lines = refl;
-    wants = inr (
-      file_more fault (next + most_files) (next + 1 * most_files) (omega arith) why,
-      p.enough,
-      omega arith,
-    );
-    leaves = leaves_worked;
+    wants = ⊎_elim
+        (λ cause. inl (lacked_alone fault (carried_out s name body trial_moment).lacks
+        (cause_behind _ _ fault enough cause)))
+        (λ work. inr (
+          file_more fault (next + most_files) (next + 1 * most_files) (omega arith) work.2,
+          ap (λ w. or_next w None) (enough_both _ _ enough work.1),
+          omega arith,
+        ))
+        why;
+    leaves = leaves_followed;
   }
 
 -- none was begun for want of memory
@@ -495,10 +507,10 @@ module _ (old mid new : DiskState) (tables : Tables) (s : State) (seed count : �
         leaves = p.leaves;
       })
 
-  left_by : (es : Log) → AreWithin mid.moment new.moment es
+  left_by_then : (es : Log) → AreWithin mid.moment new.moment es
       → ((u : ℕ) → IsPrefix (said_in (until u es)) (as_turn s seed count).text) → Keeps mid new
       → AtEach old new (LeftOfTrial s (as_turn s seed count) es)
-  left_by es within front keeps =
+  left_by_then es within front keeps =
       leaves_told old mid new s (as_turn s seed count) goes p.leaves es within front
       (λ trusted image is_image.
       subst (StandsFor image) (after-atoms s (trial_turns s (trial_asks seed count)))
@@ -531,7 +543,7 @@ module _ (old mid new : DiskState) (tables : Tables) (s : State) (seed count : �
           rests = record { silent = refl; goes_on = refl; inside = refl };
           unasked = refl;
           enough = p.enough;
-          leaves = left_by (one ∷ []) within
+          leaves = left_by_then (one ∷ []) within
               (one-by one (as_turn s seed count).text (subst (λ (bs : List ℕ). IsPrefix bs (as_turn s seed count).text) (sym text)
               ([], sym (append-nil (as_turn s seed count).text)))) call.keeps;
           last = λ trusted image is_image.
@@ -566,7 +578,7 @@ module _ (old mid new : DiskState) (tables : Tables) (s : State) (seed count : �
       rest = trial_asks seed count;
       lines = refl;
       wants = inl tt;
-      leaves = left_by es within by call.keeps;
+      leaves = left_by_then es within by call.keeps;
     };
   }
 

@@ -1,5 +1,5 @@
 -- Runs and stops, one after another, and what is left behind them.
-use Rattle.std.specs.Prelude.{◌≡◌, ◌≤◌, ◌⊎◌, ℕ, List, [], ◌∷◌, ◌++◌, ⊤}
+use Rattle.std.specs.Prelude.{◌≡◌, ◌≤◌, ◌⊎◌, ℕ, List, [], ◌∷◌, ◌++◌, None, ⊤}
 use Rattle.alt_disk.specs.Disk.{DiskState, IsImage}
 use Rattle.alt_machine.specs.State.{State}
 use Rattle.alt_shell.specs.Log.{Log, Grows, Tells, moments_of, until}
@@ -43,11 +43,11 @@ IsChain first [] = ⊤
 IsChain first (step ∷ steps) = IsChain first steps × IsStep (behind first steps) step
 
 -- What a stop at a moment behind the opening leaves of a job, from a state: it stands for the state after some of the writes of what was
--- whole in the bytes taken by then, among them all those of what was answered by then.
+-- whole in the bytes taken by then, and of what the server does behind that, among them all those of what was answered by then.
 abbrev pub LeftOf : Job → State → ℕ → Log → List ℕ → Image → Type 0
 LeftOf Replay s t entries told image = LeftThen s entries told t image
 LeftOf (Serve per connections) s t entries told image = (ks : List Connection) × (more : Log)
-    × (entries ≡ entries_of ks ++ more) × (told ≡ told_of ks) × LeftAmong rules per s ks t image
+    × (entries ≡ entries_of ks ++ more) × (told ≡ told_of ks) × LeftAmong rules per 1 None s ks t image
 LeftOf (Trial seed count) s t entries told image =
     LeftOfTrial s (as_turn s seed count) entries t image
 

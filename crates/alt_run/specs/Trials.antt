@@ -70,12 +70,13 @@ TriesFor fault next s begun = IsCausedBy (wanted (trial_turns s begun)) fault
     ⊎ (IsFileFault (next + length begun * most_files) fault
     × (wanted (trial_turns s begun) ≡ None) × (0 < length begun))
 
--- A trial as one turn from a state: it is told its four lines, its writes are those of its requests, one after the other, and it lacks
--- what the first of them lacks that lacks something.
+-- A trial as one turn from a state: it is told its four lines, its writes are those of its requests and of what follows each, one after
+-- the other, and it lacks what the first of them lacks that lacks something. Nothing more follows it.
 abbrev pub as_turn : State → ℕ → ℕ → Turn
 as_turn s seed count = record {
   text = summary count (trial_turns s (trial_asks seed count));
   atoms = atoms_of (trial_turns s (trial_asks seed count));
+  own = [];
   lacks = wanted (trial_turns s (trial_asks seed count));
 }
 

@@ -5,12 +5,13 @@ use Rattle.std.specs.List.{before_first, after_first}
 use Rattle.serde_json.specs.Written.{compact_text}
 use Rattle.alt_lines.specs.Lines.{Line, whole, too_long, lines_of}
 use Rattle.alt_machine.specs.Operations.{operation_named}
-use Rattle.alt_machine.specs.Outcomes.{Outcome}
+use Rattle.alt_machine.specs.Outcomes.{Outcome, last_state}
 use Rattle.alt_machine.specs.State.{State}
 use Rattle.alt_machine.specs.Step.{step}
 use Rattle.alt_machine.specs.Wanted.{wanted as wanted_by}
 use Rattle.alt_shape.specs.Refusals.{Answer}
-use Rattle.alt_talks.specs.Turns.{Turn, after_turn, text_of}
+use Rattle.alt_talks.specs.Own.{own_behind}
+use Rattle.alt_talks.specs.Turns.{Turn, after_turn, or_next, text_of}
 use Rattle.alt_run.specs.declared.lines.Control.{Control}
 use Rattle.alt_run.specs.declared.lines.Control.TheVariants.{Flush, Merge, Step, Reopen}
 
@@ -77,26 +78,39 @@ tasks (unread ∷ ls) = tasks ls
 abbrev pub line_of : Answer → List ℕ
 line_of a = decimal a.status ++ (32 ∷ (compact_text a.body ++ 10 ∷ []))
 
--- the turn that an outcome makes from a state
+-- what a request comes to at a moment
+abbrev pub outcome_of : State → List ℕ → List ℕ → ℕ → Outcome
+outcome_of s name body moment = step s (operation_named name) body moment
+
+-- the state that its own writes leave
+abbrev pub left_by : State → List ℕ → List ℕ → ℕ → State
+left_by s name body moment = last_state s (outcome_of s name body moment).atoms
+
+-- the turn that an outcome makes from a state, with what the server does behind it
 abbrev pub turn_of : State → Outcome → Turn
-turn_of s o = record { text = line_of o.answer; atoms = o.atoms; lacks = wanted_by s o }
+turn_of s o = record {
+  text = line_of o.answer;
+  atoms = o.atoms;
+  own = (own_behind (last_state s o.atoms)).atoms;
+  lacks = or_next (wanted_by s o) (own_behind (last_state s o.atoms)).lacks;
+}
 
 -- a request that is carried out at a moment
 abbrev pub carried_out : State → List ℕ → List ℕ → ℕ → Turn
-carried_out s name body moment = turn_of s (step s (operation_named name) body moment)
+carried_out s name body moment = turn_of s (outcome_of s name body moment)
 
 -- a line that is too long
 abbrev pub turned_away : Turn
 turned_away = record {
   text = codes "413 {\"message\":\"request too long\"}\n";
   atoms = [];
-  lacks =
-      None;
+  own = [];
+  lacks = None;
 }
 
 -- what a word of control comes to: the state stays
 abbrev pub obeyed : Turn
-obeyed = record { text = codes "ok\n"; atoms = []; lacks = None }
+obeyed = record { text = codes "ok\n"; atoms = []; own = []; lacks = None }
 
 -- The turns of these lines, each request at the next moment, as long as there are moments.
 abbrev pub turns : State → List Asked → List ℕ → List Turn

@@ -5,14 +5,14 @@ ghost use Rattle.serde_json.specs.Written.{has_float};
 ghost use Rattle.alt_base.specs.Counts.{Rose};
 ghost use Rattle.alt_disk.specs.Disk.{Goes};
 ghost use Rattle.alt_machine.specs.State.{State};
+ghost use Rattle.alt_machine.specs.Wanted.{wanted};
 ghost use Rattle.alt_shape.specs.Body.{body_json};
 ghost use Rattle.alt_shape.specs.Refusals.{answer_of};
 ghost use Rattle.alt_tables.specs.Stands.{AreReady, Stands, bounds_of};
 ghost use Rattle.alt_talks.specs.Faults.{IsCausedBy};
 ghost use Rattle.alt_talks.specs.declared.fault.RunFault.TheVariants.{Failed};
 ghost use Rattle.alt_talks.specs.Stops.{AtEach, IsAmong};
-ghost use Rattle.alt_run.specs.Turns.{carried_out, line_of};
-ghost use Rattle.alt_talks.specs.Turns.{after_turn};
+ghost use Rattle.alt_run.specs.Turns.{carried_out, left_by, line_of, outcome_of};
 
 use alt_base::NoMemory;
 use alt_disk::Disk;
@@ -46,11 +46,11 @@ pub(crate) fn reply_text<D: Disk>(
         (λ text. string_bytes text ≡ (carried_out s name.now body.now moment).text) }
     ensures state { (s : State) → Stands (D.state disk.old) tables.old s → OnOk result
         (Stands (D.state disk.new) tables.new
-        (after_turn s (carried_out s name.now body.now moment))) }
+        (left_by s name.now body.now moment)) }
     ensures enough { (s : State) → Stands (D.state disk.old) tables.old s → OnOk result
-        ((carried_out s name.now body.now moment).lacks ≡ None) }
+        (wanted s (outcome_of s name.now body.now moment) ≡ None) }
     ensures cause { (s : State) → Stands (D.state disk.old) tables.old s → IfErr result
-        (IsCausedBy (carried_out s name.now body.now moment).lacks) }
+        (IsCausedBy (wanted s (outcome_of s name.now body.now moment))) }
     ensures device { IsErrOf result Failed
         → Rose (D.state disk.old).faults (D.state disk.new).faults }
     ensures limits { bounds_of tables.new ≡ bounds_of tables.old }

@@ -27,10 +27,10 @@ use alt_disk::Disk;
 use alt_lines::{Cut, Lines};
 use alt_shell::Shell;
 use alt_tables::{Limits, Tables, Task};
-use alt_talks::{RunFault, work};
+use alt_talks::{RunFault, follow, work};
 use std::alloc::Global;
 
-/// One request: it is answered at the moment that the clock tells. Behind its reply one step of work is made.
+/// One request: it is answered at the moment that the clock tells. Behind its reply come the server's own requests and one step of work.
 fn answer_request<S: Shell>(
     alloc: Global,
     tables: &mut Tables,
@@ -63,7 +63,7 @@ fn answer_request<S: Shell>(
         Ok(()) => {}
         Err(_) => return Err(RunFault::Failed),
     }
-    match work(tables, shell, Task::Step) {
+    match follow(tables, shell, true) {
         Ok(()) => Ok(()),
         Err(fault) => Err(fault),
     }

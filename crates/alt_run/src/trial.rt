@@ -22,8 +22,8 @@ use crate::tally::Tally;
 use alt_disk::Disk;
 use alt_lines::Trial;
 use alt_shell::Shell;
-use alt_tables::{Tables, Task};
-use alt_talks::{RunFault, work};
+use alt_tables::Tables;
+use alt_talks::{RunFault, follow};
 use std::alloc::Global;
 
 /// The moment of each request, in seconds since 1970 began in UTC.
@@ -42,7 +42,7 @@ fn next(trial: &mut Trial, line: &mut Vec<u8>) -> Result<(), RunFault>
     }
 }
 
-/// One request is carried out, and its reply counted. Then one step of work is made.
+/// One request is carried out, and its reply counted. Then come the server's own requests and one step of work.
 fn ask<D: Disk>(
     alloc: Global,
     tables: &mut Tables,
@@ -73,7 +73,7 @@ fn ask<D: Disk>(
         Ok(text) => tally.count(text.as_bytes()),
         Err(fault) => return Err(fault),
     }
-    match work(tables, disk, Task::Step) {
+    match follow(tables, disk, true) {
         Ok(()) => Ok(()),
         Err(fault) => Err(fault),
     }

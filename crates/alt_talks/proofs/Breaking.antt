@@ -107,7 +107,8 @@ module _ (r : Rules) (fault : RunFault) (next : ℕ) (s t : State) (m n : Bool) 
         count = let same = ap asks (append_assoc ts w.before last) in
             let x = length-append ms ns in let y = asks-append ts (w.before ++ last) in
             let z = told in let k = w.count in omega (arith, same, x, y, z, k);
-        enough = sym same_wanted ∙ w.enough;
+        enough = wanted-append r s ts w.before ms ns told a.enough
+            ∙ ap (λ (v : State). wanted r v w.before ns) (sym a.state) ∙ w.enough;
       }
 
   pub breaks_behind : BreaksFor r fault (reach next ms) t n us fs ns

@@ -1,13 +1,13 @@
 -- A whole connection, from its accept to its hanging up.
 use Rattle.alt_talks.specs.declared.fault.RunFault.{RunFault}
 use Rattle.alt_talks.specs.declared.fault.RunFault.TheVariants.{Failed}
-use Rattle.std.proofs.Common.{◌≡◌, ◌<◌, inl, inr, ℕ, List, [], ◌∷◌, ◌++◌, Bool, true, false, not, refl, sym, ap, subst, ◌∙◌, append-nil, arith}
+use Rattle.std.proofs.Common.{◌≡◌, ◌<◌, inl, inr, ℕ, List, [], ◌∷◌, ◌++◌, Bool, true, false, not, Option, refl, sym, ap, subst, ◌∙◌, append-nil, arith}
 use Rattle.std.specs.Prelude.{◌||◌}
 use Rattle.alt_disk.specs.Disk.{DiskState}
 use Rattle.alt_machine.specs.State.{State}
 use Rattle.alt_shell.specs.Calls.{Adds, Keeps}
 use Rattle.alt_shell.specs.Log.{Log, Grows, moments_of, notes_of, told_count, talks, entry, none_came, hung_up, taken, said_in, says_failed}
-use Rattle.alt_talks.specs.Runs.{Passes, Stretch}
+use Rattle.alt_talks.specs.Runs.{Passes, Stretch, Timed}
 use Rattle.alt_talks.specs.Talks.{Turn, Rules, Lawful, Place, at, turns, closes}
 use Rattle.alt_talks.specs.TalkStops.{ComesOn, ComesSomeOn, LeavesNow}
 use Rattle.alt_talks.specs.TalkTexts.{text}
@@ -105,14 +105,18 @@ module _ (r : Rules) (per : ℕ) (s : State) (es : Log) (ms : List ℕ) (from si
       }
 
 -- none came
-pub none_comes : (r : Rules) (w : Lawful r) (per : ℕ) (s : State) (a b : DiskState)
+pub none_comes : (last : Option ℕ) (r : Rules) (w : Lawful r) (per : ℕ) (s : State) (a b : DiskState)
     → Adds a b none_came → moments_of b.beside ≡ moments_of a.beside → Keeps a b → LeavesNow a s
-    → Stretch a b (ComesOn r per false s s)
-none_comes r w per s a b g m keeps here = stretch_one a b (ComesOn r per false s s) _ g m
+    → Stretch a b (Timed last last (ComesOn r per false s s))
+none_comes last r w per s a b g m keeps here =
+    stretch_one a b (Timed last last (ComesOn r per false s s)) _ g m
     (keeps.later, omega arith, tt) keeps (
-      (refl, (b.moment, told_count a.beside, refl), refl),
-      left_silent r w (at per false []) s a b (entry b.moment (told_count a.beside) none_came ∷ []) []
-          keeps refl here,
+      (
+        (refl, (b.moment, told_count a.beside, refl), refl),
+        left_silent r w (at per false []) s a b (entry b.moment (told_count a.beside) none_came ∷ []) []
+            keeps refl here,
+      ),
+      refl,
     )
 
 -- the wait failed

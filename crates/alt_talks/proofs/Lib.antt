@@ -1,9 +1,11 @@
+pub mod Between
 pub mod Breaking
 pub mod FileFaults
 pub mod Answering
 pub mod Arriving
 pub mod Fronts
 pub mod Hanging
+pub mod Owning
 pub mod Passing
 pub mod Responding
 pub mod Stepping
@@ -21,5 +23,6 @@ pub mod TalkLogs
 pub mod TalkPulls
 pub mod TalkReach
 pub mod TalkWider
+pub mod Timing
 pub mod TurnLaws
 pub mod Uttering

@@ -1,6 +1,7 @@
 -- What every stretch of a run keeps, one after the other.
-use Rattle.std.proofs.Common.{◌&&◌, Bool, IsTrue, refl, subst, ◌∙◌, arith}
-use Rattle.alt_disk.specs.Disk.{DiskState, IsTrusted}
+use Rattle.std.proofs.Common.{◌&&◌, Bool, IsTrue, refl, ap, subst, ◌∙◌, arith}
+use Rattle.alt_disk.specs.Disk.{DiskState, Goes, IsTrusted}
+use Rattle.alt_shell.specs.Log.{notes_of, talks}
 use Rattle.alt_talks.specs.Runs.{Passes}
 
 -- no call
@@ -14,6 +15,19 @@ passes_none s = record {
   past = λ t f le. refl;
   notes = refl;
   talking = refl;
+}
+
+-- calls of the disk alone
+pub passes_goes : (a b : DiskState) → Goes a b → Passes a b
+passes_goes a b goes = record {
+  tells = goes.tells;
+  honest = goes.honest;
+  anchors = goes.anchors;
+  later = goes.later;
+  faults = goes.faults;
+  past = goes.past;
+  notes = ap notes_of goes.beside;
+  talking = ap talks goes.beside;
 }
 
 -- two stretches

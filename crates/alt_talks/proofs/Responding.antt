@@ -1,22 +1,29 @@
--- A request that was carried out and answered, and the step of work behind it.
-use Rattle.std.proofs.Common.{◌≡◌, ◌≤◌, ◌+◌, ⊎_elim, ℕ, List, [], ◌∷◌, length, Bool, true, false, None, subst, arith}
-use Rattle.alt_disk.specs.Disk.{DiskState, IsTrusted}
+-- A request that was carried out and answered, and what follows it.
+use Rattle.std.proofs.Common.{◌≡◌, ◌∙◌, ◌≤◌, ◌+◌, ⊎_elim, ℕ, List, [], ◌∷◌, length, Bool, true, false, Option, Some, None, refl, sym, subst, arith}
+use Rattle.std.specs.Prelude.{not}
+use Rattle.alt_disk.specs.Disk.{DiskState}
+use Rattle.alt_machine.specs.Outcomes.{last_state}
 use Rattle.alt_machine.specs.State.{State}
+use Rattle.alt_machine.specs.Wanted.{Lack, wanted}
 use Rattle.alt_shell.specs.Calls.{Keeps}
 use Rattle.alt_shell.specs.Log.{Log}
 use Rattle.alt_tables.specs.FilesLeft.{most_files}
-use Rattle.alt_talks.specs.Faults.{IsFileFault, reach}
-use Rattle.alt_talks.specs.Runs.{OfStretch, Stretch}
+use Rattle.alt_talks.specs.Faults.{IsCausedBy, IsFileFault, reach}
+use Rattle.alt_talks.specs.Own.{FollowsNot, own_behind}
+use Rattle.alt_talks.specs.Runs.{OfStretch, Stretch, Timed}
 use Rattle.alt_talks.specs.Stops.{AreWithin}
 use Rattle.alt_talks.specs.Stretches.{Does, Heard, Utters}
 use Rattle.alt_talks.specs.Talks.{asked, has_refused, Rules, Lawful, Request}
+use Rattle.alt_talks.specs.TalkRules.{rules, left_by, outcome_of}
 use Rattle.alt_talks.specs.TalkStops.{AnswersOn, AnswersSomeOn, LeavesNow}
-use Rattle.alt_talks.specs.Works.{Works}
+use Rattle.alt_talks.specs.Works.{Follows}
 use Rattle.alt_talks.specs.declared.fault.RunFault.{RunFault}
 use Rattle.alt_talks.proofs.FileFaults.{file_more, reach_one}
-use Rattle.alt_talks.proofs.Stopping.{trusts-kept}
+use Rattle.alt_talks.proofs.Owning.{cause_behind, enough_both}
 use Rattle.alt_talks.proofs.Stretching.{stretch_goes}
-use Rattle.alt_talks.proofs.TalkLeaving.{Asked, asked_on, told_then, worked_on, worked_some_on}
+use Rattle.alt_talks.proofs.TalkLaws.{lawful, rules-left, rules-own, rules-wants}
+use Rattle.alt_talks.proofs.Timing.{told_one}
+use Rattle.alt_talks.proofs.TalkLeaving.{Asked, asked_on, asked_own_on, asked_work_on, told_then}
 
 -- a request takes a moment
 pub asked_reach : (r : Rules) (s t : State) (m n : Bool) (q : Request) (es : Log) (ms : List ℕ)
@@ -28,42 +35,82 @@ asked_reach r s t m n q es ms next k a le =
 
 module _ (r : Rules) (w : Lawful r) (old done new last : DiskState) (s : State) (m n : Bool)
     (q : Request) (at : ℕ) (bytes : List ℕ) (front : Asked r old done s q at)
-    (enough : r.wants s q at ≡ None) (here : LeavesNow done (r.next s q at)) (keeps : Keeps done new)
+    (here : LeavesNow done (last_state s (r.atoms s q at))) (keeps : Keeps done new)
     (same : bytes ≡ r.reply s q at) (said : Stretch done new (λ _ _. Utters m bytes n))
-    (works : Works new last (r.next s q at)) where
+    (follows : Follows new last (last_state s (r.atoms s q at)) (r.own s q at)) where
   abbrev Spoken : OfStretch
   Spoken = λ _ _ es ms. AreWithin done.moment new.moment es × Utters m (r.reply s q at) n es ms
 
-  -- what was said stays said behind the work
+  -- what was said stays said behind what follows it
   spoken : Stretch done last Spoken
   spoken = stretch_goes done new last {P = λ _ _. Utters m bytes n} {Q = Spoken}
       (λ es ms within u. (within, subst (λ (bs : List ℕ). Utters m bs n es ms) same u))
-      said works.goes
+      said follows.goes
 
-  trusts : IsTrusted old → IsTrusted new
-  trusts trusted = trusts-kept done new keeps (front.trusts trusted)
-
-  one : (fs : Log) (ns : List ℕ) → AreWithin done.moment new.moment fs
-      → Utters m (r.reply s q at) n fs ns
-      → AnswersOn r s m (asked q ∷ []) (r.next s q at) n old new fs (at ∷ ns)
-  one fs ns within u = asked_on r w old done new s m n q at fs ns front enough here keeps within u
-
-  -- the step was made
-  pub step_made : Stretch old last (AnswersOn r s m (asked q ∷ []) (r.next s q at) n)
-  step_made = told_then old done last {Q = Spoken}
-      {R = AnswersOn r s m (asked q ∷ []) (r.next s q at) n} at front.silent front.told front.later
-      front.trusts
-      (λ fs ns within x. worked_on r w old new last s m n q at fs ns (one fs ns x.0 x.1) x.1.by
-      trusts works)
+  -- it was done
+  pub follow_made : (before : Option ℕ) → r.wants s q at ≡ None
+      → Stretch old last (Timed before (Some at) (AnswersOn r s m (asked q ∷ []) (r.next s q at) n))
+  follow_made before enough = told_then old done last {Q = Spoken}
+      {R = Timed before (Some at) (AnswersOn r s m (asked q ∷ []) (r.next s q at) n)}
+      at front.silent front.told front.later front.trusts
+      (λ fs ns within x. (
+        asked_on r w old done new last s m n q at fs ns front here keeps x.0 follows.leaves x.1 enough,
+        told_one before at ns x.1.timeless,
+      ))
       spoken
 
-  -- or it broke off
-  pub step_broke : (fault : RunFault) (next : ℕ) → IsFileFault (next + most_files) fault → n ≡ false
+  -- or the step of work in it broke off
+  pub work_broke : (fault : RunFault) (next : ℕ) → r.wants s q at ≡ None
+      → IsFileFault (next + most_files) fault → n ≡ false
       → Stretch old last (AnswersSomeOn r fault next s m (asked q ∷ []))
-  step_broke fault next why heard = told_then old done last {Q = Spoken}
+  work_broke fault next enough why heard = told_then old done last {Q = Spoken}
       {R = AnswersSomeOn r fault next s m (asked q ∷ [])} at front.silent front.told front.later
       front.trusts
-      (λ fs ns within x. worked_some_on r w old new last s m n q at fs ns fault next
-      (one fs ns x.0 x.1) x.1.by trusts works
+      (λ fs ns within x. asked_work_on r w old done new last s m n q at fs ns front here keeps x.0
+      follows.leaves x.1 fault next enough
       (file_more fault (next + most_files) (reach next (at ∷ ns)) (reach_one next at ns) why) heard)
       spoken
+
+  -- or what the server does by itself
+  pub own_broke : (fault : RunFault) (next : ℕ) → IsCausedBy (r.wants s q at) fault
+      → Stretch old last (AnswersSomeOn r fault next s m (asked q ∷ []))
+  own_broke fault next cause = told_then old done last {Q = Spoken}
+      {R = AnswersSomeOn r fault next s m (asked q ∷ [])} at front.silent front.told front.later
+      front.trusts
+      (λ fs ns within x. asked_own_on r w old done new last s m n q at fs ns front here keeps x.0
+      follows.leaves x.1 fault next cause)
+      spoken
+
+-- ---- by the rules of the server
+
+-- what it does behind a request
+pub own_follows : (a b : DiskState) (s : State) (q : Request) (at : ℕ)
+    → Follows a b (left_by s q at) (own_behind (left_by s q at)).atoms
+    → Follows a b (last_state s (rules.atoms s q at)) (rules.own s q at)
+own_follows a b s q at p = subst (λ (u : State). Follows a b u (rules.own s q at))
+    (sym (rules-left s q at))
+    (subst (λ (xs : List State). Follows a b (left_by s q at) xs) (sym (rules-own s q at)) p)
+
+not_true : (n : Bool) → not n ≡ true → n ≡ false
+not_true true e = absurd (let f : ⊥ = cc in f)
+not_true false e = refl
+
+-- that broke off
+pub follow_broke : (old done new last : DiskState) (s : State) (m n : Bool)
+    (q : Request) (at : ℕ) (bytes : List ℕ) → Asked rules old done s q at
+    → LeavesNow done (last_state s (rules.atoms s q at)) → Keeps done new
+    → bytes ≡ rules.reply s q at → Stretch done new (λ _ _. Utters m bytes n)
+    → Follows new last (left_by s q at) (own_behind (left_by s q at)).atoms
+    → (fault : RunFault) (next : ℕ) → wanted s (outcome_of s q at) ≡ None
+    → FollowsNot (not n) (next + most_files) (own_behind (left_by s q at)).lacks fault
+    → Stretch old last (AnswersSomeOn rules fault next s m (asked q ∷ []))
+follow_broke old done new last s m n q at bytes front here keeps same said follows fault next enough why =
+    ⊎_elim
+    (λ cause. own_broke rules lawful old done new last s m n q at bytes front here keeps same said
+    (own_follows new last s q at follows) fault next
+    (subst (λ (l : Option Lack). IsCausedBy l fault) (sym (rules-wants s q at))
+    (cause_behind _ _ fault enough cause)))
+    (λ work. work_broke rules lawful old done new last s m n q at bytes front here keeps same said
+    (own_follows new last s q at follows) fault next
+    (rules-wants s q at ∙ enough_both _ _ enough work.1) work.2 (not_true n work.0))
+    why

@@ -15,8 +15,8 @@ use Rattle.alt_base.specs.Prefix.{IsPrefix}
 use Rattle.alt_shell.specs.Calls.{Aside, Keeps}
 use Rattle.alt_shell.proofs.Keeping.{keeps-none}
 use Rattle.alt_shell.specs.Log.{Log, until, said_in, taken, ended, event_of, bytes_said, bytes_taken, is_end}
-use Rattle.alt_talks.specs.Turns.{answered, Turn, text_of, after}
-use Rattle.alt_talks.specs.Stops.{Image, atoms_of, IsLeft, IsAmong, AtEach, AreWithin}
+use Rattle.alt_talks.specs.Turns.{all_of, answered, Turn, text_of, after, after_turn}
+use Rattle.alt_talks.specs.Stops.{Image, atoms_of, sure, IsLeft, IsAmong, AtEach, AreWithin}
 use Rattle.alt_tables.specs.Images.{StandsFor}
 use Rattle.alt_tables.specs.Stands.{AreReady, Stands}
 use Rattle.alt_tables.proofs.Left.{stands_quiet}
@@ -188,7 +188,32 @@ answered-behind (t ∷ ts) us said =
 -- ---- the writes of turns
 
 pub atoms_of-append : (ts us : List Turn) → atoms_of (ts ++ us) ≡ atoms_of ts ++ atoms_of us
-atoms_of-append ts us = flat_map-append (λ (t : Turn). t.atoms) ts us
+atoms_of-append ts us = flat_map-append all_of ts us
+
+-- no more is sure than there is
+pub sure-few : (ts : List Turn) → sure ts ≤ length (atoms_of ts)
+sure-few [] = omega arith
+sure-few (t ∷ []) =
+    let l = length-append t.atoms t.own in
+    let r = length-append (all_of t) [] in
+    omega (arith, l, r)
+sure-few (t ∷ (u ∷ ts)) =
+    let h = sure-few (u ∷ ts) in
+    let r = length-append (all_of t) (atoms_of (u ∷ ts)) in
+    omega (arith, h, r)
+
+-- behind turns no more is sure than all of theirs and what is sure of the others
+pub sure-behind : (ts us : List Turn) → sure (ts ++ us) ≤ length (atoms_of ts) + sure us
+sure-behind [] us = omega arith
+sure-behind (t ∷ []) [] =
+    let l = length-append t.atoms t.own in
+    let r = length-append (all_of t) [] in
+    omega (arith, l, r)
+sure-behind (t ∷ []) (u ∷ us) = let r = length-append (all_of t) [] in omega (arith, r)
+sure-behind (t ∷ (v ∷ ts)) us =
+    let h = sure-behind (v ∷ ts) us in
+    let r = length-append (all_of t) (atoms_of (v ∷ ts)) in
+    omega (arith, h, r)
 
 pub last_state-append : (s : State) (xs ys : List State) → last_state s (xs ++ ys)
     ≡ last_state (last_state s xs) ys
@@ -198,8 +223,9 @@ last_state-append s (x ∷ xs) ys = last_state-append x xs ys
 -- the state after turns is that after the last of their writes
 pub after-atoms : (s : State) (ts : List Turn) → after s ts ≡ last_state s (atoms_of ts)
 after-atoms s [] = refl
-after-atoms s (t ∷ ts) = after-atoms (last_state s t.atoms) ts
-    ∙ sym (last_state-append s t.atoms (atoms_of ts))
+after-atoms s (t ∷ ts) = after-atoms (after_turn s t) ts
+    ∙ ap (λ (u : State). last_state u (atoms_of ts)) (sym (last_state-append s t.atoms t.own))
+    ∙ sym (last_state-append s (all_of t) (atoms_of ts))
 
 -- ---- what is left
 
@@ -212,7 +238,7 @@ left-more s ts us said image say p =
     let sum = length-append (atoms_of ts) (atoms_of us) in
     record {
       writes = p.writes;
-      answered = subst (λ vs. length (atoms_of vs) ≤ p.writes)
+      answered = subst (λ vs. sure vs ≤ p.writes)
           (sym (answered-front ts us said say (prefix-within said (text_of ts) p.front)))
           p.answered;
       most = omega (arith, p.most, long, sum);
@@ -233,12 +259,11 @@ left-behind s ts us said image p =
     let sum = length-append (atoms_of ts) (atoms_of us) in
     let front : answered (ts ++ us) (text_of ts ++ said) ≡ ts ++ answered us said =
     answered-behind ts us said in
-    let done = ap (λ vs. length (atoms_of vs)) front in
-    let parts = ap length (atoms_of-append ts (answered us said)) in
-    let both = length-append (atoms_of ts) (atoms_of (answered us said)) in
+    let done = ap sure front in
+    let few = sure-behind ts (answered us said) in
     record {
       writes = n + p.writes;
-      answered = omega (arith, p.answered, done, parts, both);
+      answered = omega (arith, p.answered, done, few);
       most = omega (arith, p.most, long, sum);
       stands = subst (StandsFor image)
           (ap (λ r. last_state r (take p.writes (atoms_of us))) (after-atoms s ts)
@@ -254,7 +279,7 @@ left-behind s ts us said image p =
 pub left-nothing-of : (s : State) (ts : List Turn) (image : Image) → AllSay ts
     → StandsFor image s → IsLeft s ts [] image
 left-nothing-of s ts image say stands =
-    let unanswered = ap (λ us. length (atoms_of us)) (answered-none ts say) in
+    let unanswered = ap sure (answered-none ts say) in
     record {
       writes = 0;
       answered = omega (arith, unanswered);
@@ -410,50 +435,71 @@ answered-few (t ∷ ts) said =
     rest = drop (length t.text) said
 
     by_test : length (atoms_of (answered ts rest)) ≤ length (atoms_of ts) → (b : Bool)
-        → length (atoms_of (cond b (t ∷ answered ts rest) [])) ≤ length (t.atoms ++ atoms_of ts)
+        → length (atoms_of (cond b (t ∷ answered ts rest) [])) ≤ length (all_of t ++ atoms_of ts)
     by_test h true =
-        let l = length-append t.atoms (atoms_of (answered ts rest)) in
-        let r = length-append t.atoms (atoms_of ts) in
+        let l = length-append (all_of t) (atoms_of (answered ts rest)) in
+        let r = length-append (all_of t) (atoms_of ts) in
         omega (arith, h, l, r)
     by_test h false = omega arith
 
 module _ (s : State) (vs : List Turn) (t : Turn) (one : vs ≡ t ∷ []) (say : AllSay vs) where
-  only : atoms_of (t ∷ []) ≡ t.atoms
-  only = append-nil t.atoms
+  only : atoms_of (t ∷ []) ≡ all_of t
+  only = append-nil (all_of t)
+
+  -- of one turn no more is sure than its own writes
+  sure-one : (said : List ℕ) → sure (answered vs said) ≤ length t.atoms
+  sure-one said = subst (λ ts. sure (answered ts said) ≤ length t.atoms) (sym one)
+      (by_test (nat_le (length t.text) (length said)))
+    where
+      by_test : (b : Bool) → sure (cond b (t ∷ []) []) ≤ length t.atoms
+      by_test true = omega arith
+      by_test false = omega arith
+
+  whole : length (atoms_of vs) ≡ length t.atoms + length t.own
+  whole = ap length (ap atoms_of one ∙ only) ∙ length-append t.atoms t.own
 
   -- nothing was said of it
   pub left-unsaid : (said : List ℕ) (image : Image) → said ≡ [] → IsAmong image s t.atoms
       → IsLeft s vs said image
   left-unsaid said image none p =
-      let count = ap length (ap atoms_of one ∙ only) in
-      let unanswered = ap (λ ts. length (atoms_of ts))
-      (ap (answered vs) none ∙ answered-none vs say) in
+      let unanswered = ap sure (ap (answered vs) none ∙ answered-none vs say) in
+      let few : min p.0 (length t.atoms) ≤ length t.atoms = grind arith in
       record {
         writes = min p.0 (length t.atoms);
         answered = omega (arith, unanswered);
-        most = let few : min p.0 (length t.atoms) ≤ length t.atoms = grind arith in
-            omega (arith, few, count);
+        most = let w = whole in omega (arith, few, w);
         stands = subst (λ xs. StandsFor image (last_state s xs))
             (sym (take-within p.0 t.atoms)
-            ∙ sym (ap (take (min p.0 (length t.atoms))) (ap atoms_of one ∙ only)))
+            ∙ sym (ap (take (min p.0 (length t.atoms))) (ap atoms_of one ∙ only)
+            ∙ take-append-le (min p.0 (length t.atoms)) t.atoms t.own few))
             p.1;
         front = subst (λ (bs : List ℕ). IsPrefix bs (text_of vs)) (sym none)
             (text_of vs, refl);
       }
 
-  -- all of its writes were made
-  pub left-whole : (said : List ℕ) (image : Image) → IsPrefix said t.text
-      → StandsFor image (last_state s t.atoms) → IsLeft s vs said image
-  left-whole said image front p =
-      let count = ap length (ap atoms_of one ∙ only) in
+  -- all of its writes were made, and some of those that the server makes by itself behind it
+  pub left-followed : (said : List ℕ) (image : Image) → IsPrefix said t.text
+      → IsAmong image (last_state s t.atoms) t.own → IsLeft s vs said image
+  left-followed said image front p =
+      let few : min p.0 (length t.own) ≤ length t.own = grind arith in
       record {
-        writes = length t.atoms;
-        answered = let h = answered-few vs said in omega (arith, h, count);
-        most = omega (arith, count);
-        stands = subst (λ xs. StandsFor image (last_state s xs))
-            (sym (ap (take (length t.atoms)) (ap atoms_of one ∙ only) ∙ take-length t.atoms)) p;
+        writes = length t.atoms + min p.0 (length t.own);
+        answered = let h = sure-one said in omega (arith, h);
+        most = let w = whole in omega (arith, few, w);
+        stands = subst (StandsFor image)
+            (sym (last_state-append s t.atoms (take p.0 t.own))
+            ∙ ap (λ xs. last_state s (t.atoms ++ xs)) (sym (take-within p.0 t.own))
+            ∙ ap (last_state s) (sym (ap (take (length t.atoms + min p.0 (length t.own)))
+            (ap atoms_of one ∙ only)
+            ∙ take-append-add t.atoms t.own (min p.0 (length t.own)))))
+            p.1;
         front = subst (IsPrefix said) (sym (ap text_of one ∙ append-nil t.text)) front;
       }
+
+  -- none of those yet
+  pub left-whole : (said : List ℕ) (image : Image) → IsPrefix said t.text
+      → StandsFor image (last_state s t.atoms) → IsLeft s vs said image
+  left-whole said image front p = left-followed said image front (0, p)
 
   -- its writes were made or broken off, and nothing was said
   pub leaves-unsaid : (old new : DiskState) → AtEach old new (λ _ image. IsAmong image s t.atoms)
@@ -490,17 +536,22 @@ module _ (s : State) (vs : List Turn) (t : Turn) (one : vs ≡ t ∷ []) (say : 
       (ap said_in (until-before mid.moment new.moment u es within before)) p)
       (λ u image from p. left-whole (said_in (until u es)) image (front u) p)
 
-  -- and then work went on, which left the state
-  pub leaves-worked : (old done new : DiskState) (es : Log)
+  -- and then came what follows it
+  pub leaves-followed : (old mid done new : DiskState) (es : Log)
+      → AreWithin mid.moment done.moment es
       → ((u : ℕ) → IsPrefix (said_in (until u es)) t.text)
-      → (IsTrusted old → IsTrusted done)
-      → AtEach old done (λ u image. IsLeft s vs (said_in (until u es)) image)
-      → AtEach done new (λ _ image. StandsFor image (last_state s t.atoms))
+      → (IsTrusted old → IsTrusted mid)
+      → AtEach old mid (λ _ image. IsAmong image s t.atoms)
+      → (IsTrusted mid → (image : Image) → IsImage mid mid.moment image
+      → StandsFor image (last_state s t.atoms))
+      → Keeps mid done
+      → AtEach done new (λ _ image. IsAmong image (last_state s t.atoms) t.own)
       → AtEach old new (λ u image. IsLeft s vs (said_in (until u es)) image)
-  leaves-worked old done new es front trusts leaves works trusted =
+  leaves-followed old mid done new es within front trusts leaves stands keeps follows trusted =
       spans_two old done new (λ u image. IsLeft s vs (said_in (until u es)) image)
-      (λ _ image. StandsFor image (last_state s t.atoms))
+      (λ _ image. IsAmong image (last_state s t.atoms) t.own)
       (λ u image. IsLeft s vs (said_in (until u es)) image)
-      (leaves trusted) (works (trusts trusted))
+      (leaves-said old mid done es within front trusts leaves stands keeps trusted)
+      (follows (trusts-kept mid done keeps (trusts trusted)))
       (λ u image before p. p)
-      (λ u image from p. left-whole (said_in (until u es)) image (front u) p)
+      (λ u image from p. left-followed (said_in (until u es)) image (front u) p)

@@ -7,14 +7,14 @@ use Rattle.alt_machine.specs.Outcomes.{last_state}
 use Rattle.alt_machine.specs.State.{State}
 use Rattle.alt_shell.specs.Log.{Log, until, said_in}
 use Rattle.alt_tables.specs.Images.{StandsFor}
-use Rattle.alt_talks.specs.Stops.{Image, atoms_of, IsLeft, AtEach}
+use Rattle.alt_talks.specs.Stops.{Image, atoms_of, sure, IsLeft, AtEach}
 use Rattle.alt_talks.specs.Stretches.{SaidOf, Does}
 use Rattle.alt_talks.specs.Talks.{Turn, onward, asked, refused, Rules, Lawful, has_refused}
 use Rattle.alt_talks.specs.TalkStops.{deeds, saying, carrying, LeftOn}
 use Rattle.alt_talks.specs.TalkTexts.{text, after, asks}
-use Rattle.alt_talks.specs.Turns.{Turn as Deed, text_of, after as deed_after}
+use Rattle.alt_talks.specs.Turns.{answered, Turn as Deed, text_of, after as deed_after}
 use Rattle.alt_talks.proofs.Stretching.{said_in-append}
-use Rattle.alt_talks.proofs.Stopping.{AllSay, Meet, answered-few, answered-front, prefix-within, atoms_of-append, after-atoms, last_state-append, left-more, left-behind, none-shorter, said-by, spans_two, until-append, until-before, until-behind, IsPrefix-longer}
+use Rattle.alt_talks.proofs.Stopping.{AllSay, Meet, answered-few, answered-front, prefix-within, atoms_of-append, after-atoms, last_state-append, left-more, left-behind, none-shorter, said-by, spans_two, sure-few, until-append, until-before, until-behind, IsPrefix-longer}
 use Rattle.alt_talks.proofs.TalkFolds.{suc-same, asks-requests}
 use Rattle.alt_talks.proofs.TurnLaws.{text_of-append}
 
@@ -120,11 +120,12 @@ left-muted s ts us said image say front p =
     let long = ap length atoms in
     let sum = length-append (atoms_of ts) (atoms_of us) in
     let few = answered-few ts said in
+    let less = sure-few (answered ts said) in
     record {
       writes = n + p.writes;
-      answered = subst (λ (vs : List Deed). length (atoms_of vs) ≤ n + p.writes)
+      answered = subst (λ (vs : List Deed). sure vs ≤ n + p.writes)
           (sym (answered-front ts us said say (prefix-within said (text_of ts) front)))
-          (omega (arith, few));
+          (omega (arith, few, less));
       most = omega (arith, p.most, long, sum);
       stands = subst (StandsFor image)
           (ap (λ r. last_state r (take p.writes (atoms_of us))) (after-atoms s ts)

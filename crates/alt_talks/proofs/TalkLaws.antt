@@ -16,8 +16,10 @@ use Rattle.alt_http.proofs.Answering.{scan_of-nothing, scan_of-refused, scan_of-
 use Rattle.alt_machine.specs.Outcomes.{last_state}
 use Rattle.alt_machine.specs.State.{State}
 use Rattle.alt_machine.specs.Wanted.{wanted}
-use Rattle.alt_talks.specs.TalkRules.{rules, outcome_of, http_text}
+use Rattle.alt_talks.specs.Own.{after_behind, own_behind, own_between}
+use Rattle.alt_talks.specs.TalkRules.{rules, outcome_of, left_by, http_text}
 use Rattle.alt_talks.specs.TalkViews.{scanned}
+use Rattle.alt_talks.specs.Turns.{or_next}
 use Rattle.alt_talks.specs.Talks.{Lawful, unread, bad, good, Request, Head as TalkHead}
 
 -- ---- the rules
@@ -41,7 +43,7 @@ unfolding rules
 rules-reply s q m = refl
 
 pub rules-next : (s : State) (q : Request) (m : ℕ)
-    → rules.next s q m ≡ last_state s (outcome_of s q m).atoms
+    → rules.next s q m ≡ after_behind (left_by s q m)
 unfolding rules
 rules-next s q m = refl
 
@@ -51,9 +53,24 @@ unfolding rules
 rules-atoms s q m = refl
 
 pub rules-wants : (s : State) (q : Request) (m : ℕ)
-    → rules.wants s q m ≡ wanted s (outcome_of s q m)
+    → rules.wants s q m ≡ or_next (wanted s (outcome_of s q m)) (own_behind (left_by s q m)).lacks
 unfolding rules
 rules-wants s q m = refl
+
+pub rules-own : (s : State) (q : Request) (m : ℕ)
+    → rules.own s q m ≡ (own_behind (left_by s q m)).atoms
+unfolding rules
+rules-own s q m = refl
+
+pub rules-between : (number : ℕ) (moment : Option ℕ) (s : State)
+    → rules.between number moment s ≡ own_between number moment s
+unfolding rules
+rules-between number moment s = refl
+
+-- the state that a request's own writes leave
+pub rules-left : (s : State) (q : Request) (m : ℕ)
+    → last_state s (rules.atoms s q m) ≡ left_by s q m
+rules-left s q m = ap (last_state s) (rules-atoms s q m)
 
 -- ---- lawful
 
@@ -98,7 +115,9 @@ lawful = record {
   within = λ a h e.
       let is = good-is (scan_of a) h (sym (rules-scan a) ∙ e) in
       scan_of-within a h.taken h.target h.length h.expect h.close is;
-  steps = λ s q m. rules-next s q m ∙ ap (last_state s) (sym (rules-atoms s q m));
+  steps = λ s q m. rules-next s q m
+      ∙ ap (λ (xs : List State). last_state (left_by s q m) xs) (sym (rules-own s q m))
+      ∙ ap (λ (u : State). last_state u (rules.own s q m)) (sym (rules-left s q m));
   replies = λ s q m. subst (λ (bs : List ℕ). 0 < length bs) (sym (rules-reply s q m))
       (reply_says _ m q.close _);
   refuses = λ k m. subst (λ (bs : List ℕ). 0 < length bs) (sym (rules-refusal k m))

@@ -1,5 +1,5 @@
 -- What a stop leaves while the turns of a connection are done, rung by rung.
-use Rattle.std.proofs.Common.{◌≡◌, ◌≤◌, ◌<◌, ◌-◌, ◌⊎◌, inl, inr, ◌&&◌, IsTrue, ℕ, List, [], ◌∷◌, ◌++◌, length, Bool, true, false, None, cond, drop, refl, sym, ap, subst, ◌∙◌, append-nil, arith}
+use Rattle.std.proofs.Common.{◌≡◌, ◌≤◌, ◌<◌, ◌-◌, ◌⊎◌, inl, inr, ◌&&◌, IsTrue, ℕ, List, [], ◌∷◌, ◌++◌, length, Bool, true, false, Option, None, cond, drop, refl, sym, ap, subst, ◌∙◌, append-nil, arith}
 use Rattle.std.specs.Prelude.{◌||◌, nat_le}
 use Rattle.std.proofs.lemmas.Bool.{true≢false, le-leb}
 use Rattle.alt_base.specs.Prefix.{IsPrefix}
@@ -12,11 +12,10 @@ use Rattle.alt_shell.specs.Calls.{Adds, Aside, Keeps, Untold, IsUntoldBy}
 use Rattle.alt_shell.specs.Log.{Log, Grows, Tells, moments_of, until, entry, told_count, took, take_failed, takes_failed, takes_missed, talks, accepted, hung_up, said_in, taken, bytes_said, bytes_taken, event_of}
 use Rattle.alt_shell.proofs.Telling.{Grows-then, Tells-then}
 use Rattle.alt_tables.specs.Images.{StandsFor}
-use Rattle.alt_talks.specs.Faults.{IsAnswerFault, IsFileFault, reach}
-use Rattle.alt_talks.specs.Works.{Works}
-use Rattle.alt_talks.specs.Runs.{OfStretch, Stretch}
+use Rattle.alt_talks.specs.Faults.{IsCausedBy, IsFileFault, reach}
+use Rattle.alt_talks.specs.Runs.{OfStretch, Stretch, Timed}
 use Rattle.alt_talks.specs.Stops.{Image, IsLeft, IsAmong, AtEach, AreWithin}
-use Rattle.alt_talks.specs.Stretches.{Utters, AtRest, Idle, Goes}
+use Rattle.alt_talks.specs.Stretches.{Utters, AtRest, Idle, Goes, Does, DoesSome}
 use Rattle.alt_talks.specs.Talks.{Turn, onward, asked, refused, Rules, Lawful, Request, Head, Place, at, unread, bad, good, greets, is_whole, size_of, request_of, turns, final, turns_at}
 use Rattle.alt_talks.specs.TalkStops.{deeds, carrying, saying, LeavesNow, LeftOn, LeftTaken, AnswersOn, AnswersSomeOn, CarriesOn, CarriesSomeOn, MovesOn, StepsOn, MovesAllOn, MovesSomeOn, GoesOn, GoesSomeOn}
 use Rattle.alt_talks.specs.TalkTexts.{asks}
@@ -25,11 +24,11 @@ use Rattle.alt_talks.specs.declared.fault.RunFault.{RunFault}
 use Rattle.alt_talks.proofs.Breaking.{broke_behind}
 use Rattle.alt_talks.proofs.Stretching.{said_in-append, stretch_as, taken-append}
 use Rattle.alt_talks.proofs.Stepping.{answers_greeted, steps_short, steps_bad, steps_unread, moves_hello, moves_some, whole_at, fewer_left}
-use Rattle.alt_talks.proofs.Stopping.{AllSay, Meet, left-more, left-nothing-of, leaves-here, leaves-said, leaves-worked, leaves-unsaid, leaves-weaker, spans_two, keeps-spans, trusts-kept, until-append, until-before, until-behind, taken-until, within-then, within-wider, leaves-before-aside, leaves-behind-aside, none-shorter, said-by}
+use Rattle.alt_talks.proofs.Stopping.{AllSay, Meet, left-more, left-nothing-of, leaves-here, leaves-said, leaves-followed, leaves-unsaid, leaves-weaker, spans_two, keeps-spans, trusts-kept, until-append, until-before, until-behind, taken-until, within-then, within-wider, leaves-before-aside, leaves-behind-aside, none-shorter, said-by}
 use Rattle.alt_talks.proofs.TalkDeeds.{deeds_say, deeds-more, deeds-longer, both, behind, left_then}
 use Rattle.alt_talks.proofs.TalkLogs.{stretch_one, then_one, took_then}
 use Rattle.alt_talks.proofs.TalkPulls.{goes_failed, goes_start, goes_taken, goes_some_taken, goes_then, goes_break, joined}
-use Rattle.alt_talks.proofs.Uttering.{does_asked, does_refused, some_asked, moves_none, moves_then, moves_all, moves_break}
+use Rattle.alt_talks.proofs.Uttering.{does_asked, does_refused, some_asked, some_said, moves_none, moves_then, moves_all, moves_break}
 
 -- ---- calls behind one that told a moment
 
@@ -130,28 +129,59 @@ asked_of r old mid done s q moment aside silent told goes leaves = record {
       leaves;
 }
 
--- and then its text was said, unless a say had failed
-pub asked_on : (r : Rules) (w : Lawful r) (a b c : DiskState) (s : State) (m n : Bool) (q : Request)
-    (moment : ℕ) (fs : Log) (ns : List ℕ) → Asked r a b s q moment → r.wants s q moment ≡ None
-    → LeavesNow b (r.next s q moment) → Keeps b c → AreWithin b.moment c.moment fs
-    → Utters m (r.reply s q moment) n fs ns
-    → AnswersOn r s m (asked q ∷ []) (r.next s q moment) n a c fs (moment ∷ ns)
-asked_on r w a b c s m n q moment fs ns front enough here keeps within u =
-    let v = subst (λ (ls : List ℕ). Utters m (r.reply s q moment) n fs ls) u.timeless u in
-    subst (λ (ls : List ℕ). AnswersOn r s m (asked q ∷ []) (r.next s q moment) n a c fs (moment ∷ ls))
-    (sym u.timeless) (
-      record { does = does_asked r s m n fs q moment enough v; quiet = v.quiet },
-      leaves-said s (deeds r s (asked q ∷ []) (moment ∷ [])) (carrying r s q moment) refl
-          (deeds_say r w s (asked q ∷ []) (moment ∷ [])) a b c fs within v.by front.trusts
-          front.leaves
-          (λ trusted image is. subst (StandsFor image) (w.steps s q moment) (here trusted image is))
-          keeps,
-    )
+-- and then its text was said, unless a say had failed, and came what follows it
+module _ (r : Rules) (w : Lawful r) (a b c d : DiskState) (s : State) (m n : Bool) (q : Request)
+    (moment : ℕ) (fs : Log) (ns : List ℕ) (front : Asked r a b s q moment)
+    (here : LeavesNow b (last_state s (r.atoms s q moment))) (keeps : Keeps b c)
+    (within : AreWithin b.moment c.moment fs)
+    (follows : AtEach c d (λ _ image. IsAmong image (last_state s (r.atoms s q moment)) (r.own s q moment)))
+    (u : Utters m (r.reply s q moment) n fs ns) where
+  left_asked : AtEach a d (LeftOn r s (asked q ∷ []) fs (moment ∷ ns))
+  left_asked = leaves-followed s (deeds r s (asked q ∷ []) (moment ∷ ns)) (carrying r s q moment) refl
+      (deeds_say r w s (asked q ∷ []) (moment ∷ ns)) a b c d fs within u.by front.trusts front.leaves
+      here keeps follows
+
+  did : r.wants s q moment ≡ None → Does r s m (asked q ∷ []) (r.next s q moment) n fs (moment ∷ ns)
+  did enough = subst
+      (λ (ls : List ℕ). Does r s m (asked q ∷ []) (r.next s q moment) n fs (moment ∷ ls))
+      (sym u.timeless)
+      (does_asked r s m n fs q moment enough
+      (subst (λ (ls : List ℕ). Utters m (r.reply s q moment) n fs ls) u.timeless u))
+
+  pub asked_on : r.wants s q moment ≡ None
+      → AnswersOn r s m (asked q ∷ []) (r.next s q moment) n a d fs (moment ∷ ns)
+  asked_on enough = (record { does = did enough; quiet = u.quiet }, left_asked)
+
+  -- or a step of work broke off
+  pub asked_work_on : (fault : RunFault) (next : ℕ) → r.wants s q moment ≡ None
+      → IsFileFault (reach next (moment ∷ ns)) fault → n ≡ false
+      → AnswersSomeOn r fault next s m (asked q ∷ []) a d fs (moment ∷ ns)
+  asked_work_on fault next enough why heard = (
+    record {
+      some = broke_behind r fault next s (r.next s q moment) m n q fs (moment ∷ ns) why heard (did enough);
+      quiet = u.quiet;
+    },
+    left_asked,
+  )
+
+  -- or what the server does by itself
+  pub asked_own_on : (fault : RunFault) (next : ℕ) → IsCausedBy (r.wants s q moment) fault
+      → AnswersSomeOn r fault next s m (asked q ∷ []) a d fs (moment ∷ ns)
+  asked_own_on fault next cause = (
+    record {
+      some = subst (λ (ls : List ℕ). DoesSome r fault next s m (asked q ∷ []) fs (moment ∷ ls))
+          (sym u.timeless)
+          (some_said r fault next s m n q moment fs cause
+          (subst (λ (ls : List ℕ). Utters m (r.reply s q moment) n fs ls) u.timeless u));
+      quiet = u.quiet;
+    },
+    left_asked,
+  )
 
 -- or it broke off
 pub asked_some_on : (r : Rules) (w : Lawful r) (a b : DiskState) (s : State) (m : Bool) (q : Request)
     (moment : ℕ) (fault : RunFault) (next : ℕ) → Asked r a b s q moment
-    → IsAnswerFault next (r.wants s q moment) fault → Stretch a b (AnswersSomeOn r fault next s m (asked q ∷ []))
+    → IsCausedBy (r.wants s q moment) fault ⊎ IsFileFault next fault → Stretch a b (AnswersSomeOn r fault next s m (asked q ∷ []))
 asked_some_on r w a b s m q moment fault next front cause =
     told_alone a b {R = AnswersSomeOn r fault next s m (asked q ∷ [])} moment front.silent front.told
     front.later front.trusts (
@@ -159,36 +189,6 @@ asked_some_on r w a b s m q moment fault next front cause =
       leaves-unsaid s (deeds r s (asked q ∷ []) (moment ∷ [])) (carrying r s q moment) refl
           (deeds_say r w s (asked q ∷ []) (moment ∷ [])) a b front.leaves,
     )
-
--- and then a step of work was made behind a request that was answered
-pub worked_on : (r : Rules) (w : Lawful r) (a c d : DiskState) (s : State) (m n : Bool) (q : Request)
-    (moment : ℕ) (fs : Log) (ns : List ℕ)
-    → AnswersOn r s m (asked q ∷ []) (r.next s q moment) n a c fs (moment ∷ ns)
-    → ((u : ℕ) → IsPrefix (said_in (until u fs)) (r.reply s q moment)) → (IsTrusted a → IsTrusted c)
-    → Works c d (r.next s q moment)
-    → AnswersOn r s m (asked q ∷ []) (r.next s q moment) n a d fs (moment ∷ ns)
-worked_on r w a c d s m n q moment fs ns x by trusts works = (
-  x.0,
-  leaves-worked s (deeds r s (asked q ∷ []) (moment ∷ ns)) (carrying r s q moment) refl
-      (deeds_say r w s (asked q ∷ []) (moment ∷ ns)) a c d fs by trusts x.1
-      (subst (λ (u : State). AtEach c d (λ _ image. StandsFor image u)) (w.steps s q moment)
-      works.leaves),
-)
-
--- or that broke off
-pub worked_some_on : (r : Rules) (w : Lawful r) (a c d : DiskState) (s : State) (m n : Bool)
-    (q : Request) (moment : ℕ) (fs : Log) (ns : List ℕ) (fault : RunFault) (next : ℕ)
-    → AnswersOn r s m (asked q ∷ []) (r.next s q moment) n a c fs (moment ∷ ns)
-    → ((u : ℕ) → IsPrefix (said_in (until u fs)) (r.reply s q moment)) → (IsTrusted a → IsTrusted c)
-    → Works c d (r.next s q moment) → IsFileFault (reach next (moment ∷ ns)) fault → n ≡ false
-    → AnswersSomeOn r fault next s m (asked q ∷ []) a d fs (moment ∷ ns)
-worked_some_on r w a c d s m n q moment fs ns fault next x by trusts works why heard = (
-  record {
-    some = broke_behind r fault next s (r.next s q moment) m n q fs (moment ∷ ns) why heard x.0.does;
-    quiet = x.0.quiet;
-  },
-  (worked_on r w a c d s m n q moment fs ns x by trusts works).1,
-)
 
 -- a head was refused, behind a look at the clock
 pub refused_on : (r : Rules) (w : Lawful r) (a b c : DiskState) (s : State) (m n : Bool) (k moment : ℕ)
@@ -558,18 +558,21 @@ module _ (r : Rules) (w : Lawful r) (a b c : DiskState) where
   )
 
 -- a take that failed in a talk in which none had failed
-pub goes_missed_on : (r : Rules) (w : Lawful r) (p : Place) (s : State) (m : Bool) (rest : AtRest r p)
+pub goes_missed_on : (last : Option ℕ) (r : Rules) (w : Lawful r) (p : Place) (s : State) (m : Bool) (rest : AtRest r p)
     (ready : Idle r p s m [] []) (a b : DiskState) → talks a.beside ≡ true → takes_missed a.beside ≡ false
     → (Adds a b take_failed ⊎ Untold a b takes_failed takes_missed)
     → moments_of b.beside ≡ moments_of a.beside → Keeps a b → LeavesNow a s
-    → Stretch a b (GoesOn r false p s m p s m)
-goes_missed_on r w p s m rest ready a b talking none (inl told) moments keeps here =
-    stretch_one a b (GoesOn r false p s m p s m) _ told moments (keeps.later, omega arith, tt) keeps (
-      goes_failed r p s m rest b.moment (told_count a.beside) ready,
-      left_silent r w p s a b (entry b.moment (told_count a.beside) take_failed ∷ []) [] keeps refl
-          here,
+    → Stretch a b (Timed last last (GoesOn r false p s m p s m))
+goes_missed_on last r w p s m rest ready a b talking none (inl told) moments keeps here =
+    stretch_one a b (Timed last last (GoesOn r false p s m p s m)) _ told moments (keeps.later, omega arith, tt) keeps (
+      (
+        goes_failed r p s m rest b.moment (told_count a.beside) ready,
+        left_silent r w p s a b (entry b.moment (told_count a.beside) take_failed ∷ []) [] keeps refl
+            here,
+      ),
+      refl,
     )
-goes_missed_on r w p s m rest ready a b talking none (inr untold) moments keeps here =
+goes_missed_on last r w p s m rest ready a b talking none (inr untold) moments keeps here =
     let why = subst (λ (t : Bool). IsUntoldBy t a takes_failed takes_missed) talking untold.why in
     absurd (true≢false (sym why ∙ none))
 

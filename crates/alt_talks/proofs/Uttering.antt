@@ -9,7 +9,7 @@ use Rattle.std.proofs.lemmas.Bool.{true≢false}
 use Rattle.alt_disk.specs.Disk.{DiskState}
 use Rattle.alt_shell.specs.Calls.{Adds, Keeps, Untold, IsUntoldBy}
 use Rattle.alt_talks.specs.Runs.{Stretch}
-use Rattle.alt_talks.specs.Faults.{IsAnswerFault, IsCausedBy, reach}
+use Rattle.alt_talks.specs.Faults.{IsCausedBy, IsFileFault, reach}
 use Rattle.alt_talks.specs.declared.fault.RunFault.{RunFault}
 use Rattle.alt_talks.specs.declared.fault.RunFault.TheVariants.{NoMemory}
 use Rattle.alt_talks.specs.Turns.{or_next}
@@ -234,23 +234,23 @@ answers_some_none r next s m ts = record { some = record { said = (text r s ts [
 
 -- why a request has no answer is why it broke off
 asked_breaks : (r : Rules) (fault : RunFault) (next : ℕ) (s : State) (m : Bool) (q : Request) (at : ℕ)
-    → IsAnswerFault next (r.wants s q at) fault → BreaksFor r fault next s m (asked q ∷ []) [] (at ∷ [])
+    → IsCausedBy (r.wants s q at) fault ⊎ IsFileFault next fault → BreaksFor r fault next s m (asked q ∷ []) [] (at ∷ [])
 asked_breaks r fault next s m q at (inl w) =
     inl (subst (λ v. IsCausedBy v fault) (alone (r.wants s q at)) w)
 asked_breaks r fault next s m q at (inr last) = inr (
-  file_more fault next (reach next (at ∷ [])) (omega arith) last.1,
+  file_more fault next (reach next (at ∷ [])) (omega arith) last,
   inl (record {
     before = [];
     request = q;
     rest = [];
     parts = refl;
     count = refl;
-    enough = sym (alone (r.wants s q at)) ∙ last.0;
+    enough = refl;
   }),
 )
 
 pub some_asked : (r : Rules) (fault : RunFault) (next : ℕ) (s : State) (m : Bool) (q : Request) (at : ℕ) (es : Log) (ms : List ℕ)
-    → Clocked at es ms → IsAnswerFault next (r.wants s q at) fault → AnswersSome r fault next s m (asked q ∷ []) es ms
+    → Clocked at es ms → IsCausedBy (r.wants s q at) fault ⊎ IsFileFault next fault → AnswersSome r fault next s m (asked q ∷ []) es ms
 some_asked r fault next s m q at es ms t w =
     let none = t.nothing in let one = t.one in
     subst (λ (fs : Log). AnswersSome r fault next s m (asked q ∷ []) fs ms) (sym none)
@@ -266,6 +266,25 @@ some_asked r fault next s m q at es ms t w =
       };
       quiet = quiet_none;
     }))
+
+-- its reply was said, and then it lacked something
+pub some_said : (r : Rules) (fault : RunFault) (next : ℕ) (s : State) (m n : Bool) (q : Request) (at : ℕ) (es : Log)
+    → IsCausedBy (r.wants s q at) fault → Utters m (r.reply s q at) n es []
+    → DoesSome r fault next s m (asked q ∷ []) es (at ∷ [])
+some_said r fault next s m n q at es w u = record {
+  said = subst (IsPrefix (said_in es)) (sym (append-nil (r.reply s q at)))
+      (some_of n (said_in es) (r.reply s q at) u.said);
+  most = omega arith;
+  wants = inl (subst (λ v. IsCausedBy v fault) (alone (r.wants s q at)) w);
+  silent = u.silent;
+  hush = u.hush;
+  still = u.still;
+  begins = begins_one r s (asked q) at refl;
+}
+  where
+    some_of : (n : Bool) (some whole : List ℕ) → SaidOf n some whole → IsPrefix some whole
+    some_of true some whole p = p
+    some_of false some whole e = ([], sym e ∙ sym (append-nil some))
 
 pub some_refused : (r : Rules) (next : ℕ) (s : State) (m : Bool) (k at : ℕ) (es : Log) (ms : List ℕ) → Clocked at es ms → AnswersSome r NoMemory next s m (refused k ∷ []) es ms
 some_refused r next s m k at es ms t =

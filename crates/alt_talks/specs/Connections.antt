@@ -1,9 +1,11 @@
 -- What serving connections promises.
-use Rattle.std.specs.Prelude.{◌≡◌, ◌<◌, ◌≤◌, ◌+◌, ◌⊎◌, ℕ, List, [], ◌∷◌, ◌++◌, length, Bool, true, false, None}
+use Rattle.std.specs.Prelude.{◌≡◌, ◌<◌, ◌≤◌, ◌+◌, ◌⊎◌, ℕ, suc, List, [], ◌∷◌, ◌++◌, length, Bool, true, false, Option, None}
 use Rattle.std.specs.List.{flat_map}
+use Rattle.alt_machine.specs.Outcomes.{last_state}
 use Rattle.alt_machine.specs.State.{State}
 use Rattle.alt_shell.specs.Log.{Log, accepted, none_came, hung_up, entry, taken, says_failed, crosses}
 use Rattle.alt_talks.specs.Faults.{IsCausedBy, reach}
+use Rattle.alt_talks.specs.Own.{last_told}
 use Rattle.alt_talks.specs.declared.fault.RunFault.{RunFault}
 use Rattle.alt_talks.specs.Talks.{Turn, Rules, Place, at, turns, closes}
 use Rattle.alt_talks.specs.TalkTexts.{after}
@@ -76,15 +78,24 @@ abbrev pub ComesSome : Rules → ℕ → RunFault → ℕ → State → Log → 
 ComesSome r per fault next s entries told = Missed fault entries told
     ⊎ Broke r per fault next s entries told
 
--- one after another
-abbrev pub ServesAll : Rules → ℕ → State → List Connection → State → Type 0
-ServesAll r per s [] t = t ≡ s
-ServesAll r per s (k ∷ ks) t = (u : State) × Serves r per s k u × ServesAll r per u ks t
+-- the state after what the server does by itself behind the connection of a number, where this was the last moment told by then
+abbrev pub after_own : Rules → ℕ → Option ℕ → State → State
+after_own r number moment s = last_state s (r.between number moment s).atoms
+
+-- One after another, of which the first has this number, and the last moment told before it is this one. Behind each the server made its own
+-- requests, which lacked nothing.
+abbrev pub ServesAll : Rules → ℕ → ℕ → Option ℕ → State → List Connection → State → Type 0
+ServesAll r per number moment s [] t = t ≡ s
+ServesAll r per number moment s (k ∷ ks) t = (u : State) × Serves r per s k u
+    × ((r.between number (last_told moment k.told) u).lacks ≡ None)
+    × ServesAll r per (suc number) (last_told moment k.told)
+    (after_own r number (last_told moment k.told) u) ks t
 
 -- the state after all, and so the fold over all requests in order
-abbrev pub after_all : Rules → ℕ → State → List Connection → State
-after_all r per s [] = s
-after_all r per s (k ∷ ks) = after_all r per (after r s (turns_of r per k) k.told) ks
+abbrev pub after_all : Rules → ℕ → ℕ → Option ℕ → State → List Connection → State
+after_all r per number moment s [] = s
+after_all r per number moment s (k ∷ ks) = after_all r per (suc number) (last_told moment k.told)
+    (after_own r number (last_told moment k.told) (after r s (turns_of r per k) k.told)) ks
 
 -- Status 0: so many connections were served, or none came any more.
 pub record Served (r : Rules) (per connections : ℕ) (s t : State) (entries : Log) (told : List ℕ) : Type 0 where
@@ -92,18 +103,26 @@ pub record Served (r : Rules) (per connections : ℕ) (s t : State) (entries : L
   pub last : Log
   pub made : entries ≡ entries_of all ++ last
   pub moments : told ≡ told_of all
-  pub each : ServesAll r per s all t
-  pub state : t ≡ after_all r per s all
+  pub each : ServesAll r per 1 None s all t
+  pub state : t ≡ after_all r per 1 None s all
   pub ends : ((length all ≡ connections) × (last ≡ [])) ⊎ ((length all < connections) × ((m n : ℕ) × (last ≡ entry m n none_came ∷ [])))
 
--- Another status: the connections before were served so, and one may have broken off, which was hung up then or never accepted. The moments told
--- on those before count where that one wants a file.
+-- Behind a connection that was served and hung up the server's own requests broke off.
+pub record BreaksBetween (r : Rules) (per number : ℕ) (moment : Option ℕ) (fault : RunFault) (s : State)
+    (k : Connection) : Type 0 where
+  pub left : State
+  pub serves : Serves r per s k left
+  pub cause : IsCausedBy (r.between number moment left).lacks fault
+
+-- Another status: the connections before were served so, and one may have broken off, which was hung up then or never accepted; or what the
+-- server does by itself behind it did. The moments told on those before count where one that broke off wants a file.
 pub record ServedSome (r : Rules) (per connections : ℕ) (fault : RunFault) (next : ℕ) (s : State) (entries : Log) (told : List ℕ) : Type 0 where
   pub all : List Connection
   pub halfway : State
-  pub each : ServesAll r per s all halfway
+  pub each : ServesAll r per 1 None s all halfway
   pub last : List Connection
   pub made : entries ≡ entries_of all ++ entries_of last
   pub moments : told ≡ told_of all ++ told_of last
   pub some : ((last ≡ []) × IsCausedBy None fault) ⊎ ((k : Connection) × (last ≡ k ∷ []) × Breaks r per fault (reach next (told_of all)) halfway k)
+      ⊎ ((k : Connection) × (last ≡ k ∷ []) × BreaksBetween r per (suc (length all)) (last_told None told) fault halfway k)
   pub most : length all + length last ≤ connections

@@ -1,6 +1,7 @@
 pub mod Arrivals
 pub mod Connections
 pub mod Faults
+pub mod Own
 pub mod Runs
 pub mod Stops
 pub mod Stretches

@@ -1,5 +1,5 @@
 -- What a stop leaves at each moment of a run.
-use Rattle.std.specs.Prelude.{◌≤◌, ℕ, List, [], ◌∷◌, length, Option, ⊤}
+use Rattle.std.specs.Prelude.{◌≤◌, ◌+◌, ℕ, List, [], ◌∷◌, length, Option, ⊤}
 use Rattle.std.specs.List.{flat_map}
 use Rattle.alt_base.specs.Prefix.{IsPrefix}
 use Rattle.alt_disk.specs.Disk.{DiskState, IsTrusted}
@@ -7,7 +7,7 @@ use Rattle.alt_disk.specs.Runs.{Spans}
 use Rattle.alt_machine.specs.Outcomes.{state_after}
 use Rattle.alt_machine.specs.State.{State}
 use Rattle.alt_shell.specs.Log.{Log}
-use Rattle.alt_talks.specs.Turns.{answered, Turn, text_of}
+use Rattle.alt_talks.specs.Turns.{all_of, answered, Turn, text_of}
 use Rattle.alt_tables.specs.Images.{StandsFor}
 
 -- files as a stop leaves them
@@ -16,13 +16,19 @@ Image = ℕ → Option (List ℕ)
 
 -- the writes of turns, each by the state after it
 abbrev pub atoms_of : List Turn → List State
-atoms_of ts = flat_map (λ t. t.atoms) ts
+atoms_of ts = flat_map all_of ts
+
+-- How many writes are sure once these turns were answered: all of theirs, but those that the server makes by itself behind the last.
+abbrev pub sure : List Turn → ℕ
+sure [] = 0
+sure (t ∷ []) = length t.atoms
+sure (t ∷ (u ∷ ts)) = length (all_of t) + sure (u ∷ ts)
 
 -- A stop leaves this while turns are done from a state and so much was said of their text: it stands for the state after some of
--- their writes, among them all those of the turns whose whole texts were said, and what was said is the front of their text.
+-- their writes, among them those that are sure by the turns whose whole texts were said, and what was said is the front of their text.
 pub record IsLeft (s : State) (ts : List Turn) (said : List ℕ) (image : Image) : Type 0 where
   pub writes : ℕ
-  pub answered : length (atoms_of (answered ts said)) ≤ writes
+  pub answered : sure (answered ts said) ≤ writes
   pub most : writes ≤ length (atoms_of ts)
   pub stands : StandsFor image (state_after writes s (atoms_of ts))
   pub front : IsPrefix said (text_of ts)

@@ -131,14 +131,14 @@ pub record IsWorking (r : Rules) (s : State) (mute : Bool) (ts : List Turn) (ent
   pub heard : (mute || says_failed entries) ≡ false
   pub said : said_in entries ≡ text r s (before ++ asked request ∷ []) told
 
--- A request was under way, the last one that was begun, and none lacked a number or a family.
+-- A request was under way, the last one that was begun, and none before it lacked a number or a family.
 pub record IsWriting (r : Rules) (s : State) (ts : List Turn) (told : List ℕ) : Type 0 where
   pub before : List Turn
   pub request : Request
   pub rest : List Turn
   pub parts : ts ≡ before ++ asked request ∷ rest
   pub count : length told ≡ asks (before ++ asked request ∷ [])
-  pub enough : wanted r s ts told ≡ None
+  pub enough : wanted r s before told ≡ None
 
 -- So it was, or there was work behind it.
 abbrev pub IsUnderWay : Rules → State → Bool → List Turn → Log → List ℕ → Type 0

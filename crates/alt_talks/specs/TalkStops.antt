@@ -1,12 +1,13 @@
 -- What a stop leaves at each moment while connections are served.
-use Rattle.std.specs.Prelude.{◌≡◌, ◌-◌, ◌⊎◌, ℕ, List, [], ◌∷◌, ◌++◌, Bool, None}
+use Rattle.std.specs.Prelude.{◌≡◌, ◌-◌, ◌⊎◌, ℕ, suc, List, [], ◌∷◌, ◌++◌, Bool, Option, None}
 use Rattle.alt_disk.specs.Disk.{DiskState, IsImage, IsTrusted}
 use Rattle.alt_machine.specs.State.{State}
 use Rattle.alt_shell.specs.Log.{Log, until, taken, said_in}
 use Rattle.alt_tables.specs.Images.{StandsFor}
-use Rattle.alt_talks.specs.Connections.{Connection, start, Comes, ComesSome, Served, ServedSome, entries_of, turns_of}
+use Rattle.alt_talks.specs.Connections.{Connection, after_own, start, Comes, ComesSome, Served, ServedSome, entries_of, turns_of}
+use Rattle.alt_talks.specs.Own.{last_told}
 use Rattle.alt_talks.specs.Runs.{OfStretch}
-use Rattle.alt_talks.specs.Stops.{Image, IsLeft, AtEach}
+use Rattle.alt_talks.specs.Stops.{Image, IsAmong, IsLeft, AtEach}
 use Rattle.alt_talks.specs.Stretches.{Answers, AnswersSome, Moves, MovesAll, MovesSome, Steps, Carries, Goes, GoesSome, Ends}
 use Rattle.alt_talks.specs.Talks.{Turn, onward, asked, refused, Rules, Request, Head, Place, request_of, turns, turns_at}
 use Rattle.alt_talks.specs.TalkTexts.{after}
@@ -15,11 +16,16 @@ use Rattle.alt_talks.specs.declared.fault.RunFault.{RunFault}
 
 -- a text that is said, and nothing written
 abbrev pub saying : List ℕ → Deed
-saying text = record { text = text; atoms = []; lacks = None }
+saying text = record { text = text; atoms = []; own = []; lacks = None }
 
--- what a request comes to
+-- what a request comes to, with what the server does behind it
 abbrev pub carrying : Rules → State → Request → ℕ → Deed
-carrying r s q m = record { text = r.reply s q m; atoms = r.atoms s q m; lacks = r.wants s q m }
+carrying r s q m = record {
+  text = r.reply s q m;
+  atoms = r.atoms s q m;
+  own = r.own s q m;
+  lacks = r.wants s q m;
+}
 
 -- What turns come to, one after the other, as far as there are moments: the text that is said to each, and its writes.
 abbrev pub deeds : Rules → State → List Turn → List ℕ → List Deed
@@ -118,24 +124,34 @@ ComesOn r per came s t = Taking r (start per) s (Comes r per came s t)
 abbrev pub ComesSomeOn : Rules → ℕ → RunFault → ℕ → State → OfStretch
 ComesSomeOn r per fault next s = Taking r (start per) s (ComesSome r per fault next s)
 
--- A stop at a moment leaves this while connections are served from a state, one after another. It is left while the first is served, and
--- no call of the others had ended by then; or all calls of the first had, and it is left while the others are served.
-abbrev pub LeftAmong : Rules → ℕ → State → List Connection → ℕ → Image → Type 0
-LeftAmong r per s [] t image = StandsFor image s
-LeftAmong r per s (k ∷ ks) t image =
+-- What a stop leaves while the server makes its own requests behind a connection from a state: it stands for the state after some of their
+-- writes, none or all of them.
+abbrev pub LeftBetween : Rules → ℕ → Option ℕ → State → Image → Type 0
+LeftBetween r number moment s image = IsAmong image s (r.between number moment s).atoms
+
+-- A stop at a moment leaves this while connections are served from a state, one after another, of which the first has this number, and the last
+-- moment told before it is this one. It is left while the first is served, and no call of the others had ended by then; or all calls of the
+-- first had, its hanging up among them, and it is left while the server makes its own requests behind it, and no call of the others had ended;
+-- or it is left while the others are served.
+abbrev pub LeftAmong : Rules → ℕ → ℕ → Option ℕ → State → List Connection → ℕ → Image → Type 0
+LeftAmong r per number moment s [] t image = StandsFor image s
+LeftAmong r per number moment s (k ∷ ks) t image =
     (LeftTaken r (start per) s k.entries k.told t image × (until t (entries_of ks) ≡ []))
+    ⊎ (((until t k.entries ≡ k.entries) × (until t (entries_of ks) ≡ [])
+    × LeftBetween r number (last_told moment k.told) (after r s (turns_of r per k) k.told) image)
     ⊎ ((until t k.entries ≡ k.entries)
-    × LeftAmong r per (after r s (turns_of r per k) k.told) ks t image)
+    × LeftAmong r per (suc number) (last_told moment k.told)
+    (after_own r number (last_told moment k.told) (after r s (turns_of r per k) k.told)) ks t image))
 
 -- Status 0: so many connections were served, or none came any more. A stop at any moment leaves every write that was answered by then, and
 -- none of a request that wasn't whole by then.
 abbrev pub ServedOn : Rules → ℕ → ℕ → State → State → OfStretch
 ServedOn r per connections s t old new entries told =
     (x : Served r per connections s t entries told)
-    × AtEach old new (LeftAmong r per s x.all)
+    × AtEach old new (LeftAmong r per 1 None s x.all)
 
 -- another status: one may have broken off
 abbrev pub ServedSomeOn : Rules → ℕ → ℕ → RunFault → ℕ → State → OfStretch
 ServedSomeOn r per connections fault next s old new entries told =
     (x : ServedSome r per connections fault next s entries told)
-    × AtEach old new (LeftAmong r per s (x.all ++ x.last))
+    × AtEach old new (LeftAmong r per 1 None s (x.all ++ x.last))

@@ -4,6 +4,7 @@ use Rattle.std.specs.List.{list_any}
 use Rattle.alt_machine.specs.Outcomes.{last_state}
 use Rattle.alt_machine.specs.State.{State}
 use Rattle.alt_machine.specs.Wanted.{Lack}
+use Rattle.alt_talks.specs.Own.{Own}
 
 -- a head of so many bytes, what its target is, the length of the body behind it, whether 100-continue is expected, and whether it closes
 pub record Head : Type 0 where
@@ -37,24 +38,28 @@ pub data Turn : Type 0 where
   asked : Request → Turn
   refused : ℕ → Turn
 
--- What the parts below give: how heads are read, the machine's step, and the texts that are said.
+-- What the parts below give: how heads are read, the machine's step, what the server does by itself behind it and behind a
+-- connection, and the texts that are said.
 pub record Rules : Type 0 where
   pub scan : List ℕ → Scanned
   pub next : State → Request → ℕ → State
   pub atoms : State → Request → ℕ → List State
+  pub own : State → Request → ℕ → List State
   pub reply : State → Request → ℕ → List ℕ
   pub wants : State → Request → ℕ → Option Lack
+  pub between : ℕ → Option ℕ → State → Own
   pub refusal : ℕ → ℕ → List ℕ
   pub greeting : List ℕ
 
--- A head is found or refused however the bytes are cut; the state after a request is that after its last write; and each text has a
--- byte or more.
+-- A head is found or refused however the bytes are cut; the state after a request is that after its last write and the last of those that
+-- follow it; and each text has a byte or more.
 pub record Lawful (r : Rules) : Type 0 where
   pub nothing : r.scan [] ≡ unread
   pub stays_bad : (a b : List ℕ) (k : ℕ) → r.scan a ≡ bad k → r.scan (a ++ b) ≡ bad k
   pub stays_good : (a b : List ℕ) (h : Head) → r.scan a ≡ good h → r.scan (a ++ b) ≡ good h
   pub within : (a : List ℕ) (h : Head) → r.scan a ≡ good h → (0 < h.taken) × (h.taken ≤ length a)
-  pub steps : (s : State) (q : Request) (m : ℕ) → r.next s q m ≡ last_state s (r.atoms s q m)
+  pub steps : (s : State) (q : Request) (m : ℕ)
+      → r.next s q m ≡ last_state (last_state s (r.atoms s q m)) (r.own s q m)
   pub replies : (s : State) (q : Request) (m : ℕ) → 0 < length (r.reply s q m)
   pub refuses : (k m : ℕ) → 0 < length (r.refusal k m)
   pub greets : 0 < length r.greeting

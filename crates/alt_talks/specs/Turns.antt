@@ -1,5 +1,5 @@
 -- What turns come to, whatever asked for them: what is said to each, what it writes, and what it lacks.
-use Rattle.std.specs.Prelude.{ℕ, List, [], ◌∷◌, if◌then◌else◌, Option, Some, None, length, drop, nat_le}
+use Rattle.std.specs.Prelude.{ℕ, List, [], ◌∷◌, ◌++◌, if◌then◌else◌, Option, Some, None, length, drop, nat_le}
 use Rattle.std.specs.List.{flat_map}
 use Rattle.alt_machine.specs.Outcomes.{last_state}
 use Rattle.alt_machine.specs.State.{State}
@@ -7,16 +7,21 @@ use Rattle.alt_machine.specs.Wanted.{Lack}
 
 -- ---- what they come to
 
--- What a line comes to: the text that is said to it, the single writes that it makes, each by the state after it, and the
--- number or family that one of them wants and can't have.
+-- What a line comes to: the text that is said to it, the single writes that it makes, each by the state after it, those that the server
+-- makes by itself behind it, and the number or family that one of them wants and can't have.
 pub record Turn : Type 0 where
   pub text : List ℕ
   pub atoms : List State
+  pub own : List State
   pub lacks : Option Lack
 
--- the state after a turn
+-- all its writes
+abbrev pub all_of : Turn → List State
+all_of t = t.atoms ++ t.own
+
+-- the state after a turn, with what the server does behind it
 abbrev pub after_turn : State → Turn → State
-after_turn s t = last_state s t.atoms
+after_turn s t = last_state (last_state s t.atoms) t.own
 
 -- ---- what they come to together
 

@@ -1,5 +1,5 @@
--- Work on the store between two turns: it says and takes nothing, and changes no state.
-use Rattle.std.specs.Prelude.{◌≡◌, ◌<◌, ◌*◌, ℕ}
+-- Work on the store between two turns, which changes no state, and what the server does by itself. Neither says or takes anything.
+use Rattle.std.specs.Prelude.{◌≡◌, ◌<◌, ◌*◌, ℕ, List}
 use Rattle.alt_disk.specs.Disk.{DiskState, Goes, IsTrusted}
 use Rattle.alt_hand.specs.Working.{HasEntries}
 use Rattle.alt_engine.specs.declared.work.Task.{Task}
@@ -7,12 +7,18 @@ use Rattle.alt_engine.specs.declared.work.Task.TheVariants.{Step, FlushAll, Merg
 use Rattle.alt_machine.specs.State.{State}
 use Rattle.alt_tables.specs.Images.{StandsFor}
 use Rattle.alt_tables.specs.Merged.{IsMergedFor}
-use Rattle.alt_talks.specs.Stops.{AtEach}
+use Rattle.alt_talks.specs.Stops.{AtEach, IsAmong}
 
 -- Work on a store that stands for a state: calls of the disk alone, and whatever a stop leaves at a moment of them stands for that state.
 pub record Works (old new : DiskState) (s : State) : Type 0 where
   pub goes : Goes old new
   pub leaves : AtEach old new (λ _ image. StandsFor image s)
+
+-- What the server does by itself from a state: calls of the disk alone, and whatever a stop leaves at a moment of them stands for the
+-- state after some of these writes, none or all of them.
+pub record Follows (old new : DiskState) (s : State) (own : List State) : Type 0 where
+  pub goes : Goes old new
+  pub leaves : AtEach old new (λ _ image. IsAmong image s own)
 
 -- On a disk that can be relied on, the lengths of the entries of the segments that the last version names add up to fewer than 16 times
 -- so many bytes, one or more.

@@ -1,45 +1,42 @@
 //! Serving connections: from the bytes taken to the replies said. Each function says of the calls that it made which turns of
 //! the connection they did, or where among them it broke off, so that a run is put together from them.
 
-ghost use Rattle.std.specs.Prelude.{◌≡◌, ◌<◌, ◌≤◌, ◌+◌, ◌-◌, ◌^◌, ◌==◌, ◌||◌, nat_le, if◌then◌else◌, ℕ, [], ◌∷◌, take, drop, length, true, false, IfOk, OnOk, OnErr, IfErr, IsErrOf, MatchResult};
+ghost use Rattle.std.specs.Prelude.{◌≡◌, ◌<◌, ◌≤◌, ◌+◌, ◌-◌, ◌^◌, ◌==◌, ◌||◌, nat_le, if◌then◌else◌, ℕ, Option, [], ◌∷◌, take, drop, length, true, false, IfOk, OnOk, IsErrOf, MatchResult};
 ghost use Rattle.alt_base.specs.Counts.{Rose};
-ghost use Rattle.alt_disk.specs.Disk.{Goes};
 ghost use Rattle.alt_machine.specs.State.{State};
 ghost use Rattle.alt_shell.specs.Calls.{Keeps};
 ghost use Rattle.alt_shell.specs.Log.{talks, takes_missed, says_missed};
-ghost use Rattle.alt_tables.specs.FilesLeft.{most_files};
 ghost use Rattle.alt_tables.specs.Stands.{AreReady, Stands, bounds_of};
 ghost use Rattle.alt_http.specs.Reading.{scan_of};
 ghost use Rattle.alt_talks.specs.Arrivals.{Came, CameAll, CameAtMost, CameOne};
-ghost use Rattle.alt_talks.specs.Faults.{IsFileFault};
 ghost use Rattle.alt_talks.specs.private.HeadViews.{scan_in};
-ghost use Rattle.alt_talks.specs.Runs.{LeadsOn, Passes, Stretch};
+ghost use Rattle.alt_talks.specs.Runs.{LeadsOn, Passes, Stretch, Timed};
 ghost use Rattle.alt_talks.specs.Stretches.{Utters, AtRest};
 ghost use Rattle.alt_talks.specs.TalkRules.{rules};
 ghost use Rattle.alt_talks.specs.TalkStops.{AnswersOn, AnswersSomeOn, CarriesOn, CarriesSomeOn, ComesOn, ComesSomeOn, EndsOn, GoesOn, GoesSomeOn, LeavesNow, MovesAllOn, MovesSomeOn, ServedOn, ServedSomeOn, StepsOn};
 ghost use Rattle.alt_talks.specs.TalkViews.{place_of, head_in, asking};
 ghost use Rattle.alt_talks.specs.Talks.{onward, asked, refused, greets};
-ghost use Rattle.alt_talks.specs.Works.{Works};
 
 use crate::fault::RunFault;
+use crate::following::{between, follow};
 use crate::front::{Front, Head};
 use crate::response::{refusal_text, response};
-use crate::working::work;
 use alt_base::NoMemory;
 use alt_fields::Bytes;
 use alt_http::{CONTINUE, Scan};
 use alt_shell::Shell;
-use alt_tables::{Tables, Task};
+use alt_tables::Tables;
 use std::alloc::Global;
 
 /// A connection as it is served: the bytes taken that no turn has used, how many requests may come, whether the client of the head
-/// in front was let go on, and whether a say failed.
+/// in front was let go on, whether a say failed, and the last moment that was told in the run.
 #[derive(Drop)]
 pub(crate) struct Talk {
     front: Front,
     left: u32,
     greeted: bool,
     mute: bool,
+    last: Option<u64>,
 }
 
 /// Says a text, unless a say failed before.
@@ -71,6 +68,7 @@ fn refuse<S: Shell>(
     alloc: Global,
     number: u8,
     mute: &mut bool,
+    last: &mut Option<u64>,
     shell: &mut S,
 ) -> Result<(), RunFault>
     requires low { 1 ≤ number }
@@ -79,7 +77,8 @@ fn refuse<S: Shell>(
     requires hears { mute.old ≡ false → says_missed (S.state shell.old).beside ≡ false }
     ensures answered { (s : State) → LeavesNow (S.state shell.old) s → MatchResult result
         (λ _. Stretch (S.state shell.old) (S.state shell.new)
-        (AnswersOn rules s mute.old (refused number ∷ []) s mute.new))
+        (Timed last.old last.new
+        (AnswersOn rules s mute.old (refused number ∷ []) s mute.new)))
         (λ f. (next : ℕ) → Stretch (S.state shell.old) (S.state shell.new)
         (AnswersSomeOn rules f next s mute.old (refused number ∷ []))) }
     ensures hears { mute.new ≡ false → says_missed (S.state shell.new).beside ≡ false }
@@ -95,6 +94,7 @@ fn refuse<S: Shell>(
         return Ok(());
     }
     let moment = shell.now();
+    *last = Some(moment);
     match refusal_text(alloc, number, moment) {
         Ok(text) => {
             utter(mute, &text, shell);
@@ -104,8 +104,8 @@ fn refuse<S: Shell>(
     }
 }
 
-/// A request: it is carried out at the moment that the clock tells, and answered unless a say failed before. Behind a reply that was said
-/// one step of work is made.
+/// A request: it is carried out at the moment that the clock tells, and answered unless a say failed before. Then come the server's own
+/// requests behind it, and behind a reply that was said one step of work.
 fn respond<S: Shell>(
     alloc: Global,
     tables: &mut Tables,
@@ -113,6 +113,7 @@ fn respond<S: Shell>(
     body: &[u8],
     close: bool,
     mute: &mut bool,
+    last: &mut Option<u64>,
     shell: &mut S,
 ) -> Result<(), RunFault>
     requires ready { AreReady (S.state shell.old) tables.old }
@@ -121,7 +122,8 @@ fn respond<S: Shell>(
     ensures answered { (s : State) → Stands (S.state shell.old) tables.old s → MatchResult result
         (λ _. LeadsOn (bounds_of tables.old).file (S.state shell.old)
         (S.state shell.new) tables.new
-        (λ t. AnswersOn rules s mute.old (asked (asking target.now body.now close) ∷ []) t mute.new))
+        (λ t. Timed last.old last.new
+        (AnswersOn rules s mute.old (asked (asking target.now body.now close) ∷ []) t mute.new)))
         (λ f. Stretch (S.state shell.old) (S.state shell.new)
         (AnswersSomeOn rules f (bounds_of tables.old).file s mute.old (asked (asking target.now body.now close) ∷ []))) }
     ensures hears { mute.new ≡ false → says_missed (S.state shell.new).beside ≡ false }
@@ -133,46 +135,25 @@ fn respond<S: Shell>(
     ensures passes { Passes (S.state shell.old) (S.state shell.new) }
 {
     let moment = shell.now();
+    *last = Some(moment);
     let text = match response(alloc, tables, shell, target, body, close, moment) {
         Ok(text) => text,
         Err(fault) => return Err(fault),
     };
     utter(mute, &text, shell);
-    match step(*mute, tables, shell) {
+    match follow(tables, shell, !*mute) {
         Ok(()) => Ok(()),
         Err(fault) => Err(fault),
     }
-}
-
-/// One step of work in the background, unless a say failed.
-fn step<S: Shell>(mute: bool, tables: &mut Tables, shell: &mut S) -> Result<(), RunFault>
-    requires ready { AreReady (S.state shell.old) tables.old }
-    ensures stands { (s : State) → Stands (S.state shell.old) tables.old s
-        → OnOk result (Stands (S.state shell.new) tables.new s) }
-    ensures works { (s : State) → Stands (S.state shell.old) tables.old s
-        → Works (S.state shell.old) (S.state shell.new) s }
-    ensures fault { (s : State) → Stands (S.state shell.old) tables.old s
-        → IfErr result (IsFileFault ((bounds_of tables.old).file + most_files)) }
-    ensures files { (s : State) → Stands (S.state shell.old) tables.old s → OnOk result
-        ((bounds_of tables.new).file ≤ (bounds_of tables.old).file + most_files) }
-    ensures heard { OnErr result (mute ≡ false) }
-    ensures goes { Goes (S.state shell.old) (S.state shell.new) }
-    ensures cause { IsErrOf result RunFault.Failed
-        → Rose (S.state shell.old).faults (S.state shell.new).faults }
-{
-    if mute {
-        return Ok(());
-    }
-    work(tables, shell, Task::Step)
 }
 
 /// Lets the client go on where it waits for that and wasn't let before.
 fn hello<S: Shell>(expect: bool, greeted: bool, mute: &mut bool, shell: &mut S)
     requires talking { talks (S.state shell.old).beside ≡ true }
     requires hears { mute.old ≡ false → says_missed (S.state shell.old).beside ≡ false }
-    ensures greeted { (s : State) → LeavesNow (S.state shell.old) s
-        → Stretch (S.state shell.old) (S.state shell.new)
-        (AnswersOn rules s mute.old (greets greeted expect) s mute.new) }
+    ensures greeted { (s : State) (last : Option ℕ) → LeavesNow (S.state shell.old) s
+        → Stretch (S.state shell.old) (S.state shell.new) (Timed last last
+        (AnswersOn rules s mute.old (greets greeted expect) s mute.new)) }
     ensures hears { mute.new ≡ false → says_missed (S.state shell.new).beside ≡ false }
     ensures takes { takes_missed (S.state shell.new).beside
         ≡ takes_missed (S.state shell.old).beside }
@@ -246,8 +227,9 @@ fn carry<S: Shell>(
     ensures carried { (s : State) → Stands (S.state shell.old) tables.old s → MatchResult result
         (λ _. LeadsOn (bounds_of tables.old).file (S.state shell.old)
         (S.state shell.new) tables.new
-        (λ t. CarriesOn rules (head_in head.now) (place_of talk.old) s talk.old.mute
-        (place_of talk.new) t talk.new.mute))
+        (λ t. Timed talk.old.last talk.new.last
+        (CarriesOn rules (head_in head.now) (place_of talk.old) s talk.old.mute
+        (place_of talk.new) t talk.new.mute)))
         (λ f. Stretch (S.state shell.old) (S.state shell.new)
         (CarriesSomeOn rules f (bounds_of tables.old).file (head_in head.now) (place_of talk.old) s
         talk.old.mute)) }
@@ -270,6 +252,7 @@ fn carry<S: Shell>(
         body_in(talk.front.as_slice(), head.taken, size),
         last,
         &mut talk.mute,
+        &mut talk.last,
         shell,
     ) {
         Ok(()) => {}
@@ -299,8 +282,9 @@ fn found<S: Shell>(
     ensures stepped { (s : State) → Stands (S.state shell.old) tables.old s → MatchResult result
         (λ more. LeadsOn (bounds_of tables.old).file (S.state shell.old)
         (S.state shell.new) tables.new
-        (λ t. StepsOn rules more (place_of talk.old) s talk.old.mute
-        (place_of talk.new) t talk.new.mute))
+        (λ t. Timed talk.old.last talk.new.last
+        (StepsOn rules more (place_of talk.old) s talk.old.mute
+        (place_of talk.new) t talk.new.mute)))
         (λ f. Stretch (S.state shell.old) (S.state shell.new)
         (MovesSomeOn rules f (bounds_of tables.old).file (place_of talk.old) s talk.old.mute)) }
     ensures fewer { IfOk result (λ more. more ≡ true → talk.new.left < talk.old.left) }
@@ -338,8 +322,9 @@ fn one<S: Shell>(
     ensures stepped { (s : State) → Stands (S.state shell.old) tables.old s → MatchResult result
         (λ more. LeadsOn (bounds_of tables.old).file (S.state shell.old)
         (S.state shell.new) tables.new
-        (λ t. StepsOn rules more (place_of talk.old) s talk.old.mute
-        (place_of talk.new) t talk.new.mute))
+        (λ t. Timed talk.old.last talk.new.last
+        (StepsOn rules more (place_of talk.old) s talk.old.mute
+        (place_of talk.new) t talk.new.mute)))
         (λ f. Stretch (S.state shell.old) (S.state shell.new)
         (MovesSomeOn rules f (bounds_of tables.old).file (place_of talk.old) s talk.old.mute)) }
     ensures fewer { IfOk result (λ more. more ≡ true → talk.new.left < talk.old.left) }
@@ -358,7 +343,7 @@ fn one<S: Shell>(
     match scan {
         Scan::More => Ok(false),
         Scan::Refused(number) => {
-            match refuse(alloc, number, &mut talk.mute, shell) {
+            match refuse(alloc, number, &mut talk.mute, &mut talk.last, shell) {
                 Ok(()) => {}
                 Err(fault) => return Err(fault),
             }
@@ -397,8 +382,9 @@ fn at_hand<S: Shell>(
     ensures moved { (s : State) → Stands (S.state shell.old) tables.old s → MatchResult result
         (λ _. LeadsOn (bounds_of tables.old).file (S.state shell.old)
         (S.state shell.new) tables.new
-        (λ t. MovesAllOn rules (place_of talk.old) s talk.old.mute
-        (place_of talk.new) t talk.new.mute))
+        (λ t. Timed talk.old.last talk.new.last
+        (MovesAllOn rules (place_of talk.old) s talk.old.mute
+        (place_of talk.new) t talk.new.mute)))
         (λ f. Stretch (S.state shell.old) (S.state shell.new)
         (MovesSomeOn rules f (bounds_of tables.old).file (place_of talk.old) s talk.old.mute)) }
     ensures hears { talk.new.mute ≡ false → says_missed (S.state shell.new).beside ≡ false }
@@ -438,8 +424,9 @@ fn pull<S: Shell>(
         → AtRest rules (place_of talk.old) → MatchResult result
         (λ more. LeadsOn (bounds_of tables.old).file (S.state shell.old)
         (S.state shell.new) tables.new
-        (λ t. GoesOn rules more (place_of talk.old) s talk.old.mute
-        (place_of talk.new) t talk.new.mute))
+        (λ t. Timed talk.old.last talk.new.last
+        (GoesOn rules more (place_of talk.old) s talk.old.mute
+        (place_of talk.new) t talk.new.mute)))
         (λ f. Stretch (S.state shell.old) (S.state shell.new)
         (GoesSomeOn rules f (bounds_of tables.old).file (place_of talk.old) s talk.old.mute)) }
     ensures hears { talk.new.mute ≡ false → says_missed (S.state shell.new).beside ≡ false }
@@ -489,8 +476,9 @@ fn pulls<S: Shell>(
     ensures ended { (s : State) → Stands (S.state shell.old) tables.old s → MatchResult result
         (λ _. LeadsOn (bounds_of tables.old).file (S.state shell.old)
         (S.state shell.new) tables.new
-        (λ t. EndsOn rules (place_of talk.old) s talk.old.mute
-        (place_of talk.new) t talk.new.mute))
+        (λ t. Timed talk.old.last talk.new.last
+        (EndsOn rules (place_of talk.old) s talk.old.mute
+        (place_of talk.new) t talk.new.mute)))
         (λ f. Stretch (S.state shell.old) (S.state shell.new)
         (GoesSomeOn rules f (bounds_of tables.old).file (place_of talk.old) s talk.old.mute)) }
     ensures cause { IsErrOf result RunFault.Failed
@@ -519,6 +507,7 @@ fn connection<S: Shell>(
     tables: &mut Tables,
     per: u32,
     buf: &mut [u8],
+    last: &mut Option<u64>,
     shell: &mut S,
 ) -> Result<bool, RunFault>
     requires ready { AreReady (S.state shell.old) tables.old }
@@ -528,7 +517,7 @@ fn connection<S: Shell>(
     ensures served { (s : State) → Stands (S.state shell.old) tables.old s → MatchResult result
         (λ came. LeadsOn (bounds_of tables.old).file (S.state shell.old)
         (S.state shell.new) tables.new
-        (λ t. ComesOn rules per came s t))
+        (λ t. Timed last.old last.new (ComesOn rules per came s t)))
         (λ f. Stretch (S.state shell.old) (S.state shell.new)
         (ComesSomeOn rules per f (bounds_of tables.old).file s)) }
     ensures cause { IsErrOf result RunFault.Failed
@@ -545,9 +534,11 @@ fn connection<S: Shell>(
                 left: per,
                 greeted: false,
                 mute: false,
+                last: *last,
             };
             let served = pulls(alloc, tables, buf, &mut talk, shell);
             shell.hang_up();
+            *last = talk.last;
             match served {
                 Ok(()) => Ok(true),
                 Err(fault) => Err(fault),
@@ -558,9 +549,9 @@ fn connection<S: Shell>(
     }
 }
 
-/// Serves connections, one after another, so many at most, with so many requests at most on each. Bytes are taken into `buf`. It ends early
-/// where none comes any more, and with an Err where a request has no answer for a reason that isn't its client's: then the connection at hand
-/// is hung up too.
+/// Serves connections, one after another, so many at most, with so many requests at most on each, and does behind each what the server does
+/// by itself. Bytes are taken into `buf`. It ends early where none comes any more, and with an Err where a request has no answer for a
+/// reason that isn't its client's: then the connection at hand is hung up too.
 pub fn connections<S: Shell>(
     alloc: Global,
     tables: &mut Tables,
@@ -587,13 +578,18 @@ pub fn connections<S: Shell>(
     ensures passes { Passes (S.state shell.old) (S.state shell.new) }
 {
     let mut served: u32 = 0;
+    let mut last = None;
     while served < count {
-        match connection(alloc, tables, per, buf, shell) {
+        match connection(alloc, tables, per, buf, &mut last, shell) {
             Ok(true) => {}
             Ok(false) => return Ok(()),
             Err(fault) => return Err(fault),
         }
         served += 1;
+        match between(tables, shell, served, last) {
+            Ok(()) => {}
+            Err(fault) => return Err(fault),
+        }
     }
     Ok(())
 }

@@ -3,10 +3,12 @@
 
 mod connection;
 mod fault;
+mod following;
 mod front;
 mod response;
 mod working;
 
 pub use connection::connections;
 pub use fault::RunFault;
+pub use following::follow;
 pub use working::work;

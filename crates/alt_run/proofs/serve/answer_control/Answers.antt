@@ -3,7 +3,7 @@ use Rattle.alt_tables.specs.Stands.{bounds_of}
 use Rattle.alt_run.specs.Turns.{control, obeyed}
 use Rattle.alt_run.proofs.Beginning.{begins_control}
 use Rattle.alt_run.proofs.Bringing.{at_hand_said, behind_kept, brings_line, silent_of}
-use Rattle.alt_run.proofs.Serving.{turn_served, turn_cut, control_unsaid}
+use Rattle.alt_run.proofs.Serving.{turn_alone, turn_cut, control_unsaid}
 use Rattle.alt_run.proofs.serve.answer_control.Goals as goal
 
 pub returns-in-Err-clause-served : goal.returns-in-Err-clause-served
@@ -20,9 +20,9 @@ returns-in-Ok-say-clause-served g c = λ s stands.
     let state = g.S.Disk.state in
     let old = state c.args.shell.now in
     let mid = state c.obey.new.disk in
-    turn_served old mid (state c.say.new.self) c.obey.new.tables s (control c.args.word) obeyed []
+    turn_alone old mid (state c.say.new.self) c.obey.new.tables s (control c.args.word) obeyed []
     obeyed.text (begins_control old mid c.args.word s (c.in-Ok.ensures.works s stands))
-    refl (c.in-Ok.ensures.stands s stands)
+    refl refl (c.in-Ok.ensures.stands s stands)
     c.in-Ok-say.ensures.call c.in-Ok-say.ensures.said c.in-Ok-say.ensures.moments refl
 
 pub returns-in-Ok-say-clause-brings : goal.returns-in-Ok-say-clause-brings

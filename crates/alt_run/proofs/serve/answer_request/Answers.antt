@@ -1,16 +1,16 @@
-use Rattle.std.proofs.Common.{◌∷◌, [], ◌∙◌, ◌≤◌, ◌+◌, ap, subst}
+use Rattle.std.proofs.Common.{◌∷◌, [], ◌∙◌, ◌≤◌, ◌+◌, true, ap, refl, subst}
 use Rattle.alt_disk.proofs.Runs.{trusted_back}
 use Rattle.alt_disk.specs.Disk.{DiskState}
 use Rattle.alt_machine.specs.State.{State}
 use Rattle.alt_engine.specs.InHand.{Bounds}
 use Rattle.alt_tables.specs.FilesLeft.{most_files}
 use Rattle.alt_tables.specs.Stands.{bounds_of}
-use Rattle.alt_talks.specs.Faults.{IsFileFault}
+use Rattle.alt_talks.specs.Own.{FollowsNot, own_behind}
 use Rattle.alt_talks.specs.Works.{HasFewEntries}
-use Rattle.alt_talks.specs.Turns.{after_turn}
-use Rattle.alt_run.specs.Turns.{request, carried_out}
-use Rattle.alt_run.proofs.Serving.{turn_served, turn_cut, turn_unsaid}
-use Rattle.alt_run.proofs.Working.{leads_worked, leads_broke}
+use Rattle.alt_run.specs.Turns.{request, carried_out, left_by}
+use Rattle.alt_run.proofs.Serving.{turn_cut, turn_unsaid}
+use Rattle.alt_run.proofs.Working.{request_broke, request_served}
+use Rattle.alt_talks.proofs.Owning.{cause_first}
 use Rattle.alt_talks.proofs.Stopping.{ready_kept, stands_kept}
 use Rattle.alt_run.proofs.Beginning.{begins}
 use Rattle.alt_run.proofs.Bringing.{at_hand_worked, silent_then}
@@ -38,7 +38,7 @@ returns-in-Err-clause-served g c = λ s stands.
     (begins old mid new s c.args.name.now c.args.body.now m c.now-moment.ensures.call
     c.now-moment.ensures.log c.now-moment.ensures.told c.in-Err.ensures.goes
     (c.in-Err.ensures.leaves s here))
-    (c.in-Err.ensures.cause s here)
+    (cause_first _ _ c.in-Err.fault (c.in-Err.ensures.cause s here))
 
 pub returns-in-Err-say-clause-served : goal.returns-in-Err-say-clause-served
 returns-in-Err-say-clause-served g c = λ s stands.
@@ -61,8 +61,8 @@ returns-in-Err-say-clause-served g c = λ s stands.
     (c.as_bytes.ensures.value ∙ c.in-Ok.ensures.text s here)
     c.in-Err-say.ensures.said
 
-pub work-requires : goal.work-requires
-work-requires g c =
+pub follow-requires : goal.follow-requires
+follow-requires g c =
     let state = g.S.Disk.state in
     let old : DiskState = state c.args.shell.now in
     let mid : DiskState = state c.now-moment.new.self in
@@ -74,45 +74,49 @@ work-requires g c =
           (λ trusted.
           let first = ready_kept old mid c.args.tables.now c.now-moment.ensures.call.keeps
           c.requires.ready (trusted_back mid asked c.in-Ok.ensures.goes trusted) in (
-            after_turn first.0 (carried_out first.0 c.args.name.now c.args.body.now m),
+            left_by first.0 c.args.name.now c.args.body.now m,
             c.in-Ok.ensures.state first.0 first.1,
           ));
     }
 
-pub returns-in-Ok-work-clause-served : goal.returns-in-Ok-work-clause-served
-returns-in-Ok-work-clause-served g c = λ s stands.
+pub returns-in-Ok-follow-clause-served : goal.returns-in-Ok-follow-clause-served
+returns-in-Ok-follow-clause-served g c = λ s stands.
     let state = g.S.Disk.state in
     let old : DiskState = state c.args.shell.now in
     let mid : DiskState = state c.now-moment.new.self in
     let asked : DiskState = state c.reply_text.new.disk in
     let done : DiskState = state c.say.new.self in
     let m = c.now-moment.result in
-    let l = request c.args.name.now c.args.body.now in
+    let name = c.args.name.now in
+    let body = c.args.body.now in
     let here = stands_kept old mid c.now-moment.ensures.call.keeps c.args.tables.now s stands in
-    leads_worked old done (state c.work.new.disk) c.reply_text.new.tables s (l ∷ [])
-    (turn_served old asked done c.reply_text.new.tables s l
-    (carried_out s c.args.name.now c.args.body.now m) (m ∷ []) c.as_bytes.result.now
-    (begins old mid asked s c.args.name.now c.args.body.now m c.now-moment.ensures.call
+    let left = left_by s name body m in
+    let there = stands_kept asked done c.in-Ok-say.ensures.call.keeps c.reply_text.new.tables left
+    (c.in-Ok.ensures.state s here) in
+    request_served old asked done (state c.follow.new.disk) c.reply_text.new.tables s name body m
+    c.as_bytes.result.now
+    (begins old mid asked s name body m c.now-moment.ensures.call
     c.now-moment.ensures.log c.now-moment.ensures.told c.in-Ok.ensures.goes
     (c.in-Ok.ensures.leaves s here))
-    (c.in-Ok.ensures.enough s here) (c.in-Ok.ensures.state s here)
+    (c.in-Ok.ensures.state s here)
     c.in-Ok-say.ensures.call c.in-Ok-say.ensures.said c.in-Ok-say.ensures.moments
-    (c.as_bytes.ensures.value ∙ c.in-Ok.ensures.text s here))
-    c.work.new.tables (λ (t : State) there. c.in-Ok-work.ensures.works t there)
-    (λ (t : State) there. c.in-Ok-work.ensures.stands t there)
+    (c.as_bytes.ensures.value ∙ c.in-Ok.ensures.text s here)
+    (c.in-Ok-follow.ensures.follows left there) (c.in-Ok.ensures.enough s here)
+    c.follow.new.tables (c.in-Ok-follow.ensures.enough left there)
+    (c.in-Ok-follow.ensures.stands left there)
 
-pub returns-in-Ok-work-clause-brings : goal.returns-in-Ok-work-clause-brings
-returns-in-Ok-work-clause-brings g c =
+pub returns-in-Ok-follow-clause-brings : goal.returns-in-Ok-follow-clause-brings
+returns-in-Ok-follow-clause-brings g c =
     let state = g.S.Disk.state in
     let old : DiskState = state c.args.shell.now in
     let mid : DiskState = state c.now-moment.new.self in
     let asked : DiskState = state c.reply_text.new.disk in
-    at_hand_worked _ old asked (state c.say.new.self) (state c.work.new.disk) c.as_bytes.result.now
+    at_hand_worked _ old asked (state c.say.new.self) (state c.follow.new.disk) c.as_bytes.result.now
     (request c.args.name.now c.args.body.now)
     (silent_then old mid asked c.now-moment.ensures.log c.in-Ok.ensures.goes)
-    c.in-Ok-say.ensures.said c.in-Ok-work.ensures.goes
-    (subst (λ (b : Bounds). HasFewEntries b.limits.flush (state c.work.new.disk))
-    c.in-Ok.ensures.limits c.in-Ok-work.ensures.entries)
+    c.in-Ok-say.ensures.said c.in-Ok-follow.ensures.goes
+    (subst (λ (b : Bounds). HasFewEntries b.limits.flush (state c.follow.new.disk))
+    c.in-Ok.ensures.limits (c.in-Ok-follow.ensures.entries refl))
 
 pub returns-clause-served : goal.returns-clause-served
 returns-clause-served g c = λ s stands.
@@ -125,31 +129,32 @@ returns-clause-served g c = λ s stands.
     let name = c.args.name.now in
     let body = c.args.body.now in
     let here = stands_kept old mid c.now-moment.ensures.call.keeps c.args.tables.now s stands in
-    leads_broke old done (state c.work.new.disk) c.reply_text.new.tables s name body
-    (turn_served old asked done c.reply_text.new.tables s (request name body)
-    (carried_out s name body m) (m ∷ []) c.as_bytes.result.now
+    let left = left_by s name body m in
+    let there = stands_kept asked done c.in-Ok-say.ensures.call.keeps c.reply_text.new.tables left
+    (c.in-Ok.ensures.state s here) in
+    request_broke old asked done (state c.follow.new.disk) c.reply_text.new.tables s name body m
+    c.as_bytes.result.now
     (begins old mid asked s name body m c.now-moment.ensures.call
     c.now-moment.ensures.log c.now-moment.ensures.told c.in-Ok.ensures.goes
     (c.in-Ok.ensures.leaves s here))
-    (c.in-Ok.ensures.enough s here) (c.in-Ok.ensures.state s here)
+    (c.in-Ok.ensures.state s here)
     c.in-Ok-say.ensures.call c.in-Ok-say.ensures.said c.in-Ok-say.ensures.moments
-    (c.as_bytes.ensures.value ∙ c.in-Ok.ensures.text s here))
-    (λ (t : State) there. c.in-Err-work.ensures.works t there) c.in-Err-work.fault
-    (bounds_of c.args.tables.now).file
-    (λ (t : State) there.
-    subst (λ (b : Bounds). IsFileFault (b.file + most_files) c.in-Err-work.fault)
-    c.in-Ok.ensures.limits (c.in-Err-work.ensures.fault t there))
+    (c.as_bytes.ensures.value ∙ c.in-Ok.ensures.text s here)
+    (c.in-Err-follow.ensures.follows left there) (c.in-Ok.ensures.enough s here)
+    c.in-Err-follow.fault (bounds_of c.args.tables.now).file
+    (subst (λ (b : Bounds). FollowsNot true (b.file + most_files) (own_behind left).lacks
+    c.in-Err-follow.fault) c.in-Ok.ensures.limits (c.in-Err-follow.ensures.fault left there))
 
-pub returns-in-Ok-work-clause-files : goal.returns-in-Ok-work-clause-files
-returns-in-Ok-work-clause-files g c = λ s stands.
+pub returns-in-Ok-follow-clause-files : goal.returns-in-Ok-follow-clause-files
+returns-in-Ok-follow-clause-files g c = λ s stands.
     let state = g.S.Disk.state in
     let old : DiskState = state c.args.shell.now in
     let mid : DiskState = state c.now-moment.new.self in
     let asked : DiskState = state c.reply_text.new.disk in
     let here = stands_kept old mid c.now-moment.ensures.call.keeps c.args.tables.now s stands in
     let there = c.in-Ok.ensures.state s here in
-    subst (λ (b : Bounds). (bounds_of c.work.new.tables).file ≤ b.file + most_files)
-    c.in-Ok.ensures.limits (c.in-Ok-work.ensures.files _
+    subst (λ (b : Bounds). (bounds_of c.follow.new.tables).file ≤ b.file + most_files)
+    c.in-Ok.ensures.limits (c.in-Ok-follow.ensures.files _
     (stands_kept asked (state c.say.new.self) c.in-Ok-say.ensures.call.keeps c.reply_text.new.tables _
     there))
 
@@ -159,10 +164,10 @@ returns-in-Err-clause-limits g c = ap (λ (b : Bounds). b.limits) c.in-Err.ensur
 pub returns-in-Err-say-clause-limits : goal.returns-in-Err-say-clause-limits
 returns-in-Err-say-clause-limits g c = ap (λ (b : Bounds). b.limits) c.in-Ok.ensures.limits
 
-pub returns-in-Ok-work-clause-limits : goal.returns-in-Ok-work-clause-limits
-returns-in-Ok-work-clause-limits g c =
-    c.in-Ok-work.ensures.limits ∙ ap (λ (b : Bounds). b.limits) c.in-Ok.ensures.limits
+pub returns-in-Ok-follow-clause-limits : goal.returns-in-Ok-follow-clause-limits
+returns-in-Ok-follow-clause-limits g c =
+    c.in-Ok-follow.ensures.limits ∙ ap (λ (b : Bounds). b.limits) c.in-Ok.ensures.limits
 
 pub returns-clause-limits : goal.returns-clause-limits
 returns-clause-limits g c =
-    c.in-Err-work.ensures.limits ∙ ap (λ (b : Bounds). b.limits) c.in-Ok.ensures.limits
+    c.in-Err-follow.ensures.limits ∙ ap (λ (b : Bounds). b.limits) c.in-Ok.ensures.limits

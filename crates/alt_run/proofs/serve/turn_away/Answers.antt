@@ -1,7 +1,7 @@
 use Rattle.std.proofs.Common.{◌∷◌, [], refl}
 use Rattle.alt_tables.specs.Stands.{bounds_of}
 use Rattle.alt_run.specs.Turns.{unread, turned_away}
-use Rattle.alt_run.proofs.Serving.{turn_served, turn_cut}
+use Rattle.alt_run.proofs.Serving.{turn_alone, turn_cut}
 use Rattle.alt_run.proofs.Beginning.{begins_away}
 use Rattle.alt_shell.proofs.Telling.{Grows-nil}
 use Rattle.alt_run.proofs.Bringing.{at_hand_said, brings_line}
@@ -11,8 +11,8 @@ pub returns-in-Ok-clause-served : goal.returns-in-Ok-clause-served
 returns-in-Ok-clause-served g c = λ s stands.
     let state = g.S.Disk.state in
     let old = state c.args.shell.now in
-    turn_served old old (state c.say.new.self) c.args.tables.now s unread turned_away []
-    turned_away.text (begins_away old c.args.tables.now s stands) refl stands
+    turn_alone old old (state c.say.new.self) c.args.tables.now s unread turned_away []
+    turned_away.text (begins_away old c.args.tables.now s stands) refl refl stands
     c.in-Ok.ensures.call c.in-Ok.ensures.said c.in-Ok.ensures.moments refl
 
 pub returns-in-Ok-clause-brings : goal.returns-in-Ok-clause-brings

@@ -2,6 +2,7 @@ use Rattle.std.proofs.Common.{◌≡◌, ◌<◌, ◌++◌, ℕ, List, arith, �
 use Rattle.alt_machine.specs.State.{State}
 use Rattle.alt_shell.specs.Log.{Log}
 use Rattle.alt_tables.specs.Stands.{bounds_of}
+use Rattle.alt_talks.specs.Runs.{Timed}
 use Rattle.alt_talks.specs.TalkStops.{MovesOn, MovesAllOn, MovesSomeOn, StepsOn}
 use Rattle.alt_talks.specs.TalkRules.{rules}
 use Rattle.alt_talks.specs.TalkViews.{place_of}
@@ -12,6 +13,7 @@ use Rattle.alt_talks.proofs.Uttering.{rests_at_end}
 use Rattle.alt_talks.proofs.TalkLaws.{lawful}
 use Rattle.alt_talks.proofs.TalkLeaving.{moves_none_on, moves_then_on, moves_all_on, moves_break_on}
 use Rattle.alt_tables.proofs.Left.{stands_left}
+use Rattle.alt_talks.proofs.Timing.{told_both}
 use Rattle.alt_talks.proofs.Arriving.{came_none, came_then}
 use Rattle.alt_talks.proofs.connection.at_hand.Goals as goal
 
@@ -19,10 +21,13 @@ pub loop-talk-init : goal.loop-talk-init
 loop-talk-init g c =
     let old = g.S.Disk.state c.args.shell.now in
     let p = place_of c.args.talk.now in
+    let l = c.args.talk.now.last in
     let m = c.args.talk.now.mute in (
-      λ s stands. reach_none old c.args.tables.now s (λ t. MovesOn rules p s m p t m) stands
-          (moves_none_on rules old p s m
-          (λ trusted image is. stands_left old c.args.tables.now s stands image is)),
+      λ s stands. reach_none old c.args.tables.now s (λ t. Timed l l (MovesOn rules p s m p t m)) stands (
+        moves_none_on rules old p s m
+            (λ trusted image is. stands_left old c.args.tables.now s stands image is),
+        refl,
+      ),
       passes_none old,
       c.requires.hears,
       refl,
@@ -41,15 +46,20 @@ loop-talk-preserved g c =
     let m = c.args.talk.now.mute in
     let n = c.loop-talk.talk.mute in
     let o = c.one.new.talk.mute in
+    let l = c.args.talk.now.last in
+    let k = c.loop-talk.talk.last in
+    let h = c.one.new.talk.last in
     let going : 0 < c.loop-talk.talk.left = grind arith in
     let inv = c.loop-talk.invariant in (
       λ s stands. reach_then a b d (bounds_of c.args.tables.now).file c.loop-talk.tables c.one.new.tables
-          (λ t. MovesOn rules p s m q t n)
-          (λ t u. StepsOn rules c.in-Ok-true.field-0 q t n v u o)
-          (λ u. MovesOn rules p s m v u o)
-          (λ (t u : State) (es fs : Log) (ms ns : List ℕ) meet x y.
-          moves_then_on rules lawful a b d p q v s t u m n o es fs ms ns meet going x
-          (y.0.moves, y.1))
+          (λ t. Timed l k (MovesOn rules p s m q t n))
+          (λ t u. Timed k h (StepsOn rules c.in-Ok-true.field-0 q t n v u o))
+          (λ u. Timed l h (MovesOn rules p s m v u o))
+          (λ (t u : State) (es fs : Log) (ms ns : List ℕ) meet x y. (
+            moves_then_on rules lawful a b d p q v s t u m n o es fs ms ns meet going x.0
+                (y.0.0.moves, y.0.1),
+            told_both l k h ms ns x.1 y.1,
+          ))
           (inv.0 s stands) c.in-Ok-true.ensures.stepped,
       passes_then a b d inv.1 c.one.ensures.passes,
       c.one.ensures.hears,
@@ -69,16 +79,21 @@ returns-in-Ok-false-clause-moved g c = λ s stands.
     let m = c.args.talk.now.mute in
     let n = c.loop-talk.talk.mute in
     let o = c.one.new.talk.mute in
+    let l = c.args.talk.now.last in
+    let k = c.loop-talk.talk.last in
+    let h = c.one.new.talk.last in
     let going : 0 < c.loop-talk.talk.left = grind arith in
     reach_then a b d (bounds_of c.args.tables.now).file c.loop-talk.tables c.one.new.tables
-    (λ t. MovesOn rules p s m q t n)
-    (λ t u. StepsOn rules c.in-Ok-false.field-0 q t n v u o)
-    (λ u. MovesAllOn rules p s m v u o)
+    (λ t. Timed l k (MovesOn rules p s m q t n))
+    (λ t u. Timed k h (StepsOn rules c.in-Ok-false.field-0 q t n v u o))
+    (λ u. Timed l h (MovesAllOn rules p s m v u o))
     (λ (t u : State) (es fs : Log) (ms ns : List ℕ) meet x y.
-    let rest = y.0.rests c.in-Ok-false.field-0-test in
-    moves_all_on rules lawful a d p v s u m o (es ++ fs) (ms ++ ns) rest.0 rest.1
-    (moves_then_on rules lawful a b d p q v s t u m n o es fs ms ns meet going x
-    (y.0.moves, y.1)))
+    let rest = y.0.0.rests c.in-Ok-false.field-0-test in (
+      moves_all_on rules lawful a d p v s u m o (es ++ fs) (ms ++ ns) rest.0 rest.1
+          (moves_then_on rules lawful a b d p q v s t u m n o es fs ms ns meet going x.0
+          (y.0.0.moves, y.0.1)),
+      told_both l k h ms ns x.1 y.1,
+    ))
     (c.loop-talk.invariant.0 s stands) c.in-Ok-false.ensures.stepped
 
 pub returns-in-Err-clause-moved : goal.returns-in-Err-clause-moved
@@ -95,11 +110,12 @@ returns-in-Err-clause-moved g c = λ s stands.
     let next = (bounds_of c.args.tables.now).file in
     let going : 0 < c.loop-talk.talk.left = grind arith in
     reach_break a b d next c.loop-talk.tables
-    (λ t. MovesOn rules p s m q t n) (λ k t. MovesSomeOn rules fault k q t n)
+    (λ t. Timed c.args.talk.now.last c.loop-talk.talk.last (MovesOn rules p s m q t n))
+    (λ k t. MovesSomeOn rules fault k q t n)
     (MovesSomeOn rules fault next p s m)
     (λ k l t es ms le x. moves_wider rules fault b d k l t es ms le q n x)
     (λ (t : State) (es fs : Log) (ms ns : List ℕ) meet x y.
-    moves_break_on rules lawful a b d fault next p q s t m n es fs ms ns meet going x y)
+    moves_break_on rules lawful a b d fault next p q s t m n es fs ms ns meet going x.0 y)
     (c.loop-talk.invariant.0 s stands) c.in-Err.ensures.stepped
 
 pub returns-clause-moved : goal.returns-clause-moved
@@ -113,10 +129,12 @@ returns-clause-moved g c = λ s stands.
     let n = c.loop-talk.talk.mute in
     let none : c.loop-talk.talk.left ≡ 0 = grind arith in
     let rest = rests_at_end rules q none in
-    reach_as a b (bounds_of c.args.tables.now).file c.loop-talk.tables (λ t. MovesOn rules p s m q t n)
-    (λ t. MovesAllOn rules p s m q t n)
+    let l = c.args.talk.now.last in
+    let k = c.loop-talk.talk.last in
+    reach_as a b (bounds_of c.args.tables.now).file c.loop-talk.tables (λ t. Timed l k (MovesOn rules p s m q t n))
+    (λ t. Timed l k (MovesAllOn rules p s m q t n))
     (λ (t : State) (es : Log) (ms : List ℕ) x.
-    moves_all_on rules lawful a b p q s t m n es ms rest.0 rest.1 x)
+    (moves_all_on rules lawful a b p q s t m n es ms rest.0 rest.1 x.0, x.1))
     (c.loop-talk.invariant.0 s stands)
 
 pub one-requires-clause-ready : goal.one-requires-clause-ready

@@ -2,7 +2,7 @@ use Rattle.std.proofs.Common.{ℕ, List, [], ◌∷◌, false, subst}
 use Rattle.alt_machine.specs.State.{State}
 use Rattle.alt_shell.specs.Log.{Log}
 use Rattle.alt_tables.specs.Stands.{bounds_of}
-use Rattle.alt_talks.specs.Runs.{Stretch}
+use Rattle.alt_talks.specs.Runs.{Stretch, Timed}
 use Rattle.alt_talks.specs.TalkRules.{rules}
 use Rattle.alt_talks.specs.TalkStops.{AnswersOn, AnswersSomeOn, CarriesOn}
 use Rattle.alt_talks.specs.TalkViews.{place_of, head_in, asking}
@@ -23,19 +23,24 @@ returns-clause-carried g c = λ s stands.
     let q = at c.left_after-talk.result false c.pass.new.self in
     let body = c.body_in.result.now in
     let last = c.is_last-last.result in
+    let before = c.args.talk.now.last in
+    let behind = c.respond.new.last in
     let same = asking_same h p.bytes c.as_slice.result.now body p.left last
     c.as_slice.ensures.same c.body_in.ensures c.is_last-last.ensures in
     reach_as a d (bounds_of c.args.tables.now).file c.respond.new.tables
-    (λ t. AnswersOn rules s m (asked (asking h.target body last) ∷ []) t n)
-    (λ t. CarriesOn rules h p s m q t n)
+    (λ t. Timed before behind (AnswersOn rules s m (asked (asking h.target body last) ∷ []) t n))
+    (λ t. Timed before behind (CarriesOn rules h p s m q t n))
     (λ (t : State) (es : Log) (ms : List ℕ) x.
-    let y = subst (λ (r : Request). AnswersOn rules s m (asked r ∷ []) t n a d es ms) same x in (
-      record {
-        answers = y.0;
-        place = left_at h p c.left_after-talk.result c.pass.new.self
-            c.left_after-talk.ensures.left c.pass.ensures;
-      },
-      y.1,
+    let y = subst (λ (r : Request). AnswersOn rules s m (asked r ∷ []) t n a d es ms) same x.0 in (
+      (
+        record {
+          answers = y.0;
+          place = left_at h p c.left_after-talk.result c.pass.new.self
+              c.left_after-talk.ensures.left c.pass.ensures;
+        },
+        y.1,
+      ),
+      x.1,
     ))
     (c.in-Ok.ensures.answered s stands)
 

@@ -2,7 +2,7 @@ use Rattle.std.proofs.Common.{◌∷◌, ◌++◌, ◌∙◌, [], inr, ℕ, List
 use Rattle.alt_shell.specs.Calls.{Accepted}
 use Rattle.alt_shell.specs.Log.{Log, entry, hung_up, told_count}
 use Rattle.alt_tables.specs.Stands.{bounds_of}
-use Rattle.alt_talks.specs.Runs.{Counting, LeadsOn, Stretch}
+use Rattle.alt_talks.specs.Runs.{Counting, LeadsOn, Stretch, Timed}
 use Rattle.alt_talks.specs.Stops.{AreWithin}
 use Rattle.alt_talks.specs.Stretches.{AtRest}
 use Rattle.alt_talks.specs.TalkRules.{rules}
@@ -32,10 +32,12 @@ returns-in-Ok-clause-served g c = λ s stands.
     let n = c.pulls-served.new.talk.mute in
     let came = subst (λ (v : Bool). Accepted a b v) c.in-Ok-true.field-0-test
     c.in-Ok-true.ensures.accepted in
+    let before = c.args.last.now in
+    let last = c.pulls-served.new.talk.last in
     let next = (bounds_of c.args.tables.now).file in
     let k = (bounds_of c.pulls-served.new.tables).file in
     let served = subst (λ (bs : List ℕ). LeadsOn next b d c.pulls-served.new.tables
-    (λ t. EndsOn rules (at per false bs) s false q t n)) c.new.ensures
+    (λ t. Timed before last (EndsOn rules (at per false bs) s false q t n))) c.new.ensures
     (c.in-Ok.ensures.ended s
     (stands_kept a b c.in-Ok-true.ensures.call.keeps c.args.tables.now s stands)) in
     record {
@@ -43,29 +45,33 @@ returns-in-Ok-clause-served g c = λ s stands.
       stands = stands_kept d e c.hang_up.ensures.call.keeps c.pulls-served.new.tables served.to
           served.stands;
       calls = stretch_hung a b d e (told_count a.beside) (told_count d.beside)
-          (Counting next k (EndsOn rules (at per false []) s false q served.to n))
-          (Counting next k (ComesOn rules per true s served.to))
+          (Counting next k (Timed before last (EndsOn rules (at per false []) s false q served.to n)))
+          (Counting next k (Timed before last (ComesOn rules per true s served.to)))
           came.0 c.in-Ok-true.ensures.moments c.in-Ok-true.ensures.call.keeps
           (c.hang_up.ensures.hung (c.pulls-served.ensures.passes.talking ∙ came.1))
           c.hang_up.ensures.moments c.hang_up.ensures.call
           (λ (es : Log) (ms : List ℕ) (within : AreWithin b.moment d.moment es) p. (
             (
               (
-                record {
-                  moment = b.moment;
-                  clocked = told_count a.beside;
-                  entries = es ++ entry e.moment (told_count d.beside) hung_up ∷ [];
-                  told = ms;
-                },
-                serves_hung rules per s es ms b.moment (told_count a.beside) e.moment
-                    (told_count d.beside) q served.to n c.requires.some p.0.0,
-                refl,
-                refl,
+                (
+                  record {
+                    moment = b.moment;
+                    clocked = told_count a.beside;
+                    entries = es ++ entry e.moment (told_count d.beside) hung_up ∷ [];
+                    told = ms;
+                  },
+                  serves_hung rules per s es ms b.moment (told_count a.beside) e.moment
+                      (told_count d.beside) q served.to n c.requires.some p.0.0.0,
+                  refl,
+                  refl,
+                ),
+                left_hung rules lawful (at per false []) s a b d e (told_count a.beside)
+                    (told_count d.beside)
+                    c.in-Ok-true.ensures.call.keeps c.hang_up.ensures.call
+                    (λ trusted image is. stands_left a c.args.tables.now s stands image is)
+                    es ms within c.pulls-served.ensures.passes.later p.0.0.1,
               ),
-              left_hung rules lawful (at per false []) s a b d e (told_count a.beside) (told_count d.beside)
-                  c.in-Ok-true.ensures.call.keeps c.hang_up.ensures.call
-                  (λ trusted image is. stands_left a c.args.tables.now s stands image is)
-                  es ms within c.pulls-served.ensures.passes.later p.0.1,
+              p.0.1,
             ),
             p.1,
           ))
@@ -120,14 +126,15 @@ returns-in-Ok-false-clause-served g c = λ s stands.
     let b = state c.accept.new.self in
     let none = subst (λ (v : Bool). Accepted a b v) c.in-Ok-false.field-0-test
     c.in-Ok-false.ensures.accepted in
+    let before = c.args.last.now in
     let next = (bounds_of c.args.tables.now).file in
     record {
       to = s;
       stands = stands_kept a b c.in-Ok-false.ensures.call.keeps c.args.tables.now s stands;
-      calls = stretch_as a b {P = ComesOn rules c.args.per false s s}
-          {Q = Counting next next (ComesOn rules c.args.per false s s)}
+      calls = stretch_as a b {P = Timed before before (ComesOn rules c.args.per false s s)}
+          {Q = Counting next next (Timed before before (ComesOn rules c.args.per false s s))}
           (λ es ms within x. (x, reach_least next ms))
-          (none_comes rules lawful c.args.per s a b none.0 c.in-Ok-false.ensures.moments
+          (none_comes before rules lawful c.args.per s a b none.0 c.in-Ok-false.ensures.moments
           c.in-Ok-false.ensures.call.keeps
           (λ trusted image is. stands_left a c.args.tables.now s stands image is));
     }

@@ -4,7 +4,7 @@ use Rattle.alt_shell.specs.Log.{Log}
 use Rattle.alt_tables.proofs.Left.{stands_left}
 use Rattle.alt_tables.specs.Stands.{bounds_of}
 use Rattle.alt_talks.specs.Faults.{reach}
-use Rattle.alt_talks.specs.Runs.{Counting}
+use Rattle.alt_talks.specs.Runs.{Counting, Timed}
 use Rattle.alt_talks.specs.TalkRules.{rules}
 use Rattle.alt_talks.specs.TalkStops.{AnswersOn, CarriesOn, CarriesSomeOn, MovesSomeOn, StepsOn}
 use Rattle.alt_talks.specs.TalkViews.{place_of, head_in, scanned}
@@ -15,6 +15,7 @@ use Rattle.alt_talks.proofs.Stretching.{stretch_as, stretch_then}
 use Rattle.alt_talks.proofs.Stopping.{ready_kept, stands_kept}
 use Rattle.alt_talks.proofs.TalkLaws.{lawful, rules-scan}
 use Rattle.alt_talks.proofs.TalkLeaving.{steps_short_on, steps_whole_on, some_whole_on}
+use Rattle.alt_talks.proofs.Timing.{told_both}
 use Rattle.alt_talks.proofs.Arriving.{came_then}
 use Rattle.alt_talks.proofs.connection.found.Goals as goal
 
@@ -27,6 +28,7 @@ returns-then-not-is_whole-clause-stepped g c = λ s stands.
     let m = c.args.talk.now.mute in
     let n = c.hello.new.mute in
     let h = head_in c.args.head in
+    let l = c.args.talk.now.last in
     let w : is_whole h p.bytes ≡ false =
     ap (nat_le (h.taken + h.length)) (sym c.len.ensures)
     ∙ sym c.is_whole.ensures ∙ c.if-not-is_whole.true in
@@ -35,19 +37,22 @@ returns-then-not-is_whole-clause-stepped g c = λ s stands.
     record {
       to = s;
       stands = stands_kept a b c.hello.ensures.keeps c.args.tables.now s stands;
-      calls = stretch_as a b {P = AnswersOn rules s m (greets p.greeted h.expect) s n}
-          {Q = Counting next next
-          (StepsOn rules false p s m (at p.left c.either-talk.result c.keep.new.self) s n)}
+      calls = stretch_as a b {P = Timed l l (AnswersOn rules s m (greets p.greeted h.expect) s n)}
+          {Q = Counting next next (Timed l l
+          (StepsOn rules false p s m (at p.left c.either-talk.result c.keep.new.self) s n))}
           (λ (es : Log) (ms : List ℕ) within x. (
-            subst (λ (bs : List ℕ).
-                StepsOn rules false p s m (at p.left c.either-talk.result bs) s n a b es ms)
-                (sym c.keep.ensures.stays)
-                (subst (λ (v : Bool). StepsOn rules false p s m (at p.left v p.bytes) s n a b es ms)
-                (sym c.either-talk.ensures)
-                (steps_short_on rules lawful a b p h s s m n es ms c.requires.going e w x)),
+            (
+              subst (λ (bs : List ℕ).
+                  StepsOn rules false p s m (at p.left c.either-talk.result bs) s n a b es ms)
+                  (sym c.keep.ensures.stays)
+                  (subst (λ (v : Bool). StepsOn rules false p s m (at p.left v p.bytes) s n a b es ms)
+                  (sym c.either-talk.ensures)
+                  (steps_short_on rules lawful a b p h s s m n es ms c.requires.going e w x.0)),
+              x.1,
+            ),
             reach_least next ms,
           ))
-          (c.hello.ensures.greeted s
+          (c.hello.ensures.greeted s l
           (λ trusted image is. stands_left a c.args.tables.now s stands image is));
     }
 
@@ -63,10 +68,12 @@ returns-in-Ok-clause-stepped g c = λ s stands.
     let n = c.hello.new.mute in
     let o = c.carry.new.talk.mute in
     let h = head_in c.args.head in
+    let l = c.args.talk.now.last in
     let w : is_whole h p.bytes ≡ true =
     ap (nat_le (h.taken + h.length)) (sym c.len.ensures)
     ∙ sym c.is_whole.ensures ∙ c.if-not-is_whole.false in
     let e : rules.scan p.bytes ≡ good h = rules-scan p.bytes ∙ ap scanned c.requires.head in
+    let last = c.carry.new.talk.last in
     let carried = c.in-Ok.ensures.carried s
     (stands_kept a b c.hello.ensures.keeps c.args.tables.now s stands) in
     let next = (bounds_of c.args.tables.now).file in
@@ -75,19 +82,22 @@ returns-in-Ok-clause-stepped g c = λ s stands.
       to = carried.to;
       stands = carried.stands;
       calls = stretch_then a b d
-          {P = AnswersOn rules s m (greets p.greeted h.expect) s n}
-          {Q = Counting next k
-          (CarriesOn rules h (at p.left c.either-talk.result p.bytes) s n q carried.to o)}
-          {R = Counting next k (StepsOn rules true p s m q carried.to o)}
+          {P = Timed l l (AnswersOn rules s m (greets p.greeted h.expect) s n)}
+          {Q = Counting next k (Timed l last
+          (CarriesOn rules h (at p.left c.either-talk.result p.bytes) s n q carried.to o))}
+          {R = Counting next k (Timed l last (StepsOn rules true p s m q carried.to o))}
           (λ (es fs : Log) (ms ns : List ℕ) meet x y. (
-            steps_whole_on rules lawful a b d p h s s carried.to m n o es fs ms ns meet
-                c.requires.going e w x q
-                (subst (λ (v : Bool).
-                CarriesOn rules h (at p.left v p.bytes) s n q carried.to o b d fs ns)
-                c.either-talk.ensures y.0),
+            (
+              steps_whole_on rules lawful a b d p h s s carried.to m n o es fs ms ns meet
+                  c.requires.going e w x.0 q
+                  (subst (λ (v : Bool).
+                  CarriesOn rules h (at p.left v p.bytes) s n q carried.to o b d fs ns)
+                  c.either-talk.ensures y.0.0),
+              told_both l l last ms ns x.1 y.0.1,
+            ),
             reach_behind k next ms ns y.1,
           ))
-          (c.hello.ensures.greeted s
+          (c.hello.ensures.greeted s l
           (λ trusted image is. stands_left a c.args.tables.now s stands image is))
           carried.calls;
     }
@@ -102,6 +112,7 @@ returns-clause-stepped g c = λ s stands.
     let m = c.args.talk.now.mute in
     let n = c.hello.new.mute in
     let h = head_in c.args.head in
+    let l = c.args.talk.now.last in
     let fault = c.in-Err.fault in
     let next = (bounds_of c.args.tables.now).file in
     let w : is_whole h p.bytes ≡ true =
@@ -109,14 +120,14 @@ returns-clause-stepped g c = λ s stands.
     ∙ sym c.is_whole.ensures ∙ c.if-not-is_whole.false in
     let e : rules.scan p.bytes ≡ good h = rules-scan p.bytes ∙ ap scanned c.requires.head in
     stretch_then a b d
-    {P = AnswersOn rules s m (greets p.greeted h.expect) s n}
+    {P = Timed l l (AnswersOn rules s m (greets p.greeted h.expect) s n)}
     {Q = CarriesSomeOn rules fault next h (at p.left c.either-talk.result p.bytes) s n}
     {R = MovesSomeOn rules fault next p s m}
     (λ (es fs : Log) (ms ns : List ℕ) meet x y.
     some_whole_on rules lawful a b d p h s s s m n n es fs ms ns meet c.requires.going
-    e w x fault next
+    e w x.0 fault next
     (answers_wider rules fault b d next (reach next ms) s fs ns (reach_least next ms) n _ y))
-    (c.hello.ensures.greeted s
+    (c.hello.ensures.greeted s l
     (λ trusted image is. stands_left a c.args.tables.now s stands image is))
     (c.in-Err.ensures.carried s
     (stands_kept a b c.hello.ensures.keeps c.args.tables.now s stands))

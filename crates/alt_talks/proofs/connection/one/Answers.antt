@@ -1,4 +1,4 @@
-use Rattle.std.proofs.Common.{◌≡◌, ◌≤◌, ◌∙◌, length, [], ◌∷◌, ℕ, List, true, false, sym, ap, subst, append-nil}
+use Rattle.std.proofs.Common.{◌≡◌, ◌≤◌, ◌∙◌, length, [], ◌∷◌, ℕ, List, true, false, refl, sym, ap, subst, append-nil}
 use Rattle.std.specs.Prelude.{MatchResult}
 use Rattle.alt_shell.specs.Log.{Log}
 use Rattle.alt_talks.specs.declared.fault.RunFault.TheVariants.{NoMemory}
@@ -8,7 +8,7 @@ use Rattle.alt_http.proofs.Answering.{scan_of-is, scan_of-within}
 use Rattle.alt_machine.specs.State.{State}
 use Rattle.alt_tables.specs.Stands.{Stands, bounds_of}
 use Rattle.alt_talks.specs.TalkStops.{deeds, AnswersOn, AnswersSomeOn, MovesSomeOn, StepsOn}
-use Rattle.alt_talks.specs.Runs.{Counting, LeadsOn, Stretch}
+use Rattle.alt_talks.specs.Runs.{Counting, LeadsOn, Stretch, Timed}
 use Rattle.alt_talks.specs.TalkRules.{rules}
 use Rattle.alt_talks.specs.TalkViews.{place_of, scanned}
 use Rattle.alt_talks.specs.Talks.{refused, unread, bad, at, turns}
@@ -47,11 +47,14 @@ returns-in-More-clause-stepped g c = λ s stands.
     let e : rules.scan p.bytes ≡ unread =
     rules-scan p.bytes ∙ ap scanned (sym c.in-Ok.ensures.answer ∙ c.in-More.is) in
     let after = at p.left p.greeted c.scan.new.self in
-    reach_none a c.args.tables.now s (λ t. StepsOn rules false p s m after t m) stands
-    (subst (λ (bs : List ℕ). StepsOn rules false p s m (at p.left p.greeted bs) s m a a [] [])
-    (sym c.in-Ok.ensures.stays)
-    (steps_unread_on rules a p s m e
-    (λ trusted image is. stands_left a c.args.tables.now s stands image is)))
+    let l = c.args.talk.now.last in
+    reach_none a c.args.tables.now s (λ t. Timed l l (StepsOn rules false p s m after t m)) stands (
+      subst (λ (bs : List ℕ). StepsOn rules false p s m (at p.left p.greeted bs) s m a a [] [])
+          (sym c.in-Ok.ensures.stays)
+          (steps_unread_on rules a p s m e
+          (λ trusted image is. stands_left a c.args.tables.now s stands image is)),
+      refl,
+    )
 
 pub refuse-requires-clause-low : goal.refuse-requires-clause-low
 refuse-requires-clause-low g c =
@@ -92,6 +95,8 @@ returns-in-Ok-refuse-clause-stepped g c = λ s stands.
     let p = place_of c.args.talk.now in
     let m = c.args.talk.now.mute in
     let n = c.refuse.new.mute in
+    let l = c.args.talk.now.last in
+    let h = c.refuse.new.last in
     let k = c.in-Refused.number in
     let e : rules.scan p.bytes ≡ bad k =
     rules-scan p.bytes ∙ ap scanned (sym c.in-Ok.ensures.answer ∙ c.in-Refused.is) in
@@ -99,12 +104,16 @@ returns-in-Ok-refuse-clause-stepped g c = λ s stands.
     record {
       to = s;
       stands = stands_kept a b c.in-Ok-refuse.ensures.keeps c.args.tables.now s stands;
-      calls = stretch_as a b {P = AnswersOn rules s m (refused k ∷ []) s n}
-          {Q = Counting next next (StepsOn rules true p s m (at 0 p.greeted c.scan.new.self) s n)}
+      calls = stretch_as a b {P = Timed l h (AnswersOn rules s m (refused k ∷ []) s n)}
+          {Q = Counting next next
+          (Timed l h (StepsOn rules true p s m (at 0 p.greeted c.scan.new.self) s n))}
           (λ (es : Log) (ms : List ℕ) within x. (
-            subst (λ (bs : List ℕ). StepsOn rules true p s m (at 0 p.greeted bs) s n a b es ms)
-                (sym c.in-Ok.ensures.stays)
-                (steps_bad_on rules lawful a b p s s m n k es ms c.requires.going e x),
+            (
+              subst (λ (bs : List ℕ). StepsOn rules true p s m (at 0 p.greeted bs) s n a b es ms)
+                  (sym c.in-Ok.ensures.stays)
+                  (steps_bad_on rules lawful a b p s s m n k es ms c.requires.going e x.0),
+              x.1,
+            ),
             reach_least next ms,
           ))
           (c.in-Ok-refuse.ensures.answered s
@@ -132,7 +141,8 @@ returns-in-Head-clause-stepped g c =
     let next = (bounds_of c.args.tables.now).file in
     subst (λ (bs : List ℕ). (s : State) → Stands a c.args.tables.now s → MatchResult c.found.result
     (λ more. LeadsOn next a b c.found.new.tables
-    (λ t. StepsOn rules more (at p.left p.greeted bs) s m q t n))
+    (λ t. Timed c.args.talk.now.last c.found.new.talk.last
+    (StepsOn rules more (at p.left p.greeted bs) s m q t n)))
     (λ f. Stretch a b (MovesSomeOn rules f next (at p.left p.greeted bs) s m)))
     c.in-Ok.ensures.stays c.found.ensures.stepped
 

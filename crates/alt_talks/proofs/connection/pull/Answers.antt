@@ -2,7 +2,7 @@ use Rattle.std.proofs.Common.{◌≡◌, ◌<◌, ◌++◌, ◌∷◌, [], ℕ, 
 use Rattle.alt_shell.specs.Log.{Log, Grows, entry, took, told_count}
 use Rattle.alt_tables.proofs.Left.{stands_left}
 use Rattle.alt_tables.specs.Stands.{bounds_of}
-use Rattle.alt_talks.specs.Runs.{Counting, LeadsOn, Stretch}
+use Rattle.alt_talks.specs.Runs.{Counting, LeadsOn, Stretch, Timed}
 use Rattle.alt_talks.specs.Stops.{AreWithin}
 use Rattle.alt_talks.specs.TalkRules.{rules}
 use Rattle.alt_talks.specs.TalkStops.{MovesAllOn, MovesSomeOn, GoesOn, GoesSomeOn}
@@ -35,24 +35,30 @@ returns-in-Ok-at_hand-clause-turned g c = λ s stands rest.
     let keeps = c.in-Ok.ensures.call.keeps in
     let some : 0 < length bytes = let l = length-take c.in-Ok.count c.take.new.buf in
     let held = c.in-Ok.ensures.count in grind arith in
+    let before = c.args.talk.now.last in
+    let last = c.at_hand.new.talk.last in
     let next = (bounds_of c.args.tables.now).file in
     let k = (bounds_of c.at_hand.new.tables).file in
     let went = subst (λ (bs : List ℕ). LeadsOn next b d c.at_hand.new.tables
-    (λ t. MovesAllOn rules (at p.left p.greeted bs) s m q t n))
+    (λ t. Timed before last (MovesAllOn rules (at p.left p.greeted bs) s m q t n)))
     c.in-Ok-extend.ensures.more
     (c.in-Ok-at_hand.ensures.moved s (stands_kept a b keeps c.args.tables.now s stands)) in
     record {
       to = went.to;
       stands = went.stands;
       calls = took_then a b d (entry b.moment clocked (took bytes))
-          (Counting next k (MovesAllOn rules (at p.left p.greeted (p.bytes ++ bytes)) s m q went.to n))
-          (Counting next k (GoesOn rules true p s m q went.to n))
+          (Counting next k (Timed before last
+          (MovesAllOn rules (at p.left p.greeted (p.bytes ++ bytes)) s m q went.to n)))
+          (Counting next k (Timed before last (GoesOn rules true p s m q went.to n)))
           c.in-Ok.ensures.taken c.in-Ok.ensures.moments keeps.later (omega arith) keeps
           (λ (es : Log) (ms : List ℕ) (within : AreWithin b.moment d.moment es) x. (
-            goes_taken_on rules p s a b d bytes clocked keeps
-                (λ trusted image is. stands_left a c.args.tables.now s stands image is)
-                lawful m (idle_start rules p s m rest c.requires.going c.requires.heard) q went.to n es ms
-                within some x.0,
+            (
+              goes_taken_on rules p s a b d bytes clocked keeps
+                  (λ trusted image is. stands_left a c.args.tables.now s stands image is)
+                  lawful m (idle_start rules p s m rest c.requires.going c.requires.heard) q went.to n es
+                  ms within some x.0.0,
+              x.0.1,
+            ),
             x.1,
           ))
           went.calls;
@@ -93,14 +99,15 @@ returns-in-Err-clause-turned g c = λ s stands rest.
     let p = place_of c.args.talk.now in
     let m = c.args.talk.now.mute in
     let keeps = c.in-Err.ensures.call.keeps in
+    let l = c.args.talk.now.last in
     let next = (bounds_of c.args.tables.now).file in
     record {
       to = s;
       stands = stands_kept a b keeps c.args.tables.now s stands;
-      calls = stretch_as a b {P = GoesOn rules false p s m p s m}
-          {Q = Counting next next (GoesOn rules false p s m p s m)}
+      calls = stretch_as a b {P = Timed l l (GoesOn rules false p s m p s m)}
+          {Q = Counting next next (Timed l l (GoesOn rules false p s m p s m))}
           (λ es ms within x. (x, reach_least next ms))
-          (goes_missed_on rules lawful p s m rest
+          (goes_missed_on l rules lawful p s m rest
           (idle_start rules p s m rest c.requires.going c.requires.heard) a b c.requires.talking c.requires.taking
           c.in-Err.ensures.taken c.in-Err.ensures.moments keeps
           (λ trusted image is. stands_left a c.args.tables.now s stands image is));
@@ -114,22 +121,26 @@ returns-then-count-eq0-clause-turned g c = λ s stands rest.
     let p = place_of c.args.talk.now in
     let m = c.args.talk.now.mute in
     let keeps = c.in-Ok.ensures.call.keeps in
+    let l = c.args.talk.now.last in
     let none : take c.in-Ok.count c.take.new.buf ≡ [] = grind arith in
     let next = (bounds_of c.args.tables.now).file in
     record {
       to = s;
       stands = stands_kept a b keeps c.args.tables.now s stands;
-      calls = stretch_one a b (Counting next next (GoesOn rules false p s m p s m))
+      calls = stretch_one a b (Counting next next (Timed l l (GoesOn rules false p s m p s m)))
           (entry b.moment (told_count a.beside) (took []) ∷ [])
           (subst (λ (bs : List ℕ). Grows a.beside b.beside
           (entry b.moment (told_count a.beside) (took bs) ∷ [])) none c.in-Ok.ensures.taken)
           c.in-Ok.ensures.moments (keeps.later, omega arith, tt) keeps (
             (
-              goes_end rules p s m rest b.moment (told_count a.beside)
-                  (idle_start rules p s m rest c.requires.going c.requires.heard),
-              left_silent rules lawful p s a b
-                  (entry b.moment (told_count a.beside) (took []) ∷ []) [] keeps refl
-                  (λ trusted image is. stands_left a c.args.tables.now s stands image is),
+              (
+                goes_end rules p s m rest b.moment (told_count a.beside)
+                    (idle_start rules p s m rest c.requires.going c.requires.heard),
+                left_silent rules lawful p s a b
+                    (entry b.moment (told_count a.beside) (took []) ∷ []) [] keeps refl
+                    (λ trusted image is. stands_left a c.args.tables.now s stands image is),
+              ),
+              refl,
             ),
             reach_least next [],
           );

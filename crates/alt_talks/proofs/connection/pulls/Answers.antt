@@ -1,7 +1,8 @@
-use Rattle.std.proofs.Common.{◌≡◌, ◌<◌, ◌++◌, inl, inr, ℕ, List, Bool, true, subst, arith}
+use Rattle.std.proofs.Common.{◌≡◌, ◌<◌, ◌++◌, inl, inr, ℕ, List, Bool, true, refl, subst, arith}
 use Rattle.alt_machine.specs.State.{State}
 use Rattle.alt_shell.specs.Log.{Log}
 use Rattle.alt_tables.specs.Stands.{bounds_of}
+use Rattle.alt_talks.specs.Runs.{Timed}
 use Rattle.alt_talks.specs.TalkStops.{GoesOn, GoesSomeOn, EndsOn}
 use Rattle.alt_talks.specs.TalkRules.{rules}
 use Rattle.alt_talks.specs.TalkViews.{place_of}
@@ -11,6 +12,7 @@ use Rattle.alt_tables.proofs.Left.{stands_left}
 use Rattle.alt_talks.proofs.TalkLeaving.{goes_start_on, goes_then_on, goes_break_on}
 use Rattle.alt_talks.proofs.TalkPulls.{goes_rests}
 use Rattle.alt_talks.proofs.TalkReach.{reach_none, reach_as, reach_then, reach_break}
+use Rattle.alt_talks.proofs.Timing.{told_both}
 use Rattle.alt_talks.proofs.Arriving.{came_none, came_then}
 use Rattle.alt_talks.proofs.TalkWider.{goes_wider}
 use Rattle.alt_talks.proofs.connection.pulls.Goals as goal
@@ -20,9 +22,12 @@ pulls-init g c =
     let old = g.S.Disk.state c.args.shell.now in
     let p = place_of c.args.talk.now in
     let m = c.args.talk.now.mute in (
-      λ s stands rest. reach_none old c.args.tables.now s (λ t. GoesOn rules true p s m p t m) stands
-          (goes_start_on rules lawful old p s m rest
-          (λ trusted image is. stands_left old c.args.tables.now s stands image is)),
+      λ s stands rest. reach_none old c.args.tables.now s
+          (λ t. Timed c.args.talk.now.last c.args.talk.now.last (GoesOn rules true p s m p t m)) stands (
+            goes_start_on rules lawful old p s m rest
+                (λ trusted image is. stands_left old c.args.tables.now s stands image is),
+            refl,
+          ),
       passes_none old,
       λ _. c.requires.hears,
       c.requires.taking,
@@ -41,21 +46,26 @@ pulls-preserved g c =
     let m = c.args.talk.now.mute in
     let n = c.pulls.talk.mute in
     let o = c.pull.new.talk.mute in
+    let first = c.args.talk.now.last in
+    let next = c.pulls.talk.last in
+    let last = c.pull.new.talk.last in
     let x = c.in-Ok-true.field-0 in
     let going : 0 < c.pulls.talk.left = grind arith in
     let inv = c.pulls.invariant in (
       λ s stands rest.
           let front = inv.0 s stands rest in
           let here = goes_rests rules lawful true p q s front.to m n front.calls.entries
-          front.calls.told front.calls.holds.0.0 in
+          front.calls.told front.calls.holds.0.0.0 in
           reach_then a b d (bounds_of c.args.tables.now).file c.pulls.tables c.pull.new.tables
-          (λ t. GoesOn rules true p s m q t n)
-          (λ t u. GoesOn rules x q t n v u o)
-          (λ u. GoesOn rules true p s m v u o)
-          (λ (t u : State) (es fs : Log) (ms ns : List ℕ) meet k l.
-          subst (λ (y : Bool). GoesOn rules y p s m v u o a d (es ++ fs) (ms ++ ns))
-          c.in-Ok-true.field-0-test
-          (goes_then_on rules lawful a b d x p q v s t u m n o es fs ms ns meet going k l))
+          (λ t. Timed first next (GoesOn rules true p s m q t n))
+          (λ t u. Timed next last (GoesOn rules x q t n v u o))
+          (λ u. Timed first last (GoesOn rules true p s m v u o))
+          (λ (t u : State) (es fs : Log) (ms ns : List ℕ) meet k l. (
+            subst (λ (y : Bool). GoesOn rules y p s m v u o a d (es ++ fs) (ms ++ ns))
+                c.in-Ok-true.field-0-test
+                (goes_then_on rules lawful a b d x p q v s t u m n o es fs ms ns meet going k.0 l.0),
+            told_both first next last ms ns k.1 l.1,
+          ))
           front (λ t there. c.in-Ok-true.ensures.turned t there here),
       passes_then a b d inv.1 c.pull.ensures.passes,
       c.pull.ensures.hears,
@@ -76,19 +86,22 @@ returns-in-Ok-false-clause-ended g c = λ s stands.
     let m = c.args.talk.now.mute in
     let n = c.pulls.talk.mute in
     let o = c.pull.new.talk.mute in
+    let first = c.args.talk.now.last in
+    let next = c.pulls.talk.last in
+    let last = c.pull.new.talk.last in
     let x = c.in-Ok-false.field-0 in
     let going : 0 < c.pulls.talk.left = grind arith in
     let front = c.pulls.invariant.0 s stands rest in
     let here = goes_rests rules lawful true p q s front.to m n front.calls.entries
-    front.calls.told front.calls.holds.0.0 in
+    front.calls.told front.calls.holds.0.0.0 in
     reach_then a b d (bounds_of c.args.tables.now).file c.pulls.tables c.pull.new.tables
-    (λ t. GoesOn rules true p s m q t n)
-    (λ t u. GoesOn rules x q t n v u o)
-    (λ u. EndsOn rules p s m v u o)
+    (λ t. Timed first next (GoesOn rules true p s m q t n))
+    (λ t u. Timed next last (GoesOn rules x q t n v u o))
+    (λ u. Timed first last (EndsOn rules p s m v u o))
     (λ (t u : State) (es fs : Log) (ms ns : List ℕ) meet k l.
-    let went = goes_then_on rules lawful a b d x p q v s t u m n o es fs ms ns meet going k l in (
-      record { more = x; goes = went.0; cause = inl c.in-Ok-false.field-0-test },
-      went.1,
+    let went = goes_then_on rules lawful a b d x p q v s t u m n o es fs ms ns meet going k.0 l.0 in (
+      (record { more = x; goes = went.0; cause = inl c.in-Ok-false.field-0-test }, went.1),
+      told_both first next last ms ns k.1 l.1,
     ))
     front (λ t there. c.in-Ok-false.ensures.turned t there here)
 
@@ -108,13 +121,14 @@ returns-in-Err-clause-ended g c = λ s stands.
     let going : 0 < c.pulls.talk.left = grind arith in
     let front = c.pulls.invariant.0 s stands rest in
     let here = goes_rests rules lawful true p q s front.to m n front.calls.entries
-    front.calls.told front.calls.holds.0.0 in
+    front.calls.told front.calls.holds.0.0.0 in
     reach_break a b d next c.pulls.tables
-    (λ t. GoesOn rules true p s m q t n) (λ k t. GoesSomeOn rules fault k q t n)
+    (λ t. Timed c.args.talk.now.last c.pulls.talk.last (GoesOn rules true p s m q t n))
+    (λ k t. GoesSomeOn rules fault k q t n)
     (GoesSomeOn rules fault next p s m)
     (λ k l t es ms le x. goes_wider rules fault b d k l t es ms le q n x)
     (λ (t : State) (es fs : Log) (ms ns : List ℕ) meet k l.
-    goes_break_on rules lawful a b d fault next p q s t m n es fs ms ns meet going k l)
+    goes_break_on rules lawful a b d fault next p q s t m n es fs ms ns meet going k.0 l)
     front (λ t there. c.in-Err.ensures.turned t there here)
 
 pub returns-then-talk-eq0-clause-ended : goal.returns-then-talk-eq0-clause-ended
@@ -125,12 +139,14 @@ returns-then-talk-eq0-clause-ended g c = λ s stands.
     let q = place_of c.pulls.talk in
     let m = c.args.talk.now.mute in
     let n = c.pulls.talk.mute in
+    let first = c.args.talk.now.last in
+    let next = c.pulls.talk.last in
     let none : c.pulls.talk.left ≡ 0 = grind arith in
-    reach_as (state c.args.shell.now) (state c.pulls.shell)
-    (bounds_of c.args.tables.now).file c.pulls.tables
-    (λ t. GoesOn rules true p s m q t n) (λ t. EndsOn rules p s m q t n)
+    reach_as (state c.args.shell.now) (state c.pulls.shell) (bounds_of c.args.tables.now).file c.pulls.tables
+    (λ t. Timed first next (GoesOn rules true p s m q t n))
+    (λ t. Timed first next (EndsOn rules p s m q t n))
     (λ (t : State) (es : Log) (ms : List ℕ) x.
-    (record { more = true; goes = x.0; cause = inr (inr none) }, x.1))
+    ((record { more = true; goes = x.0.0; cause = inr (inr none) }, x.0.1), x.1))
     (c.pulls.invariant.0 s stands rest)
 
 pub returns-then-talk-clause-ended : goal.returns-then-talk-clause-ended
@@ -141,11 +157,13 @@ returns-then-talk-clause-ended g c = λ s stands.
     let q = place_of c.pulls.talk in
     let m = c.args.talk.now.mute in
     let n = c.pulls.talk.mute in
-    reach_as (state c.args.shell.now) (state c.pulls.shell)
-    (bounds_of c.args.tables.now).file c.pulls.tables
-    (λ t. GoesOn rules true p s m q t n) (λ t. EndsOn rules p s m q t n)
+    let first = c.args.talk.now.last in
+    let next = c.pulls.talk.last in
+    reach_as (state c.args.shell.now) (state c.pulls.shell) (bounds_of c.args.tables.now).file c.pulls.tables
+    (λ t. Timed first next (GoesOn rules true p s m q t n))
+    (λ t. Timed first next (EndsOn rules p s m q t n))
     (λ (t : State) (es : Log) (ms : List ℕ) x.
-    (record { more = true; goes = x.0; cause = inr (inl c.if-talk.true) }, x.1))
+    ((record { more = true; goes = x.0.0; cause = inr (inl c.if-talk.true) }, x.0.1), x.1))
     (c.pulls.invariant.0 s stands rest)
 
 pub pull-requires-clause-ready : goal.pull-requires-clause-ready

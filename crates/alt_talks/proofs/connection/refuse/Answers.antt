@@ -1,6 +1,6 @@
-use Rattle.std.proofs.Common.{◌∙◌, List, ℕ, [], ◌∷◌, true, Bool, refl, sym, subst}
+use Rattle.std.proofs.Common.{◌∙◌, List, ℕ, [], ◌∷◌, Some, true, Bool, refl, sym, subst}
 use Rattle.alt_shell.specs.Log.{Log}
-use Rattle.alt_talks.specs.Runs.{Stretch}
+use Rattle.alt_talks.specs.Runs.{Stretch, Timed}
 use Rattle.alt_talks.specs.Stops.{AreWithin}
 use Rattle.alt_talks.specs.Stretches.{Utters}
 use Rattle.alt_talks.specs.TalkRules.{rules}
@@ -11,6 +11,7 @@ use Rattle.alt_talks.proofs.Stretching.{stretch_none}
 use Rattle.alt_talks.proofs.Stopping.{trusts-kept}
 use Rattle.alt_talks.proofs.TalkLaws.{lawful, rules-refusal}
 use Rattle.alt_talks.proofs.TalkLeaving.{left_nothing, left_untold, told_alone, told_then, refused_on}
+use Rattle.alt_talks.proofs.Timing.{told_one}
 use Rattle.alt_talks.proofs.Uttering.{does_refused_mute, quiet_none, some_refused}
 use Rattle.alt_talks.proofs.Arriving.{came_none, came_silent, came_then}
 use Rattle.alt_talks.proofs.connection.refuse.Goals as goal
@@ -19,11 +20,15 @@ pub returns-then-mute-clause-answered : goal.returns-then-mute-clause-answered
 returns-then-mute-clause-answered g c = λ s here.
     let a = g.S.Disk.state c.args.shell.now in
     let k = c.args.number in
-    subst (λ (m : Bool). Stretch a a (AnswersOn rules s m (refused k ∷ []) s m))
+    let l = c.args.last.now in
+    subst (λ (m : Bool). Stretch a a (Timed l l (AnswersOn rules s m (refused k ∷ []) s m)))
     (sym c.if-mute.true)
-    (stretch_none a {P = AnswersOn rules s true (refused k ∷ []) s true} (
-      record { does = does_refused_mute rules s k; quiet = quiet_none },
-      left_nothing a s [] tt here,
+    (stretch_none a {P = Timed l l (AnswersOn rules s true (refused k ∷ []) s true)} (
+      (
+        record { does = does_refused_mute rules s k; quiet = quiet_none },
+        left_nothing a s [] tt here,
+      ),
+      refl,
     ))
 
 pub returns-in-Ok-clause-answered : goal.returns-in-Ok-clause-answered
@@ -39,12 +44,14 @@ returns-in-Ok-clause-answered g c = λ s here.
     let keeps = c.now-moment.ensures.call.keeps in
     let same = c.deref.ensures.value ∙ c.in-Ok.ensures ∙ sym (rules-refusal k at) in
     told_then a b d {Q = λ _ _. Utters m c.deref.result.now n}
-    {R = AnswersOn rules s m (refused k ∷ []) s n} at
+    {R = Timed c.args.last.now (Some at) (AnswersOn rules s m (refused k ∷ []) s n)} at
     c.now-moment.ensures.log c.now-moment.ensures.told keeps.later (trusts-kept a b keeps)
-    (λ (fs : Log) (ns : List ℕ) (within : AreWithin b.moment d.moment fs) u.
-    refused_on rules lawful a b d s m n k at fs ns c.if-mute.false c.now-moment.ensures.call
-    c.utter.ensures.keeps here within
-    (subst (λ (bs : List ℕ). Utters m bs n fs ns) same u))
+    (λ (fs : Log) (ns : List ℕ) (within : AreWithin b.moment d.moment fs) u. (
+      refused_on rules lawful a b d s m n k at fs ns c.if-mute.false c.now-moment.ensures.call
+          c.utter.ensures.keeps here within
+          (subst (λ (bs : List ℕ). Utters m bs n fs ns) same u),
+      told_one c.args.last.now at ns u.timeless,
+    ))
     c.utter.ensures.said
 
 pub returns-in-Err-clause-answered : goal.returns-in-Err-clause-answered

@@ -1,23 +1,26 @@
-use Rattle.std.proofs.Common.{◌∙◌, ◌≤◌, ◌+◌, List, ℕ, [], ◌∷◌, Option, sym, subst}
+use Rattle.std.proofs.Common.{◌⊎◌, ◌∙◌, ◌≤◌, ◌+◌, List, ℕ, [], ◌∷◌, not, Option, Some, sym, subst}
 use Rattle.alt_disk.proofs.Runs.{trusted_back}
 use Rattle.alt_machine.specs.Outcomes.{last_state}
 use Rattle.alt_machine.specs.State.{State}
 use Rattle.alt_machine.specs.Wanted.{Lack}
 use Rattle.alt_tables.proofs.Left.{stands_left}
 use Rattle.alt_engine.specs.InHand.{Bounds}
+use Rattle.alt_tables.specs.Images.{StandsFor}
 use Rattle.alt_tables.specs.FilesLeft.{most_files}
 use Rattle.alt_tables.specs.Stands.{Stands, bounds_of}
-use Rattle.alt_talks.specs.Faults.{IsAnswerFault, IsFileFault}
-use Rattle.alt_talks.specs.Runs.{Counting}
+use Rattle.alt_talks.specs.Faults.{IsCausedBy, IsFileFault}
+use Rattle.alt_talks.specs.Own.{FollowsNot, own_behind}
+use Rattle.alt_talks.specs.Runs.{Counting, Timed}
 use Rattle.alt_talks.specs.Stops.{AtEach, IsAmong}
-use Rattle.alt_talks.specs.TalkRules.{rules, outcome_of}
+use Rattle.alt_talks.specs.TalkRules.{rules, left_by, outcome_of}
 use Rattle.alt_talks.specs.TalkStops.{AnswersOn}
 use Rattle.alt_talks.specs.TalkViews.{asking}
 use Rattle.alt_talks.specs.Talks.{asked}
-use Rattle.alt_talks.proofs.Responding.{asked_reach, step_made, step_broke}
+use Rattle.alt_talks.proofs.Owning.{answer_first, enough_both}
+use Rattle.alt_talks.proofs.Responding.{asked_reach, follow_made, follow_broke, own_follows}
 use Rattle.alt_talks.proofs.Stopping.{ready_kept, stands_kept}
 use Rattle.alt_talks.proofs.Stretching.{stretch_as}
-use Rattle.alt_talks.proofs.TalkLaws.{lawful, rules-atoms, rules-reply, rules-next, rules-wants}
+use Rattle.alt_talks.proofs.TalkLaws.{lawful, rules-atoms, rules-left, rules-next, rules-reply, rules-wants}
 use Rattle.alt_talks.proofs.TalkLeaving.{Asked, asked_of, asked_some_on}
 use Rattle.alt_talks.proofs.Arriving.{came_goes, came_silent, came_then}
 use Rattle.alt_talks.proofs.connection.respond.Goals as goal
@@ -28,8 +31,8 @@ response-requires-clause-ready g c =
     ready_kept (state c.args.shell.now) (state c.now-moment.new.self) c.args.tables.now
     c.now-moment.ensures.call.keeps c.requires.ready
 
-pub step-requires : goal.step-requires
-step-requires g c =
+pub follow-requires : goal.follow-requires
+follow-requires g c =
     let state = g.S.Disk.state in
     let old = state c.args.shell.now in
     let mid = state c.now-moment.new.self in
@@ -45,47 +48,52 @@ step-requires g c =
           ));
     }
 
-pub returns-in-Ok-step-clause-answered : goal.returns-in-Ok-step-clause-answered
-returns-in-Ok-step-clause-answered g c = λ s stands.
+pub returns-in-Ok-follow-clause-answered : goal.returns-in-Ok-follow-clause-answered
+returns-in-Ok-follow-clause-answered g c = λ s stands.
     let state = g.S.Disk.state in
     let old = state c.args.shell.now in
     let mid = state c.now-moment.new.self in
     let done = state c.response.new.disk in
     let new = state c.utter.new.shell in
-    let last = state c.step.new.shell in
+    let last = state c.follow.new.disk in
     let at = c.now-moment.result in
     let q = asking c.args.target.now c.args.body.now c.args.close in
     let here = stands_kept old mid c.now-moment.ensures.call.keeps c.args.tables.now s stands in
+    let left = left_by s q at in
+    let after = c.in-Ok.ensures.state s here in
+    let there = stands_kept done new c.utter.ensures.keeps c.response.new.tables left after in
     let t = rules.next s q at in
-    let after = subst (λ (u : State). Stands done c.response.new.tables u) (sym (rules-next s q at))
-    (c.in-Ok.ensures.state s here) in
-    let there = stands_kept done new c.utter.ensures.keeps c.response.new.tables t after in
     let m = c.args.mute.now in
     let n = c.utter.new.mute in
+    let before = c.args.last.now in
     let next = (bounds_of c.args.tables.now).file in
-    let k = (bounds_of c.step.new.tables).file in
+    let k = (bounds_of c.follow.new.tables).file in
     record {
       to = t;
-      stands = c.in-Ok-step.ensures.stands t there;
-      calls = stretch_as old last {P = AnswersOn rules s m (asked q ∷ []) t n}
-          {Q = Counting next k (AnswersOn rules s m (asked q ∷ []) t n)}
+      stands = subst (λ (u : State). Stands last c.follow.new.tables u) (sym (rules-next s q at))
+          (c.in-Ok-follow.ensures.stands left there);
+      calls = stretch_as old last {P = Timed before (Some at) (AnswersOn rules s m (asked q ∷ []) t n)}
+          {Q = Counting next k (Timed before (Some at) (AnswersOn rules s m (asked q ∷ []) t n))}
           (λ es ms within x. (
             x,
-            asked_reach rules s t m n q es ms next k x.0.does
+            asked_reach rules s t m n q es ms next k x.0.0.does
                 (subst (λ (b : Bounds). k ≤ b.file + most_files) c.in-Ok.ensures.limits
-                (c.in-Ok-step.ensures.files t there)),
+                (c.in-Ok-follow.ensures.files left there)),
           ))
-          (step_made rules lawful old done new last s m n q at
+          (follow_made rules lawful old done new last s m n q at
           c.deref.result.now
           (asked_of rules old mid done s q at c.now-moment.ensures.call c.now-moment.ensures.log
           c.now-moment.ensures.told c.in-Ok.ensures.goes
           (subst (λ (atoms : List State). AtEach mid done (λ _ image. IsAmong image s atoms))
           (sym (rules-atoms s q at)) (c.in-Ok.ensures.leaves s here)))
-          (rules-wants s q at ∙ c.in-Ok.ensures.enough s here)
-          (λ trusted image is. stands_left done c.response.new.tables t after image is)
+          (λ trusted image is. subst (StandsFor image) (sym (rules-left s q at))
+          (stands_left done c.response.new.tables left after image is))
           c.utter.ensures.keeps
           (c.deref.ensures.value ∙ c.in-Ok.ensures.text s here ∙ sym (rules-reply s q at))
-          c.utter.ensures.said (c.in-Ok-step.ensures.works t there));
+          c.utter.ensures.said
+          (own_follows new last s q at (c.in-Ok-follow.ensures.follows left there))
+          before (rules-wants s q at ∙ enough_both _ _ (c.in-Ok.ensures.enough s here)
+          (c.in-Ok-follow.ensures.enough left there)));
     }
 
 pub returns-clause-answered : goal.returns-clause-answered
@@ -95,28 +103,28 @@ returns-clause-answered g c = λ s stands.
     let mid = state c.now-moment.new.self in
     let done = state c.response.new.disk in
     let new = state c.utter.new.shell in
-    let last = state c.step.new.shell in
+    let last = state c.follow.new.disk in
     let at = c.now-moment.result in
     let q = asking c.args.target.now c.args.body.now c.args.close in
     let here = stands_kept old mid c.now-moment.ensures.call.keeps c.args.tables.now s stands in
-    let t = rules.next s q at in
-    let after = subst (λ (u : State). Stands done c.response.new.tables u) (sym (rules-next s q at))
-    (c.in-Ok.ensures.state s here) in
-    let there = stands_kept done new c.utter.ensures.keeps c.response.new.tables t after in
-    step_broke rules lawful old done new last s c.args.mute.now c.utter.new.mute q at
+    let left = left_by s q at in
+    let after = c.in-Ok.ensures.state s here in
+    let there = stands_kept done new c.utter.ensures.keeps c.response.new.tables left after in
+    follow_broke old done new last s c.args.mute.now c.utter.new.mute q at
     c.deref.result.now
     (asked_of rules old mid done s q at c.now-moment.ensures.call c.now-moment.ensures.log
     c.now-moment.ensures.told c.in-Ok.ensures.goes
     (subst (λ (atoms : List State). AtEach mid done (λ _ image. IsAmong image s atoms))
     (sym (rules-atoms s q at)) (c.in-Ok.ensures.leaves s here)))
-    (rules-wants s q at ∙ c.in-Ok.ensures.enough s here)
-    (λ trusted image is. stands_left done c.response.new.tables t after image is)
+    (λ trusted image is. subst (StandsFor image) (sym (rules-left s q at))
+    (stands_left done c.response.new.tables left after image is))
     c.utter.ensures.keeps
     (c.deref.ensures.value ∙ c.in-Ok.ensures.text s here ∙ sym (rules-reply s q at))
-    c.utter.ensures.said (c.in-Err-step.ensures.works t there) c.in-Err-step.fault
-    (bounds_of c.args.tables.now).file
-    (subst (λ (b : Bounds). IsFileFault (b.file + most_files) c.in-Err-step.fault)
-    c.in-Ok.ensures.limits (c.in-Err-step.ensures.fault t there)) c.in-Err-step.ensures.heard
+    c.utter.ensures.said (c.in-Err-follow.ensures.follows left there) c.in-Err-follow.fault
+    (bounds_of c.args.tables.now).file (c.in-Ok.ensures.enough s here)
+    (subst (λ (b : Bounds). FollowsNot (not c.utter.new.mute) (b.file + most_files)
+    (own_behind left).lacks c.in-Err-follow.fault) c.in-Ok.ensures.limits
+    (c.in-Err-follow.ensures.fault left there))
 
 pub returns-in-Err-clause-answered : goal.returns-in-Err-clause-answered
 returns-in-Err-clause-answered g c = λ s stands.
@@ -135,23 +143,23 @@ returns-in-Err-clause-answered g c = λ s stands.
     (sym (rules-atoms s q at)) (c.in-Err.ensures.leaves s here)) in
     asked_some_on rules lawful old done s m q at c.in-Err.fault
     (bounds_of c.args.tables.now).file front
-    (subst (λ (l : Option Lack). IsAnswerFault (bounds_of c.args.tables.now).file l c.in-Err.fault)
-    (sym (rules-wants s q at))
-    (c.in-Err.ensures.cause s here))
+    (subst (λ (l : Option Lack). IsCausedBy l c.in-Err.fault
+    ⊎ IsFileFault (bounds_of c.args.tables.now).file c.in-Err.fault) (sym (rules-wants s q at))
+    (answer_first _ _ _ c.in-Err.fault (c.in-Err.ensures.cause s here)))
 
-pub returns-in-Ok-step-clause-none : goal.returns-in-Ok-step-clause-none
-returns-in-Ok-step-clause-none g c =
+pub returns-in-Ok-follow-clause-none : goal.returns-in-Ok-follow-clause-none
+returns-in-Ok-follow-clause-none g c =
     let state = g.S.Disk.state in
     let old = state c.args.shell.now in
     let mid = state c.now-moment.new.self in
     let done = state c.response.new.disk in
     let new = state c.utter.new.shell in
-    let last = state c.step.new.shell in
+    let last = state c.follow.new.disk in
     came_then old new last 0 0
     (came_then old done new 0 0
     (came_then old mid done 0 0 (came_silent old mid c.now-moment.ensures.log)
     (came_goes mid done c.in-Ok.ensures.goes)) c.utter.ensures.none)
-    (came_goes new last c.in-Ok-step.ensures.goes)
+    (came_goes new last c.in-Ok-follow.ensures.goes)
 
 pub returns-clause-none : goal.returns-clause-none
 returns-clause-none g c =
@@ -160,12 +168,12 @@ returns-clause-none g c =
     let mid = state c.now-moment.new.self in
     let done = state c.response.new.disk in
     let new = state c.utter.new.shell in
-    let last = state c.step.new.shell in
+    let last = state c.follow.new.disk in
     came_then old new last 0 0
     (came_then old done new 0 0
     (came_then old mid done 0 0 (came_silent old mid c.now-moment.ensures.log)
     (came_goes mid done c.in-Ok.ensures.goes)) c.utter.ensures.none)
-    (came_goes new last c.in-Err-step.ensures.goes)
+    (came_goes new last c.in-Err-follow.ensures.goes)
 
 pub returns-in-Err-clause-none : goal.returns-in-Err-clause-none
 returns-in-Err-clause-none g c =

@@ -1,0 +1,73 @@
+-- What the server does by itself today: nothing but work.
+use Rattle.std.proofs.Common.{◌≡◌, ◌⊎◌, inl, inr, ℕ, List, [], Option, Some, None, option_map, refl}
+use Rattle.alt_disk.specs.Disk.{DiskState}
+use Rattle.alt_disk.proofs.Calls.{goes_refl}
+use Rattle.alt_machine.specs.State.{State}
+use Rattle.alt_machine.specs.Wanted.{Lack}
+use Rattle.alt_faults.proofs.Telling.{tells-more}
+use Rattle.alt_tables.specs.Images.{StandsFor}
+use Rattle.alt_tables.specs.Stands.{Stands}
+use Rattle.alt_tables.specs.declared.tables.Tables.{Tables}
+use Rattle.alt_tables.proofs.Left.{stands_left}
+use Rattle.alt_talks.specs.Faults.{IsAnswerFault, IsCausedBy, IsFileFault, told_by_run}
+use Rattle.alt_talks.specs.Own.{Own, none_own, own_behind, own_between}
+use Rattle.alt_talks.specs.Stops.{AtEach, IsAmong}
+use Rattle.alt_talks.specs.Turns.{or_next}
+use Rattle.alt_talks.specs.Works.{Follows, Works}
+use Rattle.alt_talks.specs.declared.fault.RunFault.{RunFault}
+use Rattle.alt_talks.proofs.Stopping.{leaves-here, leaves-weaker}
+
+pub none_behind : (s : State) → own_behind s ≡ none_own
+unfolding own_behind
+none_behind s = refl
+
+pub none_between : (number : ℕ) (moment : Option ℕ) (s : State)
+    → own_between number moment s ≡ none_own
+unfolding own_between
+none_between number moment s = refl
+
+-- ---- nothing follows
+
+pub follows_none : (a : DiskState) (tables : Tables) (s : State) → Stands a tables s
+    → Follows a a s []
+follows_none a tables s stands = record {
+  goes = goes_refl a;
+  leaves = leaves-here a (λ _ image. IsAmong image s [])
+      (λ trusted t image is. (0, stands_left a tables s stands image is));
+}
+
+-- but work
+pub follows_worked : (a b : DiskState) (s : State) → Works a b s → Follows a b s []
+follows_worked a b s works = record {
+  goes = works.goes;
+  leaves = leaves-weaker a b (λ _ image. StandsFor image s) (λ _ image. IsAmong image s [])
+      (λ t image stands. (0, stands)) works.leaves;
+}
+
+-- ---- what a request and what follows it lack
+
+-- nothing, where neither lacks anything
+pub enough_both : (a b : Option Lack) → a ≡ None → b ≡ None → or_next a b ≡ None
+enough_both None b here then = then
+enough_both (Some x) b here then = here
+
+-- what the request lacks is lacked
+pub cause_first : (a b : Option Lack) (fault : RunFault) → IsCausedBy a fault
+    → IsCausedBy (or_next a b) fault
+cause_first (Some x) b fault h = h
+cause_first None b fault h =
+    tells-more (λ n. option_map (λ (l : Lack). l.number) None ≡ Some n)
+    (λ n. option_map (λ (l : Lack). l.number) b ≡ Some n) (λ d. ⊥) (λ d. ⊥) (λ n no. absurd (let f : ⊥ = cc in f))
+    (λ d no. no) (told_by_run fault) h
+
+-- so it has no answer for what is lacked, or for want of a file
+pub answer_first : (file : ℕ) (a b : Option Lack) (fault : RunFault) → IsAnswerFault file a fault
+    → IsCausedBy (or_next a b) fault ⊎ IsFileFault file fault
+answer_first file a b fault (inl h) = inl (cause_first a b fault h)
+answer_first file a b fault (inr h) = inr h.1
+
+-- and so is what the server lacks behind one that lacks nothing
+pub cause_behind : (a b : Option Lack) (fault : RunFault) → a ≡ None → IsCausedBy b fault
+    → IsCausedBy (or_next a b) fault
+cause_behind None b fault here h = h
+cause_behind (Some x) b fault here h = absurd (let f : ⊥ = cc in f)

@@ -1,0 +1,73 @@
+//! What the server does by itself between two requests of its clients: its own requests behind one of theirs, and behind a connection
+//! (none today), and a step of work.
+
+ghost use Rattle.std.specs.Prelude.{◌≡◌, ◌≤◌, ◌+◌, None, true, IfErr, OnOk, IsErrOf};
+ghost use Rattle.alt_base.specs.Counts.{Rose};
+ghost use Rattle.alt_disk.specs.Disk.{Goes};
+ghost use Rattle.alt_engine.specs.declared.work.Task.TheVariants.{Step};
+ghost use Rattle.alt_machine.specs.State.{State};
+ghost use Rattle.alt_tables.specs.FilesLeft.{most_files};
+ghost use Rattle.alt_tables.specs.Stands.{AreReady, Stands, bounds_of, limits_of};
+ghost use Rattle.alt_talks.specs.Faults.{IsCausedBy};
+ghost use Rattle.alt_talks.specs.Own.{FollowsNot, after_behind, after_between, own_behind, own_between};
+ghost use Rattle.alt_talks.specs.Works.{AfterWork, Follows};
+
+use crate::fault::RunFault;
+use crate::working::work;
+use alt_disk::Disk;
+use alt_tables::{Tables, Task};
+
+/// What follows a request: the server's own requests behind it, and then, where that is wanted, one step of work.
+pub fn follow<D: Disk>(tables: &mut Tables, disk: &mut D, works: bool) -> Result<(), RunFault>
+    requires ready { AreReady (D.state disk.old) tables.old }
+    ensures stands { (s : State) → Stands (D.state disk.old) tables.old s
+        → OnOk result (Stands (D.state disk.new) tables.new (after_behind s)) }
+    ensures follows { (s : State) → Stands (D.state disk.old) tables.old s
+        → Follows (D.state disk.old) (D.state disk.new) s (own_behind s).atoms }
+    ensures enough { (s : State) → Stands (D.state disk.old) tables.old s
+        → OnOk result ((own_behind s).lacks ≡ None) }
+    ensures fault { (s : State) → Stands (D.state disk.old) tables.old s
+        → IfErr result (FollowsNot works ((bounds_of tables.old).file + most_files)
+        (own_behind s).lacks) }
+    ensures files { (s : State) → Stands (D.state disk.old) tables.old s → OnOk result
+        ((bounds_of tables.new).file ≤ (bounds_of tables.old).file + most_files) }
+    ensures entries { works ≡ true
+        → OnOk result (AfterWork Step (limits_of tables.old).flush (D.state disk.new)) }
+    ensures limits { limits_of tables.new ≡ limits_of tables.old }
+    ensures goes { Goes (D.state disk.old) (D.state disk.new) }
+    ensures cause { IsErrOf result RunFault.Failed
+        → Rose (D.state disk.old).faults (D.state disk.new).faults }
+{
+    if !works {
+        return Ok(());
+    }
+    match work(tables, disk, Task::Step) {
+        Ok(()) => Ok(()),
+        Err(fault) => Err(fault),
+    }
+}
+
+/// What follows a connection: the server's own requests behind it. So many connections have come by then, and this was the last moment that
+/// was told while they were served, `None` where none was.
+pub(crate) fn between<D: Disk>(
+    tables: &mut Tables,
+    disk: &mut D,
+    number: u32,
+    moment: Option<u64>,
+) -> Result<(), RunFault>
+    requires ready { AreReady (D.state disk.old) tables.old }
+    ensures stands { (s : State) → Stands (D.state disk.old) tables.old s
+        → OnOk result (Stands (D.state disk.new) tables.new (after_between number moment s)) }
+    ensures follows { (s : State) → Stands (D.state disk.old) tables.old s
+        → Follows (D.state disk.old) (D.state disk.new) s (own_between number moment s).atoms }
+    ensures enough { (s : State) → Stands (D.state disk.old) tables.old s
+        → OnOk result ((own_between number moment s).lacks ≡ None) }
+    ensures fault { (s : State) → Stands (D.state disk.old) tables.old s
+        → IfErr result (IsCausedBy (own_between number moment s).lacks) }
+    ensures limits { bounds_of tables.new ≡ bounds_of tables.old }
+    ensures goes { Goes (D.state disk.old) (D.state disk.new) }
+    ensures cause { IsErrOf result RunFault.Failed
+        → Rose (D.state disk.old).faults (D.state disk.new).faults }
+{
+    Ok(())
+}

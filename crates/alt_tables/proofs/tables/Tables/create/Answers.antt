@@ -1,5 +1,5 @@
 -- A number or a family is lacked, or one write adds the table, whose description is known before it.
-use Rattle.std.proofs.Common.{◌+◌, [], ◌∷◌, sym, ap, ◌∙◌, subst, arith, ℕ}
+use Rattle.std.proofs.Common.{◌+◌, refl, [], ◌∷◌, sym, ap, ◌∙◌, subst, arith, ℕ}
 use Rattle.alt_disk.proofs.Runs.{quiet_start}
 use Rattle.alt_machine.specs.Ops.CreateTable.{with_table}
 use Rattle.alt_machine.specs.Outcomes.{a_table}
@@ -102,6 +102,9 @@ returns-in_err-add-clause-disk g c s stands =
     (g.D.Disk.state c.args.disk.now) c.args.self.now.engine s
     (with_table s c.args.schema ∷ []) stands.rows stands.valid
     (quiet_start (g.D.Disk.state c.args.disk.now))
+
+pub make-requires-clause-file : goal.make-requires-clause-file
+make-requires-clause-file g c = c.in_default.ensures.none refl
 
 pub make-requires-clause-ready : goal.make-requires-clause-ready
 make-requires-clause-ready g c trusted =

@@ -1,5 +1,5 @@
 -- The table is taken out by one write.
-use Rattle.std.proofs.Common.{[], ◌∷◌, sym, ap, ◌∙◌, arith}
+use Rattle.std.proofs.Common.{[], ◌∷◌, refl, sym, ap, ◌∙◌, arith}
 use Rattle.alt_disk.proofs.Runs.{quiet_start}
 use Rattle.alt_machine.proofs.Lacks.{has_number}
 use Rattle.alt_machine.specs.Ops.DeleteTable.{without_table}
@@ -44,6 +44,9 @@ returns-in_err-batch-clause-disk g c s stands =
     c.args.self.now.engine s (without_table s c.args.name.now ∷ []) stands.rows stands.valid
     (quiet_start (g.D.Disk.state c.args.disk.now))
 
+pub make-requires-clause-file : goal.make-requires-clause-file
+make-requires-clause-file g c = c.in_default.ensures.none refl
+
 pub make-requires-clause-ready : goal.make-requires-clause-ready
 make-requires-clause-ready g c trusted =
     let (s, stands) = c.requires.ready trusted in (s, stands.rows)
@@ -51,14 +54,14 @@ make-requires-clause-ready g c trusted =
 pub returns-in-Ok-clause-writes : goal.returns-in-Ok-clause-writes
 returns-in-Ok-clause-writes g c s stands =
     let turned = drop_turned (g.D.Disk.state c.args.disk.now) c.args.self.now s stands
-    c.args.name.now c.in-Some.schema.now c.in_ok-batch.batch (sym c.in-Some.ensures.table)
+    c.args.name.now c.in-Some-get.schema.now c.in_ok-batch.batch (sym c.in-Some-get.ensures.table)
     c.in_ok-batch.ensures.changes
     (omega (arith, c.next_number-number.ensures.next, c.if-number-ge-NUMBERS_END.false)) in
     one_made (Stands (g.D.Disk.state c.make.new.disk) _) a_number s
     (without_table s c.args.name.now)
     (drop_stands (g.D.Disk.state c.args.disk.now) c.args.self.now s stands
-    c.args.name.now c.in-Some.schema.now (g.D.Disk.state c.make.new.disk) _
-    (sym c.in-Some.ensures.table)
+    c.args.name.now c.in-Some-get.schema.now (g.D.Disk.state c.make.new.disk) _
+    (sym c.in-Some-get.ensures.table)
     (c.in-Ok.ensures.ok s (without_table s c.args.name.now) stands.rows turned) turned.valid
     (c.remove.ensures.rest
     ∙ ap (λ (m : Texts TableSchema). map.remove m c.args.name.now) c.make.ensures.kept.0)
@@ -75,7 +78,7 @@ pub returns-in-Ok-clause-disk : goal.returns-in-Ok-clause-disk
 returns-in-Ok-clause-disk g c s stands =
     c.make.ensures.disk s (without_table s c.args.name.now) stands.rows stands.valid
     (drop_turned (g.D.Disk.state c.args.disk.now) c.args.self.now s stands
-    c.args.name.now c.in-Some.schema.now c.in_ok-batch.batch (sym c.in-Some.ensures.table)
+    c.args.name.now c.in-Some-get.schema.now c.in_ok-batch.batch (sym c.in-Some-get.ensures.table)
     c.in_ok-batch.ensures.changes
     (omega (arith, c.next_number-number.ensures.next, c.if-number-ge-NUMBERS_END.false)))
 
@@ -94,6 +97,6 @@ pub returns-clause-disk : goal.returns-clause-disk
 returns-clause-disk g c s stands =
     c.make.ensures.disk s (without_table s c.args.name.now) stands.rows stands.valid
     (drop_turned (g.D.Disk.state c.args.disk.now) c.args.self.now s stands
-    c.args.name.now c.in-Some.schema.now c.in_ok-batch.batch (sym c.in-Some.ensures.table)
+    c.args.name.now c.in-Some-get.schema.now c.in_ok-batch.batch (sym c.in-Some-get.ensures.table)
     c.in_ok-batch.ensures.changes
     (omega (arith, c.next_number-number.ensures.next, c.if-number-ge-NUMBERS_END.false)))

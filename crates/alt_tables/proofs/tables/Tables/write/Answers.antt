@@ -137,7 +137,7 @@ write_trimmed-requires-clause-room g c = omega (
 
 pub write_trimmed-requires-clause-file : goal.write_trimmed-requires-clause-file
 write_trimmed-requires-clause-file g c = subst (λ (b : Bounds). b.file < 2 ^ 32)
-    (sym c.trim.ensures.keeps.limits) (c.wanting_file.ensures.none c.in-None.is)
+    (sym c.trim.ensures.keeps.limits) (c.in_default.ensures.none refl)
 
 pub write_trimmed-requires-clause-trim : goal.write_trimmed-requires-clause-trim
 write_trimmed-requires-clause-trim g c s t l stands at rows =

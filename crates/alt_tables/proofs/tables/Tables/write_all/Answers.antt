@@ -233,7 +233,7 @@ make_all-requires-clause-ready g c trusted =
 pub make_all-requires-clause-file : goal.make_all-requires-clause-file
 make_all-requires-clause-file g c = subst (λ (b : Bounds). b.file < 2 ^ 32)
     (sym (ap engine_bounds c.know_all.ensures.kept.0 ∙ c.stage_all.ensures.keeps.limits))
-    (c.wanting_file.ensures.none c.in-None.is)
+    (c.in_default.ensures.none refl)
 
 pub returns-in-Ok-make_all-clause-writes : goal.returns-in-Ok-make_all-clause-writes
 returns-in-Ok-make_all-clause-writes g c s stands =

@@ -1,5 +1,5 @@
 -- One write is made, and what is known of the front of the stream is what it leaves.
-use Rattle.std.proofs.Common.{◌≡◌, ◌<◌, ◌+◌, ◌++◌, refl, sym, ap, ◌∙◌, ℕ, List, [], ◌∷◌, Option, Some, IsSome, subst, arith, rules, T}
+use Rattle.std.proofs.Common.{◌≡◌, ◌<◌, ◌^◌, ◌+◌, ◌++◌, refl, sym, ap, ◌∙◌, ℕ, List, [], ◌∷◌, Option, Some, IsSome, subst, arith, rules, T}
 use Rattle.std.specs.FinMap as map
 use Rattle.std.specs.Str.{bytes_eq}
 use Rattle.std.specs.Prelude.{if◌then◌else◌, is_some}
@@ -10,7 +10,7 @@ use Rattle.alt_changes.specs.TrimRows.{trim_changes}
 use Rattle.alt_codec.specs.declared.writer.Writer.TheVariants.{User}
 use Rattle.alt_disk.specs.Disk.{DiskState}
 use Rattle.alt_disk.proofs.Runs.{quiet_start}
-use Rattle.alt_engine.specs.InHand.{Stands as EngineStands, next_of}
+use Rattle.alt_engine.specs.InHand.{Stands as EngineStands, bounds_of as engine_bounds, next_of}
 use Rattle.alt_engine.specs.declared.engine.Engine.{Engine}
 use Rattle.alt_machine.specs.Outcomes.{a_number}
 use Rattle.alt_machine.specs.State.{State, Table}
@@ -85,6 +85,10 @@ put_trim-requires g c = record {
       (subst IsSome (sym stream) refl))))
       (omega (arith, c.next_number-number.ensures.next, c.requires.room)) family stream;
 }
+
+pub make-requires-clause-file : goal.make-requires-clause-file
+make-requires-clause-file g c = subst (λ (e : Engine). (engine_bounds e).file < 2 ^ 32)
+    (sym c.know.ensures.kept.0) c.requires.file
 
 pub make-requires-clause-ready : goal.make-requires-clause-ready
 make-requires-clause-ready g c trusted =

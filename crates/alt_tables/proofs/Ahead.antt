@@ -217,12 +217,12 @@ module _ (l : Layout) (s : State) (past : IsPast l) (moment : ℕ) (writer : Wri
     (written : batch ≡ write_changes t.description r.next_number moment writer place
     (map.get t.items place) to t.trimmed x.number x.leftovers.items) (one : T (is_distinct batch))
   where
-    -- the rows so far, and those then
+    -- the rows so far, and those behind the write
     abbrev now : Layout
     now = with_batches l batches
 
-    abbrev then : Layout
-    then = changed_rows now batch
+    abbrev later : Layout
+    later = changed_rows now batch
 
     abbrev table_after : Table
     table_after = with_write_by r.next_number moment writer t place to
@@ -230,13 +230,13 @@ module _ (l : Layout) (s : State) (past : IsPast l) (moment : ℕ) (writer : Wri
     abbrev after : State
     after = after_item_by r moment writer name t place to
 
-    -- the table then
-    touched : IsTouched l then moment x table_after
+    -- the table behind it
+    touched : IsTouched l later moment x table_after
     touched = record {
       trimmed = trimmed_then r name t at ahead.turns.valid moment writer place to differ now x is;
       low = is.low;
       oldest = λ family stream. sym (front_then r name t at ahead.turns.valid moment writer place to
-          differ now x is family stream then (left_of family stream)
+          differ now x is family stream later (left_of family stream)
           (record { table = name; oldest = oldest_by moment x; from = x.from }) (refl, refl)).oldest;
       young = λ family stream. ap (λ o. is_over (Some (unwrap_or o moment)) moment)
           (is.oldest family stream) ∙ oldest_young moment t.changes;
@@ -244,14 +244,14 @@ module _ (l : Layout) (s : State) (past : IsPast l) (moment : ℕ) (writer : Wri
     }
       where
         left_of : (family : ℕ) → t.description.stream_family ≡ Some family
-            → leftovers then family x.number ≡ drop 2 (leftovers now family x.number)
+            → leftovers later family x.number ≡ drop 2 (leftovers now family x.number)
         left_of family stream = leftovers_then r name t at ahead.turns.valid moment writer place to
             differ now x is family stream (past_behind l batches past) batch written one
 
     -- the families of another table show what they showed
     others_stay : (q : List ℕ) → bytes_eq name q ≡ false → (v : Table) (family : ℕ)
         → map.get r.tables q ≡ Some v → v.description.stream_family ≡ Some family
-        → (key : List ℕ) → shown then family key ≡ shown now family key
+        → (key : List ℕ) → shown later family key ≡ shown now family key
     others_stay q apart v family at_v stream = shown_elsewhere now batch one
         (past_behind l batches past) family
         (subst (AreOthers family) (sym written)
@@ -293,7 +293,7 @@ module _ (l : Layout) (s : State) (past : IsPast l) (moment : ℕ) (writer : Wri
           note : Noted
           note = record { table = name; trim = x }
 
-          then_is : with_batches l (batches ++ batch ∷ []) ≡ then
+          then_is : with_batches l (batches ++ batch ∷ []) ≡ later
           then_is = with_batches-append l batches (batch ∷ [])
 
           by : (q : List ℕ) (b : Bool) → bytes_eq name q ≡ b
@@ -314,7 +314,7 @@ module _ (l : Layout) (s : State) (past : IsPast l) (moment : ℕ) (writer : Wri
               (map.get after.tables q) (cond b (Some note) (note_at q notes))) (sym e)
               (subst (λ m. IsTableAhead l m moment (map.get s.tables q) (map.get after.tables q)
               (note_at q notes)) (sym then_is)
-              (table_on l now then moment (map.get s.tables q) (map.get r.tables q)
+              (table_on l now later moment (map.get s.tables q) (map.get r.tables q)
               (map.get after.tables q) (note_at q notes) (others_stay q e)
               (insert_elsewhere r.tables name q (λ same. false≢true (sym e
               ∙ (bytes_eq-Decides name q).1 (sym same))) table_after) (ahead.tables q)))

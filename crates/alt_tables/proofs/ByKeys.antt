@@ -44,7 +44,7 @@ pub may_at : (catalog : Texts TableSchema) (w : ItemWrite) → MayWriteKey catal
 may_at catalog w may = record {
   there = may.there;
   stored = λ d at.
-      let (place, here) = has_place (place_of d w.key) refl (may.key d at) in
+      let (place, here) = has_place (place_of d w.key) (place_of d w.key) refl (may.key d at) in
       subst (λ p. IfSome w.new (IsStored d p)) (place_is catalog w d place at here)
       (may.stored d place at here);
 }
@@ -80,7 +80,7 @@ placed_none catalog writes changes none may =
       written = refl;
       may = may;
       found = λ s same were. (tt, were);
-      count = refl;
+      count = omega arith;
     })
 
 -- one more is

@@ -168,7 +168,8 @@ pub writes_differing : (s : State) (moment : ℕ) (writer : Writer) (cs : List I
 writes_differing s moment writer [] apart found = refl
 writes_differing s moment writer (c ∷ cs) apart found =
     by (is_same c.found.item c.new) refl
-    (writes_differing (last_state s (writes_of_by s moment writer (written_at c))) moment cs apart.1
+    (writes_differing (last_state s (writes_of_by s moment writer (written_at c))) moment writer cs
+    apart.1
     (stay_found s moment writer (written_at c) cs apart.0 found.1))
   where
     after : State
@@ -196,25 +197,25 @@ rows_differing l s moment writer [] apart found = refl
 rows_differing l s moment writer (c ∷ cs) apart found =
     by (is_same c.found.item c.new) refl
     (rows_differing (with_batches l (batches_by l s moment writer (written_at c)))
-    (last_state s (writes_of_by s moment writer (written_at c))) moment cs apart.1
+    (last_state s (writes_of_by s moment writer (written_at c))) moment writer cs apart.1
     (stay_found s moment writer (written_at c) cs apart.0 found.1))
   where
     after : State
     after = last_state s (writes_of_by s moment writer (written_at c))
 
-    then : Layout
-    then = with_batches l (batches_by l s moment writer (written_at c))
+    behind : Layout
+    behind = with_batches l (batches_by l s moment writer (written_at c))
 
     by : (b : Bool) → is_same c.found.item c.new ≡ b
-        → batches_of then after moment writer (map written_at cs)
-        ≡ batches_of then after moment writer (map written_at (differing_of cs))
-        → batches_by l s moment writer (written_at c) ++ batches_of then after moment writer (map written_at cs)
+        → batches_of behind after moment writer (map written_at cs)
+        ≡ batches_of behind after moment writer (map written_at (differing_of cs))
+        → batches_by l s moment writer (written_at c) ++ batches_of behind after moment writer (map written_at cs)
         ≡ batches_of l s moment writer (map written_at (cond (not b) (c ∷ differing_of cs)
         (differing_of cs)))
     by true e rest =
         let none = same_none s moment writer c found.0 e in
         let bare = same_rows s moment writer c found.0 l e in
-        ap (λ bs. bs ++ batches_of then after moment writer (map written_at cs)) bare
+        ap (λ bs. bs ++ batches_of behind after moment writer (map written_at cs)) bare
         ∙ rest
         ∙ (λ i. batches_of (with_batches l (bare i)) (last_state s (none i)) moment
         writer (map written_at (differing_of cs)))
@@ -249,7 +250,8 @@ pub count_differing : (s : State) (moment : ℕ) (writer : Writer) (cs : List It
 count_differing s moment writer [] catalog are there apart differ found = refl
 count_differing s moment writer (c ∷ cs) catalog are there apart differ found =
     let (t, at) = its_table (finite.get catalog c.table) refl there.0 in
-    let rest = count_differing (last_state s (writes_of_by s moment writer (written_at c))) moment cs catalog
+    let rest = count_differing (last_state s (writes_of_by s moment writer (written_at c))) moment
+    writer cs catalog
     (are ∙ sym (still_described s moment writer (written_at c))) there.1 apart.1 differ.1
     (stay_found s moment writer (written_at c) cs apart.0 found.1) in
     ap (λ ws. length (ws ++ writes_of_all_by (last_state s (writes_of_by s moment writer (written_at c))) moment writer

@@ -92,7 +92,7 @@ leftovers_alike l m family trimmed alike i =
     filter (λ n. is_some (alike (row_key n) i)) (range_with_len 1 trimmed)
 
 -- so a front stays
-front_alike : (l m : Layout) (t : Table) (f : Front)
+pub front_alike : (l m : Layout) (t : Table) (f : Front)
     → ((family : ℕ) → t.description.stream_family ≡ Some family → (key : List ℕ)
     → shown m family key ≡ shown l family key) → IsFront l t f → IsFront m t f
 front_alike l m t f alike front = record {

@@ -6,7 +6,7 @@ use Rattle.alt_tables.proofs.Trimmed.{can_trim}
 use Rattle.alt_tables.proofs.tables.Tables.batch.Goals as goal
 
 pub put_trim-requires : goal.put_trim-requires
-put_trim-requires g c = record {
+put_trim-requires c = record {
   rows = λ family stream. can_trim c.in-Some.schema.now c.in-Some.ensures.families
       (c.next_number.result + c.args.count) c.args.moment c.args.by c.args.found.place
       c.args.found.item c.args.new.now c.in_ok-batch.batch c.in_ok-batch.ensures.changes

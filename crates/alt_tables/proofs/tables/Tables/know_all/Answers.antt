@@ -1,5 +1,5 @@
 -- One more is known.
-use Rattle.std.proofs.Common.{◌≡◌, refl, sym, ap, subst, ◌∙◌, List, [], ◌∷◌, ◌++◌, length, true, length-append, arith}
+use Rattle.std.proofs.Common.{ℕ, ◌≡◌, refl, sym, ap, subst, ◌∙◌, List, [], ◌∷◌, ◌++◌, length, true, length-append, arith}
 use Rattle.std.specs.FinMap as map
 use Rattle.alt_machine.specs.State.{Texts}
 use Rattle.alt_opening.specs.Trimmed.{IsRenumbered}
@@ -21,7 +21,7 @@ loop-note-init c = record {
 }
 
 -- the table of one that is taken is there
-there : (catalog : Texts TableSchema) (next : _) (all left back : List Noted) (before : List Noted)
+there : (catalog : Texts TableSchema) (next : ℕ) (all left back : List Noted) (before : List Noted)
     (x : Noted) → AreNotes catalog next all → all ≡ before ++ back → before ≡ left ++ x ∷ []
     → map.contains_key catalog x.table ≡ true
 there catalog next all left back before x notes whole taken =
@@ -32,12 +32,14 @@ there catalog next all left back before x notes whole taken =
 pub know-requires : goal.know-requires
 know-requires c =
     let known = c.loop-note.invariant.known in
-    ap (λ (k : Texts TableSchema). map.contains_key k c.as_str.result.now)
-    c.loop-note.invariant.kept.1
-    ∙ ap (map.contains_key (catalog_of c.args.self.now)) c.as_str.ensures.same
-    ∙ there (catalog_of c.args.self.now) (number_of c.args.self.now) c.args.notes.items
-    c.pop.new.self.items known.back c.loop-note.notes.items c.in-Some.note c.requires known.whole
-    c.pop.ensures.items
+    record {
+      there = ap (λ (k : Texts TableSchema). map.contains_key k c.as_str.result.now)
+          c.loop-note.invariant.kept.1
+          ∙ ap (map.contains_key (catalog_of c.args.self.now)) c.as_str.ensures.same
+          ∙ there (catalog_of c.args.self.now) (number_of c.args.self.now) c.args.notes.items
+          c.pop.new.self.items known.back c.loop-note.notes.items c.in-Some.note c.requires.notes
+          known.whole c.in-Some.ensures.items;
+    }
 
 pub returns-in_err-know-clause-kept : goal.returns-in_err-know-clause-kept
 returns-in_err-know-clause-kept c = (
@@ -49,7 +51,7 @@ returns-in_err-know-clause-kept c = (
 
 pub loop-note-smaller : goal.loop-note-smaller
 loop-note-smaller c =
-    let fewer = ap length c.pop.ensures.items in
+    let fewer = ap length c.in-Some.ensures.items in
     omega (arith, fewer, length-append c.pop.new.self.items (c.in-Some.note ∷ []))
 
 pub loop-note-preserved : goal.loop-note-preserved
@@ -58,13 +60,13 @@ loop-note-preserved c =
     let catalog : Texts TableSchema = catalog_of c.args.self.now in
     let x : Noted = c.in-Some.note in
     let (d, at) = described_by catalog x.table (there catalog (number_of c.args.self.now)
-    c.args.notes.items c.pop.new.self.items known.back c.loop-note.notes.items x c.requires
-    known.whole c.pop.ensures.items) in
+    c.args.notes.items c.pop.new.self.items known.back c.loop-note.notes.items x c.requires.notes
+    known.whole c.in-Some.ensures.items) in
     record {
       known = last_more catalog c.args.moment c.args.notes.items c.pop.new.self.items
           c.loop-note.notes.items x (trimmed_of c.args.self.now) (trimmed_of c.loop-note.self)
           (trimmed_of c.know.new.self) (fronts_of c.args.self.now) (fronts_of c.loop-note.self)
-          (fronts_of c.know.new.self) c.pop.ensures.items known
+          (fronts_of c.know.new.self) c.in-Some.ensures.items known
           (subst (λ n. IsRenumbered n x.trim.number (trimmed_of c.loop-note.self)
           (trimmed_of c.know.new.self)) c.as_str.ensures.same c.in_ok-know.ensures.trimmed) d at
           (subst (λ n. IsNoted d n c.args.moment x.trim (fronts_of c.loop-note.self)
@@ -85,7 +87,8 @@ pub returns-clause-known : goal.returns-clause-known
 returns-clause-known c = last_all (catalog_of c.args.self.now) c.args.moment c.args.notes.items
     c.loop-note.notes.items (trimmed_of c.args.self.now) (trimmed_of c.loop-note.self)
     (fronts_of c.args.self.now) (fronts_of c.loop-note.self)
-    (none_left c.loop-note.notes.items (omega (arith, c.loop-note.notes.ok.0, c.pop.ensures.variant)))
+    (none_left c.loop-note.notes.items
+    (sym c.loop-note.notes.ok.0 ∙ c.in_default.ensures.cases.0))
     c.loop-note.invariant.known
   where
     none_left : (ns : List Noted) → length ns ≡ 0 → ns ≡ []

@@ -13,7 +13,7 @@ returns-clause-found c s same was t at =
     let catalog : Texts TableSchema = catalog_of c.args.self.now in
     let w : ItemWrite = c.args.write.now in
     let at_w : map.get s.tables w.table ≡ Some t =
-    ap (map.get s.tables) (sym c.in_ok-copy.ensures.same) ∙ at in
-    c.in_ok-copy_of.ensures ∙ c.as_ref.ensures ∙ was t c.in-Ok.place at_w
+    ap (map.get s.tables) (sym c.in_ok-table.ensures.same) ∙ at in
+    c.in_ok-item.ensures ∙ c.as_ref.ensures.value ∙ was t c.in-Ok.place at_w
     (c.in-Ok.ensures.place t.description
     (ap (map.get catalog) c.as_str.ensures.same ∙ known_by catalog s w.table t same at_w))

@@ -11,7 +11,7 @@ use Rattle.alt_tables.proofs.tables.Tables.placed_all.Goals as goal
 
 pub loop-write-init : goal.loop-write-init
 loop-write-init c = placed_none (catalog_of c.args.self.now) c.args.writes.now _
-    c.in_ok-with_capacity.ensures.items c.requires
+    c.in_ok-changes.ensures.items c.requires.may
 
 pub placed-requires : goal.placed-requires
 placed-requires c =
@@ -22,7 +22,7 @@ placed-requires c =
     let less : i < length writes = omega (arith, c.loop-write-test.true) in
     let front : drop i writes ≡ w ∷ drop (i + 1) writes = drop_more writes i w less
     ∙ ap (λ (x : ItemWrite). x ∷ drop (i + 1) writes) (sym c.write-item.is) in
-    (subst (Every (MayWriteKey catalog)) front c.loop-write.invariant.may).0
+    record { may = (subst (Every (MayWriteKey catalog)) front c.loop-write.invariant.may).0 }
 
 pub loop-write-preserved : goal.loop-write-preserved
 loop-write-preserved c =
@@ -34,7 +34,7 @@ loop-write-preserved c =
     let front : drop i writes ≡ w ∷ drop (i + 1) writes = drop_more writes i w less
     ∙ ap (λ (x : ItemWrite). x ∷ drop (i + 1) writes) (sym c.write-item.is) in
     placed_more catalog writes (drop (i + 1) writes) (drop i writes) w c.loop-write.changes.items _
-    c.in-Ok.change front c.in_ok-push.ensures.items c.loop-write.invariant c.in-Ok.ensures.written
+    c.in-Ok.change front c.in_ok-push-in-Ok.ensures.items c.loop-write.invariant c.in-Ok.ensures.written
     c.in-Ok.ensures.found
 
 pub returns-clause-written : goal.returns-clause-written

@@ -26,12 +26,10 @@ use Rattle.alt_tables.proofs.tables.Tables.write_all.Goals as goal
 -- ---- how many there are
 
 zero_of : (n : ℕ) → true ≡ (n == 0) → n ≡ 0
-zero_of zero e = refl
-zero_of (suc n) e = absurd (let f : ⊥ = cc e in f)
+zero_of n e = grind arith
 
 some_of : (n : ℕ) → false ≡ (n == 0) → 1 ≤ n
-some_of zero e = absurd (let f : ⊥ = cc e in f)
-some_of (suc n) e = omega arith
+some_of n e = grind arith
 
 none_in : (cs : List ItemChange) → length cs ≡ 0 → cs ≡ []
 none_in [] e = refl

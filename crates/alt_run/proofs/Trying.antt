@@ -23,8 +23,8 @@ use Rattle.alt_tables.specs.Images.{StandsFor}
 use Rattle.alt_tables.specs.Stands.{Stands, bounds_of}
 use Rattle.alt_tables.specs.declared.tables.Tables.{Tables}
 use Rattle.alt_tables.proofs.Left.{stands_left}
-use Rattle.alt_talks.specs.Faults.{IsCausedBy, IsFileFault}
-use Rattle.alt_talks.specs.Own.{FollowsNot, after_behind, own_behind}
+use Rattle.alt_talks.specs.Faults.{IsAnswerFault, IsCausedBy, IsFileFault}
+use Rattle.alt_talks.specs.Own.{FollowsNot, Own, after_behind, own_behind}
 use Rattle.alt_talks.specs.Works.{Follows}
 use Rattle.alt_talks.specs.Runs.{Stretch}
 use Rattle.alt_run.specs.Runs.{Rests}
@@ -37,7 +37,7 @@ use Rattle.alt_talks.specs.declared.fault.RunFault.TheVariants.{Failed, NoMemory
 use Rattle.alt_run.specs.declared.tally.Tally.{Tally}
 use Rattle.alt_talks.proofs.Stopping.{atoms_of-append, last_state-append, after-atoms, one-by, until-before, take-within, trusts-kept, leaves-weaker, leaves-here, spans_two, keeps-spans, within-wider, stands_kept}
 use Rattle.alt_talks.proofs.FileFaults.{file_more}
-use Rattle.alt_talks.proofs.Owning.{cause_behind, enough_both}
+use Rattle.alt_talks.proofs.Owning.{cause_behind, cause_first, enough_both, none_behind}
 use Rattle.alt_run.proofs.TurnLaws.{requests-append, turns-append}
 use Rattle.alt_talks.proofs.TurnLaws.{after-append, wanted-append}
 
@@ -227,13 +227,27 @@ module _ (a b : DiskState) (s : State) (name body : List ℕ)
     (leaves : AtEach a b (λ _ image. IsAmong image s (carried_out s name body trial_moment).atoms)) where
   -- it broke off
   pub one_broke : (fault : RunFault) (next : ℕ)
-      → IsCausedBy (carried_out s name body trial_moment).lacks fault
+      → IsAnswerFault next (wanted_by s (outcome_of s name body trial_moment)) fault
       → CountedSome fault next s (request name body ∷ []) a b
   one_broke fault next cause = record {
     begun = request name body ∷ [];
     rest = [];
     lines = refl;
-    wants = inl (lacked_alone fault (carried_out s name body trial_moment).lacks cause);
+    wants = ⊎_elim
+        (λ (lack : IsCausedBy (wanted_by s (outcome_of s name body trial_moment)) fault).
+        inl (lacked_alone fault (carried_out s name body trial_moment).lacks
+        (cause_first (wanted_by s (outcome_of s name body trial_moment))
+        (own_behind (left_by s name body trial_moment)).lacks fault lack)))
+        (λ (last : (wanted_by s (outcome_of s name body trial_moment) ≡ None)
+        × IsFileFault next fault). inr (
+          file_more fault next (next + 1 * most_files) (omega arith) last.1,
+          ap (λ (w : Option Lack). or_next
+              (or_next w (own_behind (left_by s name body trial_moment)).lacks) None) last.0
+              ∙ ap (λ (o : Own). or_next (or_next None o.lacks) None)
+              (none_behind (left_by s name body trial_moment)),
+          omega arith,
+        ))
+        cause;
     leaves = leaves-weaker a b
         (λ _ image. IsAmong image s (carried_out s name body trial_moment).atoms)
         (λ _ image. IsAmong image s (one_atoms s name body))

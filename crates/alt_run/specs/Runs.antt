@@ -50,13 +50,20 @@ pub record IsWorking (s : State) (done begun : List Asked) (entries : Log)
   pub enough : wanted (turns s (done ++ begun) told) ≡ None
   pub at : IsAtWork line (said_in entries ≡ text_of (turns s (done ++ begun) told))
 
--- Why serving broke off: a request has no answer, for want of a number that is the first that one wanted, or work broke off. A file was wanted
--- then only where as many numbers as the tasks of the lines that were begun take at most, from the next file on before them, reach the last.
+-- A request was under way, the line that was begun behind these.
+pub record IsWriting (begun : List Asked) : Type 0 where
+  pub line : Asked
+  pub last : begun ≡ line ∷ []
+  pub asks : requests begun ≡ 1
+
+-- Why serving broke off: a request has no answer, for want of a number that is the first that one wanted, or of the file of a first write, or
+-- work broke off. A file was wanted then only where as many numbers as the tasks of the lines that were begun take at most, from the first file
+-- that work made before them on, reach the last.
 abbrev pub BreaksFor : RunFault → ℕ → State → List Asked → List Asked → Log → List ℕ → Type 0
 BreaksFor fault next s done begun entries told =
     IsCausedBy (wanted (turns s (done ++ begun) told)) fault
     ⊎ (IsFileFault (next + tasks (done ++ begun) * most_files) fault
-    × IsWorking s done begun entries told)
+    × (IsWriting begun ⊎ IsWorking s done begun entries told))
 
 -- Serving these lines broke off. Those that were done were answered, at most one more was begun, and just these had a moment
 -- each. The fault has its cause.

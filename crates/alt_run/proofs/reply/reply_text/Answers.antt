@@ -3,8 +3,8 @@ use Rattle.alt_machine.specs.Step.{step}
 use Rattle.alt_machine.specs.declared.Operation.{Operation}
 use Rattle.alt_tables.specs.Images.{Leaves}
 use Rattle.alt_machine.specs.Wanted.{wanted}
-use Rattle.alt_tables.specs.Stands.{Stands}
-use Rattle.alt_talks.specs.Faults.{IsCausedBy}
+use Rattle.alt_tables.specs.Stands.{Stands, bounds_of}
+use Rattle.alt_talks.specs.Faults.{IsAnswerFault}
 use Rattle.alt_talks.proofs.Answering.{among_leaves, caused}
 use Rattle.alt_run.proofs.reply.reply_text.Goals as goal
 
@@ -37,8 +37,9 @@ returns-clause-cause g c = λ s stands.
     let fault = c.from.result in
     let body = c.args.body.now in
     let moment = c.args.moment in
-    subst (λ (o : Option Operation). IsCausedBy (wanted s (step s o body moment)) fault)
+    subst (λ (o : Option Operation). IsAnswerFault (bounds_of c.args.tables.now).file
+    (wanted s (step s o body moment)) fault)
     c.operation_named.ensures.named
-    (caused (Stands (g.D.Disk.state c.answer.new.disk) c.answer.new.tables) s
+    (caused (bounds_of c.args.tables.now).file (Stands (g.D.Disk.state c.answer.new.disk) c.answer.new.tables) s
     (step s c.operation_named.result body moment) c.in-Err.fault fault c.from.ensures
     (c.in-Err.ensures.settles s stands))

@@ -16,7 +16,7 @@ returns-in-Err-clause-counted g c = λ s stands.
     let state = g.D.Disk.state in
     one_broke (state c.args.disk.now) (state c.reply_text.new.disk) s c.args.name.now c.args.body.now
     (c.in-Err.ensures.leaves s stands) c.in-Err.fault (bounds_of c.args.tables.now).file
-    (cause_first _ _ c.in-Err.fault (c.in-Err.ensures.cause s stands))
+    (c.in-Err.ensures.cause s stands)
 
 pub follow-requires : goal.follow-requires
 follow-requires g c =

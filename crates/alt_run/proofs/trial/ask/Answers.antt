@@ -5,7 +5,6 @@ use Rattle.alt_engine.specs.InHand.{Bounds}
 use Rattle.alt_tables.specs.Stands.{bounds_of}
 use Rattle.alt_talks.specs.Own.{FollowsNot, own_behind}
 use Rattle.alt_talks.specs.Works.{HasFewEntries}
-use Rattle.alt_talks.proofs.Owning.{cause_first}
 use Rattle.alt_run.specs.Trials.{trial_moment}
 use Rattle.alt_run.specs.Turns.{carried_out, left_by}
 use Rattle.alt_run.proofs.Trying.{one_done, one_broke, one_followed_some}

@@ -545,7 +545,7 @@ func main() {
 		Endpoint:    aws.String("http://127.0.0.1:" + os.Args[1]),
 		Region:      aws.String("local"),
 		Credentials: credentials.NewStaticCredentials("any", "any", ""),
-		HTTPClient:  &http.Client{Timeout: 20 * time.Second, Transport: &http.Transport{}},
+		HTTPClient:  &http.Client{Timeout: 120 * time.Second, Transport: &http.Transport{}},
 		MaxRetries:  aws.Int(3),
 	}
 	db = dynamodb.New(session.Must(session.NewSession(settings)))

@@ -15,7 +15,7 @@ SETTINGS = dict(
     region_name="local",
     aws_access_key_id="any",
     aws_secret_access_key="any",
-    config=Config(connect_timeout=5, read_timeout=20, retries={"max_attempts": 3}),
+    config=Config(connect_timeout=120, read_timeout=120, retries={"max_attempts": 3}),
 )
 failures = []
 

@@ -3,32 +3,25 @@
 # installed.
 # It ends by itself: the server serves so many connections at most and is stopped at the end, and every wait has a limit.
 #
-#   checks/clients.sh [PORT]      the first of 21 ports to try, default 47120
+#   checks/clients.sh [PORT]      the first of 41 ports to try, default 47120
 #   PROGRAM=path checks/clients.sh       the program to try, default ./alternator
 set -u
 cd "$(dirname "$0")/.."
+. checks/serving.bash
 first=${1-47120}
 program=${PROGRAM-./alternator}
 work=$(mktemp -d)
 server=
 trap '[ -z "$server" ] || kill "$server" 2>/dev/null; wait 2>/dev/null; rm -rf "$work"' EXIT
 "$program" "$work/store" 0 init >/dev/null || { echo 'clients: the program does not run'; exit 1; }
-# The first port from there on that nobody has: a server that can't have its port ends at once.
-for port in $(seq "$first" $((first + 20))); do
-  "$program" "$work/store" "$port" serve 1 3000 65536 4 2>"$work/notes" &
-  server=$!
-  sleep 0.5
-  kill -0 "$server" 2>/dev/null && break
-  server=
-done
-[ -n "$server" ] || { echo 'clients: no port is free'; exit 1; }
+serves "$first" "$program" "$work/store" serve 1 3000 65536 4 2>"$work/notes" || { echo 'clients: no port is free'; exit 1; }
 passed=0
 failed=0
 # answers NAME WANTED ARGUMENTS..: what curl gets contains WANTED
 answers() {
   local name=$1 wanted=$2 got
   shift 2
-  got=$(curl -s -i -m 10 "http://127.0.0.1:$port/" "$@" 2>&1)
+  got=$(curl -s -i -m 120 "http://127.0.0.1:$port/" "$@" 2>&1)
   case $got in
     *"$wanted"*) passed=$((passed + 1)) ;;
     *)
@@ -62,7 +55,7 @@ printf 'POST / HTTP/1.1\r\nX-Amz-Target: DynamoDB_20120810.PutItem\r\nContent-Le
 asks 'a request that was cut off stores nothing' '{}' GetItem '{"TableName":"Tab","Key":{"k":{"S":"cut"}}}'
 
 if python3 -c 'import boto3' 2>/dev/null; then
-  if timeout 120 python3 checks/clients.py "$port"; then
+  if timeout 900 python3 checks/clients.py "$port"; then
     passed=$((passed + 1))
   else
     failed=$((failed + 1))
@@ -72,7 +65,7 @@ else
 fi
 # Version 1 of the SDK for Ruby, as Debian's package ruby-aws-sdk has it, which is spoken to by members of the older interface.
 if ruby -e 'require "aws-sdk"; exit AWS::VERSION.start_with?("1.") ? 0 : 1' 2>/dev/null; then
-  if timeout 120 ruby -W0 checks/clients.rb "$port"; then
+  if timeout 900 ruby -W0 checks/clients.rb "$port"; then
     passed=$((passed + 1))
   else
     failed=$((failed + 1))
@@ -83,7 +76,7 @@ fi
 # The SDK for Go as Debian's packages have it: without modules, and nothing is fetched.
 export GO111MODULE=off GOPROXY=off GOFLAGS= GOPATH=/usr/share/gocode
 if go list github.com/aws/aws-sdk-go/service/dynamodb >/dev/null 2>&1; then
-  if timeout 900 go build -o "$work/clients" checks/clients.go && timeout 240 "$work/clients" "$port"; then
+  if timeout 900 go build -o "$work/clients" checks/clients.go && timeout 900 "$work/clients" "$port"; then
     passed=$((passed + 1))
   else
     failed=$((failed + 1))

@@ -137,7 +137,7 @@ mkfifo "$work/wait"
 exec 9>"$work/wait"
 get a >&9
 echo >&9
-for _ in $(seq 100); do [ -s "$work/said" ] && break; sleep 0.05; done
+for _ in $(seq 1200); do [ -s "$work/said" ] && break; sleep 0.1; done
 printf 'x' | dd of="$work/spoilt/${file##*/}" bs=1 seek=8 conv=notrunc 2>/dev/null
 echo @reopen >&9
 exec 9>&-

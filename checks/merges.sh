@@ -9,4 +9,4 @@ if ! command -v python3 >/dev/null 2>&1; then
   echo 'merges: python3 is not installed, and its part was skipped'
   exit 0
 fi
-timeout 600 python3 checks/merges.py "$(realpath "${PROGRAM-crates/alternator/out/alternator}")" "${ROUNDS-4}"
+timeout 2400 python3 checks/merges.py "$(realpath "${PROGRAM-crates/alternator/out/alternator}")" "${ROUNDS-4}"

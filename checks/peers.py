@@ -20,7 +20,7 @@ import time
 from datetime import datetime, timezone
 
 PROGRAM = os.path.abspath(sys.argv[1])
-LIMIT = 60  # seconds within which a server answers or ends
+LIMIT = 240  # seconds within which a server answers or ends
 TABLE = (
     'CreateTable {"TableName":"Tab","KeySchema":[{"AttributeName":"k","KeyType":"HASH"}],'
     '"AttributeDefinitions":[{"AttributeName":"k","AttributeType":"S"}]}\n'
@@ -462,11 +462,11 @@ def main():
     subprocess.run([PROGRAM, made, "0", "init"], check=True, capture_output=True)
     replayed(made, TABLE)
     waiting = [
-        Waiting("a peer that is silent", is_silent, 14.5, 25),
-        Waiting("a peer that keeps its connection", keeps_its_connection, 14.5, 25),
-        Waiting("a peer that sends too slowly", is_slow, 29.5, 40),
-        Waiting("a peer that is let go on late and sends too slowly", is_let_go_on_late, 29.5, 40),
-        Waiting("a peer that takes no reply", takes_nothing, 14.5, 25),
+        Waiting("a peer that is silent", is_silent, 14.5, 29),
+        Waiting("a peer that keeps its connection", keeps_its_connection, 14.5, 29),
+        Waiting("a peer that sends too slowly", is_slow, 29.5, 57),
+        Waiting("a peer that is let go on late and sends too slowly", is_let_go_on_late, 29.5, 57),
+        Waiting("a peer that takes no reply", takes_nothing, 14.5, 29),
     ]
     for rows in [first, seven, talks, unheard, pieces, each_byte, thousand, vanishing, refused_late] + [one.tell for one in waiting]:
         try:

@@ -289,9 +289,11 @@ base=both
 behind 'rows of indexes come behind those of streams' 'alternator: row: family 3 key 61' "$(written 3 2 61 '' '')" "$(row_of 4 3 61 6d $second)"
 # a store is held by one process
 mkfifo "$work/wait"
-./alternator "$work/made" 0 replay 65536 4 <"$work/wait" >/dev/null &
+./alternator "$work/made" 0 replay 65536 4 <"$work/wait" >"$work/answered" &
 exec 9>"$work/wait"
-sleep 0.3
+# It has it once it answers.
+echo 'ListTables {}' >&9
+for _ in $(seq 1200); do [ -s "$work/answered" ] && break; sleep 0.1; done
 expect 'a store that another process has' 4 'alternator: device' ./alternator "$work/made" 0 replay 65536 4
 exec 9>&-
 wait

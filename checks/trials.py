@@ -70,7 +70,7 @@ def run(*words, lines=""):
     shared = "/dev/shm"
     with tempfile.TemporaryDirectory(dir=shared if os.access(shared, os.W_OK) else None) as store:
         for job, given in ((("init",), ""), (words, lines)):
-            done = subprocess.run([PROGRAM, store, "0", *job], input=given, capture_output=True, text=True, timeout=200)
+            done = subprocess.run([PROGRAM, store, "0", *job], input=given, capture_output=True, text=True, timeout=600)
             if done.returncode or done.stderr:
                 sys.exit("trials: %s ended with %d: %s" % (job[0], done.returncode, done.stderr))
     return done.stdout

@@ -9,4 +9,4 @@ if ! command -v python3 >/dev/null 2>&1; then
   echo 'trials: python3 is not installed, and its part was skipped'
   exit 0
 fi
-timeout 600 python3 checks/trials.py "${PROGRAM-crates/alternator/out/alternator}"
+timeout 2400 python3 checks/trials.py "${PROGRAM-crates/alternator/out/alternator}"

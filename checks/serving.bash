@@ -1,8 +1,13 @@
 # What the scripts with servers share, which read it: servers at free ports, waited for until they listen. It is no check.
 
-# listens PROCESS PORT: whether that process listens at that port of 127.0.0.1
+# listens PROCESS PORT: whether that process listens at that port of 127.0.0.1. Where the system doesn't tell, it is taken to after a second.
 listens() {
   local socket
+  if [ ! -r /proc/net/tcp ] || [ ! -r "/proc/$1/fd" ]; then
+    sleep 1
+    kill -0 "$1" 2>/dev/null
+    return
+  fi
   socket=$(awk -v place="$(printf '0100007F:%04X' "$2")" '$2 == place && $4 == "0A" { print $10 }' /proc/net/tcp)
   [ -n "$socket" ] && [ -n "$(find "/proc/$1/fd" -lname "socket:\[$socket\]" 2>/dev/null)" ]
 }

@@ -1,5 +1,5 @@
 -- The writes of a batch become lasting together: what a call that makes them all comes to is what the machine's one write comes to.
-use Rattle.std.proofs.Common.{◌≡◌, ◌<◌, ◌≤◌, ◌+◌, ⊎_elim, inl, inr, refl, sym, ap, subst, ℕ, List, [], ◌∷◌, length, Some, Ok, Err, false, arith}
+use Rattle.std.proofs.Common.{◌≡◌, ◌<◌, ◌≤◌, ◌+◌, ⊎_elim, inl, inr, refl, sym, subst, ℕ, List, [], ◌∷◌, length, Some, Ok, Err, false, arith}
 use Rattle.serde_json.specs.Written.{has_float}
 use Rattle.alt_machine.specs.declared.TheConstants.{NUMBERS_END}
 use Rattle.alt_machine.specs.Outcomes.{Outcome, last_state, numbers, together, writes_together}

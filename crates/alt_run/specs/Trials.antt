@@ -107,7 +107,7 @@ pub record TriesSome (fault : RunFault) (next : ℕ) (s : State) (seed count : �
   pub begun : List Asked
   pub rest : List Asked
   pub lines : trial_asks seed count ≡ begun ++ rest
-  pub said : IsPrefix (said_in entries) trial_text s seed count
+  pub said : IsPrefix (said_in entries) (trial_text s seed count)
   pub rests : Rests entries
   pub unasked : told ≡ []
   pub wants : TriesFor fault next s begun

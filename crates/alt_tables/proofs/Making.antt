@@ -80,8 +80,8 @@ want_told file now wants s atoms r told =
     subst (λ q. Writes file now wants s atoms q) (sym (is ∙ ap (λ e. Err e) none)) tt
 
 -- a number or a family that the one write can't have
-pub spent : {file : ℕ} (now : State → Type 0) (wants : Wants) (s r : State) (n : ℕ) → lack_of wants s ≡ Some n
-    → now s → BreakOff file now wants s (r ∷ []) (Spent n)
+pub spent : {file : ℕ} (now : State → Type 0) (wants : Wants) (s r : State) (n : ℕ)
+    → lack_of wants s ≡ Some n → now s → BreakOff file now wants s (r ∷ []) (Spent n)
 spent now wants s r n lacks stays = (0, inl (one_lacks wants s r n lacks), stays)
 
 -- the file of a segment that it can't have
@@ -91,8 +91,8 @@ pub spent_file : {file : ℕ} (now : State → Type 0) (wants : Wants) (s r : St
 spent_file now wants s r n has last stays = (0, inr (refl, one_has wants s r has, last), stays)
 
 -- one write that failed, or wanted memory
-pub broke : (file : ℕ) (now : State → Type 0) (wants : Wants) (s r : State) (f : TableFault) → IsFindFault f
-    → BreakOff file now wants s (r ∷ []) f
+pub broke : (file : ℕ) (now : State → Type 0) (wants : Wants) (s r : State) (f : TableFault)
+    → IsFindFault f → BreakOff file now wants s (r ∷ []) f
 broke file now wants s r (Spent n) given = absurd given
 broke file now wants s r (Damaged f at) given = absurd given
 broke file now wants s r (BadRow family key) given = absurd given

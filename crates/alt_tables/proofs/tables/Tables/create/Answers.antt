@@ -73,7 +73,8 @@ returns-in-Some-clause-disk g c s stands =
 
 pub returns-in_err-batch-clause-writes : goal.returns-in_err-batch-clause-writes
 returns-in_err-batch-clause-writes g c s stands =
-    want_told (bounds_of c.args.self.now).file (Stands (g.D.Disk.state c.args.disk.now) c.args.self.now) a_table s
+    want_told (bounds_of c.args.self.now).file
+    (Stands (g.D.Disk.state c.args.disk.now) c.args.self.now) a_table s
     (with_table s c.args.schema ∷ [])
     c.from_residual.result c.from_residual.ensures.1
 
@@ -86,7 +87,8 @@ returns-in_err-batch-clause-disk g c s stands =
 
 pub returns-in_err-live-clause-writes : goal.returns-in_err-live-clause-writes
 returns-in_err-live-clause-writes g c s stands =
-    want_told (bounds_of c.args.self.now).file (Stands (g.D.Disk.state c.args.disk.now) c.args.self.now) a_table s
+    want_told (bounds_of c.args.self.now).file
+    (Stands (g.D.Disk.state c.args.disk.now) c.args.self.now) a_table s
     (with_table s c.args.schema ∷ [])
     c.from_residual-in_err-live.result c.from_residual-in_err-live.ensures.1
 
@@ -161,7 +163,8 @@ returns-in-Ok-clause-disk g c s stands =
 
 pub returns-clause-writes : goal.returns-clause-writes
 returns-clause-writes g c s stands =
-    broke (bounds_of c.args.self.now).file (Stands (g.D.Disk.state c.make.new.disk) _) a_table s (with_table s c.args.schema)
+    broke (bounds_of c.args.self.now).file
+    (Stands (g.D.Disk.state c.make.new.disk) _) a_table s (with_table s c.args.schema)
     c.in-Err.fault c.in-Err.ensures.fault
 
 pub returns-clause-disk : goal.returns-clause-disk

@@ -100,7 +100,8 @@ returns-in_err-live-clause-disk g c s stands =
 
 pub returns-clause-writes : goal.returns-clause-writes
 returns-clause-writes g c s stands =
-    broke (bounds_of c.args.self.now).file (Stands (g.D.Disk.state c.make.new.disk) c.make.new.self) a_number s
+    broke (bounds_of c.args.self.now).file
+    (Stands (g.D.Disk.state c.make.new.disk) c.make.new.self) a_number s
     (without_table s c.args.name.now) c.in-Err.fault c.in-Err.ensures.fault
 
 pub returns-clause-disk : goal.returns-clause-disk

@@ -94,7 +94,8 @@ returns-in-Err-clause-writes g c s t stands at =
     (sym (item_differs (g.D.Disk.state c.args.disk.now) c.args.self.now s t stands
     c.args.moment User c.args.table.now c.args.found.place c.args.found.item c.args.new at
     (c.requires.found s stands t at) (sym c.if-same.ensures)))
-    (broke (bounds_of c.args.self.now).file (Stands (g.D.Disk.state c.trim.new.disk) c.trim.new.self) a_number s
+    (broke (bounds_of c.args.self.now).file
+    (Stands (g.D.Disk.state c.trim.new.disk) c.trim.new.self) a_number s
     (after_item s c.args.moment c.args.table.now t c.args.found.place c.args.new) c.in-Err.fault
     (c.in-Err.ensures.fault s stands))
 

@@ -34,7 +34,8 @@ same_Some x y e = cc
 
 pub returns-in_err-batch-clause-writes : goal.returns-in_err-batch-clause-writes
 returns-in_err-batch-clause-writes g c s t stands at =
-    want_told (bounds_of c.args.self.now).file (Stands (g.D.Disk.state c.args.disk.now) c.args.self.now) a_number s
+    want_told (bounds_of c.args.self.now).file
+    (Stands (g.D.Disk.state c.args.disk.now) c.args.self.now) a_number s
     (after_item s c.args.moment c.args.table.now t c.args.found.place c.args.new ∷ [])
     c.from_residual.result c.from_residual.ensures.1
 
@@ -47,7 +48,8 @@ returns-in_err-batch-clause-disk g c s t stands at =
 
 pub returns-in_err-put_trim-clause-writes : goal.returns-in_err-put_trim-clause-writes
 returns-in_err-put_trim-clause-writes g c s t stands at =
-    want_told (bounds_of c.args.self.now).file (Stands (g.D.Disk.state c.args.disk.now) c.args.self.now) a_number s
+    want_told (bounds_of c.args.self.now).file
+    (Stands (g.D.Disk.state c.args.disk.now) c.args.self.now) a_number s
     (after_item s c.args.moment c.args.table.now t c.args.found.place c.args.new ∷ [])
     c.from_residual-in_err-put_trim.result c.from_residual-in_err-put_trim.ensures.1
 
@@ -60,7 +62,8 @@ returns-in_err-put_trim-clause-disk g c s t stands at =
 
 pub returns-in_err-know-clause-writes : goal.returns-in_err-know-clause-writes
 returns-in_err-know-clause-writes g c s t stands at =
-    want_told (bounds_of c.args.self.now).file (Stands (g.D.Disk.state c.args.disk.now) c.know.new.self) a_number s
+    want_told (bounds_of c.args.self.now).file
+    (Stands (g.D.Disk.state c.args.disk.now) c.know.new.self) a_number s
     (after_item s c.args.moment c.args.table.now t c.args.found.place c.args.new ∷ [])
     c.from_residual-in_err-know.result c.from_residual-in_err-know.ensures.1
 
@@ -163,7 +166,8 @@ returns-in-Ok-clause-disk g c s t stands at =
 
 pub returns-clause-writes : goal.returns-clause-writes
 returns-clause-writes g c s t stands at =
-    broke (bounds_of c.args.self.now).file (Stands (g.D.Disk.state c.make.new.disk) c.make.new.self) a_number s
+    broke (bounds_of c.args.self.now).file
+    (Stands (g.D.Disk.state c.make.new.disk) c.make.new.self) a_number s
     (after_item s c.args.moment c.args.table.now t c.args.found.place c.args.new) c.in-Err.fault
     c.in-Err.ensures.fault
 

@@ -24,8 +24,8 @@ module _ (op : Operation) (moment : ℕ) (body found : Option Members)
   pub carries_on : {file : ℕ} (old now : State → Type 0) (r : Result Reply Stop)
       → Carries file (λ s. with_body s op moment found) old now r
       → Carries file (λ s. with_body s op moment body) old now r
-  carries_on old now r carried =
-      subst (λ (outcome : State → Outcome). Carries _ outcome old now r) same carried
+  carries_on {file = file} old now r carried =
+      subst (λ (outcome : State → Outcome). Carries file outcome old now r) same carried
 
   -- and does to the disk what that does
   pub moves_on : (old : State → Type 0) (before after : DiskState) (r : Result Reply Stop)

@@ -19,7 +19,7 @@ use Rattle.alt_tables.specs.declared.tables.Tables.{Tables}
 use Rattle.alt_tables.specs.declared.faults.TableFault.{TableFault}
 use Rattle.alt_tables.specs.declared.faults.TableFault.TheVariants.{Failed, NoMemory}
 
-module _ {file : ℕ} (now : State → Type 0) (s : State) (outcome : Outcome) where
+module _ (file : ℕ) (now : State → Type 0) (s : State) (outcome : Outcome) where
   -- where the refusal isn't told for want of memory, nothing was written
   untold : (r : Refusal) → IsRefused now s outcome r → Settles file now s outcome (Err NoMemory)
   untold r h = tt
@@ -34,11 +34,11 @@ module _ {file : ℕ} (now : State → Type 0) (s : State) (outcome : Outcome) w
   settled (Err (Fault f)) told h is = subst (Settles file now s outcome) (sym is) h
 
 -- what the tables then stand for is valid
-pub settled_valid : {file : ℕ} (now : State → Type 0) (s : State) (outcome : Outcome)
+pub settled_valid : (file : ℕ) (now : State → Type 0) (s : State) (outcome : Outcome)
     (told : Result Reply TableFault) → ((r : State) → now r → IsValid r)
     → Settles file now s outcome told → OnOk told (IsValid (last_state s outcome.atoms))
-settled_valid now s outcome (Ok reply) valid h = valid (last_state s outcome.atoms) h.state
-settled_valid now s outcome (Err fault) valid h = tt
+settled_valid file now s outcome (Ok reply) valid h = valid (last_state s outcome.atoms) h.state
+settled_valid file now s outcome (Err fault) valid h = tt
 
 -- what holds of a refusal holds where it is told by a reply with the status 400
 pub told_refused : (P : Type 0) (carried : Result Reply Stop) (told : Result Reply TableFault)

@@ -1,6 +1,6 @@
 //! The descriptions of the tables by their names. There are 256 at most, so they stand in one sorted list.
 
-ghost use Rattle.std.specs.Prelude.{◌≡◌, ◌≢◌, ◌<◌, ◌≤◌, ◌==◌, ◌||◌, ◌↔◌, ◌∷◌, [], ℕ, List, T, false, None, Some, OnOk, OnErr, IfOk, IfErr, IfSome, option_map, length, map as each, slice_get, slice_index_or};
+ghost use Rattle.std.specs.Prelude.{◌≡◌, ◌≢◌, ◌<◌, ◌≤◌, ◌==◌, ◌||◌, ◌↔◌, ◌∷◌, [], ℕ, List, T, false, None, Some, OnOk, OnErr, IfOk, IfErr, IfSome, option_map, length, map as each, slice_get, slice_index_or, slice_set, vec_len};
 ghost use Rattle.std.specs.FinMap as map;
 ghost use Rattle.std.specs.FinMap.Entries.{is_sorted};
 ghost use Rattle.std.specs.List.{HoldsAt, list_any};
@@ -20,6 +20,7 @@ use crate::live::Live;
 use crate::opened::has_family;
 use alt_base::NoMemory;
 use alt_schema::{IndexSchema, TableSchema};
+use alt_value::Text;
 use std::alloc::Global;
 use std::cmp::Ordering;
 use std::marker::Model;
@@ -118,6 +119,18 @@ impl Catalog {
 }
 
 impl Catalog {
+    /// Gives the table of that name, where there is one, that attribute for time to live, or none.
+    pub fn set_ttl(&mut self, name: &str, ttl: Option<Text>)
+        ensures timed { self.new ≡ option_map_or
+            (λ d. map.insert self.old name.now (record d { ttl = ttl }))
+            (map.get self.old name.now) self.old }
+    {
+        match seek(&self.entries, name) {
+            Ok(i) => give_time(&mut self.entries, i, ttl),
+            Err(_) => {}
+        }
+    }
+
     /// The families of the catalog itself and of all tables.
     pub fn live(&self, alloc: Global) -> Result<Live, NoMemory>
         ensures live { IfOk result (λ live. AreLiveIn self.now live) }
@@ -140,6 +153,16 @@ impl Catalog {
         self.entries
             .get(least_above(self.entries.as_slice(), family))
     }
+}
+
+/// Gives the table at a place that attribute for time to live, or none.
+fn give_time(entries: &mut Vec<TableSchema>, i: usize, ttl: Option<Text>)
+    requires { i < vec_len entries.old }
+    ensures { (d : TableSchema) → entries.new.items
+        ≡ slice_set entries.old.items i
+        (record (slice_index_or entries.old.items i d) { ttl = ttl }) }
+{
+    entries[i].ttl = ttl;
 }
 
 /// Where the description of a name stands, or where it is to go.

@@ -1,5 +1,6 @@
 mod chains;
 mod damage;
+mod expiry;
 mod files;
 mod merging;
 mod over;

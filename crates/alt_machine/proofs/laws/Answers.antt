@@ -1,4 +1,5 @@
 -- Each operation's writes keep what is valid.
+use Rattle.alt_machine.proofs.Expirations.{deletes_expired}
 use Rattle.alt_machine.proofs.Indexing.{index_places_lie, all_index}
 use Rattle.alt_legacy.proofs.Keyed.{keys_asked}
 use Rattle.alt_machine.proofs.OlderMeaning.{older_conditions, older_updates}
@@ -24,6 +25,9 @@ returns-clause-index_places c = index_places_lie
 
 pub returns-clause-indexes : goal.returns-clause-indexes
 returns-clause-indexes c = all_index
+
+pub returns-clause-expiry : goal.returns-clause-expiry
+returns-clause-expiry c = deletes_expired
 
 pub returns-clause-older_conditions : goal.returns-clause-older_conditions
 returns-clause-older_conditions c = older_conditions

@@ -1,0 +1,33 @@
+-- What has expired is looked up, and deleted.
+use Rattle.std.proofs.Common.{◌≡◌, sym, ap, subst, ◌∙◌, ℕ, map, length}
+use Rattle.alt_codec.specs.declared.writer.Writer.TheVariants.{Expiry}
+use Rattle.alt_disk.specs.Disk.{DiskState}
+use Rattle.alt_machine.specs.Ops.BatchWriteItem.{writes_of_all_by}
+use Rattle.alt_machine.specs.Ops.ExpireItems.{expire_items}
+use Rattle.alt_machine.specs.State.{State, Texts}
+use Rattle.alt_schema.specs.declared.schema.TableSchema.{TableSchema}
+use Rattle.alt_tables.proofs.Left.{leaves_reads, ready_on}
+use Rattle.alt_tables.proofs.Standing.{file_stays}
+use Rattle.alt_tables.specs.Faults.{BreakOffAll}
+use Rattle.alt_tables.specs.Several.{Every, MayWrite, written_at}
+use Rattle.alt_tables.specs.Stands.{Stands, bounds_of}
+use Rattle.alt_ttl.proofs.Deleting.{broke_is, count_is, leaves_is, made_is, search_broke}
+use Rattle.alt_ttl.proofs.expire.expire.Goals as goal
+
+pub write_all-requires : goal.write_all-requires
+write_all-requires g c = record {
+  ready = ready_on (g.D.Disk.state c.args.disk.now) (g.D.Disk.state c.deletions.new.disk)
+      c.args.tables.now c.deletions.new.tables c.in-Ok.ensures.disk.goes
+      c.in-Ok.ensures.stays c.requires.ready;
+  may = subst (λ (k : Texts TableSchema). Every (MayWrite k)
+      (map written_at c.in-Ok.changes.items))
+      (sym c.in-Ok.ensures.catalog.catalog) c.in-Ok.ensures.may;
+  apart = c.in-Ok.ensures.apart;
+  found = λ s stands. c.in-Ok.ensures.found s ((c.in-Ok.ensures.stays s).1 stands);
+}
+
+pub returns-in-Err-clause-writes : goal.returns-in-Err-clause-writes
+returns-in-Err-clause-writes g c s stands =
+    search_broke (Stands (g.D.Disk.state c.deletions.new.disk) c.deletions.new.tables)
+    (expire_items s c.args.moment).wants s (expire_items s c.args.moment).atoms c.in-Err.fault
+    (c.in-Err.ensures.fault s stands)

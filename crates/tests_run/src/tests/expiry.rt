@@ -1,0 +1,151 @@
+//! Items whose time is over: which of them an ExpireItems deletes, and that a server deletes them by itself behind every 64th connection.
+
+ghost use Rattle.std.specs.Prelude.{◌≡◌, false, IfSome};
+ghost use Rattle.alt_shell.specs.Log.{talks};
+ghost use Rattle.alt_shell.specs.Memory.{shell_state};
+
+use super::over::{behind, ended, fresh, left_now, shell_over, shown};
+use alt_disk::MemoryDisk;
+use alt_shell::MemoryShell;
+use std::alloc::Global;
+
+static TABLE: &str =
+    r#"CreateTable {"TableName":"Tab","KeySchema":[{"AttributeName":"k","KeyType":"HASH"}],"AttributeDefinitions":[{"AttributeName":"k","AttributeType":"S"}]}"#;
+
+static TIMED: &str = r#"UpdateTimeToLive {"TableName":"Tab","TimeToLiveSpecification":{"AttributeName":"x","Enabled":true}}"#;
+
+static EXPIRE: &str = "ExpireItems {}";
+
+static SCAN: &str = r#"Scan {"TableName":"Tab"}"#;
+
+static COUNT: &str = r#"Scan {"TableName":"Tab","Select":"COUNT"}"#;
+
+/// Values of the attribute, and whether their time is over at the moment of the clock.
+static TIMES: [(&str, bool); 12] = [
+    (r#"{"N":"1699999999"}"#, true),
+    (r#"{"N":"1699999999.9"}"#, true),
+    (r#"{"N":"1542320000"}"#, true),
+    (r#"{"N":"1700000000"}"#, false),
+    (r#"{"N":"1542319999"}"#, false),
+    (r#"{"N":"1542319999.99999999"}"#, false),
+    (r#"{"N":"0"}"#, false),
+    (r#"{"N":"-1"}"#, false),
+    (r#"{"N":"9.9999999999999999999999999999999999999E125"}"#, false),
+    (r#"{"S":"1"}"#, false),
+    (r#"{"S":"1699999999"}"#, false),
+    (r#"{"NS":["1699999999"]}"#, false),
+];
+
+// A put of an item with a value of that attribute.
+fn put(alloc: Global, key: usize, value: &str) -> Option<String> {
+    format!(in alloc; "PutItem {{\"TableName\":\"Tab\",\"Item\":{{\"k\":{{\"S\":\"{key}\"}},\"x\":{value}}}}}").ok()
+}
+
+// Whether a table with one item, of that value, loses it exactly where its time is over.
+fn expires(alloc: Global, value: &str, over: bool) -> Option<bool> {
+    let disk = behind(alloc, fresh(alloc)?, &[TABLE, TIMED])?;
+    let disk = behind(alloc, disk, &[put(alloc, 0, value)?.as_str()])?;
+    let said = shown(alloc, disk, &[EXPIRE, COUNT])?;
+    let wanted: &[u8] = if over {
+        b"200 {\"Expired\":1}\n200 {\"Count\":0,\"ScannedCount\":0}\n"
+    } else {
+        b"200 {\"Expired\":0}\n200 {\"Count\":1,\"ScannedCount\":1}\n"
+    };
+    Some(said.as_slice() == wanted)
+}
+
+#[test]
+fn items_expire_within_five_years(rt: HostRuntime) {
+    for (value, over) in &TIMES {
+        assert!(rt; expires(rt.alloc(), *value, *over) == Some(true), "{}", *value);
+    }
+}
+
+#[test]
+fn items_without_the_attribute_stay(rt: HostRuntime) {
+    let alloc = rt.alloc();
+    let item = r#"PutItem {"TableName":"Tab","Item":{"k":{"S":"0"},"y":{"N":"1699999999"}}}"#;
+    let said = fresh(alloc)
+        .and_then(|disk| behind(alloc, disk, &[TABLE, TIMED, item]))
+        .and_then(|disk| shown(alloc, disk, &[EXPIRE]));
+    assert!(rt; said.is_some_and(|said| said.as_slice() == b"200 {\"Expired\":0}\n"));
+}
+
+// A disk with so many items in the table whose time is over.
+fn expired(alloc: Global, count: usize) -> Option<MemoryDisk> {
+    let mut lines = Vec::new(alloc);
+    lines.push(String::from_str(alloc, TABLE).ok()?).ok()?;
+    lines.push(String::from_str(alloc, TIMED).ok()?).ok()?;
+    for key in 0..count {
+        lines.push(put(alloc, key, r#"{"N":"1699999999"}"#)?).ok()?;
+    }
+    let mut texts = Vec::new(alloc);
+    for line in &lines {
+        texts.push(line.as_str()).ok()?;
+    }
+    behind(alloc, fresh(alloc)?, &texts)
+}
+
+#[test]
+fn twenty_five_expire_at_once(rt: HostRuntime) {
+    let alloc = rt.alloc();
+    let said =
+        expired(alloc, 30).and_then(|disk| shown(alloc, disk, &[EXPIRE, EXPIRE, EXPIRE, COUNT]));
+    let wanted: &[u8] = b"200 {\"Expired\":25}\n200 {\"Expired\":5}\n200 {\"Expired\":0}\n200 {\"Count\":0,\"ScannedCount\":0}\n";
+    assert!(rt; said.is_some_and(|said| said.as_slice() == wanted));
+}
+
+// How many items are left of so many whose time is over, behind a run that serves so many connections, on the last of which a request comes
+// where `asked`.
+fn left(alloc: Global, count: usize, connections: usize, asked: bool) -> Option<Vec<u8>> {
+    let mut shell = shell_over(alloc, expired(alloc, count)?, &[])?;
+    for number in 0..connections {
+        shell.connection().ok()?;
+        if asked && number + 1 == connections {
+            shell.send(LIST.as_bytes()).ok()?;
+        }
+    }
+    let connections = format!(in alloc; "{connections}").ok()?;
+    served(alloc, &mut shell, connections.as_str())
+}
+
+static LIST: &str = "POST / HTTP/1.1\r\nX-Amz-Target: DynamoDB_20120810.ListTables\r\nContent-Length: 2\r\n\r\n{}";
+
+// What the table counts behind such a run.
+fn served(alloc: Global, shell: &mut MemoryShell, connections: &str) -> Option<Vec<u8>>
+    requires { talks (shell_state shell.old).beside ≡ false }
+{
+    match ended(alloc, &["serve", "1", connections, "65536", "4"], shell)? {
+        0 => shown(alloc, left_now(shell, &[])?, &[COUNT]),
+        _ => None,
+    }
+}
+
+// What it then says.
+fn counted(alloc: Global, count: usize) -> Option<String> {
+    format!(in alloc; "200 {{\"Count\":{count},\"ScannedCount\":{count}}}\n").ok()
+}
+
+// Whether so many are left.
+fn leaves(alloc: Global, count: usize, connections: usize, asked: bool, rest: usize) -> Option<bool> {
+    let said = left(alloc, count, connections, asked)?;
+    Some(said.as_slice() == counted(alloc, rest)?.as_bytes())
+}
+
+#[test]
+fn expired_items_go_behind_the_64th_connection(rt: HostRuntime) {
+    let alloc = rt.alloc();
+    assert!(rt; leaves(alloc, 30, 64, true, 0) == Some(true));
+    assert!(rt; leaves(alloc, 30, 63, true, 30) == Some(true));
+    assert!(rt; leaves(alloc, 30, 65, true, 30) == Some(true));
+}
+
+#[test]
+fn none_go_where_no_moment_was_told(rt: HostRuntime) {
+    assert!(rt; leaves(rt.alloc(), 30, 64, false, 30) == Some(true));
+}
+
+#[test]
+fn a_thousand_go_at_most(rt: HostRuntime) {
+    assert!(rt; leaves(rt.alloc(), 1_030, 64, true, 30) == Some(true));
+}

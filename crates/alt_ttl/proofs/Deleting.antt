@@ -50,26 +50,25 @@ module _ (s : State) (moment : ℕ) (cs : List ItemChange)
       (sym (expire_is s moment))
       (subst (λ ws. Leaves read after s (together s ws)) deletions_are leaves)
 
-  module _ {file : ℕ} (now : State → Type 0) where
-    -- all are made
-    pub made_is : AreAllMade now s (writes_of_all_by s moment Expiry (map written_at cs))
+  -- all are made
+  pub made_is : (now : State → Type 0) → AreAllMade now s (writes_of_all_by s moment Expiry (map written_at cs))
         → AreMade now (expire_items s moment).wants s (expire_items s moment).atoms
-    made_is h = subst (λ (o : Outcome). AreMade now o.wants s o.atoms) (sym (expire_is s moment))
+  made_is now h = subst (λ (o : Outcome). AreMade now o.wants s o.atoms) (sym (expire_is s moment))
         (together_made now s (deletions s moment) (subst (AreAllMade now s) deletions_are h))
 
-    -- or none is
-    pub broke_is : (f : TableFault) → s.next_number ≤ NUMBERS_END
+  -- or none is
+  pub broke_is : (file : ℕ) (now : State → Type 0) → (f : TableFault) → s.next_number ≤ NUMBERS_END
         → BreakOffAll file now s (writes_of_all_by s moment Expiry (map written_at cs)) f
         → BreakOff file now (expire_items s moment).wants s (expire_items s moment).atoms f
-    broke_is f valid h = subst (λ (o : Outcome). BreakOff file now o.wants s o.atoms f)
-        (sym (expire_is s moment)) (together_broke now s (deletions s moment) f valid
+  broke_is file now f valid h = subst (λ (o : Outcome). BreakOff file now o.wants s o.atoms f)
+        (sym (expire_is s moment)) (together_broke {file = file} now s (deletions s moment) f valid
         (subst (λ ws. BreakOffAll file now s ws f) deletions_are h))
 
 -- a search that failed breaks off all
-pub search_broke : {file : ℕ} (now : State → Type 0) (wants : Wants) (s : State) (atoms : List State)
+pub search_broke : (file : ℕ) (now : State → Type 0) (wants : Wants) (s : State) (atoms : List State)
     (f : TableFault) → IsFindFault f → BreakOff file now wants s atoms f
-search_broke now wants s atoms (Spent n) h = absurd h
-search_broke now wants s atoms (Damaged file at) h = absurd h
-search_broke now wants s atoms (BadRow family key) h = absurd h
-search_broke now wants s atoms Failed h = tt
-search_broke now wants s atoms NoMemory h = tt
+search_broke file now wants s atoms (Spent n) h = absurd h
+search_broke file now wants s atoms (Damaged g at) h = absurd h
+search_broke file now wants s atoms (BadRow family key) h = absurd h
+search_broke file now wants s atoms Failed h = tt
+search_broke file now wants s atoms NoMemory h = tt

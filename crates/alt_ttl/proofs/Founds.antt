@@ -81,6 +81,14 @@ every_take P zero xs h = tt
 every_take P (suc n) [] h = tt
 every_take P (suc n) (x ∷ xs) h = (h.0, every_take P n xs h.1)
 
+-- where an item stands, by whether it has expired and where its place is
+pub standing_by : (d : TableSchema) (name : List ℕ) (moment : ℕ) (item : List Pair) (b : Bool)
+    (o : Option (List ℕ)) → is_expired d moment item ≡ b → place_of d item ≡ o
+    → standing_of d name moment item ≡ (if b
+    then option_map_or (λ place. record { table = name; place = place } ∷ []) o [] else [])
+standing_by d name moment item b o e f = λ i. if e i
+    then option_map_or (λ place. record { table = name; place = place } ∷ []) (f i) [] else []
+
 -- the table of one that was found is the one that was looked through
 pub standing_named : (catalog : Texts TableSchema) (d : TableSchema) (name : List ℕ) (moment : ℕ)
     (item : List Pair) → finite.contains_key catalog name ≡ true

@@ -56,26 +56,26 @@ module _ (catalog : Texts TableSchema) (ms : Members) where
       (record { body = body; there = there })
 
   -- its table isn't reached
-  stopped : {X : Type 0} (stop : Stop) → OnTable (of_body ms) catalog ms (Err stop)
+  stopped : (X : Type 0) (stop : Stop) → OnTable (of_body ms) catalog ms (Err stop)
       → IsTimed {X = X} catalog ms (Err stop)
   unfolding update_time_to_live
-  stopped (Refused r) h = (
+  stopped X (Refused r) h = (
     h.0,
     λ s same. h.1 s (λ t. unless_refused (of_time ms t.description)
         (writes (with_time s (table_name ms) t (time_left ms) ∷ []) (time_said ms))) same,
   )
-  stopped (Fault f) h = h
+  stopped X (Fault f) h = h
 
   -- as it is passed on
   pub time_stopped : {X : Type 0} (r : Result X Stop) (stop : Stop)
       → IsErr r × IsErrAnd r (λ e. e ≡ stop) → OnTable (of_body ms) catalog ms (Err stop)
       → IsTimed catalog ms r
-  time_stopped r stop is h = subst (IsTimed catalog ms) (sym (err_is r stop is)) (stopped stop h)
+  time_stopped r stop is h = subst (IsTimed catalog ms) (sym (err_is r stop is)) (stopped _ stop h)
 
   -- it is, and that can't be done there
-  pub time_barred : {X : Type 0} (d : Bor TableSchema) → OnTable (of_body ms) catalog ms (Ok d)
+  pub time_barred : (X : Type 0) (d : Bor TableSchema) → OnTable (of_body ms) catalog ms (Ok d)
       → is_barred ms d.now ≡ true → IsTimed {X = X} catalog ms (Err (Refused bad_time_to_live))
-  time_barred d h barred = (
+  time_barred X d h barred = (
     omega arith,
     λ s same.
         let found = table_found s catalog same (table_name ms) d.now h.1 in
@@ -100,18 +100,18 @@ module _ (catalog : Texts TableSchema) (ms : Members) where
       )
 
 -- where it is refused the state stays
-pub untimed : {X : Type 0} {file : ℕ} (ms : Members) (old now : State → Type 0) (catalog : Texts TableSchema)
+pub untimed : (X : Type 0) {file : ℕ} (ms : Members) (old now : State → Type 0) (catalog : Texts TableSchema)
     → ((s : State) → old s → descriptions s.tables ≡ catalog) → (stop : Stop)
     → IsTimed {X = X} catalog ms (Err stop) → ((s : State) → old s → now s)
     → Carries file (λ s. update_time_to_live s ms) old now (Err stop)
-untimed ms old now catalog known (Refused r) h stays =
+untimed X ms old now catalog known (Refused r) h stays =
     refused_so (λ s. update_time_to_live s ms) old now r h.0 (λ s stands. h.1 s (known s stands))
     stays
-untimed ms old now catalog known (Fault f) h stays =
+untimed X ms old now catalog known (Fault f) h stays =
     faulted (λ s. update_time_to_live s ms) old now f h stays
 
 -- the tests never fail
-pub timed_unfailed : {X : Type 0} (P : Type 0) (catalog : Texts TableSchema) (ms : Members)
+pub timed_unfailed : (X : Type 0) (P : Type 0) (catalog : Texts TableSchema) (ms : Members)
     (stop : Stop) → IsTimed {X = X} catalog ms (Err stop) → IfFailed (Err stop) P
-timed_unfailed P catalog ms (Refused r) h = tt
-timed_unfailed P catalog ms (Fault f) h = unfailed_fault f P h
+timed_unfailed X P catalog ms (Refused r) h = tt
+timed_unfailed X P catalog ms (Fault f) h = unfailed_fault f P h

@@ -29,4 +29,4 @@ returns c =
       | then-loop-test+in_default w ↦ is_last w.in_default.ensures.name
           (omega (arith, c.loop.invariant.1))
     ] in
-    page-names MOST_TABLES c.loop.names.items rest _ ends c.loop.invariant.2
+    record { names = page-names MOST_TABLES c.loop.names.items rest _ ends c.loop.invariant.2 }

@@ -27,8 +27,10 @@ returns c =
     let st = standings_of c.args.schema.now c.args.name.now c.args.moment in
     let old : List Standing = c.loop-item.out.items in
     let so = c.loop-item.invariant in
-    sym (take_whole MOST_EXPIRED old so.few)
-    ∙ ap (λ l. take MOST_EXPIRED (old ++ st l))
+    record {
+      put = sym (take_whole MOST_EXPIRED old so.few)
+          ∙ ap (λ l. take MOST_EXPIRED (old ++ st l))
     (sym (none_ahead (into_iter_items c.loop-item.item-iterator)
     (sym c.loop-item.item-iterator.rest.ok.0 ∙ c.in-None.ensures.steps.0)))
-    ∙ so.put
+          ∙ so.put;
+    }

@@ -14,7 +14,7 @@ returns-in_err-schema c = record {
 
 pub returns-then-is_barred : goal.returns-then-is_barred
 returns-then-is_barred c = record {
-  asked = time_barred (catalog_of c.args.tables.now) (members_view c.args.body.now.entries)
+  asked = time_barred _ (catalog_of c.args.tables.now) (members_view c.args.body.now.entries)
       c.in_ok-schema.schema c.in_ok-schema.ensures.target
       (sym c.is_barred.ensures ∙ c.if-is_barred.true);
 }

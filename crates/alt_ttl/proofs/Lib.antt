@@ -1,7 +1,7 @@
 pub mod Deleting
+pub mod Founds
 pub mod Fronts
 pub mod Looking
-pub mod Over
 pub mod Searching
-pub mod Standings
+pub mod Times
 pub mod Timing

@@ -34,7 +34,7 @@ use Rattle.alt_tables.specs.Reading.{places_between}
 use Rattle.alt_tables.specs.Several.{Every}
 use Rattle.alt_ttl.specs.private.Searched.{left_in, left_of, standing_of, standings_of}
 use Rattle.alt_ttl.proofs.Fronts.{take_step}
-use Rattle.alt_ttl.proofs.Standings.{every_take}
+use Rattle.alt_ttl.proofs.Founds.{every_take}
 use Rattle.alt_value.specs.Item.{at_name}
 use Rattle.alt_value.specs.Members.{text_order}
 use Rattle.alt_value.specs.Tree.{Pair}

@@ -3,7 +3,7 @@
 #![tactic(auto)]
 
 mod describe_time;
-mod expire;
+mod expiry;
 mod over;
 mod replies;
 mod search;
@@ -11,5 +11,5 @@ mod standings;
 mod update_time;
 
 pub use describe_time::describe_time_to_live;
-pub use expire::{expire, expire_items};
+pub use expiry::{expire, expire_items};
 pub use update_time::update_time_to_live;

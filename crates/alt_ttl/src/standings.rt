@@ -61,7 +61,7 @@ fn put_one(
 }
 
 /// Whether one of these stands where another does.
-#[tactic(auto, using(crate::proofs::Standings::has_twice_from))]
+#[tactic(auto, using(crate::proofs::Founds::has_twice_from))]
 pub(crate) fn has_twice(standings: &[Standing]) -> bool
     ensures { result ≡ has_twice standings.now }
 {

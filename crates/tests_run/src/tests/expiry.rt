@@ -14,6 +14,8 @@ static TABLE: &str =
 
 static TIMED: &str = r#"UpdateTimeToLive {"TableName":"Tab","TimeToLiveSpecification":{"AttributeName":"x","Enabled":true}}"#;
 
+static NONE: &[u8] = b"200 {\"Expired\":0}\n";
+
 static EXPIRE: &str = "ExpireItems {}";
 
 static SCAN: &str = r#"Scan {"TableName":"Tab"}"#;
@@ -68,7 +70,7 @@ fn items_without_the_attribute_stay(rt: HostRuntime) {
     let said = fresh(alloc)
         .and_then(|disk| behind(alloc, disk, &[TABLE, TIMED, item]))
         .and_then(|disk| shown(alloc, disk, &[EXPIRE]));
-    assert!(rt; said.is_some_and(|said| said.as_slice() == b"200 {\"Expired\":0}\n"));
+    assert!(rt; said.is_some_and(|said| said.as_slice() == NONE));
 }
 
 // A disk with so many items in the table whose time is over.

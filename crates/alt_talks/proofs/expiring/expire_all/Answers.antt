@@ -7,7 +7,7 @@ use Rattle.alt_machine.specs.declared.TheConstants.{MOST_EXPIRED}
 use Rattle.alt_machine.specs.Expiry.{expiring}
 use Rattle.alt_machine.specs.State.{State}
 use Rattle.alt_tables.specs.Stands.{Stands, bounds_of}
-use Rattle.alt_talks.proofs.Expiring.{AreExpired, expired_all, expired_broke, expired_follows, expired_last, expired_more, expired_none, expired_stands, follows_one}
+use Rattle.alt_talks.proofs.Expired.{AreExpired, expired_all, expired_broke, expired_follows, expired_last, expired_more, expired_none, expired_stands, follows_one}
 use Rattle.alt_talks.proofs.expiring.expire_all.Goals as goal
 
 pub rounds-init : goal.rounds-init

@@ -3,7 +3,7 @@ use Rattle.std.proofs.Common.{◌≡◌, ◌-◌}
 use Rattle.alt_disk.specs.Disk.{Goes}
 use Rattle.alt_machine.specs.State.{State}
 use Rattle.alt_tables.specs.Stands.{Stands, bounds_of}
-use Rattle.alt_talks.proofs.Expiring.{AreExpired}
+use Rattle.alt_talks.proofs.Expired.{AreExpired}
 use Rattle.alt_talks.proofs.expiring.expire_all.Given as goal
 
 abbrev pub invariant-rounds : goal.invariant-rounds

@@ -12,7 +12,7 @@ use Rattle.alt_tables.specs.Faults.{BreakOffAll}
 use Rattle.alt_tables.specs.Several.{Every, MayWrite, written_at}
 use Rattle.alt_tables.specs.Stands.{Stands, bounds_of}
 use Rattle.alt_ttl.proofs.Deleting.{broke_is, count_is, leaves_is, made_is, search_broke}
-use Rattle.alt_ttl.proofs.expire.expire.Goals as goal
+use Rattle.alt_ttl.proofs.expiry.expire.Goals as goal
 
 pub write_all-requires : goal.write_all-requires
 write_all-requires g c = record {

@@ -21,7 +21,7 @@ use Rattle.alt_shape.specs.Refusals.{Answer}
 use Rattle.alt_tables.specs.Faults.{AreAllMade, BreakOffAll}
 use Rattle.alt_tables.specs.Stands.{Stands, bounds_of, catalog_of}
 use Rattle.alt_ttl.proofs.Deleting.{answered_is, deletions_are, expire_is, leaves_is}
-use Rattle.alt_ttl.proofs.expire.expire_items.Goals as goal
+use Rattle.alt_ttl.proofs.expiry.expire_items.Goals as goal
 
 pub returns-in_err-changes-clause-carried : goal.returns-in_err-changes-clause-carried
 returns-in_err-changes-clause-carried g c =

@@ -1,17 +1,16 @@
 -- Members that are looked up, one after another.
-use Rattle.std.proofs.Common.{◌≡◌, refl, sym, ap, subst, ◌∙◌, List, [], ◌∷◌, ◌++◌, map, append_assoc, append-nil}
+use Rattle.std.proofs.Common.{◌≡◌, ap, ◌∙◌, List, [], ◌∷◌, ◌++◌, map, append_assoc}
 use Rattle.std.specs.Prelude.{◌↔◌}
 use Rattle.std.proofs.lemmas.List.{map-append}
 use Rattle.alt_disk.specs.Disk.{DiskState}
 use Rattle.alt_machine.specs.declared.PlacedMember.{PlacedMember}
 use Rattle.alt_machine.specs.Ops.BatchWriteItem.{Written, written_by}
-use Rattle.alt_machine.specs.State.{State, Texts}
+use Rattle.alt_machine.specs.State.{State}
 use Rattle.alt_tables.specs.Several.{Every, written_at, MayWrite, IsFound}
 use Rattle.alt_tables.specs.declared.several.ItemChange.{ItemChange}
-use Rattle.alt_schema.specs.declared.schema.TableSchema.{TableSchema}
-use Rattle.alt_tables.specs.Stands.{AreReady, KeepsCatalog, Reads, Stands, catalog_of}
+use Rattle.alt_tables.specs.Stands.{KeepsCatalog, Reads, Stands, catalog_of}
 use Rattle.alt_tables.specs.declared.tables.Tables.{Tables}
-use Rattle.alt_tables.proofs.Left.{reads_then, ready_on}
+use Rattle.alt_tables.proofs.Left.{reads_then}
 
 -- what holds of a list holds of it with one more
 pub every_more : {A : Type 0} (P : A → Type 0) (xs : List A) (x : A) → Every P xs → P x

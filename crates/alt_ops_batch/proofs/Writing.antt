@@ -1,5 +1,5 @@
 -- The writes of a batch become lasting together: what a call that makes them all comes to is what the machine's one write comes to.
-use Rattle.std.proofs.Common.{◌≡◌, ◌<◌, ◌≤◌, ◌+◌, ⊎_elim, inl, inr, refl, sym, ap, subst, ℕ, List, [], ◌∷◌, length, Some, Ok, Err, false, arith}
+use Rattle.std.proofs.Common.{◌≡◌, ◌<◌, ◌≤◌, ◌+◌, ⊎_elim, inl, inr, refl, sym, subst, ℕ, List, [], ◌∷◌, length, Some, Ok, Err, false, arith}
 use Rattle.serde_json.specs.Written.{has_float}
 use Rattle.alt_machine.specs.declared.TheConstants.{NUMBERS_END}
 use Rattle.alt_machine.specs.Outcomes.{Outcome, last_state, numbers, together, writes_together}
@@ -11,7 +11,7 @@ use Rattle.alt_request.specs.declared.stop.Stop.TheVariants.{Fault}
 use Rattle.alt_shape.specs.Body.{body_json}
 use Rattle.alt_shape.specs.Refusals.{Answer, answer_of}
 use Rattle.alt_shape.specs.declared.refusal.Reply.{Reply}
-use Rattle.alt_tables.specs.Faults.{AreAllMade, AreMade, BreakOff, BreakOffAll, IsLastFile}
+use Rattle.alt_tables.specs.Faults.{AreAllMade, AreMade, BreakOff, BreakOffAll, WantFile}
 use Rattle.alt_tables.specs.declared.faults.TableFault.{TableFault}
 use Rattle.alt_tables.specs.declared.faults.TableFault.TheVariants.{Spent, Damaged, BadRow, Failed, NoMemory}
 
@@ -32,8 +32,8 @@ pub together_broke : (file : ℕ) (now : State → Type 0) (s : State) (ws : Lis
 together_broke file now s [] (Spent n) valid h = ⊎_elim
     (λ (over : (n ≡ NUMBERS_END) × (NUMBERS_END < s.next_number + 0)).
     let more = over.1 in absurd (omega (arith, valid, more)))
-    (λ (last : (s.next_number + 0 ≤ NUMBERS_END) × IsLastFile file n).
-    (0, inr (refl, refl, last.1), h.1)) h.0
+    (λ (last : (s.next_number + 0 ≤ NUMBERS_END) × WantFile file [] n).
+    let some = last.1.0 in absurd (omega (arith, some))) h.0
 together_broke file now s (t ∷ ts) (Spent n) valid h = ⊎_elim
     (λ (over : (n ≡ NUMBERS_END) × (NUMBERS_END < s.next_number + length (t ∷ ts))). (
       0,
@@ -41,13 +41,13 @@ together_broke file now s (t ∷ ts) (Spent n) valid h = ⊎_elim
           (last_state t ts) NUMBERS_END (lacks_numbers (length (t ∷ ts)) s.next_number over.1))),
       h.1,
     ))
-    (λ (last : (s.next_number + length (t ∷ ts) ≤ NUMBERS_END) × IsLastFile file n). (
+    (λ (last : (s.next_number + length (t ∷ ts) ≤ NUMBERS_END) × WantFile file (t ∷ ts) n). (
       0,
       inr (
         refl,
         one_has (numbers (length (t ∷ ts))) s (last_state t ts)
             (has_numbers (length (t ∷ ts)) s.next_number last.0),
-        last.1,
+        (omega arith, last.1.1),
       ),
       h.1,
     ))

@@ -1,7 +1,6 @@
 -- A trial: its requests, one after the other, and then its four lines.
-use Rattle.std.proofs.Common.{◌≡◌, ◌≤◌, ◌<◌, ◌+◌, ◌*◌, ◌-◌, ◌⊎◌, ⊎_elim, ℕ, suc, inl, inr, List, [], ◌∷◌, ◌++◌, map, length, take, drop, replicate, cond, Bool, true, false, Option, Some, None, option_map, refl, sym, ap, subst, ◌∙◌, append_assoc, append-nil, arith, length-append, take-append-drop}
+use Rattle.std.proofs.Common.{◌≡◌, ◌≤◌, ◌<◌, ◌+◌, ◌*◌, ◌-◌, ◌⊎◌, ⊎_elim, ℕ, suc, inl, inr, List, [], ◌∷◌, ◌++◌, map, length, take, drop, replicate, cond, Bool, true, false, Option, Some, None, refl, sym, ap, subst, ◌∙◌, append_assoc, append-nil, arith, length-append, take-append-drop}
 use Rattle.std.specs.Prelude.{nat_le, nat_eq, ◌==◌, codes, filter}
-use Rattle.std.specs.Str.{bytes_eq}
 use Rattle.std.specs.List.{starts_with, before_first, after_first}
 use Rattle.std.proofs.lemmas.List.{length-map, map-append, length-replicate, replicate-append-replicate}
 use Rattle.std.proofs.lemmas.List.Elements.{filter-append}

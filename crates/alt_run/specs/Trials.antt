@@ -1,5 +1,5 @@
 -- What a trial says and leaves: the requests that a seed makes, carried out one after another as lines of an input are, each at one moment.
-use Rattle.std.specs.Prelude.{◌≡◌, ◌≤◌, ◌<◌, ◌+◌, ◌*◌, ◌⊎◌, ℕ, List, [], ◌∷◌, ◌++◌, map, length, filter, replicate, nat_eq, codes, decimal, None}
+use Rattle.std.specs.Prelude.{◌≡◌, ◌<◌, ◌+◌, ◌*◌, ◌⊎◌, ℕ, List, [], ◌∷◌, ◌++◌, map, length, filter, replicate, nat_eq, codes, decimal, None}
 use Rattle.std.specs.List.{starts_with}
 use Rattle.hex.specs.Hex.{encode_lower}
 use Rattle.sha2.specs.Hashers.{Holds256}
@@ -107,7 +107,7 @@ pub record TriesSome (fault : RunFault) (next : ℕ) (s : State) (seed count : �
   pub begun : List Asked
   pub rest : List Asked
   pub lines : trial_asks seed count ≡ begun ++ rest
-  pub said : IsPrefix (said_in entries) trial_text s seed count
+  pub said : IsPrefix (said_in entries) (trial_text s seed count)
   pub rests : Rests entries
   pub unasked : told ≡ []
   pub wants : TriesFor fault next s begun

@@ -8,7 +8,7 @@ use Rattle.alt_machine.specs.Wanted.{Lack, lack_among, wanted}
 use Rattle.alt_machine.specs.declared.Operation.{Operation}
 use Rattle.alt_machine.proofs.Steps.{one_atom}
 use Rattle.alt_talks.specs.Stops.{Image, IsUncut, AtEach}
-use Rattle.alt_tables.specs.Faults.{BreakOff, IsLastFile, told_by_tables}
+use Rattle.alt_tables.specs.Faults.{BreakOff, IsLastFile, WantFile, told_by_tables}
 use Rattle.alt_tables.specs.Images.{Leaves, StandsFor}
 use Rattle.alt_tables.specs.Stands.{Stands}
 use Rattle.alt_tables.specs.declared.faults.TableFault.{TableFault}
@@ -57,8 +57,9 @@ caused file now s outcome (Spent n) fault same h = ⊎_elim
     (λ (lacks : lack_among outcome.wants s outcome.atoms ≡ Some (record { number = n; before = h.0 })).
     inl (subst (OnlySpent (Lacks s outcome)) (sym same)
     (ap (option_map (λ (l : Lack). l.number)) lacks)))
-    (λ (last : (h.0 ≡ 0) × (lack_among outcome.wants s outcome.atoms ≡ None) × IsLastFile file n).
-    inr (last.1, subst (OnlySpent (IsLastFile file)) (sym same) last.2)) h.1
+    (λ (last : (h.0 ≡ 0) × (lack_among outcome.wants s outcome.atoms ≡ None)
+    × WantFile file outcome.atoms n).
+    inr (last.1, subst (OnlySpent (IsLastFile file)) (sym same) last.2.1)) h.1
 caused file now s outcome (Damaged f at) fault same h = absurd h
 caused file now s outcome (BadRow family key) fault same h = absurd h
 caused file now s outcome Failed fault same h =

@@ -61,7 +61,7 @@ module _ (s : State) (moment : ℕ) (cs : List ItemChange)
         → BreakOffAll file now s (writes_of_all_by s moment Expiry (map written_at cs)) f
         → BreakOff file now (expire_items s moment).wants s (expire_items s moment).atoms f
   broke_is file now f valid h = subst (λ (o : Outcome). BreakOff file now o.wants s o.atoms f)
-        (sym (expire_is s moment)) (together_broke {file = file} now s (deletions s moment) f valid
+        (sym (expire_is s moment)) (together_broke file now s (deletions s moment) f valid
         (subst (λ ws. BreakOffAll file now s ws f) deletions_are h))
 
 -- a search that failed breaks off all

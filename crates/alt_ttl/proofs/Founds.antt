@@ -6,6 +6,7 @@ use Rattle.std.specs.List.{list_any}
 use Rattle.std.specs.Option.{option_map_or}
 use Rattle.std.specs.Str.{bytes_eq}
 use Rattle.alt_machine.specs.declared.Standing.{Standing}
+use Rattle.alt_machine.specs.declared.TheConstants.{MOST_EXPIRED}
 use Rattle.alt_machine.specs.Expiry.{gone_at, is_expired}
 use Rattle.alt_machine.specs.Keys.{place_of}
 use Rattle.alt_machine.specs.State.{Texts}
@@ -89,6 +90,20 @@ pub standing_by : (d : TableSchema) (name : List ℕ) (moment : ℕ) (item : Lis
 standing_by d name moment item b o e f = λ i. if e i
     then option_map_or (λ place. record { table = name; place = place } ∷ []) (f i) [] else []
 
+-- one without a place stands nowhere
+pub unplaced : (d : TableSchema) (name : List ℕ) (moment : ℕ) (item : List Pair)
+    → place_of d item ≡ None → standing_of d name moment item ≡ []
+unplaced d name moment item none =
+    standing_by d name moment item (is_expired d moment item) None refl none
+    ∙ by (is_expired d moment item)
+  where
+    none_at : List Standing
+    none_at = []
+
+    by : (b : Bool) → (if b then none_at else none_at) ≡ none_at
+    by true = refl
+    by false = refl
+
 -- the table of one that was found is the one that was looked through
 pub standing_named : (catalog : Texts TableSchema) (d : TableSchema) (name : List ℕ) (moment : ℕ)
     (item : List Pair) → finite.contains_key catalog name ≡ true
@@ -111,3 +126,16 @@ standings_named catalog d name moment (i ∷ is) there =
     (standing_of d name moment i) (standings_of d name moment is)
     (standing_named catalog d name moment i there)
     (standings_named catalog d name moment is there)
+
+-- so are those of what was found with what is found now, as many as are taken
+pub taken_named : (catalog : Texts TableSchema) (d : TableSchema) (name : List ℕ) (moment : ℕ)
+    (items : List (List Pair)) (out next : List Standing)
+    → finite.contains_key catalog name ≡ true → AreNamed catalog out
+    → next ≡ take MOST_EXPIRED (out ++ standings_of d name moment items) → AreNamed catalog next
+taken_named catalog d name moment items out next there named is =
+    subst (AreNamed catalog) (sym is)
+    (every_take (λ (e : Standing). finite.contains_key catalog e.table ≡ true) MOST_EXPIRED
+    (out ++ standings_of d name moment items)
+    (every_both (λ (e : Standing). finite.contains_key catalog e.table ≡ true) out
+    (standings_of d name moment items) named
+    (standings_named catalog d name moment items there)))

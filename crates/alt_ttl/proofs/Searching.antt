@@ -123,6 +123,16 @@ module _ (name : List ℕ) (t : Table) (moment : ℕ)
 
   -- ---- a page
 
+  -- one that has as many items as were asked for has a last one
+  pub page_none : (from : List ℕ) (most : ℕ) (items : List (List Pair))
+      → items ≡ take most (items_between t None from None true) → 0 < most → most ≤ length items
+      → (last : Option (List ℕ))
+      → last ≡ last_or None (take most (places_between t None from None true)) → last ≡ None → ⊥
+  page_none from most items given some many last told none =
+      let end : IsLast t None true from None most items last =
+      last_of_step t None stored true from None most items last given told some many in
+      let no : Some end.place ≡ None = sym end.told ∙ none in cc no
+
   module _ (out next : List Standing) (from : List ℕ) (most : ℕ) (items : List (List Pair))
       (given : items ≡ take most (items_between t None from None true))
       (put : next ≡ take MOST_EXPIRED (out ++ standings_of t.description name moment items)) where

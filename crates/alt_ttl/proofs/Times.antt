@@ -1,22 +1,90 @@
 -- Times that are over, by whole numbers of units.
-use Rattle.std.proofs.Common.{◌≡◌, ◌≤◌, ◌-◌, ◌*◌, ◌^◌, refl, sym, ap, subst, ◌∙◌, ℕ, ℤ, pos, neg_ℤ, Bool, arith, Ok, Err, Result}
-use Rattle.std.proofs.Math.IntN.{◌-ℤ◌}
-use Rattle.std.specs.Prelude.{◌+ℤ◌}
-use Rattle.std.specs.Cmp.{int_cmp_is, int_ranks}
-use Rattle.std.specs.Int.Signed.{◌<ℤ◌}
-use Rattle.std.specs.Ordering.{MatchOrdering, int_cmp, is_le}
-use Rattle.std.specs.declared.cmp.Ordering.{Ordering}
+use Rattle.std.proofs.Common.{◌≡◌, ◌≤◌, ◌-◌, ◌+◌, ◌*◌, ◌^◌, refl, sym, ap, subst, ◌∙◌, cond, ltb, ℕ, zero, suc, ⊎_elim, inl, inr, Bool, true, false, arith, Ok, Err, Result}
+use Rattle.std.proofs.Math.IntN.{ℤ, pos, negsuc, neg_ℤ, nat_abs, suc_ℤ, ◌+ℤ◌, ◌-ℤ◌, +ℤ_assoc, +ℤ_idl, +ℤ_idr, +ℤ_invr, +ℤ-suc_ℤ, +ℤ-neg_ℤ_cancel, -ℤ-+ℤ_cancel, neg_ℤ-+ℤ}
+use Rattle.std.proofs.Math.Nat.{add-mul}
+use Rattle.std.specs.Int.Signed.{lt_z}
+use Rattle.std.specs.Ordering.{int_cmp}
 use Rattle.std.specs.declared.cmp.Ordering.TheVariants.{Less, Equal, Greater}
 use Rattle.alt_decimal.specs.Number.{Fits, IsMagnitude, fitted_units, units_in}
+use Rattle.alt_decimal.specs.declared.fault.NumberFault.{NumberFault}
 use Rattle.alt_decimal.proofs.Fitting.{fitted_units-Fits}
 
--- an order of differences is that of the sums
-pub shifted : (m k z : ℤ) → int_cmp (m -ℤ k) z ≡ int_cmp m (z +ℤ k)
-shifted m k z = int_cmp_is m (z +ℤ k) (int_cmp (m -ℤ k) z)
-    (by (int_cmp (m -ℤ k) z) (int_ranks (m -ℤ k) z))
-  where
-    by : (o : Ordering) → MatchOrdering o ((m -ℤ k) <ℤ z) ((m -ℤ k) ≡ z) (z <ℤ (m -ℤ k))
-        → MatchOrdering o (m <ℤ (z +ℤ k)) (m ≡ (z +ℤ k)) ((z +ℤ k) <ℤ m)
-    by Less h = omega (arith, h)
-    by Equal h = omega (arith, h)
-    by Greater h = omega (arith, h)
+-- ---- orders of sums
+
+-- the order of the next ones is that of two numbers
+lt_suc : (a b : ℤ) → lt_z (suc_ℤ a) (suc_ℤ b) ≡ lt_z a b
+lt_suc (pos a) (pos b) = refl
+lt_suc (pos a) (negsuc zero) = refl
+lt_suc (pos a) (negsuc (suc b)) = refl
+lt_suc (negsuc zero) (pos b) = refl
+lt_suc (negsuc (suc a)) (pos b) = refl
+lt_suc (negsuc zero) (negsuc zero) = refl
+lt_suc (negsuc zero) (negsuc (suc b)) = refl
+lt_suc (negsuc (suc a)) (negsuc zero) = refl
+lt_suc (negsuc (suc a)) (negsuc (suc b)) = refl
+
+-- so is that of sums with a third
+lt_add : (n : ℕ) (a b : ℤ) → lt_z (a +ℤ pos n) (b +ℤ pos n) ≡ lt_z a b
+lt_add zero a b = λ i. lt_z (+ℤ_idr a i) (+ℤ_idr b i)
+lt_add (suc n) a b =
+    (λ i. lt_z (+ℤ-suc_ℤ a (pos n) i) (+ℤ-suc_ℤ b (pos n) i))
+    ∙ lt_suc (a +ℤ pos n) (b +ℤ pos n) ∙ lt_add n a b
+
+cmp_add : (n : ℕ) (a b : ℤ) → int_cmp (a +ℤ pos n) (b +ℤ pos n) ≡ int_cmp a b
+cmp_add n a b = λ i. cond (lt_add n a b i) Less (cond (lt_add n b a i) Greater Equal)
+
+-- an order of a difference is that of a sum
+pub shifted : (m z : ℤ) (n : ℕ) → int_cmp (m -ℤ pos n) z ≡ int_cmp m (z +ℤ pos n)
+shifted m z n = sym (cmp_add n (m -ℤ pos n) z)
+    ∙ ap (λ x. int_cmp x (z +ℤ pos n)) (-ℤ-+ℤ_cancel m (pos n))
+
+-- ---- moments before 1970
+
+abs_neg : (m : ℕ) → nat_abs (neg_ℤ (pos m)) ≡ m
+abs_neg zero = refl
+abs_neg (suc m) = refl
+
+-- what fits does so below zero
+below_fits : (m : ℕ) → Fits (pos m) → Fits (pos 0 -ℤ pos m)
+below_fits m h = subst Fits (sym (+ℤ_idl (neg_ℤ (pos m)))) (elim h [
+  | inl none ↦ inl (ap (λ (z : ℤ). neg_ℤ z) none)
+  | inr size ↦ inr (subst IsMagnitude (sym (abs_neg m)) size)
+])
+
+-- so it is the difference to zero
+pub below_zero : (m : ℕ) → Fits (pos m) → fitted_units (pos 0 -ℤ pos m) ≡ Ok (pos 0 -ℤ pos m)
+below_zero m h = fitted_units-Fits (pos 0 -ℤ pos m) (below_fits m h)
+
+-- of a number of seconds
+pub is_below : (n : ℕ) (zero_is count_is : ℤ) (r : Result ℤ NumberFault) → zero_is ≡ units_in 0
+    → count_is ≡ units_in n → Fits count_is → r ≡ fitted_units (zero_is -ℤ count_is)
+    → r ≡ Ok (units_in 0 -ℤ units_in n)
+is_below n zero_is count_is r none some fits is =
+    is ∙ (λ i. fitted_units (none i -ℤ some i)) ∙ below_zero (n * 10 ^ 167) (subst Fits some fits)
+
+pub same_ok : (x y : ℤ) → Ok {E = NumberFault} x ≡ Ok y → x ≡ y
+same_ok x y e = cc
+
+-- and no fault
+pub no_fault : (r : Result ℤ NumberFault) (z : ℤ) (f : NumberFault) → r ≡ Ok z → r ≡ Err f → ⊥
+no_fault r z f is fails = let no : Ok z ≡ Err f = sym is ∙ fails in cc no
+
+
+-- ---- differences of moments
+
+-- of so many seconds in units
+pub later : (a b p : ℕ) → a ≤ b → pos ((b - a) * p) ≡ pos (b * p) -ℤ pos (a * p)
+later a b p le =
+    let whole : b * p ≡ (b - a) * p + a * p =
+    ap (λ n. n * p) (let same : b ≡ (b - a) + a = omega (arith, le) in same) ∙ add-mul (b - a) a p in
+    sym (ap (λ n. pos n -ℤ pos (a * p)) whole
+    ∙ +ℤ-neg_ℤ_cancel (pos ((b - a) * p)) (pos (a * p)))
+
+pub earlier : (a b p : ℕ) → a ≤ b → pos 0 -ℤ pos ((b - a) * p) ≡ pos (a * p) -ℤ pos (b * p)
+earlier a b p le =
+    let whole : b * p ≡ a * p + (b - a) * p =
+    ap (λ n. n * p) (let same : b ≡ a + (b - a) = omega (arith, le) in same) ∙ add-mul a (b - a) p in
+    sym (ap (λ n. pos (a * p) -ℤ pos n) whole
+    ∙ ap (λ z. pos (a * p) +ℤ z) (neg_ℤ-+ℤ (pos (a * p)) (pos ((b - a) * p)))
+    ∙ sym (+ℤ_assoc (pos (a * p)) (neg_ℤ (pos (a * p))) (neg_ℤ (pos ((b - a) * p))))
+    ∙ ap (λ z. z +ℤ neg_ℤ (pos ((b - a) * p))) (+ℤ_invr (pos (a * p))))

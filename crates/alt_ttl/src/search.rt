@@ -59,7 +59,10 @@ pub(crate) fn deletions<D: Disk>(
     if has_twice(standings.as_slice()) {
         return Err(TableFault::NoMemory);
     }
-    find_all(alloc, tables, disk, standings)
+    match find_all(alloc, tables, disk, standings) {
+        Ok(changes) => Ok(changes),
+        Err(fault) => Err(fault),
+    }
 }
 
 /// Where the first expired items stand.

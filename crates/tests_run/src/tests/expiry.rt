@@ -73,13 +73,33 @@ fn items_without_the_attribute_stay(rt: HostRuntime) {
     assert!(rt; said.is_some_and(|said| said.as_slice() == NONE));
 }
 
+// A batch of so many puts of items whose time is over, from a key on.
+fn puts(alloc: Global, first: usize, count: usize) -> Option<String> {
+    let mut text = String::from_str(alloc, r#"BatchWriteItem {"RequestItems":{"Tab":["#).ok()?;
+    for number in 0..count {
+        let key = first.checked_add(number)?;
+        let comma = if number == 0 { "" } else { "," };
+        let put = format!(in alloc;
+            "{comma}{{\"PutRequest\":{{\"Item\":{{\"k\":{{\"S\":\"{key}\"}},\"x\":{{\"N\":\"1699999999\"}}}}}}}}"
+        )
+        .ok()?;
+        text.push_str(put.as_str()).ok()?;
+    }
+    text.push_str("]}}").ok()?;
+    Some(text)
+}
+
 // A disk with so many items in the table whose time is over.
 fn expired(alloc: Global, count: usize) -> Option<MemoryDisk> {
     let mut lines = Vec::new(alloc);
     lines.push(String::from_str(alloc, TABLE).ok()?).ok()?;
     lines.push(String::from_str(alloc, TIMED).ok()?).ok()?;
-    for key in 0..count {
-        lines.push(put(alloc, key, r#"{"N":"1699999999"}"#)?).ok()?;
+    let mut first = 0;
+    while first < count {
+        let rest = count - first;
+        let size = if rest < 25 { rest } else { 25 };
+        lines.push(puts(alloc, first, size)?).ok()?;
+        first += size;
     }
     let mut texts = Vec::new(alloc);
     for line in &lines {

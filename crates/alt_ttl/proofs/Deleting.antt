@@ -52,17 +52,17 @@ module _ (s : State) (moment : ℕ) (cs : List ItemChange)
 
   -- all are made
   pub made_is : (now : State → Type 0) → AreAllMade now s (writes_of_all_by s moment Expiry (map written_at cs))
-        → AreMade now (expire_items s moment).wants s (expire_items s moment).atoms
+      → AreMade now (expire_items s moment).wants s (expire_items s moment).atoms
   made_is now h = subst (λ (o : Outcome). AreMade now o.wants s o.atoms) (sym (expire_is s moment))
-        (together_made now s (deletions s moment) (subst (AreAllMade now s) deletions_are h))
+      (together_made now s (deletions s moment) (subst (AreAllMade now s) deletions_are h))
 
   -- or none is
   pub broke_is : (file : ℕ) (now : State → Type 0) → (f : TableFault) → s.next_number ≤ NUMBERS_END
-        → BreakOffAll file now s (writes_of_all_by s moment Expiry (map written_at cs)) f
-        → BreakOff file now (expire_items s moment).wants s (expire_items s moment).atoms f
+      → BreakOffAll file now s (writes_of_all_by s moment Expiry (map written_at cs)) f
+      → BreakOff file now (expire_items s moment).wants s (expire_items s moment).atoms f
   broke_is file now f valid h = subst (λ (o : Outcome). BreakOff file now o.wants s o.atoms f)
-        (sym (expire_is s moment)) (together_broke file now s (deletions s moment) f valid
-        (subst (λ ws. BreakOffAll file now s ws f) deletions_are h))
+      (sym (expire_is s moment)) (together_broke file now s (deletions s moment) f valid
+      (subst (λ ws. BreakOffAll file now s ws f) deletions_are h))
 
 -- a search that failed breaks off all
 pub search_broke : (file : ℕ) (now : State → Type 0) (wants : Wants) (s : State) (atoms : List State)

@@ -163,7 +163,7 @@ module _ (name : List ℕ) (t : Table) (moment : ℕ)
         let reaches : is_gt (text_order from end.place) ≡ false =
         up_to (text_order from end.place) (contains_so from None end.place end.within).0 in
         let rest : items_between t None (place ++ 0 ∷ []) None true
-            ≡ drop most (items_between t None from None true) =
+        ≡ drop most (items_between t None from None true) =
         subst (λ (p : List ℕ). items_between t None (p ++ 0 ∷ []) None true
         ≡ drop most (items_between t None from None true)) at
         (end.rest (end.place ++ 0 ∷ []) None (beyond_after from None end.place reaches)) in

@@ -69,7 +69,6 @@ same_ok x y e = cc
 pub no_fault : (r : Result ℤ NumberFault) (z : ℤ) (f : NumberFault) → r ≡ Ok z → r ≡ Err f → ⊥
 no_fault r z f is fails = let no : Ok z ≡ Err f = sym is ∙ fails in cc no
 
-
 -- ---- differences of moments
 
 -- of so many seconds in units

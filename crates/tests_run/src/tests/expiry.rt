@@ -12,7 +12,8 @@ use std::alloc::Global;
 static TABLE: &str =
     r#"CreateTable {"TableName":"Tab","KeySchema":[{"AttributeName":"k","KeyType":"HASH"}],"AttributeDefinitions":[{"AttributeName":"k","AttributeType":"S"}]}"#;
 
-static TIMED: &str = r#"UpdateTimeToLive {"TableName":"Tab","TimeToLiveSpecification":{"AttributeName":"x","Enabled":true}}"#;
+static TIMED: &str =
+    r#"UpdateTimeToLive {"TableName":"Tab","TimeToLiveSpecification":{"AttributeName":"x","Enabled":true}}"#;
 
 static NONE: &[u8] = b"200 {\"Expired\":0}\n";
 
@@ -32,7 +33,10 @@ static TIMES: [(&str, bool); 12] = [
     (r#"{"N":"1542319999.99999999"}"#, false),
     (r#"{"N":"0"}"#, false),
     (r#"{"N":"-1"}"#, false),
-    (r#"{"N":"9.9999999999999999999999999999999999999E125"}"#, false),
+    (
+        r#"{"N":"9.9999999999999999999999999999999999999E125"}"#,
+        false,
+    ),
     (r#"{"S":"1"}"#, false),
     (r#"{"S":"1699999999"}"#, false),
     (r#"{"NS":["1699999999"]}"#, false),
@@ -40,7 +44,9 @@ static TIMES: [(&str, bool); 12] = [
 
 // A put of an item with a value of that attribute.
 fn put(alloc: Global, key: usize, value: &str) -> Option<String> {
-    format!(in alloc; "PutItem {{\"TableName\":\"Tab\",\"Item\":{{\"k\":{{\"S\":\"{key}\"}},\"x\":{value}}}}}").ok()
+    format!(in alloc;
+        "PutItem {{\"TableName\":\"Tab\",\"Item\":{{\"k\":{{\"S\":\"{key}\"}},\"x\":{value}}}}}"
+    ).ok()
 }
 
 // Whether a table with one item, of that value, loses it exactly where its time is over.
@@ -59,7 +65,11 @@ fn expires(alloc: Global, value: &str, over: bool) -> Option<bool> {
 #[test]
 fn items_expire_within_five_years(rt: HostRuntime) {
     for (value, over) in &TIMES {
-        assert!(rt; expires(rt.alloc(), *value, *over) == Some(true), "{}", *value);
+        assert!(rt;
+            expires(rt.alloc(), *value, *over) == Some(true),
+            "{}",
+            *value
+        );
     }
 }
 
@@ -81,8 +91,7 @@ fn puts(alloc: Global, first: usize, count: usize) -> Option<String> {
         let comma = if number == 0 { "" } else { "," };
         let put = format!(in alloc;
             "{comma}{{\"PutRequest\":{{\"Item\":{{\"k\":{{\"S\":\"{key}\"}},\"x\":{{\"N\":\"1699999999\"}}}}}}}}"
-        )
-        .ok()?;
+        ).ok()?;
         text.push_str(put.as_str()).ok()?;
     }
     text.push_str("]}}").ok()?;
@@ -111,9 +120,13 @@ fn expired(alloc: Global, count: usize) -> Option<MemoryDisk> {
 #[test]
 fn twenty_five_expire_at_once(rt: HostRuntime) {
     let alloc = rt.alloc();
-    let said =
-        expired(alloc, 30).and_then(|disk| shown(alloc, disk, &[EXPIRE, EXPIRE, EXPIRE, COUNT]));
-    let wanted: &[u8] = b"200 {\"Expired\":25}\n200 {\"Expired\":5}\n200 {\"Expired\":0}\n200 {\"Count\":0,\"ScannedCount\":0}\n";
+    let said = expired(alloc, 30).and_then(|disk| shown(
+        alloc,
+        disk,
+        &[EXPIRE, EXPIRE, EXPIRE, COUNT],
+    ));
+    let wanted: &[u8] =
+        b"200 {\"Expired\":25}\n200 {\"Expired\":5}\n200 {\"Expired\":0}\n200 {\"Count\":0,\"ScannedCount\":0}\n";
     assert!(rt; said.is_some_and(|said| said.as_slice() == wanted));
 }
 
@@ -131,7 +144,8 @@ fn left(alloc: Global, count: usize, connections: usize, asked: bool) -> Option<
     served(alloc, &mut shell, connections.as_str())
 }
 
-static LIST: &str = "POST / HTTP/1.1\r\nX-Amz-Target: DynamoDB_20120810.ListTables\r\nContent-Length: 2\r\n\r\n{}";
+static LIST: &str =
+    "POST / HTTP/1.1\r\nX-Amz-Target: DynamoDB_20120810.ListTables\r\nContent-Length: 2\r\n\r\n{}";
 
 // What the table counts behind such a run.
 fn served(alloc: Global, shell: &mut MemoryShell, connections: &str) -> Option<Vec<u8>>
@@ -149,7 +163,13 @@ fn counted(alloc: Global, count: usize) -> Option<String> {
 }
 
 // Whether so many are left.
-fn leaves(alloc: Global, count: usize, connections: usize, asked: bool, rest: usize) -> Option<bool> {
+fn leaves(
+    alloc: Global,
+    count: usize,
+    connections: usize,
+    asked: bool,
+    rest: usize,
+) -> Option<bool> {
     let said = left(alloc, count, connections, asked)?;
     Some(said.as_slice() == counted(alloc, rest)?.as_bytes())
 }

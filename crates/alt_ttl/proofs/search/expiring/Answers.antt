@@ -41,7 +41,7 @@ pub search_table-requires : goal.search_table-requires
 search_table-requires g c =
     let so = c.loop-name.invariant in
     let there : Every (There (catalog_of c.args.tables.now))
-        (c.in-Some.name ∷ into_iter_items c.next.new.self) =
+    (c.in-Some.name ∷ into_iter_items c.next.new.self) =
     subst (Every (There (catalog_of c.args.tables.now))) c.in-Some.ensures.steps.0 so.there in
     record {
       ready = ready_on (g.D.Disk.state c.args.disk.now) (g.D.Disk.state c.loop-name.disk)

@@ -30,7 +30,7 @@ returns c =
     record {
       put = sym (take_whole MOST_EXPIRED old so.few)
           ∙ ap (λ l. take MOST_EXPIRED (old ++ st l))
-    (sym (none_ahead (into_iter_items c.loop-item.item-iterator)
-    (sym c.loop-item.item-iterator.rest.ok.0 ∙ c.in-None.ensures.steps.0)))
+          (sym (none_ahead (into_iter_items c.loop-item.item-iterator)
+          (sym c.loop-item.item-iterator.rest.ok.0 ∙ c.in-None.ensures.steps.0)))
           ∙ so.put;
     }

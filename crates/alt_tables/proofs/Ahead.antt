@@ -1,12 +1,11 @@
 -- One write more behind others, before any of them is made: what it takes from the front of its table's stream, and what it leaves.
-use Rattle.std.proofs.Common.{◌≡◌, ◌<◌, ◌≤◌, ◌+◌, ◌^◌, refl, sym, ap, subst, ◌∙◌, ℕ, Bool, true, false, cond, T, List, [], ◌∷◌, ◌++◌, length, take, drop, Option, Some, None, IfSome, All, Contains, length-append, arith}
+use Rattle.std.proofs.Common.{◌≡◌, ◌<◌, ◌≤◌, ◌+◌, ◌^◌, refl, sym, ap, subst, ◌∙◌, ℕ, Bool, true, false, cond, T, List, [], ◌∷◌, ◌++◌, length, take, drop, Option, Some, None, IfSome, All, length-append, arith}
 use Rattle.std.proofs.lemmas.Bool.{false≢true}
 use Rattle.std.proofs.lemmas.Bool.Decides.{nat_tests}
 use Rattle.std.proofs.lemmas.Slice.Eq.{bytes_eq-Decides}
 use Rattle.std.specs.FinMap as map
-use Rattle.std.specs.List.{range_with_len}
 use Rattle.std.specs.Option.{option_map_or}
-use Rattle.std.specs.Prelude.{◌-◌, filter, if◌then◌else◌, is_some, nat_lt, unwrap_or}
+use Rattle.std.specs.Prelude.{◌-◌, if◌then◌else◌, is_some, nat_lt, unwrap_or}
 use Rattle.std.specs.Str.{bytes_eq}
 use Rattle.alt_cells.specs.Batches.{is_distinct}
 use Rattle.alt_cells.specs.declared.batch.RowChange.{RowChange}
@@ -15,23 +14,21 @@ use Rattle.alt_codec.specs.declared.writer.Writer.{Writer}
 use Rattle.alt_layout.specs.Layout.{Layout, IsPast, shown}
 use Rattle.alt_machine.specs.declared.TheConstants.{NUMBERS_END}
 use Rattle.alt_machine.specs.Same.{is_same}
-use Rattle.alt_machine.specs.State.{Change, State, Table, descriptions}
+use Rattle.alt_machine.specs.State.{Change, State, Table}
 use Rattle.alt_machine.specs.Trimming.{a_day, is_past, kept, trimmed_at}
 use Rattle.alt_machine.specs.Valid.{IsStored, IsValid}
 use Rattle.alt_machine.specs.Writes.{after_item_by, with_write_by}
 use Rattle.alt_machine.proofs.Looks.{insert_elsewhere}
-use Rattle.alt_opening.specs.StateRows.{Shows, IsHeldWhole}
+use Rattle.alt_opening.specs.StateRows.{IsHeldWhole}
 use Rattle.alt_opening.proofs.OneState.{some}
 use Rattle.alt_opening.proofs.Ties.{itself}
-use Rattle.alt_schema.specs.declared.schema.TableSchema.{TableSchema}
-use Rattle.alt_tables.specs.Fronts.{IsFront, first_moment}
-use Rattle.alt_tables.specs.Leftovers.{leftovers, lowest_left}
+use Rattle.alt_tables.specs.Fronts.{first_moment}
+use Rattle.alt_tables.specs.Leftovers.{leftovers}
 use Rattle.alt_tables.specs.RowChanges.{Turns, changed_rows, write_changes}
-use Rattle.alt_tables.specs.Several.{AreDistinct, TurnsAll, with_batches}
-use Rattle.alt_tables.specs.declared.fronts.Front.{Front}
+use Rattle.alt_tables.specs.Several.{with_batches}
 use Rattle.alt_tables.specs.declared.several.Noted.{Noted}
 use Rattle.alt_tables.specs.declared.trimming.Trim.{Trim}
-use Rattle.alt_tables.specs.private.Staging.{IsAgain, IsAhead, IsBehind, IsTableAhead, IsTouched, IsUntouched, note_at, oldest_by}
+use Rattle.alt_tables.specs.private.Staging.{IsAgain, IsAhead, IsTableAhead, IsTouched, IsUntouched, note_at, oldest_by}
 use Rattle.alt_tables.specs.private.Trims.{IsLowestFrom, IsRest, IsTrim, is_over, leftovers_from, trimmed_by}
 use Rattle.alt_tables.proofs.Batches.{past_behind, turns_more, turns_none, with_batches-append}
 use Rattle.alt_tables.proofs.ChangeLaws.{AreOthers}
@@ -43,7 +40,6 @@ use Rattle.alt_tables.proofs.Rising.{filter_rising, rising_least}
 use Rattle.alt_tables.proofs.Standing.{descriptions-stay}
 use Rattle.alt_tables.proofs.StreamShows.{stream_family}
 use Rattle.alt_tables.proofs.WriteLaws.{item_turns}
-use Rattle.alt_value.specs.Members.{text_order}
 use Rattle.alt_value.specs.Tree.{Pair}
 use Rattle.alt_value.specs.Values.{IsItemOfValues}
 use Rattle.alt_value.proofs.Texts.{text_total}

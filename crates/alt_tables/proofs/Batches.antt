@@ -1,5 +1,5 @@
 -- Batches of row changes one after another: the rows behind them, and the states between which they lead.
-use Rattle.std.proofs.Common.{◌≡◌, refl, sym, ap, subst, ◌∙◌, T, List, [], ◌∷◌, ◌++◌, arith}
+use Rattle.std.proofs.Common.{◌≡◌, refl, sym, subst, T, List, [], ◌∷◌, ◌++◌, arith}
 use Rattle.alt_cells.specs.Batches.{is_distinct}
 use Rattle.alt_cells.specs.declared.batch.RowChange.{RowChange}
 use Rattle.alt_hand.specs.InHand.{batch_write, batch_writes}

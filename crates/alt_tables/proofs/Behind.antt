@@ -6,14 +6,12 @@ use Rattle.alt_disk.proofs.Runs.{spans_on, spans_weaker}
 use Rattle.alt_machine.specs.Outcomes.{Wants, last_state}
 use Rattle.alt_machine.specs.State.{State}
 use Rattle.alt_machine.specs.Wanted.{lack_among}
-use Rattle.alt_machine.proofs.Behind.{after_behind, front_of, taken_behind, lacks_behind, lacks_front, lacks_within, take_front}
+use Rattle.alt_machine.proofs.Behind.{after_behind, front_of, taken_behind, take_front}
 use Rattle.std.specs.Prelude.{⊤}
-use Rattle.alt_tables.specs.Faults.{BreakOff, WantsMemory}
+use Rattle.alt_tables.specs.Faults.{WantsMemory}
 use Rattle.alt_tables.specs.Images.{AfterSome, Lasts, Leaves}
 use Rattle.alt_opening.specs.Images.{StandsFor}
 use Rattle.alt_tables.specs.Stands.{Stands}
-use Rattle.alt_tables.specs.declared.faults.TableFault.{TableFault}
-use Rattle.alt_tables.specs.declared.faults.TableFault.TheVariants.{Spent, Damaged, BadRow, Failed, NoMemory}
 use Rattle.alt_tables.specs.declared.tables.Tables.{Tables}
 use Rattle.alt_tables.proofs.Left.{leaves_after, leaves_images, leaves_reads}
 use Rattle.alt_tables.proofs.Making.{none_made}

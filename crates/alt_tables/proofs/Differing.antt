@@ -1,9 +1,8 @@
 -- Changes that leave what was found: without them the writes of the others are the same, and so are their row changes.
-use Rattle.std.proofs.Common.{◌≡◌, refl, sym, ap, subst, ◌∙◌, ℕ, suc, Bool, true, false, cond, List, [], ◌∷◌, ◌++◌, length, map, Option, Some, None, is_some, inl, inr}
-use Rattle.std.specs.Prelude.{if◌then◌else◌, not, filter}
+use Rattle.std.proofs.Common.{◌≡◌, refl, sym, ap, ◌∙◌, ℕ, suc, Bool, true, false, cond, List, [], ◌∷◌, ◌++◌, length, map, Option, Some, None, is_some, inl, inr}
+use Rattle.std.specs.Prelude.{if◌then◌else◌, not}
 use Rattle.std.specs.FinMap as finite
 use Rattle.std.specs.Option.{option_map_or}
-use Rattle.alt_cells.specs.declared.batch.RowChange.{RowChange}
 use Rattle.alt_codec.specs.declared.writer.Writer.{Writer}
 use Rattle.alt_layout.specs.Layout.{Layout}
 use Rattle.alt_machine.specs.Ops.BatchWriteItem.{Written, writes_of_by, writes_of_all_by}

@@ -1,5 +1,5 @@
 -- What the rows beneath the tables show, in reads and in whatever a stop leaves, and what a write makes of it.
-use Rattle.std.proofs.Common.{◌≡◌, ◌<◌, ◌≤◌, ◌+◌, ◌-◌, ◌^◌, arith, ◌&&◌, Bool, IsTrue, T, ◌⊎◌, ⊎_elim, refl, sym, ap, subst, ℕ, List, [], ◌∷◌, Option, Result, Err, ◌∙◌}
+use Rattle.std.proofs.Common.{◌≡◌, ◌<◌, ◌≤◌, ◌+◌, ◌-◌, ◌^◌, arith, ◌&&◌, Bool, IsTrue, T, ⊎_elim, refl, sym, ap, subst, ℕ, List, [], ◌∷◌, Option, Result, Err, ◌∙◌}
 use Rattle.std.specs.Prelude.{⊤}
 use Rattle.alt_cells.specs.Batches.{is_distinct}
 use Rattle.alt_cells.specs.declared.batch.RowChange.{RowChange}

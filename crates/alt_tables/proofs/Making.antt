@@ -88,7 +88,8 @@ spent now wants s r n lacks stays = (0, inl (one_lacks wants s r n lacks), stays
 pub spent_file : {file : ℕ} (now : State → Type 0) (wants : Wants) (s r : State) (n : ℕ)
     → lack_of wants s ≡ None → IsLastFile file n → now s
     → BreakOff file now wants s (r ∷ []) (Spent n)
-spent_file now wants s r n has last stays = (0, inr (refl, one_has wants s r has, last), stays)
+spent_file now wants s r n has last stays =
+    (0, inr (refl, one_has wants s r has, (omega arith, last)), stays)
 
 -- one write that failed, or wanted memory
 pub broke : (file : ℕ) (now : State → Type 0) (wants : Wants) (s r : State) (f : TableFault)

@@ -1,23 +1,20 @@
 -- Several writes that are made as one entry: what the call leaves is what the machine's writes leave together.
-use Rattle.std.proofs.Common.{◌≡◌, ◌≤◌, ◌+◌, refl, sym, ap, subst, ◌∙◌, ℕ, true, List, [], ◌∷◌, length, map as each, Option, arith}
+use Rattle.std.proofs.Common.{◌≡◌, ◌≤◌, ◌+◌, sym, ap, subst, ◌∙◌, ℕ, true, List, [], ◌∷◌, length, map as each}
 use Rattle.std.specs.FinMap as map
 use Rattle.alt_codec.specs.declared.writer.Writer.{Writer}
 use Rattle.alt_disk.specs.Disk.{DiskState}
 use Rattle.alt_engine.specs.InHand.{Stands as EngineStands, next_of}
 use Rattle.alt_engine.specs.declared.engine.Engine.{Engine}
 use Rattle.alt_layout.specs.Layout.{Layout}
-use Rattle.alt_machine.specs.declared.TheConstants.{NUMBERS_END}
 use Rattle.alt_machine.specs.Ops.BatchWriteItem.{Written, writes_of_all_by}
 use Rattle.alt_machine.specs.Outcomes.{last_state, together}
 use Rattle.alt_machine.specs.State.{State, Texts}
 use Rattle.alt_opening.specs.Opened.{Holds}
 use Rattle.alt_schema.specs.declared.schema.TableSchema.{TableSchema}
-use Rattle.alt_tables.specs.Faults.{AreAllMade}
 use Rattle.alt_tables.specs.Images.{Leaves}
-use Rattle.alt_tables.specs.Several.{AreAllApart, AreApart, Every, IsFound, MayWrite, batches_of, with_batches, written_at}
+use Rattle.alt_tables.specs.Several.{AreAllApart, Every, IsFound, MayWrite, batches_of, with_batches, written_at}
 use Rattle.alt_tables.specs.Stands.{HasRows, Keeps, Stands, catalog_of, fronts_of, number_of, trimmed_of}
 use Rattle.alt_tables.specs.declared.several.ItemChange.{ItemChange}
-use Rattle.alt_tables.specs.declared.several.Noted.{Noted}
 use Rattle.alt_tables.specs.declared.several.Staged.{Staged}
 use Rattle.alt_tables.specs.declared.tables.Tables.{Tables}
 use Rattle.alt_tables.specs.private.Staging.{AreKnown, Differs, IsStaged, differing_of}

@@ -1,19 +1,18 @@
 -- Several writes that are got ready one after another, and the tables behind all of them.
-use Rattle.std.proofs.Common.{◌≡◌, ◌<◌, ◌≤◌, ◌+◌, ◌^◌, refl, sym, ap, subst, ◌∙◌, ℕ, Bool, true, false, T, List, [], ◌∷◌, ◌++◌, length, map as each, Option, Some, None, option_map, IfSome, IsSome, is_some, append_assoc, append-nil, length-append, arith}
+use Rattle.std.proofs.Common.{◌≡◌, ◌<◌, ◌≤◌, ◌+◌, ◌^◌, refl, sym, ap, subst, ◌∙◌, ℕ, Bool, true, false, T, List, [], ◌∷◌, ◌++◌, length, map as each, Option, Some, None, option_map, IfSome, is_some, append_assoc, append-nil, arith}
 use Rattle.std.specs.FinMap as map
 use Rattle.alt_cells.specs.Batches.{is_distinct}
 use Rattle.alt_cells.specs.declared.batch.RowChange.{RowChange}
-use Rattle.alt_disk.specs.Disk.{DiskState, IsTrusted}
+use Rattle.alt_disk.specs.Disk.{DiskState}
 use Rattle.alt_codec.specs.declared.writer.Writer.{Writer}
-use Rattle.alt_layout.specs.Layout.{Layout, shown}
+use Rattle.alt_layout.specs.Layout.{Layout}
 use Rattle.alt_machine.specs.declared.TheConstants.{NUMBERS_END}
 use Rattle.alt_machine.specs.Ops.BatchWriteItem.{Written, writes_of_by, writes_of_all_by}
 use Rattle.alt_machine.specs.Outcomes.{last_state, together}
 use Rattle.alt_machine.specs.Same.{is_same}
-use Rattle.alt_machine.specs.State.{State, Table, Texts, descriptions}
+use Rattle.alt_machine.specs.State.{State, Table, Texts}
 use Rattle.alt_machine.specs.Valid.{AreChanges, IsStored, IsValid}
 use Rattle.alt_machine.specs.Writes.{after_item_by, with_write_by}
-use Rattle.alt_machine.proofs.Behind.{last_behind}
 use Rattle.alt_machine.proofs.Descriptions.{get-descriptions, table_of_description}
 use Rattle.alt_opening.specs.Opened.{Holds}
 use Rattle.alt_opening.proofs.Engine.{one_layout_in_hand, stands_past}
@@ -29,7 +28,7 @@ use Rattle.alt_tables.specs.declared.several.Noted.{Noted}
 use Rattle.alt_tables.specs.declared.several.Staged.{Staged}
 use Rattle.alt_tables.specs.declared.tables.Tables.{Tables}
 use Rattle.alt_tables.specs.declared.trimming.Trim.{Trim}
-use Rattle.alt_tables.specs.private.Staging.{AreKnown, AreNotes, Differs, IsAhead, IsBehind, IsStaged, IsStagedOn, IsTableAhead, note_at}
+use Rattle.alt_tables.specs.private.Staging.{AreKnown, AreNotes, Differs, IsAhead, IsBehind, IsStaged, IsStagedOn}
 use Rattle.alt_tables.specs.private.Trims.{IsWithin}
 use Rattle.alt_tables.proofs.Ahead.{none_ahead, one_ahead}
 use Rattle.alt_tables.proofs.Batches.{with_batches-append}

@@ -1,5 +1,5 @@
 -- What is read of the front of a table's stream before a write, as the tables stand for a state.
-use Rattle.std.proofs.Common.{◌≡◌, ◌≢◌, ◌<◌, ◌≤◌, ◌+◌, ◌^◌, ◌⊎◌, refl, sym, ap, subst, ◌∙◌, ℕ, suc, Bool, true, false, List, [], ◌∷◌, ◌++◌, map as each, take, drop, length, Option, Some, None, IsSome, All, AllPairs, IsTrue, arith}
+use Rattle.std.proofs.Common.{◌≡◌, ◌<◌, ◌≤◌, ◌+◌, ◌^◌, ◌⊎◌, refl, sym, ap, subst, ◌∙◌, ℕ, suc, Bool, true, false, List, [], ◌++◌, take, drop, length, Option, Some, None, IsSome, All, IsTrue, arith}
 use Rattle.std.proofs.lemmas.List.Elements.{All-filter, All-take}
 use Rattle.std.specs.FinMap as map
 use Rattle.std.specs.Option.{option_map_or}
@@ -22,16 +22,14 @@ use Rattle.alt_opening.proofs.Engine.{one_layout_in_hand}
 use Rattle.alt_opening.proofs.KeptChanges.{are_small, trimmed_small}
 use Rattle.alt_opening.proofs.OneState.{some}
 use Rattle.alt_opening.specs.Trimmed.{number_at}
-use Rattle.alt_schema.specs.declared.schema.TableSchema.{TableSchema}
 use Rattle.alt_tables.specs.Fronts.{IsFront, first_moment, front_at}
-use Rattle.alt_tables.specs.Leftovers.{leftovers, lowest_left}
-use Rattle.alt_tables.specs.Stands.{HasRows, Stands, catalog_of, fronts_of, number_of, trimmed_of}
+use Rattle.alt_tables.specs.Leftovers.{leftovers}
+use Rattle.alt_tables.specs.Stands.{HasRows, Stands, fronts_of, number_of, trimmed_of}
 use Rattle.alt_tables.specs.declared.fronts.Front.{Front}
 use Rattle.alt_tables.specs.declared.tables.Tables.{Tables}
-use Rattle.alt_tables.specs.declared.trimming.Trim.{Trim}
-use Rattle.alt_tables.specs.private.Trims.{AreNumbersOf, AreTwo, IsKeptFrom, IsLowest, IsLowestFrom, IsRest, IsTrim, behind, is_over, left_from, leftovers_from, trimmed_by}
+use Rattle.alt_tables.specs.private.Trims.{AreNumbersOf, AreTwo, IsKeptFrom, IsLowest, IsLowestFrom, IsRest, IsTrim, behind, is_over, left_from, leftovers_from}
 use Rattle.alt_tables.proofs.KeptFrom.{KeptPage, all_from, kept_page, page_done, young}
-use Rattle.alt_tables.proofs.LeftoverRows.{left_from_there, lowest_none, lowest_read, range_read, read_numbers, read_two}
+use Rattle.alt_tables.proofs.LeftoverRows.{left_from_there, lowest_read, range_read, read_numbers, read_two}
 use Rattle.alt_tables.proofs.Rising.{all_further, filter_rising, rising_least}
 
 -- The walk over the changes of a table has come to a number: those behind it tell the rest.

@@ -1,5 +1,5 @@
 -- Work between requests leaves the state: each live family shows what it showed, and nothing else is looked at.
-use Rattle.std.proofs.Common.{◌≡◌, ◌≤◌, ◌+◌, ◌-◌, ◌^◌, ⊎_elim, inl, inr, sym, ap, subst, ◌∙◌, ℕ, List, length, Option, Some, None, Contains, option_map, arith}
+use Rattle.std.proofs.Common.{◌≡◌, ◌≤◌, ◌+◌, ⊎_elim, inl, inr, sym, ap, subst, ◌∙◌, ℕ, List, length, Option, Some, None, Contains, option_map, arith}
 use Rattle.std.specs.BTreeMap.{get}
 use Rattle.std.specs.FinMap.{entries}
 use Rattle.std.specs.Ordering.{nat_cmp}

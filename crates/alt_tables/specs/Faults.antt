@@ -36,12 +36,17 @@ AreSome k atoms = k ≤ length atoms - 1
 abbrev pub IsLastFile : ℕ → ℕ → Type 0
 IsLastFile reach number = (number ≡ 2 ^ 32 - 1) × (2 ^ 32 ≤ reach)
 
+-- These writes want the file of that number, of the segment that the first one makes on a store of the first form: where nothing is written
+-- no file is wanted.
+abbrev pub WantFile : ℕ → List State → ℕ → Type 0
+WantFile file writes number = (1 ≤ length writes) × IsLastFile file number
+
 -- The writes lack this number behind so many of them: a number or a family, of which that one is the first that does, or else, before any of
--- them, the file of the segment that the first one makes on a store of the first form.
+-- them, that of a file.
 abbrev pub AreLacking : ℕ → Wants → State → List State → ℕ → ℕ → Type 0
 AreLacking file wants s atoms number before =
     (lack_among wants s atoms ≡ Some (record { number = number; before = before }))
-    ⊎ ((before ≡ 0) × (lack_among wants s atoms ≡ None) × IsLastFile file number)
+    ⊎ ((before ≡ 0) × (lack_among wants s atoms ≡ None) × WantFile file atoms number)
 
 -- The writes broke off: where a number, a family or a file can't be had, just before the one that lacks it, and then the tables stand for
 -- the state after those before it. Where the device failed or memory was wanting they stand for no state from then on, and what is left is
@@ -76,7 +81,7 @@ pub record AreAllMade (now : State → Type 0) (s : State) (writes : List State)
 abbrev pub BreakOffAll : ℕ → (State → Type 0) → State → List State → TableFault → Type 0
 BreakOffAll file now s writes fault = OnlySpent (λ number.
     (((number ≡ NUMBERS_END) × (NUMBERS_END < s.next_number + length writes))
-    ⊎ ((s.next_number + length writes ≤ NUMBERS_END) × IsLastFile file number)) × now s)
+    ⊎ ((s.next_number + length writes ≤ NUMBERS_END) × WantFile file writes number)) × now s)
     (told_by_tables fault)
 
 -- A call that makes these writes together makes them all, or breaks off with the fault.

@@ -1,5 +1,5 @@
 -- Several writes as they are got ready, before the first of them is made: their row changes, and what they take from the fronts of streams.
-use Rattle.std.specs.Prelude.{◌≡◌, ◌≤◌, ◌<◌, ◌+◌, ℕ, Bool, true, false, not, List, [], ◌∷◌, ◌++◌, length, map as each, filter, Option, None, Some, IsSome, unwrap_or}
+use Rattle.std.specs.Prelude.{◌≡◌, ◌≤◌, ◌<◌, ◌+◌, ℕ, true, false, not, List, [], ◌∷◌, ◌++◌, length, filter, Option, None, Some, IsSome, unwrap_or}
 use Rattle.std.specs.FinMap as map
 use Rattle.std.specs.List.{find}
 use Rattle.std.specs.Option.{option_map_or}

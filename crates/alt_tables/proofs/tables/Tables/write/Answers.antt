@@ -1,16 +1,15 @@
 -- What the write takes from the front of the stream is read, and then one write is made where what is there differs.
-use Rattle.std.proofs.Common.{◌≡◌, ◌<◌, ◌^◌, refl, sym, ap, ◌∙◌, ℕ, List, [], ◌∷◌, Option, Some, subst, arith, rules, Ok, IfOk, OnOk, T}
+use Rattle.std.proofs.Common.{◌≡◌, ◌<◌, ◌^◌, refl, sym, ap, ◌∙◌, ℕ, List, [], ◌∷◌, Option, Some, subst, arith, IfOk}
 use Rattle.std.specs.FinMap as map
 use Rattle.std.specs.Prelude.{IsSome, drop}
 use Rattle.alt_cells.specs.declared.batch.RowChange.{RowChange}
 use Rattle.alt_codec.specs.declared.writer.Writer.TheVariants.{User}
 use Rattle.alt_disk.specs.Disk.{DiskState, IsTrusted}
-use Rattle.alt_disk.proofs.Calls.{goes_on}
 use Rattle.alt_disk.proofs.Runs.{quiet_start, trusted_on}
 use Rattle.alt_engine.specs.InHand.{Bounds}
 use Rattle.alt_layout.specs.Layout.{Layout}
 use Rattle.alt_machine.specs.Outcomes.{a_number}
-use Rattle.alt_machine.specs.State.{State, Table}
+use Rattle.alt_machine.specs.State.{State}
 use Rattle.alt_machine.specs.Wanted.{number_lack}
 use Rattle.alt_machine.specs.Writes.{after_item, item_writes}
 use Rattle.alt_machine.proofs.Lacks.{has_number, lacks_number}
@@ -25,9 +24,9 @@ use Rattle.alt_tables.specs.Stands.{HasRows, Reads, Stands, bounds_of, catalog_o
 use Rattle.alt_tables.specs.declared.faults.TableFault.TheVariants.{Spent}
 use Rattle.alt_tables.specs.declared.tables.Tables.{Tables}
 use Rattle.alt_tables.specs.declared.trimming.Trim.{Trim}
-use Rattle.alt_tables.specs.private.Trims.{IsTrim, IsWithin, IsWrittenAs}
+use Rattle.alt_tables.specs.private.Trims.{IsWithin, IsWrittenAs}
 use Rattle.alt_tables.proofs.Holding.{leaves_quiet}
-use Rattle.alt_tables.proofs.Left.{leaves_after, leaves_reads, reads_then}
+use Rattle.alt_tables.proofs.Left.{leaves_after, leaves_reads}
 use Rattle.alt_tables.proofs.Making.{broke, item_differs, spent, spent_file}
 use Rattle.alt_tables.proofs.Standing.{ready_kept, rows_kept, stands_kept, stays_kept, there}
 use Rattle.alt_tables.proofs.Trimmed.{made_is, made_leftovers, ok_both, rows_back}

@@ -154,7 +154,11 @@ returns-in-Some-clause-writes g c s stands =
           c.len-count.ensures,
           c.differing-changes.result.ok.0,
         ),
-        c.in-Some.ensures.last,
+        (
+          let some = some_of _ c.if-is_empty.ensures in
+              omega (arith, count, some, c.differing-changes.result.ok.0),
+          c.in-Some.ensures.last,
+        ),
       ),
       stands,
     )

@@ -1,29 +1,20 @@
 -- One write is made, and what is known of the front of the stream is what it leaves.
-use Rattle.std.proofs.Common.{◌≡◌, ◌<◌, ◌^◌, ◌+◌, ◌++◌, refl, sym, ap, ◌∙◌, ℕ, List, [], ◌∷◌, Option, Some, IsSome, subst, arith, rules, T}
-use Rattle.std.specs.FinMap as map
-use Rattle.std.specs.Str.{bytes_eq}
-use Rattle.std.specs.Prelude.{if◌then◌else◌, is_some}
+use Rattle.std.proofs.Common.{◌≡◌, ◌<◌, ◌^◌, ◌+◌, ◌++◌, refl, sym, ap, ◌∙◌, [], ◌∷◌, Some, IsSome, subst, arith, rules}
+use Rattle.std.specs.Prelude.{if◌then◌else◌}
 use Rattle.std.proofs.lemmas.Slice.Eq.{bytes_eq-Decides}
-use Rattle.alt_cells.specs.Batches.{is_distinct}
-use Rattle.alt_cells.specs.declared.batch.RowChange.{RowChange}
 use Rattle.alt_changes.specs.TrimRows.{trim_changes}
 use Rattle.alt_codec.specs.declared.writer.Writer.TheVariants.{User}
-use Rattle.alt_disk.specs.Disk.{DiskState}
 use Rattle.alt_disk.proofs.Runs.{quiet_start}
 use Rattle.alt_engine.specs.InHand.{Stands as EngineStands, bounds_of as engine_bounds, next_of}
 use Rattle.alt_engine.specs.declared.engine.Engine.{Engine}
 use Rattle.alt_machine.specs.Outcomes.{a_number}
-use Rattle.alt_machine.specs.State.{State, Table}
 use Rattle.alt_machine.specs.Writes.{after_item}
 use Rattle.alt_machine.proofs.Lacks.{has_number}
 use Rattle.alt_opening.specs.Opened.{Holds}
 use Rattle.alt_opening.specs.Trimmed.{IsRenumbered, number_at}
-use Rattle.alt_schema.specs.declared.schema.TableSchema.{TableSchema}
-use Rattle.alt_tables.specs.Images.{Leaves}
-use Rattle.alt_tables.specs.RowChanges.{Turns, changed_rows, item_changes, write_changes}
-use Rattle.alt_tables.specs.Stands.{HasRows, Stands, bounds_of, catalog_of, fronts_of, number_of, trimmed_of}
+use Rattle.alt_tables.specs.RowChanges.{write_changes}
+use Rattle.alt_tables.specs.Stands.{Stands, bounds_of, fronts_of, trimmed_of}
 use Rattle.alt_tables.specs.private.Trims.{IsNoted, IsWithin, IsWrittenAs}
-use Rattle.alt_tables.specs.declared.tables.Tables.{Tables}
 use Rattle.alt_tables.proofs.Holding.{leaves_quiet}
 use Rattle.alt_tables.proofs.Making.{broke, item_stands, item_turned, one_made, want_told}
 use Rattle.alt_tables.proofs.Trimmed.{can_trim}

@@ -57,11 +57,11 @@ among_then s xs ys image h =
 -- requests of the server's own, and then others
 pub follows_then : (a b c : DiskState) (s : State) (xs ys : List State) → Follows a b s xs
     → Follows b c (last_state s xs) ys → Follows a c s (xs ++ ys)
-follows_then a b c s xs ys first then = record {
-  goes = goes_on a b c first.goes then.goes;
+follows_then a b c s xs ys first rest = record {
+  goes = goes_on a b c first.goes rest.goes;
   leaves = λ trusted. spans_two a b c (λ _ image. IsAmong image s xs)
       (λ _ image. IsAmong image (last_state s xs) ys) (λ _ image. IsAmong image s (xs ++ ys))
-      (first.leaves trusted) (then.leaves (trusted_on a b first.goes trusted))
+      (first.leaves trusted) (rest.leaves (trusted_on a b first.goes trusted))
       (λ t image before h. among_first s xs ys image h)
       (λ t image from h. among_then s xs ys image h);
 }
@@ -174,8 +174,8 @@ module _ (a b c : DiskState) (t u : Tables) (moment most left : ℕ) (s : State)
       some : 1 ≤ length atoms → 1 ≤ length (expiries most moment s).atoms
       some few = subst (λ (xs : List State). 1 ≤ length xs) (sym so.atoms)
           (let both = length-append so.done (atoms ++ (rest_of left moment so.to).atoms) in
-          let then = length-append atoms (rest_of left moment so.to).atoms in
-          omega (arith, few, both, then))
+          let behind = length-append atoms (rest_of left moment so.to).atoms in
+          omega (arith, few, both, behind))
 
   -- and a stop left some of what is made
   pub expired_follows : Follows b c so.to atoms → Follows a c s (expiries most moment s).atoms

@@ -73,8 +73,8 @@ follows_worked a b s works = record {
 
 -- nothing, where neither lacks anything
 pub enough_both : (a b : Option Lack) → a ≡ None → b ≡ None → or_next a b ≡ None
-enough_both None b here then = then
-enough_both (Some x) b here then = here
+enough_both None b here behind = behind
+enough_both (Some x) b here behind = here
 
 -- what the request lacks is lacked
 pub cause_first : (a b : Option Lack) (fault : RunFault) → IsCausedBy a fault

@@ -22,13 +22,14 @@ rounds-init g c =
       goes_refl a,
     )
 
-pub expire-requires-clause-ready : goal.expire-requires-clause-ready
-expire-requires-clause-ready g c = λ trusted.
+pub expire-requires : goal.expire-requires
+expire-requires g c = record { ready = λ trusted.
     let state = g.D.Disk.state in
     let first = c.requires.ready (trusted_back (state c.args.disk.now) (state c.rounds.disk)
     c.rounds.invariant.2 trusted) in
     let so = c.rounds.invariant.0 first.0 first.1 in
-    (so.to, so.stands)
+    (so.to, so.stands);
+}
 
 pub rounds-preserved : goal.rounds-preserved
 rounds-preserved g c =
@@ -51,8 +52,8 @@ rounds-preserved g c =
       goes_on a b d c.rounds.invariant.2 c.expire.ensures.goes,
     )
 
-pub returns-in-Ok-then-count-lt-MOST_EXPIRED-clause-stands : goal.returns-in-Ok-then-count-lt-MOST_EXPIRED-clause-stands
-returns-in-Ok-then-count-lt-MOST_EXPIRED-clause-stands g c = λ s stands.
+pub returns-then-count-lt-MOST_EXPIRED-clause-stands : goal.returns-then-count-lt-MOST_EXPIRED-clause-stands
+returns-then-count-lt-MOST_EXPIRED-clause-stands g c = λ s stands.
     let state = g.D.Disk.state in
     let a = state c.args.disk.now in
     let b = state c.rounds.disk in
@@ -69,8 +70,8 @@ returns-in-Ok-then-count-lt-MOST_EXPIRED-clause-stands g c = λ s stands.
     (subst (λ (k : ℕ). nat_lt k MOST_EXPIRED ≡ true) (c.in-Ok.ensures.count so.to so.stands)
     c.if-count-lt-MOST_EXPIRED.true))
 
-pub returns-in-Ok-then-count-lt-MOST_EXPIRED-clause-follows : goal.returns-in-Ok-then-count-lt-MOST_EXPIRED-clause-follows
-returns-in-Ok-then-count-lt-MOST_EXPIRED-clause-follows g c = λ s stands.
+pub returns-then-count-lt-MOST_EXPIRED-clause-follows : goal.returns-then-count-lt-MOST_EXPIRED-clause-follows
+returns-then-count-lt-MOST_EXPIRED-clause-follows g c = λ s stands.
     let state = g.D.Disk.state in
     let a = state c.args.disk.now in
     let b = state c.rounds.disk in
@@ -87,8 +88,8 @@ returns-in-Ok-then-count-lt-MOST_EXPIRED-clause-follows g c = λ s stands.
     (subst (λ (k : ℕ). nat_lt k MOST_EXPIRED ≡ true) (c.in-Ok.ensures.count so.to so.stands)
     c.if-count-lt-MOST_EXPIRED.true))
 
-pub returns-in-Ok-then-count-lt-MOST_EXPIRED-clause-enough : goal.returns-in-Ok-then-count-lt-MOST_EXPIRED-clause-enough
-returns-in-Ok-then-count-lt-MOST_EXPIRED-clause-enough g c = λ s stands.
+pub returns-then-count-lt-MOST_EXPIRED-clause-enough : goal.returns-then-count-lt-MOST_EXPIRED-clause-enough
+returns-then-count-lt-MOST_EXPIRED-clause-enough g c = λ s stands.
     let state = g.D.Disk.state in
     let a = state c.args.disk.now in
     let b = state c.rounds.disk in

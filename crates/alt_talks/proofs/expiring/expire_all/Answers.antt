@@ -1,5 +1,6 @@
 -- One more is made, or it was the last, or it broke off.
 use Rattle.std.proofs.Common.{◌≡◌, ◌-◌, ◌+◌, ◌∙◌, ℕ, suc, zero, true, false, sym, ap, subst, refl, nat_lt, length, arith}
+use Rattle.std.proofs.lemmas.Bool.{le-ltb, lt-ltb}
 use Rattle.alt_disk.proofs.Calls.{goes_on, goes_refl}
 use Rattle.alt_disk.proofs.Runs.{trusted_back}
 use Rattle.alt_engine.specs.InHand.{Bounds}
@@ -47,7 +48,8 @@ rounds-preserved g c =
           expired_more a b d c.rounds.tables c.expire.new.tables c.args.moment n left s so
           (follows_one b d c.rounds.tables so.to _ so.stands c.expire.ensures.goes
           (c.expire.ensures.disk so.to so.stands)) (c.in-Ok.ensures.writes so.to so.stands)
-          (subst (λ (k : ℕ). nat_lt k MOST_EXPIRED ≡ false) count (grind (arith, c.if-count-lt-MOST_EXPIRED.false))),
+          (subst (λ (k : ℕ). nat_lt k MOST_EXPIRED ≡ false) count
+          (le-ltb c.in-Ok.count MOST_EXPIRED (omega (arith, c.if-count-lt-MOST_EXPIRED.false)))),
       c.expire.ensures.limits ∙ c.rounds.invariant.1,
       goes_on a b d c.rounds.invariant.2 c.expire.ensures.goes,
     )
@@ -68,7 +70,7 @@ returns-then-count-lt-MOST_EXPIRED-clause-stands g c = λ s stands.
     (follows_one b d c.rounds.tables so.to _ so.stands c.expire.ensures.goes
     (c.expire.ensures.disk so.to so.stands)) (c.in-Ok.ensures.writes so.to so.stands)
     (subst (λ (k : ℕ). nat_lt k MOST_EXPIRED ≡ true) (c.in-Ok.ensures.count so.to so.stands)
-    c.if-count-lt-MOST_EXPIRED.true))
+    (lt-ltb c.in-Ok.count MOST_EXPIRED c.if-count-lt-MOST_EXPIRED.true)))
 
 pub returns-then-count-lt-MOST_EXPIRED-clause-follows : goal.returns-then-count-lt-MOST_EXPIRED-clause-follows
 returns-then-count-lt-MOST_EXPIRED-clause-follows g c = λ s stands.
@@ -86,7 +88,7 @@ returns-then-count-lt-MOST_EXPIRED-clause-follows g c = λ s stands.
     (follows_one b d c.rounds.tables so.to _ so.stands c.expire.ensures.goes
     (c.expire.ensures.disk so.to so.stands)) (c.in-Ok.ensures.writes so.to so.stands)
     (subst (λ (k : ℕ). nat_lt k MOST_EXPIRED ≡ true) (c.in-Ok.ensures.count so.to so.stands)
-    c.if-count-lt-MOST_EXPIRED.true))
+    (lt-ltb c.in-Ok.count MOST_EXPIRED c.if-count-lt-MOST_EXPIRED.true)))
 
 pub returns-then-count-lt-MOST_EXPIRED-clause-enough : goal.returns-then-count-lt-MOST_EXPIRED-clause-enough
 returns-then-count-lt-MOST_EXPIRED-clause-enough g c = λ s stands.
@@ -104,7 +106,7 @@ returns-then-count-lt-MOST_EXPIRED-clause-enough g c = λ s stands.
     (follows_one b d c.rounds.tables so.to _ so.stands c.expire.ensures.goes
     (c.expire.ensures.disk so.to so.stands)) (c.in-Ok.ensures.writes so.to so.stands)
     (subst (λ (k : ℕ). nat_lt k MOST_EXPIRED ≡ true) (c.in-Ok.ensures.count so.to so.stands)
-    c.if-count-lt-MOST_EXPIRED.true))
+    (lt-ltb c.in-Ok.count MOST_EXPIRED c.if-count-lt-MOST_EXPIRED.true)))
 
 pub returns-in-Err-clause-follows : goal.returns-in-Err-clause-follows
 returns-in-Err-clause-follows g c = λ s stands.

@@ -12,8 +12,10 @@ use Rattle.alt_disk.specs.Runs.{Run}
 use Rattle.alt_disk.proofs.Runs.{run_weaker, run_then}
 use Rattle.alt_disk.proofs.Settled.{settled_front, synced_settled}
 use Rattle.alt_disk.proofs.Shapes.{gap_stays, synced_fits}
-use Rattle.alt_gatelog.specs.Log.{Form, first_form, header, framed, behind_gates, log_front, log_after, gates_from, IsLog, IsShortEntry, BeforeOrAfter}
+use Rattle.alt_gatelog.specs.Log.{header, framed, behind_gates, log_front, log_after, gates_from, IsLog, IsShortEntry, BeforeOrAfter}
 use Rattle.alt_gatelog.specs.InHand.{ReadsAs, StandsAs, AroundWrite, Lasts}
+use Rattle.alt_gatelog.specs.declared.form.Form.{Form}
+use Rattle.alt_gatelog.specs.declared.form.Form.TheVariants.{One, Two}
 
 -- the last of several entries stands behind the others
 behind_push : (entries : List (List ℕ)) (entry rest : List ℕ)
@@ -37,10 +39,16 @@ pub length-framed : (entry : List ℕ) → length (framed entry) ≡ 8 + length 
 unfolding framed
 length-framed entry = length-append (to_be_bytes w64 (length entry)) entry
 
+-- and its frame has the next gate behind it
+pub length-block : (entry : List ℕ) → length (framed entry ++ 0 ∷ []) ≡ length entry + 9
+length-block entry =
+    omega (arith, length-append (framed entry) (0 ∷ []), length-framed entry)
+
 -- a header has eight bytes
 pub length-header : (form : Form) → length (header form) ≡ 8
 unfolding header
-length-header first_form = refl
+length-header One = refl
+length-header Two = refl
 
 -- and stands before the entries
 pub length-front : (form : Form) (entries : List (List ℕ))

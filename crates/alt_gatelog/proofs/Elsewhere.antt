@@ -1,11 +1,12 @@
 -- A log in hand, while other files change or nothing does.
-use Rattle.std.proofs.Common.{◌≡◌, ◌≢◌, ℕ, List, Option, sym, ◌∙◌, subst, arith}
+use Rattle.std.proofs.Common.{◌≡◌, ◌≢◌, ℕ, List, Option, Some, length, refl, ap, sym, ◌∙◌, subst, arith}
 use Rattle.alt_disk.specs.Fates.{Fates, Fits}
-use Rattle.alt_disk.specs.Disk.{DiskState, Same, now}
+use Rattle.alt_disk.specs.Disk.{DiskState, IsSettled, Same, now}
 use Rattle.alt_disk.specs.Runs.{Run, Quiet}
 use Rattle.alt_disk.proofs.Runs.{quiet_same}
-use Rattle.alt_gatelog.specs.Log.{IsLog}
-use Rattle.alt_gatelog.specs.InHand.{form_of, Reads, Stands}
+use Rattle.alt_gatelog.specs.Log.{IsLog, log_bytes, log_front}
+use Rattle.alt_gatelog.specs.InHand.{form_of, Reads, SameLog, Stands}
+use Rattle.alt_gatelog.specs.declared.form.Form.{Form}
 use Rattle.alt_gatelog.specs.declared.gatelog.GateLog.{GateLog}
 
 -- the file of a log that reads as a list is a gated log of it
@@ -38,6 +39,36 @@ reads_stays a b log entries same reads = record {
   lengths = reads.lengths;
   is_at = reads.is_at;
   are_at = reads.are_at;
+}
+
+-- and so does one that is the same
+pub reads_same : (s : DiskState) (old new : GateLog) (entries : List (List ℕ)) → SameLog old new
+    → Reads s old entries → Reads s new entries
+reads_same s old new entries same reads = record {
+  gate = reads.gate;
+  closed = reads.closed;
+  rest = reads.rest;
+  file = ap s.file same.file ∙ reads.file
+      ∙ ap (λ (f : Form). Some (log_bytes f entries reads.gate reads.rest)) (sym same.form);
+  lengths = reads.lengths;
+  is_at = same.gate ∙ reads.is_at
+      ∙ ap (λ (f : Form). length (log_front f entries)) (sym same.form);
+  are_at = same.places ∙ reads.are_at;
+}
+
+-- with what stood behind its closed gate
+pub rest-same : (s : DiskState) (old new : GateLog) (entries : List (List ℕ))
+    (same : SameLog old new) (reads : Reads s old entries)
+    → (reads_same s old new entries same reads).rest ≡ reads.rest
+unfolding reads_same
+rest-same s old new entries same reads = refl
+
+-- which stands too
+pub stands_same_log : (s : DiskState) (old new : GateLog) (entries : List (List ℕ))
+    → SameLog old new → Stands s old entries → Stands s new entries
+stands_same_log s old new entries same stands = record {
+  reads = reads_same s old new entries same stands.reads;
+  settled = subst (IsSettled s) (sym same.file) stands.settled;
 }
 
 -- where no file changes a log stands as it stood

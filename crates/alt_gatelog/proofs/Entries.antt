@@ -3,10 +3,11 @@ use Rattle.std.proofs.Common.{◌≡◌, ◌<◌, ◌≤◌, ◌+◌, ◌^◌, i
 use Rattle.std.proofs.lemmas.List.{append-nil, drop_more, drop-drop, length-take-le, length-take}
 use Rattle.std.specs.Int.{w64, to_be_bytes, from_be_bytes}
 use Rattle.std.specs.List.{AllByRecursion}
-use Rattle.alt_gatelog.specs.Log.{Form, framed, header, log_front, gates_from, IsCut, IsShortEntry, ExplainsLog}
+use Rattle.alt_gatelog.specs.Log.{framed, header, log_front, gates_from, IsCut, IsShortEntry, ExplainsLog}
 use Rattle.alt_gatelog.specs.Log.IsDamaged.{ends_inside}
 use Rattle.alt_gatelog.specs.Parse.{HasEntry, IsCutAt}
 use Rattle.alt_gatelog.specs.declared.fault.LogFault.{LogFault}
+use Rattle.alt_gatelog.specs.declared.form.Form.{Form}
 use Rattle.alt_gatelog.specs.declared.fault.LogFault.TheVariants.{Damaged, Failed, NoMemory}
 use Rattle.alt_gatelog.proofs.Append.{front_push, gates_push, short_push, length-front, length-header}
 
@@ -132,10 +133,10 @@ header_long form bytes is = omega (arith, ap length is, length-header form, leng
 
 -- where the bytes end too early behind whole entries they are damaged
 pub cut_explains : (form : Form) (f at : ℕ) (bytes places : List ℕ) (fault : LogFault)
-    → ReadSoFar form bytes at places → IsCutAt f at bytes fault → ExplainsLog form f bytes fault
+    → ReadSoFar form bytes at places → IsCutAt f at bytes fault → ExplainsLog f bytes fault
 cut_explains form f at bytes places (Damaged file place) so_far cut = (
   cut.0,
-  ends_inside so_far.entries (drop at bytes) so_far.is so_far.lengths
+  ends_inside form so_far.entries (drop at bytes) so_far.is so_far.lengths
       (cut.1 ∙ so_far.place) cut.2,
 )
 cut_explains form f at bytes places Failed so_far cut = tt

@@ -1,14 +1,16 @@
 -- A file is a gated log of one list at most, and none where it is damaged.
-use Rattle.std.proofs.Common.{◌≡◌, ◌≢◌, ◌<◌, ◌+◌, ◌^◌, ⊎_elim, ℕ, List, [], ◌∷◌, ◌++◌, length, take, drop, Option, Some, Result, Ok, Err, IfErr, refl, sym, ◌∙◌, ap, subst, arith, append_assoc, length-append}
+use Rattle.std.proofs.Common.{◌≡◌, ◌≢◌, ◌<◌, ◌+◌, ◌^◌, ⊎_elim, ℕ, List, [], ◌∷◌, ◌++◌, length, take, drop, get_or, Option, Some, Result, Ok, Err, IfErr, refl, sym, ◌∙◌, ap, subst, arith, append_assoc, length-append}
 use Rattle.std.proofs.lemmas.List.{take_at, drop_at}
 use Rattle.std.proofs.lemmas.Nat.{from_be_bytes-to_be_bytes_8}
 use Rattle.std.specs.Int.{w64, to_be_bytes, from_be_bytes}
 use Rattle.std.specs.List.{AllByRecursion}
-use Rattle.alt_gatelog.specs.Log.{Form, header, framed, behind_gates, log_front, IsLog, IsShortEntry, IsCut, IsDamaged, ExplainsLog}
+use Rattle.alt_gatelog.specs.Log.{header, framed, behind_gates, log_front, IsLog, IsShortEntry, IsCut, IsDamaged, ExplainsLog}
 use Rattle.alt_gatelog.specs.Log.IsDamaged.{no_header, ends_inside}
 use Rattle.alt_gatelog.specs.Parse.{HasNoLog, HasNoHeader}
 use Rattle.alt_gatelog.specs.declared.fault.LogFault.{LogFault}
 use Rattle.alt_gatelog.specs.declared.fault.LogFault.TheVariants.{Damaged, Failed, NoMemory}
+use Rattle.alt_gatelog.specs.declared.form.Form.{Form}
+use Rattle.alt_gatelog.specs.declared.form.Form.TheVariants.{One, Two}
 use Rattle.alt_gatelog.proofs.Append.{length-framed, length-header}
 
 -- a framed entry is its length in eight bytes, and then itself
@@ -133,42 +135,79 @@ header_there form entries rest =
     ap (take 8) (append_assoc (header form) (behind_gates entries) rest)
     ∙ take_at (header form) (behind_gates entries ++ rest) 8 (length-header form)
 
+-- the last bytes of the headers differ
+two_ends : header One ≡ header Two → ⊥
+unfolding header
+two_ends same =
+    let last : 49 ≡ 50 = ap (λ (l : List ℕ). get_or l 7 0) same in omega (arith, last)
+
+-- two forms have two headers
+header_form : (form other : Form) → header form ≡ header other → form ≡ other
+unfolding header
+header_form One One same = refl
+header_form One Two same = absurd (two_ends same)
+header_form Two One same = absurd (two_ends (sym same))
+header_form Two Two same = refl
+
+-- so logs that begin alike are of one form
+front_form : (form other : Form) (a b : List (List ℕ)) (rest more : List ℕ)
+    → log_front form a ++ rest ≡ log_front other b ++ more → form ≡ other
+front_form form other a b rest more same = header_form form other
+    (sym (header_there form a rest) ∙ ap (take 8) same ∙ header_there other b more)
+
+-- and a file is a log of one form
+pub one_form : (form other : Form) (file : Option (List ℕ)) (a b : List (List ℕ))
+    → IsLog form a file → IsLog other b file → form ≡ other
+one_form form other file a b first second =
+    let bytes : Some (log_front form a ++ first.gate ∷ first.rest)
+    ≡ Some (log_front other b ++ second.gate ∷ second.rest) = sym first.is ∙ second.is in
+    front_form form other a b (first.gate ∷ first.rest) (second.gate ∷ second.rest)
+    (let inner : log_front form a ++ first.gate ∷ first.rest
+    ≡ log_front other b ++ second.gate ∷ second.rest = cc bytes in inner)
+
 -- no closed gate is an open one
-log_cut : (entries : List (List ℕ)) (gate : ℕ) (rest : List ℕ) → gate ≢ 1 → IsCut (gate ∷ rest) → ⊥
-log_cut entries gate rest closed cut = closed cut.0
+log_cut : (gate : ℕ) (rest : List ℕ) → gate ≢ 1 → IsCut (gate ∷ rest) → ⊥
+log_cut gate rest closed cut = closed cut.0
+
+-- where bytes end inside of an entry of a log of one form they are no log of it
+cut_no_log : (form : Form) (bytes : List ℕ) (entries read : List (List ℕ))
+    (gate : ℕ) (behind rest : List ℕ) → gate ≢ 1 → AllByRecursion IsShortEntry entries
+    → AllByRecursion IsShortEntry read → bytes ≡ log_front form entries ++ gate ∷ behind
+    → bytes ≡ log_front form read ++ rest → IsCut rest → ⊥
+cut_no_log form bytes entries read gate behind rest closed short lengths whole is cut =
+    let same = same_fronts form entries read (gate ∷ behind) rest short lengths
+    (closed_none gate behind closed) (cut_none rest cut) (sym whole ∙ is) in
+    log_cut gate behind closed (subst IsCut (sym same.1) cut)
 
 -- damaged bytes are none
-pub damaged_no_log : (form : Form) (at : ℕ) (bytes : List ℕ) → IsDamaged form at bytes
-    → (entries : List (List ℕ)) → IsLog form entries (Some bytes) → ⊥
-damaged_no_log form at bytes (no_header is none) entries log =
+pub damaged_no_log : (at : ℕ) (bytes : List ℕ) → IsDamaged at bytes → (form : Form)
+    (entries : List (List ℕ)) → IsLog form entries (Some bytes) → ⊥
+damaged_no_log at bytes (no_header is none) form entries log =
     let whole : Some bytes ≡ Some (log_front form entries ++ log.gate ∷ log.rest) = log.is in
     let inner : bytes ≡ log_front form entries ++ log.gate ∷ log.rest = cc whole in
-    none (ap (take 8) inner ∙ header_there form entries (log.gate ∷ log.rest))
-damaged_no_log form at bytes (ends_inside read rest is lengths place cut) entries log =
+    none form (ap (take 8) inner ∙ header_there form entries (log.gate ∷ log.rest))
+damaged_no_log at bytes (ends_inside other read rest is lengths place cut) form entries log =
     let whole : Some bytes ≡ Some (log_front form entries ++ log.gate ∷ log.rest) = log.is in
-    let inner : log_front form entries ++ log.gate ∷ log.rest ≡ log_front form read ++ rest =
-    (let both : bytes ≡ log_front form entries ++ log.gate ∷ log.rest = cc whole in sym both)
-    ∙ is in
-    let same = same_fronts form entries read (log.gate ∷ log.rest) rest log.lengths lengths
-    (closed_none log.gate log.rest log.closed) (cut_none rest cut) inner in
-    log_cut entries log.gate log.rest log.closed (subst IsCut (sym same.1) cut)
+    let inner : bytes ≡ log_front form entries ++ log.gate ∷ log.rest = cc whole in
+    let same : form ≡ other = front_form form other entries read (log.gate ∷ log.rest) rest
+    (sym inner ∙ is) in
+    cut_no_log form bytes entries read log.gate log.rest rest log.closed log.lengths lengths inner
+    (subst (λ (x : Form). bytes ≡ log_front x read ++ rest) (sym same) is) cut
 
 -- so a fault that names damage says that there is no log
-pub explains_none : (form : Form) (f : ℕ) (bytes : List ℕ) (fault : LogFault)
-    → ExplainsLog form f bytes fault
-    → HasNoLog form bytes fault
-explains_none form f bytes (Damaged file at) explained = damaged_no_log form at bytes explained.1
-explains_none form f bytes Failed explained = tt
-explains_none form f bytes NoMemory explained = tt
+pub explains_none : (f : ℕ) (bytes : List ℕ) (fault : LogFault) → ExplainsLog f bytes fault
+    → HasNoLog bytes fault
+explains_none f bytes (Damaged file at) explained = damaged_no_log at bytes explained.1
+explains_none f bytes Failed explained = tt
+explains_none f bytes NoMemory explained = tt
 
 -- and so does one that misses the header
-pub no_header_none : (form : Form) (f : ℕ) (bytes : List ℕ) (fault : LogFault)
-    → HasNoHeader form f bytes fault
-    → HasNoLog form bytes fault
-no_header_none form f bytes (Damaged file at) missing =
-    damaged_no_log form at bytes (no_header missing.1 missing.2)
-no_header_none form f bytes Failed missing = tt
-no_header_none form f bytes NoMemory missing = tt
+pub no_header_none : (f : ℕ) (bytes : List ℕ) (fault : LogFault) → HasNoHeader f bytes fault
+    → HasNoLog bytes fault
+no_header_none f bytes (Damaged file at) missing =
+    damaged_no_log at bytes (no_header missing.1 missing.2)
+no_header_none f bytes Failed missing = tt
+no_header_none f bytes NoMemory missing = tt
 
 -- whatever follows from a fault
 pub if_err : {T E : Type 0} (r : Result T E) (P Q : E → Type 0) → ((e : E) → P e → Q e) → IfErr r P

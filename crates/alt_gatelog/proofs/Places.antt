@@ -5,8 +5,9 @@ use Rattle.std.proofs.lemmas.Bool.Decides.{nat_tests}
 use Rattle.std.proofs.lemmas.List.{append-nil, take_at, drop_at, take_all, drop_all}
 use Rattle.std.specs.Int.{w64, to_be_bytes}
 use Rattle.alt_disk.specs.Disk.{DiskState, Read, contents, bytes_or_none}
-use Rattle.alt_gatelog.specs.Log.{Form, header, framed, behind_gates, gates_from, gate_place}
+use Rattle.alt_gatelog.specs.Log.{header, framed, behind_gates, gates_from, gate_place}
 use Rattle.alt_gatelog.specs.InHand.{ReadsAs}
+use Rattle.alt_gatelog.specs.declared.form.Form.{Form}
 use Rattle.alt_gatelog.proofs.Append.{length-framed, length-front, length-header}
 
 -- each entry has a gate
@@ -121,8 +122,8 @@ module _ (form : Form) (s : DiskState) (f at : ℕ) (places : List ℕ) (entries
   gate_is = ap (λ (l : List ℕ). get_or l i 0) reads.are_at
 
   -- an entry's gate stands where the list says
-  pub place_is : get_or places i 0 ≡ gate_place form entries i
-  place_is = gate_is ∙ gate_behind 8 entries i within ∙ sym (length-front form (take i entries))
+  pub place_is : get_or places i 0 ≡ gate_place entries i
+  place_is = gate_is ∙ gate_behind 8 entries i within
 
   -- the gate behind an entry
   pub next_is : (if i + 1 == length places then at else get_or places (i + 1) 0)

@@ -1,14 +1,16 @@
 -- A log in hand, and the disk on which its file lies.
-use Rattle.std.specs.Prelude.{◌≡◌, ◌≢◌, ◌⊎◌, ℕ, List, length, get_or, Option, Some}
+use Rattle.std.specs.Prelude.{◌≡◌, ◌≢◌, ◌⊎◌, ◌<◌, ◌^◌, ℕ, List, [], ◌∷◌, ◌++◌, length, get_or, Option, Some}
+use Rattle.std.specs.Vec.{vec_capacity}
 use Rattle.std.specs.List.{AllByRecursion}
 use Rattle.alt_disk.specs.Fates.{Fits, synced, wrote}
 use Rattle.alt_disk.specs.Disk.{DiskState, IsSettled, now}
-use Rattle.alt_gatelog.specs.Log.{Form, first_form, log_front, log_bytes, gates_from, IsShortEntry}
+use Rattle.alt_gatelog.specs.Log.{framed, log_front, log_bytes, gates_from, IsShortEntry}
+use Rattle.alt_gatelog.specs.declared.form.Form.{Form}
 use Rattle.alt_gatelog.specs.declared.gatelog.GateLog.{GateLog}
 
--- its form, the one that there is today
+-- its form
 abbrev pub form_of : GateLog → Form
-form_of log = first_form
+form_of log = log.form
 
 -- the number of its file
 abbrev pub file_of : GateLog → ℕ
@@ -64,9 +66,19 @@ Stands s log entries = StandsAs (form_of log) s log.file log.gate log.places.ite
 
 -- it is the same log: a call left it as it was
 pub record SameLog (old new : GateLog) : Type 0 where
+  pub form : new.form ≡ old.form
   pub file : new.file ≡ old.file
   pub gate : new.gate ≡ old.gate
   pub places : new.places.items ≡ old.places.items
+
+-- it has memory for the place of one entry more
+abbrev pub HasPlace : GateLog → Type 0
+HasPlace log = length log.places.items < vec_capacity log.places
+
+-- the bytes are what an append of this entry writes behind the closed gate: the entry with its length, and the next closed gate
+pub record IsFramed (block entry : List ℕ) : Type 0 where
+  pub is : block ≡ framed entry ++ 0 ∷ []
+  pub short : length entry < 2 ^ 64
 
 -- what a stop leaves of a file around a write: it as before, or as the write may leave it
 abbrev pub AroundWrite : DiskState → ℕ → ℕ → ℕ → ℕ → Option (List ℕ) → Type 0

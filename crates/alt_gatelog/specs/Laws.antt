@@ -1,10 +1,11 @@
--- The laws of gated logs: one list at most, none where it is damaged, and a log stays where other files change.
+-- The laws of gated logs: one list and one form at most, none where it is damaged, and a log stays where other files change.
 use Rattle.std.specs.Prelude.{◌≡◌, ◌≢◌, ℕ, List, Option, Some, ⊤}
 use Rattle.alt_disk.specs.Fates.{Fits}
 use Rattle.alt_disk.specs.Disk.{DiskState, now}
 use Rattle.alt_disk.specs.Runs.{Run, Quiet}
-use Rattle.alt_gatelog.specs.Log.{Form, IsLog, IsDamaged}
+use Rattle.alt_gatelog.specs.Log.{IsLog, IsDamaged}
 use Rattle.alt_gatelog.specs.InHand.{file_of, form_of, Stands}
+use Rattle.alt_gatelog.specs.declared.form.Form.{Form}
 use Rattle.alt_gatelog.specs.declared.gatelog.GateLog.{GateLog}
 
 -- a file is a gated log of one list at most
@@ -12,9 +13,14 @@ abbrev pub OneList : Type 0
 OneList = (form : Form) (file : Option (List ℕ)) (a b : List (List ℕ))
     → IsLog form a file → IsLog form b file → a ≡ b
 
+-- and of one form at most
+abbrev pub OneForm : Type 0
+OneForm = (form other : Form) (file : Option (List ℕ)) (a b : List (List ℕ))
+    → IsLog form a file → IsLog other b file → form ≡ other
+
 -- where bytes are damaged they are no gated log
 abbrev pub DamagedIsNone : Type 0
-DamagedIsNone = (form : Form) (at : ℕ) (bytes : List ℕ) → IsDamaged form at bytes
+DamagedIsNone = (at : ℕ) (bytes : List ℕ) → IsDamaged at bytes → (form : Form)
     → (entries : List (List ℕ)) → IsLog form entries (Some bytes) → ⊥
 
 -- where a log in hand stands, each stop leaves its file as a gated log of its entries

@@ -4,14 +4,13 @@ use Rattle.std.specs.List.{AllByRecursion}
 use Rattle.std.specs.Int.{w64, to_be_bytes, from_be_bytes}
 use Rattle.alt_gatelog.specs.declared.fault.LogFault.{LogFault}
 use Rattle.alt_gatelog.specs.declared.fault.LogFault.TheVariants.{Damaged, Failed, NoMemory}
+use Rattle.alt_gatelog.specs.declared.form.Form.{Form}
+use Rattle.alt_gatelog.specs.declared.form.Form.TheVariants.{One, Two}
 
--- a form of gated logs, which its header names; there is one today
-pub data Form : Type 0 where
-  first_form : Form
-
--- the eight bytes that a log of a form begins with: `ALTLOG01`
+-- the eight bytes that a log of a form begins with: `ALTLOG01` or `ALTLOG02`
 unfoldable pub header : Form → List ℕ
-header first_form = 65 ∷ 76 ∷ 84 ∷ 76 ∷ 79 ∷ 71 ∷ 48 ∷ 49 ∷ []
+header One = 65 ∷ 76 ∷ 84 ∷ 76 ∷ 79 ∷ 71 ∷ 48 ∷ 49 ∷ []
+header Two = 65 ∷ 76 ∷ 84 ∷ 76 ∷ 79 ∷ 71 ∷ 48 ∷ 50 ∷ []
 
 -- an entry's length in eight bytes, and its bytes
 unfoldable pub framed : List ℕ → List ℕ
@@ -36,8 +35,8 @@ log_after form entries entry rest =
     log_bytes form (entries ++ entry ∷ []) 0 (drop (length entry + 9) rest)
 
 -- the place of an entry's gate, right behind the entries before it
-abbrev pub gate_place : Form → List (List ℕ) → ℕ → ℕ
-gate_place form entries i = length (log_front form (take i entries))
+abbrev pub gate_place : List (List ℕ) → ℕ → ℕ
+gate_place entries i = 8 + length (behind_gates (take i entries))
 
 -- the place of each entry's gate, the first at this place
 abbrev pub gates_from : ℕ → List (List ℕ) → List ℕ
@@ -67,15 +66,15 @@ IsCut [] = Unit {0}
 IsCut (gate ∷ rest) = (gate ≡ 1) × ((length rest < 8)
     ⊎ (length rest < 8 + from_be_bytes w64 (take 8 rest)))
 
--- the bytes are no gated log of a form from this place on: they have no header, or end there
-pub data IsDamaged (form : Form) (at : ℕ) (bytes : List ℕ) : Type 0 where
-  no_header : at ≡ 0 → (take 8 bytes ≡ header form → ⊥) → IsDamaged form at bytes
-  ends_inside : (entries : List (List ℕ)) (rest : List ℕ) → bytes ≡ log_front form entries ++ rest
-      → AllByRecursion IsShortEntry entries → at ≡ length (log_front form entries) → IsCut rest
-      → IsDamaged form at bytes
+-- the bytes are no gated log of either form from this place on: they have no header, or end there
+pub data IsDamaged (at : ℕ) (bytes : List ℕ) : Type 0 where
+  no_header : at ≡ 0 → ((form : Form) → take 8 bytes ≡ header form → ⊥) → IsDamaged at bytes
+  ends_inside : (form : Form) (entries : List (List ℕ)) (rest : List ℕ)
+      → bytes ≡ log_front form entries ++ rest → AllByRecursion IsShortEntry entries
+      → at ≡ length (log_front form entries) → IsCut rest → IsDamaged at bytes
 
 -- a fault of this file's bytes names the place where they are no gated log
-abbrev pub ExplainsLog : Form → ℕ → List ℕ → LogFault → Type 0
-ExplainsLog form f bytes (Damaged file at) = (file ≡ f) × IsDamaged form at bytes
-ExplainsLog form f bytes Failed = Unit {0}
-ExplainsLog form f bytes NoMemory = Unit {0}
+abbrev pub ExplainsLog : ℕ → List ℕ → LogFault → Type 0
+ExplainsLog f bytes (Damaged file at) = (file ≡ f) × IsDamaged at bytes
+ExplainsLog f bytes Failed = Unit {0}
+ExplainsLog f bytes NoMemory = Unit {0}

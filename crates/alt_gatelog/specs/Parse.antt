@@ -1,8 +1,9 @@
 -- What stands at a gate's place, and what a disk gives of it.
 use Rattle.std.specs.Prelude.{◌≡◌, ◌≢◌, ◌+◌, ◌<◌, ◌≤◌, ℕ, List, ◌∷◌, ◌++◌, length, get_or, take, drop, Some}
-use Rattle.alt_gatelog.specs.Log.{Form, framed, header, IsCut, IsLog}
+use Rattle.alt_gatelog.specs.Log.{framed, header, IsCut, IsLog}
 use Rattle.alt_gatelog.specs.declared.fault.LogFault.{LogFault}
 use Rattle.alt_gatelog.specs.declared.fault.LogFault.TheVariants.{Damaged, Failed, NoMemory}
+use Rattle.alt_gatelog.specs.declared.form.Form.{Form}
 use Rattle.alt_gatelog.specs.declared.frame.Gate.{Gate}
 use Rattle.alt_gatelog.specs.declared.frame.Gate.TheVariants.{Closed, Open}
 
@@ -30,18 +31,18 @@ IsCutAt f at bytes Failed = Unit {0}
 IsCutAt f at bytes NoMemory = Unit {0}
 
 -- damaged at the front, where there is no header
-abbrev pub HasNoHeader : Form → ℕ → List ℕ → LogFault → Type 0
-HasNoHeader form f bytes (Damaged file place) =
-    (file ≡ f) × (place ≡ 0) × (take 8 bytes ≡ header form → ⊥)
-HasNoHeader form f bytes Failed = Unit {0}
-HasNoHeader form f bytes NoMemory = Unit {0}
+abbrev pub HasNoHeader : ℕ → List ℕ → LogFault → Type 0
+HasNoHeader f bytes (Damaged file place) =
+    (file ≡ f) × (place ≡ 0) × ((form : Form) → take 8 bytes ≡ header form → ⊥)
+HasNoHeader f bytes Failed = Unit {0}
+HasNoHeader f bytes NoMemory = Unit {0}
 
 -- damaged, so the bytes are no gated log
-abbrev pub HasNoLog : Form → List ℕ → LogFault → Type 0
-HasNoLog form bytes (Damaged file place) =
-    (entries : List (List ℕ)) → IsLog form entries (Some bytes) → ⊥
-HasNoLog form bytes Failed = Unit {0}
-HasNoLog form bytes NoMemory = Unit {0}
+abbrev pub HasNoLog : List ℕ → LogFault → Type 0
+HasNoLog bytes (Damaged file place) =
+    (form : Form) (entries : List (List ℕ)) → IsLog form entries (Some bytes) → ⊥
+HasNoLog bytes Failed = Unit {0}
+HasNoLog bytes NoMemory = Unit {0}
 
 -- no damage, but a failure of the disk or want of memory
 abbrev pub IsNoDamage : LogFault → Type 0

@@ -1,8 +1,9 @@
 //! An entry as it stands in the file: its gate, its length in eight bytes, and its bytes.
 
-ghost use Rattle.std.specs.Prelude.{◌≡◌, ◌≢◌, true, false, ◌<◌, ◌≤◌, ◌+◌, ◌-◌, ◌^◌, ◌∷◌, ◌++◌, [], ℕ, List, IfOk, IfSome, IfNone, length, take, drop};
+ghost use Rattle.std.specs.Prelude.{◌≡◌, ◌<◌, ◌≤◌, ◌+◌, ◌-◌, ◌^◌, ◌∷◌, ◌++◌, [], ℕ, List, IfOk, IfSome, IfNone, length, take, drop};
 ghost use Rattle.std.specs.Int.{w64, to_be_bytes};
-ghost use Rattle.alt_gatelog.specs.Log.{first_form, framed, header, IsCut};
+ghost use Rattle.alt_gatelog.specs.InHand.{IsFramed};
+ghost use Rattle.alt_gatelog.specs.Log.{IsCut};
 ghost use Rattle.alt_gatelog.specs.Parse.{GateIs, HasRoom};
 
 use std::alloc::{AllocError, Global};
@@ -17,24 +18,14 @@ pub(crate) enum Gate {
 }
 
 /// What an append writes behind the closed gate: the entry with its length, and the next closed gate.
-pub(crate) fn frame(alloc: Global, bytes: &[u8]) -> Result<Vec<u8>, AllocError>
-    ensures block { IfOk result (λ block. block.items ≡ framed bytes.now ++ 0 ∷ []) }
-    ensures short { IfOk result (λ block. length bytes.now + 9 ≡ length block.items) }
-    ensures fits { length bytes.now < 2 ^ 64 }
+pub fn frame_of(alloc: Global, bytes: &[u8]) -> Result<Vec<u8>, AllocError>
+    ensures { IfOk result (λ block. IsFramed block.items bytes.now) }
 {
     let mut block = Vec::with_capacity(alloc, bytes.len() + 9)?;
     block.extend_from_slice(&(bytes.len() as u64).to_be_bytes())?;
     block.extend_from_slice(bytes)?;
     block.push(0)?;
     Ok(block)
-}
-
-/// Whether these bytes are the header of a log.
-pub(crate) fn is_header(head: &[u8]) -> bool
-    ensures yes { result ≡ true → head.now ≡ header first_form }
-    ensures no { result ≡ false → head.now ≢ header first_form }
-{
-    head == b"ALTLOG01".as_slice()
 }
 
 /// What stands at a gate's place, by its first nine bytes and how many bytes there are to the file's end. None where the file ends

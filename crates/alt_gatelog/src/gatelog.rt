@@ -6,15 +6,17 @@ ghost use Rattle.std.specs.List.{All};
 
 use crate::durable::write_and_sync;
 use crate::fault::LogFault;
-use crate::frame::frame;
+use crate::form::{Form, empty_log};
+use crate::frame::frame_of;
 use crate::read::{size_of_log, walk};
-use alt_disk::{Disk, DiskFault};
-use std::alloc::Global;
+use alt_disk::{Disk, DiskFault, Failed};
+use std::alloc::{AllocError, Global};
 
 /// A gated log: the places of its entries, which lie on the disk.
 #[derive(Drop)]
 pub struct GateLog {
     pub(crate) alloc: Global,
+    pub(crate) form: Form,
     pub(crate) file: u32,
     pub(crate) gate: u64,
     pub(crate) places: Vec<u64>,
@@ -27,32 +29,44 @@ impl GateLog {
     ghost use Rattle.alt_base.specs.Counts.{Rose};
     ghost use Rattle.alt_disk.specs.Disk.{DiskState, IsTrusted, Goes, contents};
     ghost use Rattle.alt_disk.specs.Runs.{Run, Quiet};
-    ghost use Rattle.alt_gatelog.specs.Log.{first_form, log_bytes, log_after, gate_place, BeforeOrAfter, ExplainsLog};
-    ghost use Rattle.alt_gatelog.specs.InHand.{file_of, form_of, count_of, place_of, Reads, SameLog, Stands};
+    ghost use Rattle.alt_gatelog.specs.Log.{log_bytes, log_after, gate_place, BeforeOrAfter, ExplainsLog};
+    ghost use Rattle.alt_gatelog.specs.InHand.{file_of, form_of, count_of, place_of, HasPlace, IsFramed, Reads, SameLog, Stands};
     ghost use Rattle.alt_gatelog.specs.Parse.{HasNoLog, IsNoDamage, IsDamageAt};
 
-    /// Makes an empty log in a missing file, which then has nine bytes.
-    pub fn make<D: Disk>(alloc: Global, disk: &mut D, f: u32) -> Result<GateLog, DiskFault>
+    /// Makes an empty log of a form in a missing file, which then has nine bytes.
+    pub fn make<D: Disk>(
+        alloc: Global,
+        disk: &mut D,
+        f: u32,
+        form: Form,
+    ) -> Result<GateLog, DiskFault>
         requires { IsTrusted (D.state disk.old) → (D.state disk.old).file f ≡ None }
         ensures file { IfOk result (λ log. file_of log ≡ f) }
+        ensures given { IfOk result (λ log. form_of log ≡ form) }
+        ensures room { IfOk result HasPlace }
         ensures made { IfOk result (λ log. IsTrusted (D.state disk.old)
             → Stands (D.state disk.new) log []) }
         ensures bytes { IfOk result (λ log. IsTrusted (D.state disk.old)
             → (D.state disk.new).file f ≡ Some (log_bytes (form_of log) [] 0 [])) }
         ensures any_moment { IsTrusted (D.state disk.old)
             → Run (D.state disk.old) (D.state disk.new) f (λ _ _. ⊤) }
+        ensures no_memory { IsErrOf result DiskFault.NoMemory
+            → D.state disk.new ≡ D.state disk.old }
         ensures calls { OnOk result ((D.state disk.new).moment ≡ (D.state disk.old).moment + 2) }
         ensures goes { Goes (D.state disk.old) (D.state disk.new) }
         ensures cause { IsErrOf result DiskFault.Failed
             → Rose (D.state disk.old).faults (D.state disk.new).faults }
         ensures well { OnOk result ((D.state disk.new).faults ≡ (D.state disk.old).faults) }
     {
-        write_and_sync(disk, f, 0, b"ALTLOG01\0")?;
+        let mut places = Vec::new(alloc);
+        places.reserve(1)?;
+        write_and_sync(disk, f, 0, &empty_log(form))?;
         Ok(GateLog {
             alloc,
+            form,
             file: f,
             gate: 8,
-            places: Vec::new(alloc),
+            places,
         })
     }
 
@@ -62,6 +76,7 @@ impl GateLog {
         requires { IsTrusted (D.state disk.old)
             → (entries : List (List ℕ)) × Reads (D.state disk.old) self.old entries }
         ensures file { file_of self.new ≡ file_of self.old }
+        ensures form { form_of self.new ≡ form_of self.old }
 
         // At Ok the list is the old one with the entry, as the disk reads and in what a stop leaves, and ends with the closed gate 00.
         ensures ok { OnOk result (IsTrusted (D.state disk.old) → (entries : List (List ℕ))
@@ -90,13 +105,61 @@ impl GateLog {
             → Rose (D.state disk.old).faults (D.state disk.new).faults }
         ensures well { OnOk result ((D.state disk.new).faults ≡ (D.state disk.old).faults) }
     {
-        let block = frame(self.alloc, bytes)?;
-        self.places.reserve(1)?;
-        write_and_sync(disk, self.file, self.gate + 1, block.as_slice())?;
+        let block = frame_of(self.alloc, bytes)?;
+        self.reserve()?;
+        self.add(disk, block.as_slice())?;
+        Ok(())
+    }
+
+    /// Takes the memory that an entry more wants beside its frame.
+    pub fn reserve(&mut self) -> Result<(), AllocError>
+        ensures same { SameLog self.old self.new }
+        ensures room { OnOk result (HasPlace self.new) }
+    {
+        self.places.reserve(1)
+    }
+
+    /// Adds an entry by its frame, as `append` does. It takes no memory.
+    pub fn add<D: Disk>(&mut self, disk: &mut D, block: &[u8]) -> Result<(), Failed>
+        requires reads { IsTrusted (D.state disk.old)
+            → (entries : List (List ℕ)) × Reads (D.state disk.old) self.old entries }
+        requires room { HasPlace self.old }
+        ensures file { file_of self.new ≡ file_of self.old }
+        ensures form { form_of self.new ≡ form_of self.old }
+        ensures ok { OnOk result (IsTrusted (D.state disk.old)
+            → (entries : List (List ℕ)) (entry : List ℕ) → IsFramed block.now entry
+            → Reads (D.state disk.old) self.old entries
+            → Stands (D.state disk.new) self.new (entries ++ entry ∷ [])) }
+        ensures bytes { OnOk result (IsTrusted (D.state disk.old)
+            → (entries : List (List ℕ)) (entry : List ℕ) → IsFramed block.now entry
+            → (reads : Reads (D.state disk.old) self.old entries)
+            → (D.state disk.new).file (file_of self.old)
+            ≡ Some (log_after (form_of self.old) entries entry reads.rest)) }
+        ensures err { OnErr result (SameLog self.old self.new) }
+        ensures any_moment { IsTrusted (D.state disk.old)
+            → (entries : List (List ℕ)) (entry : List ℕ) → IsFramed block.now entry
+            → Stands (D.state disk.old) self.old entries
+            → Run (D.state disk.old) (D.state disk.new) (file_of self.old)
+            (BeforeOrAfter (form_of self.old) entries entry) }
+        ensures others { IsTrusted (D.state disk.old)
+            → Run (D.state disk.old) (D.state disk.new) (file_of self.old) (λ _ _. ⊤) }
+        ensures calls { OnOk result ((D.state disk.new).moment ≡ (D.state disk.old).moment + 4) }
+        ensures goes { Goes (D.state disk.old) (D.state disk.new) }
+        ensures cause { OnErr result (Rose (D.state disk.old).faults (D.state disk.new).faults) }
+        ensures well { OnOk result ((D.state disk.new).faults ≡ (D.state disk.old).faults) }
+    {
+        write_and_sync(disk, self.file, self.gate + 1, block)?;
         write_and_sync(disk, self.file, self.gate, &[1])?;
         self.places.push_reserved(self.gate);
         self.gate += block.len() as u64;
         Ok(())
+    }
+
+    /// The form that it was made in, or that its header names.
+    pub fn form(&self) -> Form
+        ensures { result ≡ form_of self.now }
+    {
+        self.form
     }
 
     /// How many entries there are.
@@ -112,20 +175,20 @@ impl GateLog {
     pub fn place(&self, i: usize) -> u64
         requires { i < count_of self.now }
         ensures { (s : DiskState) (entries : List (List ℕ)) → Reads s self.now entries
-            → result ≡ gate_place (form_of self.now) entries i }
+            → result ≡ gate_place entries i }
     {
         self.places[i]
     }
 
-    /// Reads the log of a file. It holds the places of the entries, and no entry.
+    /// Reads the log of a file, of either form. It holds the places of the entries, and no entry.
     pub fn recover<D: Disk>(alloc: Global, disk: &mut D, f: u32) -> Result<GateLog, LogFault>
         ensures file { IfOk result (λ log. file_of log ≡ f) }
         ensures reads { IfOk result (λ log. IsTrue (D.state disk.old).tells
             → (entries : List (List ℕ)) × Reads (D.state disk.new) log entries) }
         ensures damaged { IsTrue (D.state disk.old).tells
-            → IfErr result (ExplainsLog first_form f (contents (D.state disk.old) f)) }
+            → IfErr result (ExplainsLog f (contents (D.state disk.old) f)) }
         ensures no_log { IsTrue (D.state disk.old).tells
-            → IfErr result (HasNoLog first_form (contents (D.state disk.old) f)) }
+            → IfErr result (HasNoLog (contents (D.state disk.old) f)) }
         ensures quiet { IsTrue (D.state disk.old).tells
             → Quiet (D.state disk.old) (D.state disk.new) }
         ensures goes { Goes (D.state disk.old) (D.state disk.new) }
@@ -135,7 +198,7 @@ impl GateLog {
             → (D.state disk.new).faults ≡ (D.state disk.old).faults }
     {
         match size_of_log(disk, f) {
-            Ok(size) => walk(alloc, disk, f, size),
+            Ok((size, form)) => walk(alloc, disk, f, size, form),
             Err(fault) => Err(fault),
         }
     }
@@ -156,7 +219,7 @@ impl GateLog {
             → Reads (D.state disk.old) self.old entries → IfErr result IsNoDamage }
         ensures damaged { (s : DiskState) (entries : List (List ℕ)) → Reads s self.old entries
             → IfErr result (IsDamageAt (file_of self.old)
-            (gate_place (form_of self.old) entries i)) }
+            (gate_place entries i)) }
         ensures list { self.new ≡ self.old }
         ensures quiet { IsTrue (D.state disk.old).tells
             → Quiet (D.state disk.old) (D.state disk.new) }

@@ -4,25 +4,26 @@ ghost use Rattle.std.specs.Prelude.{◌≡◌, ◌≤◌, ◌+◌, ◌-◌, ◌^
 ghost use Rattle.alt_base.specs.Counts.{Rose};
 ghost use Rattle.alt_disk.specs.Disk.{Goes, contents};
 ghost use Rattle.alt_disk.specs.Runs.{Quiet};
-ghost use Rattle.alt_gatelog.specs.Log.{first_form, header, ExplainsLog};
-ghost use Rattle.alt_gatelog.specs.InHand.{file_of, IsReadAs};
+ghost use Rattle.alt_gatelog.specs.Log.{header, ExplainsLog};
+ghost use Rattle.alt_gatelog.specs.InHand.{file_of, form_of, IsReadAs};
 ghost use Rattle.alt_gatelog.specs.Parse.{GateIs, HasRoom, IsCutAt, HasNoHeader};
 
 use crate::fault::LogFault;
-use crate::frame::{Gate, gate_of, is_header};
+use crate::form::{Form, form_of_header};
+use crate::frame::{Gate, gate_of};
 use crate::gatelog::GateLog;
 use alt_disk::Disk;
 use std::alloc::Global;
 
-/// The size of a file that begins with the header.
-pub(crate) fn size_of_log<D: Disk>(disk: &mut D, f: u32) -> Result<u64, LogFault>
+/// The size of a file that begins with a header, and the form that it names.
+pub(crate) fn size_of_log<D: Disk>(disk: &mut D, f: u32) -> Result<(u64, Form), LogFault>
     ensures size { IsTrue (D.state disk.old).tells
-        → IfOk result (λ size. size ≡ length (contents (D.state disk.old) f)) }
+        → IfOk result (λ p. p.0 ≡ length (contents (D.state disk.old) f)) }
     ensures header { IsTrue (D.state disk.old).tells
-        → IfOk result (λ size. take 8 (contents (D.state disk.old) f) ≡ header first_form) }
-    ensures bound { IfOk result (λ size. (8 ≤ size) × (size ≤ 2 ^ 62)) }
+        → IfOk result (λ p. take 8 (contents (D.state disk.old) f) ≡ header p.1) }
+    ensures bound { IfOk result (λ p. (8 ≤ p.0) × (p.0 ≤ 2 ^ 62)) }
     ensures damaged { IsTrue (D.state disk.old).tells
-        → IfErr result (HasNoHeader first_form f (contents (D.state disk.old) f)) }
+        → IfErr result (HasNoHeader f (contents (D.state disk.old) f)) }
     ensures quiet { IsTrue (D.state disk.old).tells
         → Quiet (D.state disk.old) (D.state disk.new) }
     ensures goes { Goes (D.state disk.old) (D.state disk.new) }
@@ -37,10 +38,10 @@ pub(crate) fn size_of_log<D: Disk>(disk: &mut D, f: u32) -> Result<u64, LogFault
     }
     let mut head = [0u8; 8];
     let count = disk.read(f, 0, &mut head)?;
-    if !is_header(&head[..count]) {
-        return Err(LogFault::Damaged { file: f, at: 0 });
+    match form_of_header(&head[..count]) {
+        Some(form) => Ok((size, form)),
+        None => Err(LogFault::Damaged { file: f, at: 0 }),
     }
-    Ok(size)
 }
 
 /// What stands at a gate's place in a file of this size.
@@ -69,23 +70,25 @@ pub(crate) fn gate_at<D: Disk>(disk: &mut D, f: u32, at: u64, size: u64) -> Resu
     }
 }
 
-/// The log of a file of this size that begins with the header.
+/// The log of a file of this size that begins with the header of a form.
 pub(crate) fn walk<D: Disk>(
     alloc: Global,
     disk: &mut D,
     f: u32,
     size: u64,
+    form: Form,
 ) -> Result<GateLog, LogFault>
     requires bound { (8 ≤ size) × (size ≤ 2 ^ 62) }
     requires size { IsTrue (D.state disk.old).tells
         → size ≡ length (contents (D.state disk.old) f) }
     requires header { IsTrue (D.state disk.old).tells
-        → take 8 (contents (D.state disk.old) f) ≡ header first_form }
+        → take 8 (contents (D.state disk.old) f) ≡ header form }
     ensures file { IfOk result (λ log. file_of log ≡ f) }
+    ensures form { IfOk result (λ log. form_of log ≡ form) }
     ensures reads { IfOk result (λ log. IsTrue (D.state disk.old).tells
         → (entries : List (List ℕ)) × IsReadAs (contents (D.state disk.old) f) log entries) }
     ensures damaged { IsTrue (D.state disk.old).tells
-        → IfErr result (ExplainsLog first_form f (contents (D.state disk.old) f)) }
+        → IfErr result (ExplainsLog f (contents (D.state disk.old) f)) }
     ensures quiet { IsTrue (D.state disk.old).tells
         → Quiet (D.state disk.old) (D.state disk.new) }
     ensures goes { Goes (D.state disk.old) (D.state disk.new) }
@@ -108,6 +111,7 @@ pub(crate) fn walk<D: Disk>(
     }
     Ok(GateLog {
         alloc,
+        form,
         file: f,
         gate: at,
         places,

@@ -1,7 +1,8 @@
 -- The files of a fresh store: its version is a version, and there are no rows.
 use Rattle.std.proofs.Common.{◌≡◌, ◌<◌, ◌^◌, ℕ, List, [], ◌∷◌, length, Some, refl, sym, ap, subst, ◌∙◌, arith}
 use Rattle.std.specs.FinMap.{empty}
-use Rattle.alt_gatelog.specs.Log.{first_form, log_bytes}
+use Rattle.alt_gatelog.specs.Log.{log_bytes}
+use Rattle.alt_gatelog.specs.declared.form.Form.TheVariants.{One, Two}
 use Rattle.alt_layout.specs.Fresh.{entries_file, first_version, versions_file}
 use Rattle.alt_layout.specs.Layout.{no_rows}
 use Rattle.alt_manifest.specs.Versions.{IsVersion, version_bytes}
@@ -38,8 +39,8 @@ fresh_is = record {
 }
 
 pub fresh_layout : (image : Image)
-    → image versions_file ≡ Some (log_bytes first_form (first_version ∷ []) 0 [])
-    → image entries_file ≡ Some (log_bytes first_form [] 0 []) → IsLayout image no_rows
+    → image versions_file ≡ Some (log_bytes One (first_version ∷ []) 0 [])
+    → image entries_file ≡ Some (log_bytes Two [] 0 []) → IsLayout image no_rows
 fresh_layout image versions entries = record {
   version = fresh;
   last = record {
@@ -48,7 +49,7 @@ fresh_layout image versions entries = record {
       gate = 0;
       closed = omega arith;
       rest = [];
-      is = versions ∙ ap (λ (bytes : List ℕ). Some (log_bytes first_form (bytes ∷ []) 0 [])) (sym fresh_bytes);
+      is = versions ∙ ap (λ (bytes : List ℕ). Some (log_bytes One (bytes ∷ []) 0 [])) (sym fresh_bytes);
       lengths = (subst (λ (bytes : List ℕ). length bytes < 2 ^ 64) (sym fresh_bytes) short, tt);
     };
     is = fresh_is;
@@ -57,7 +58,15 @@ fresh_layout image versions entries = record {
   parts = [] ∷ [];
   stored = record {
     files = tt;
-    segments = (record { gate = 0; closed = omega arith; rest = []; is = entries; lengths = tt }, tt);
+    segments = (
+      record {
+        form = Two;
+        entries = [];
+        log = record { gate = 0; closed = omega arith; rest = []; is = entries; lengths = tt };
+        holds = record { groups = []; each = tt; are = refl };
+      },
+      tt,
+    );
     writes = tt;
     rising = tt;
   };

@@ -2,6 +2,7 @@ pub mod BatchLaws
 pub mod FirstChange
 pub mod FreshLaws
 pub mod RowLaws
+pub mod EntryLaws
 pub mod FamilyLaws
 pub mod FlushLaws
 pub mod PastLaws
@@ -10,5 +11,6 @@ pub mod OneLayout
 pub mod FileLaws
 pub mod MomentLaws
 pub mod ShownLaws
+pub mod SizeLaws
 pub mod MergedLaws
 pub mod CompactionLaws

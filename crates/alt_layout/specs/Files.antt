@@ -1,12 +1,14 @@
 -- The layout of an image: its last version, the row files and segments that the version names, and the rows that these hold.
-use Rattle.std.specs.Prelude.{◌≡◌, ◌⊎◌, ◌+◌, ℕ, List, [], ◌∷◌, ◌++◌, map, Option, Some}
+use Rattle.std.specs.Prelude.{◌≡◌, ◌⊎◌, ◌+◌, ℕ, List, [], ◌∷◌, ◌++◌, Option, Some}
 use Rattle.std.specs.FinMap.{entries}
 use Rattle.std.specs.List.{AllByRecursion, flat_map}
-use Rattle.alt_gatelog.specs.Log.{IsLog, first_form}
+use Rattle.alt_gatelog.specs.Log.{IsLog}
+use Rattle.alt_gatelog.specs.declared.form.Form.{Form}
 use Rattle.alt_rowfile.specs.Format.{IsRowFile}
 use Rattle.alt_layout.specs.Layout.{Layout, RowMap}
 use Rattle.alt_writes.specs.Writes.{Write, AreRising}
-use Rattle.alt_writes.specs.Bytes.{AllHeld, write_bytes}
+use Rattle.alt_writes.specs.Bytes.{AllHeld}
+use Rattle.alt_layout.specs.Entries.{HoldWrites}
 use Rattle.alt_layout.specs.Fresh.{versions_file}
 use Rattle.alt_manifest.specs.Versions.{HasVersion, files_named, IsIn}
 use Rattle.alt_manifest.specs.declared.version.FamilyVersion.{FamilyVersion}
@@ -28,13 +30,20 @@ pub record HoldsRows (m : RowMap) (flushed : ℕ) (file : Option (List ℕ)) : T
 abbrev pub AreRowFiles : Image → Held → FamilyVersion → Type 0
 AreRowFiles image held f = AllByRecursion (λ g. HoldsRows (held g) f.flushed (image g)) f.files
 
--- Each segment is a log of the writes of its part, in order.
+-- The file is a segment with these writes: a log of either form whose entries hold them.
+pub record IsSegment (ws : List Write) (file : Option (List ℕ)) : Type 0 where
+  pub form : Form
+  pub entries : List (List ℕ)
+  pub log : IsLog form entries file
+  pub holds : HoldWrites form entries ws
+
+-- Each segment has the writes of its part, in order.
 abbrev pub AreSegments : Image → List ℕ → List (List Write) → Type 0
 AreSegments image [] [] = Unit {0}
 AreSegments image [] (ws ∷ parts) = ⊥
 AreSegments image (f ∷ fs) [] = ⊥
 AreSegments image (f ∷ fs) (ws ∷ parts) =
-    IsLog first_form (map write_bytes ws) (image f) × AreSegments image fs parts
+    IsSegment ws (image f) × AreSegments image fs parts
 
 -- The writes of all segments, one segment's behind another's.
 abbrev pub all_of : List (List Write) → List Write

@@ -1,8 +1,9 @@
--- A fresh store: an empty log of writes, and a log of versions with the first one.
+-- A fresh store: an empty log of writes, of the second form, and a log of versions with the first one, of the first form.
 use Rattle.std.specs.Prelude.{◌≡◌, ◌≢◌, ◌⊎◌, ℕ, List, [], ◌∷◌, ◌++◌, Some, None}
 use Rattle.std.specs.Int.{w32, w64, to_be_bytes}
 use Rattle.alt_disk.specs.Disk.{DiskState, IsSettled}
-use Rattle.alt_gatelog.specs.Log.{first_form, log_bytes}
+use Rattle.alt_gatelog.specs.Log.{log_bytes}
+use Rattle.alt_gatelog.specs.declared.form.Form.TheVariants.{One, Two}
 
 -- The only version so far: next file 3, next number 1, the segment of file 2, and no families.
 unfoldable pub first_version : List ℕ
@@ -20,8 +21,8 @@ entries_file = 2
 
 -- A disk with a fresh store and nothing else, in reads, of which a stop leaves what reads give.
 pub record IsFresh (s : DiskState) : Type 0 where
-  pub versions : s.file versions_file ≡ Some (log_bytes first_form (first_version ∷ []) 0 [])
-  pub entries : s.file entries_file ≡ Some (log_bytes first_form [] 0 [])
+  pub versions : s.file versions_file ≡ Some (log_bytes One (first_version ∷ []) 0 [])
+  pub entries : s.file entries_file ≡ Some (log_bytes Two [] 0 [])
   pub others : (f : ℕ) → f ≢ versions_file → f ≢ entries_file → s.file f ≡ None
   pub versions_last : IsSettled s versions_file
   pub entries_last : IsSettled s entries_file

@@ -1,15 +1,17 @@
 -- What follows of layouts from their definitions alone, and of calls of the disk on one file of a store.
-use Rattle.std.specs.Prelude.{◌≡◌, ◌⊎◌, ◌≤◌, ◌+◌, ◌-◌, ℕ, Bool, List, [], ◌∷◌, ◌++◌, map, option_and_then, Some, T}
+use Rattle.std.specs.Prelude.{◌≡◌, ◌⊎◌, ◌≤◌, ◌+◌, ◌-◌, ℕ, Bool, List, [], ◌∷◌, ◌++◌, option_and_then, Some, T}
 use Rattle.std.specs.FinMap.{empty, get}
 use Rattle.std.specs.List.{AllByRecursion}
 use Rattle.alt_cells.specs.Batches.{is_distinct}
 use Rattle.alt_cells.specs.Shown.{row_shown}
 use Rattle.alt_disk.specs.Disk.{DiskState, Call, IsImage, IsSettled, Removed}
 use Rattle.alt_disk.specs.Runs.{Run, Spans}
-use Rattle.alt_gatelog.specs.Log.{IsLog, BeforeOrAfter, first_form, log_bytes}
+use Rattle.alt_gatelog.specs.Log.{IsLog, BeforeOrAfter, log_bytes}
+use Rattle.alt_gatelog.specs.declared.form.Form.{Form}
+use Rattle.alt_gatelog.specs.declared.form.Form.TheVariants.{One, Two}
 use Rattle.alt_layout.specs.Layout.{Layout, RowMap, IsPast, change_of, no_rows, shown, shown_by, shown_rows}
 use Rattle.alt_writes.specs.Writes.{Write, AreRising}
-use Rattle.alt_writes.specs.Bytes.{IsHeldWrite, write_bytes}
+use Rattle.alt_layout.specs.Entries.{HoldWrites, IsEntry}
 use Rattle.alt_layout.specs.Fresh.{entries_file, first_version, versions_file}
 use Rattle.alt_manifest.specs.InHand.{OldOrNew}
 use Rattle.alt_manifest.specs.Versions.{HasVersion, IsIn, IsVersion, files_named}
@@ -103,8 +105,8 @@ ShowsBatch = (l : Layout) (w : Write) → T (is_distinct w.changes) → IsPast l
 -- The files of a fresh store have the layout without rows.
 abbrev pub FreshHasNone : Type 0
 FreshHasNone = (image : Image)
-    → image versions_file ≡ Some (log_bytes first_form (first_version ∷ []) 0 [])
-    → image entries_file ≡ Some (log_bytes first_form [] 0 []) → IsLayout image no_rows
+    → image versions_file ≡ Some (log_bytes One (first_version ∷ []) 0 [])
+    → image entries_file ≡ Some (log_bytes Two [] 0 []) → IsLayout image no_rows
 
 -- The rows that a family shows are found by their keys.
 abbrev pub FindsShown : Type 0
@@ -143,15 +145,16 @@ TakesVersion = (a b : DiskState) (v w : Version) (held more : Held) (parts us : 
     (HasEither (layout_of v held (all_of parts)) (layout_of w more (all_of us)))
     × (HasVersion w (b.file versions_file) → IsSettled b versions_file → Lies b w more us)
 
--- While a write is added to the last segment, each image has the layout before or the one with the write; and once it stands there and is settled, the
--- store has it.
-abbrev pub TakesWrite : Type 0
-TakesWrite = (a b : DiskState) (v : Version) (held : Held) (parts : List (List Write)) (f : ℕ)
-    (ws : List Write) (w : Write) (bytes : List ℕ) → Lies a v held parts
-    → (ends : EndsWith v parts f ws) → bytes ≡ write_bytes w → IsHeldWrite w
-    → next_after v.next_number (all_of parts) ≤ w.number
-    → Run a b f (BeforeOrAfter first_form (map write_bytes ws) bytes)
+-- While an entry is added to the last segment, each image has the layout before or the one with all writes of the entry; and once it stands there and is
+-- settled, the store has them.
+abbrev pub TakesWrites : Type 0
+TakesWrites = (a b : DiskState) (v : Version) (held : Held) (parts : List (List Write)) (f : ℕ)
+    (ws : List Write) (form : Form) (entries : List (List ℕ)) (entry : List ℕ)
+    (more : List Write) → Lies a v held parts → (ends : EndsWith v parts f ws)
+    → HoldWrites form entries ws → IsEntry form entry more
+    → AreRising (next_after v.next_number (all_of parts)) more
+    → Run a b f (BeforeOrAfter form entries entry)
     → Spans a b (IsIt f) (HasEither (layout_of v held (all_of parts))
-    (with_write (layout_of v held (all_of parts)) w))
-    × (IsLog first_form (map write_bytes ws ++ bytes ∷ []) (b.file f) → IsSettled b f
-    → Lies b v held (ends.fronts ++ (ws ++ w ∷ []) ∷ []))
+    (with_writes (layout_of v held (all_of parts)) more))
+    × (IsLog form (entries ++ entry ∷ []) (b.file f) → IsSettled b f
+    → Lies b v held (ends.fronts ++ (ws ++ more) ∷ []))

@@ -21,6 +21,12 @@ changes_in number family (c ∷ cs) =
     then joined_map join_row (one_row c.key (row_of_change number c)) (changes_in number family cs)
     else changes_in number family cs
 
+-- The rows of a family joined with what several writes give it, the first one first.
+abbrev pub rows_with : ℕ → RowMap → List Write → RowMap
+rows_with family m [] = m
+rows_with family m (w ∷ ws) =
+    rows_with family (joined_map join_row m (changes_in w.number family w.changes)) ws
+
 -- The layout after a write: each family's rows joined with those of the write, and the next number is behind it.
 abbrev pub with_write : Layout → Write → Layout
 with_write l w = record {

@@ -1,6 +1,6 @@
 //! What follows of layouts from their definitions, for the callers' proofs.
 
-ghost use Rattle.alt_layout.specs.Laws.{OneLayout, ImagesArePast, SameAfter, ShowsBatch, FindsShown, FreshHasNone, Flushes, FlushesAll, FlushesOne, Merges, MergesOne, NamesMade, Compacts, InEachImage, StaysElsewhere, StaysByRemoval, TakesVersion, TakesWrite};
+ghost use Rattle.alt_layout.specs.Laws.{OneLayout, ImagesArePast, SameAfter, ShowsBatch, FindsShown, FreshHasNone, Flushes, FlushesAll, FlushesOne, Merges, MergesOne, NamesMade, Compacts, InEachImage, StaysElsewhere, StaysByRemoval, TakesVersion, TakesWrites};
 
 /// An image has one layout, past all its numbers. What is shown alike stays alike after later writes. A family that is flushed has the
 /// rows that it had, and one that is merged shows what it showed.
@@ -20,12 +20,12 @@ pub fn layout_laws()
     ensures compacts { Compacts }
 {}
 
-/// What calls on one file leave of a store: one that the last version doesn't name counts for nothing; a version more, or a write more,
+/// What calls on one file leave of a store: one that the last version doesn't name counts for nothing; a version more, or an entry with writes more,
 /// is there or isn't in each image.
 pub fn moment_laws()
     ensures in_each_image { InEachImage }
     ensures elsewhere { StaysElsewhere }
     ensures removal { StaysByRemoval }
     ensures version { TakesVersion }
-    ensures write { TakesWrite }
+    ensures writes { TakesWrites }
 {}

@@ -1,7 +1,8 @@
 -- A log of versions in hand, and the disk on which its file lies.
 use Rattle.std.specs.Prelude.{◌≡◌, ◌⊎◌, ℕ, List, [], ◌∷◌, ◌++◌, Option}
 use Rattle.alt_disk.specs.Disk.{DiskState, IsSettled}
-use Rattle.alt_gatelog.specs.InHand.{file_of as log_file, Reads as LogReads, SameLog}
+use Rattle.alt_gatelog.specs.InHand.{file_of as log_file, form_of, Reads as LogReads, SameLog}
+use Rattle.alt_gatelog.specs.declared.form.Form.TheVariants.{One}
 use Rattle.alt_manifest.specs.Versions.{HasVersion, IsVersion, version_bytes}
 use Rattle.alt_manifest.specs.declared.manifest.Manifest.{Manifest}
 use Rattle.alt_manifest.specs.declared.version.Version.{Version}
@@ -14,10 +15,11 @@ file_of m = log_file m.log
 abbrev pub version_of : Manifest → Version
 version_of m = m.version
 
--- As the disk reads, the log's file is the log in hand, and its last entry is the version in hand.
+-- As the disk reads, the log's file is the log in hand, which is of the first form, and its last entry is the version in hand.
 pub record Reads (s : DiskState) (m : Manifest) : Type 0 where
   pub before : List (List ℕ)
   pub log : LogReads s m.log (before ++ version_bytes (version_of m) ∷ [])
+  pub form : form_of m.log ≡ One
   pub is : IsVersion (version_of m)
 
 -- The log reads so, and a stop now leaves of its file what reads give.

@@ -3,7 +3,8 @@ use Rattle.std.specs.Prelude.{◌≡◌, ◌<◌, ◌≤◌, ◌+◌, ◌-◌, �
 use Rattle.std.specs.List.{AllByRecursion, flat_map}
 use Rattle.std.specs.Int.{w32, w64, to_be_bytes}
 use Rattle.alt_fields.specs.Bytes.{IsShort}
-use Rattle.alt_gatelog.specs.Log.{IsLog, first_form}
+use Rattle.alt_gatelog.specs.Log.{IsLog}
+use Rattle.alt_gatelog.specs.declared.form.Form.TheVariants.{One}
 use Rattle.alt_manifest.specs.declared.version.Version.{Version}
 use Rattle.alt_manifest.specs.declared.version.FamilyVersion.{FamilyVersion}
 
@@ -78,10 +79,10 @@ pub record IsVersion (v : Version) : Type 0 where
   pub below : AllByRecursion (λ f. f < v.next_file) (files_named v)
   pub differ : AreDistinct (files_named v)
 
--- The file is a log whose last entry is this version; the entries before it may be anything.
+-- The file is a log of the first form whose last entry is this version; the entries before it may be anything.
 pub record HasVersion (v : Version) (file : Option (List ℕ)) : Type 0 where
   pub before : List (List ℕ)
-  pub log : IsLog first_form (before ++ version_bytes v ∷ []) file
+  pub log : IsLog One (before ++ version_bytes v ∷ []) file
   pub is : IsVersion v
 
 -- ---- What can be written as a version, whether or not it is one.

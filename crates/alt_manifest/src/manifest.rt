@@ -11,11 +11,12 @@ ghost use Rattle.alt_manifest.specs.Recovery.{EndsWithVersion, ExplainsLast};
 use crate::format::bytes_of;
 use crate::read::{Stop, version_of_bytes};
 use crate::version::Version;
-use alt_disk::{Disk, DiskFault};
-use alt_gatelog::{GateLog, LogFault};
+use alt_base::NoMemory;
+use alt_disk::{Disk, DiskFault, Failed};
+use alt_gatelog::{Form, GateLog, LogFault, frame_of};
 use std::alloc::Global;
 
-/// A log of versions in a file, with the last one in memory.
+/// A log of versions in a file, of the first form, with the last one in memory.
 #[derive(Drop)]
 pub struct Manifest {
     pub(crate) alloc: Global,
@@ -25,11 +26,12 @@ pub struct Manifest {
 
 impl Manifest {
     ghost use Rattle.std.specs.Prelude.{◌≡◌, None, IfErr, IfOk, OnOk, OnErr, IsErrOf, IsTrue, ⊤};
+    ghost use Rattle.alt_gatelog.specs.InHand.{HasPlace, IsFramed};
     ghost use Rattle.alt_base.specs.Counts.{Rose};
     ghost use Rattle.alt_disk.specs.Disk.{DiskState, IsTrusted, Goes};
     ghost use Rattle.alt_disk.specs.Runs.{Run, Quiet};
     ghost use Rattle.alt_manifest.specs.Recovery.{ExplainsVersions};
-    ghost use Rattle.alt_manifest.specs.Versions.{IsVersion};
+    ghost use Rattle.alt_manifest.specs.Versions.{IsVersion, version_bytes};
     ghost use Rattle.alt_manifest.specs.InHand.{file_of, version_of, Reads, Stands, SameManifest, OldOrNew};
 
     /// Makes a log in a missing file, with this version as its first. An Err leaves a file that may be anything.
@@ -56,7 +58,7 @@ impl Manifest {
             Ok(bytes) => bytes,
             Err(_) => return Err(DiskFault::NoMemory),
         };
-        let mut log = GateLog::make(alloc, disk, f)?;
+        let mut log = GateLog::make(alloc, disk, f, Form::One)?;
         log.append(disk, bytes.as_slice())?;
         Ok(Manifest {
             alloc,
@@ -94,11 +96,51 @@ impl Manifest {
             → Rose (D.state disk.old).faults (D.state disk.new).faults }
         ensures well { OnOk result ((D.state disk.new).faults ≡ (D.state disk.old).faults) }
     {
-        let bytes = match bytes_of(self.alloc, &version) {
-            Ok(bytes) => bytes,
+        let block = match self.prepare(&version) {
+            Ok(block) => block,
             Err(_) => return Err(DiskFault::NoMemory),
         };
-        self.log.append(disk, bytes.as_slice())?;
+        self.add(disk, version, block.as_slice())?;
+        Ok(())
+    }
+
+    /// Takes all memory that adding a version wants: its frame, and a place.
+    pub fn prepare(&mut self, version: &Version) -> Result<Vec<u8>, NoMemory>
+        ensures same { SameManifest self.old self.new }
+        ensures room { OnOk result (HasPlace self.new.log) }
+        ensures framed { IfOk result (λ block. IsFramed block.items (version_bytes version.now)) }
+    {
+        let bytes = bytes_of(self.alloc, version)?;
+        let block = frame_of(self.alloc, bytes.as_slice())?;
+        self.log.reserve()?;
+        Ok(block)
+    }
+
+    /// Adds a version by its frame, as `append` does. It takes no memory.
+    pub fn add<D: Disk>(
+        &mut self,
+        disk: &mut D,
+        version: Version,
+        block: &[u8],
+    ) -> Result<(), Failed>
+        requires reads { IsTrusted (D.state disk.old) → Reads (D.state disk.old) self.old }
+        requires version { IsTrusted (D.state disk.old) → IsVersion version }
+        requires framed { IsFramed block.now (version_bytes version) }
+        requires room { HasPlace self.old.log }
+        ensures file { file_of self.new ≡ file_of self.old }
+        ensures version { OnOk result (version_of self.new ≡ version) }
+        ensures ok { OnOk result (IsTrusted (D.state disk.old) → Stands (D.state disk.new) self.new) }
+        ensures err { OnErr result (SameManifest self.old self.new) }
+        ensures any_moment { IsTrusted (D.state disk.old) → Stands (D.state disk.old) self.old
+            → Run (D.state disk.old) (D.state disk.new) (file_of self.old)
+            (OldOrNew (version_of self.old) version) }
+        ensures others { IsTrusted (D.state disk.old)
+            → Run (D.state disk.old) (D.state disk.new) (file_of self.old) (λ _ _. ⊤) }
+        ensures goes { Goes (D.state disk.old) (D.state disk.new) }
+        ensures cause { OnErr result (Rose (D.state disk.old).faults (D.state disk.new).faults) }
+        ensures well { OnOk result ((D.state disk.new).faults ≡ (D.state disk.old).faults) }
+    {
+        self.log.add(disk, block)?;
         self.version = version;
         Ok(())
     }
@@ -119,7 +161,10 @@ impl Manifest {
             → (D.state disk.new).faults ≡ (D.state disk.old).faults }
     {
         match GateLog::recover(alloc, disk, f) {
-            Ok(log) => last_version(alloc, disk, f, log),
+            Ok(log) => match log.form() {
+                Form::One => last_version(alloc, disk, f, log),
+                Form::Two => Err(LogFault::Damaged { file: f, at: 0 }),
+            },
             Err(fault) => Err(fault),
         }
     }

@@ -1,10 +1,10 @@
--- The bytes of a write, piece by piece.
+-- The bytes of a write and of a group, piece by piece.
 use Rattle.std.proofs.Common.{◌≡◌, ℕ, List, [], ◌∷◌, Option, ◌++◌, length, ap, ◌∙◌, append_assoc}
 use Rattle.std.specs.Int.{w32, w64, to_be_bytes}
 use Rattle.alt_cells.specs.declared.batch.RowChange.{RowChange}
 use Rattle.alt_fields.specs.Field.{field}
 use Rattle.alt_writes.specs.Writes.{Write}
-use Rattle.alt_writes.specs.Bytes.{clear_byte, cells_bytes, change_bytes, changes_bytes, write_bytes}
+use Rattle.alt_writes.specs.Bytes.{clear_byte, cells_bytes, change_bytes, changes_bytes, write_bytes, writes_bytes, group_bytes}
 
 -- three parts put one behind another
 pub three_put : (out a b c : List ℕ) → ((out ++ a) ++ b) ++ c ≡ out ++ (a ++ (b ++ c))
@@ -42,3 +42,10 @@ write_bytes_put w out a b c p q r = r ∙ ap (λ x. x ++ changes_bytes w.changes
     (q ∙ ap (λ x. x ++ to_be_bytes w64 (length w.changes)) p)
     ∙ three_put out (to_be_bytes w64 w.number) (to_be_bytes w64 (length w.changes))
     (changes_bytes w.changes)
+
+-- and the two of a group are its
+pub group_bytes_put : (ws : List Write) (out a b : List ℕ) → out ≡ []
+    → a ≡ out ++ to_be_bytes w64 (length ws) → b ≡ a ++ writes_bytes ws → b ≡ group_bytes ws
+unfolding group_bytes
+group_bytes_put ws out a b none p q = q ∙ ap (λ x. x ++ writes_bytes ws)
+    (p ∙ ap (λ x. x ++ to_be_bytes w64 (length ws)) none)

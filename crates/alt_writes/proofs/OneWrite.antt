@@ -1,13 +1,13 @@
--- Bytes are those of one write at most.
-use Rattle.std.proofs.Common.{◌≡◌, ◌<◌, ◌^◌, ℕ, Bool, true, false, List, [], ◌∷◌, ◌++◌, length, map, take, drop, Option, Some, None, refl, sym, ap, ◌∙◌, arith, append_assoc}
-use Rattle.std.proofs.lemmas.List.{take_at, drop_at}
+-- Bytes are those of one write at most, and of one group of writes.
+use Rattle.std.proofs.Common.{◌≡◌, ◌<◌, ◌^◌, ℕ, Bool, true, false, List, [], ◌∷◌, ◌++◌, length, take, drop, Option, Some, None, refl, sym, ap, ◌∙◌, arith, append_assoc}
+use Rattle.std.proofs.lemmas.List.{append-nil, take_at, drop_at}
 use Rattle.std.proofs.lemmas.Nat.{from_be_bytes-to_be_bytes_4, from_be_bytes-to_be_bytes_8}
 use Rattle.std.specs.Int.{w32, w64, to_be_bytes, from_be_bytes}
 use Rattle.alt_cells.specs.declared.batch.RowChange.{RowChange}
 use Rattle.alt_fields.specs.Field.{field}
 use Rattle.alt_fields.specs.Bytes.{IsShort}
 use Rattle.alt_writes.specs.Writes.{Write}
-use Rattle.alt_writes.specs.Bytes.{clear_byte, value_bytes, cells_bytes, change_bytes, changes_bytes, write_bytes, IsShortValue, AreShortCells, IsHeldChange, AreHeldChanges, IsHeldWrite, AllHeld}
+use Rattle.alt_writes.specs.Bytes.{clear_byte, value_bytes, cells_bytes, change_bytes, changes_bytes, write_bytes, writes_bytes, group_bytes, IsShortValue, AreShortCells, IsHeldChange, AreHeldChanges, IsHeldWrite, AllHeld, IsHeldGroup}
 
 -- two numbers of eight bytes at the front, told apart
 pub eight_apart : (m n : ℕ) (x y : List ℕ) → m < 2 ^ 64 → n < 2 ^ 64
@@ -109,40 +109,68 @@ change_apart c d x y h k e =
     )
 
 -- two lists of changes, of one length
-changes_apart : (cs ds : List RowChange) → AreHeldChanges cs → AreHeldChanges ds
-    → length cs ≡ length ds → changes_bytes cs ≡ changes_bytes ds → cs ≡ ds
-changes_apart [] [] h k n e = refl
-changes_apart [] (d ∷ ds) h k n e = absurd (omega arith)
-changes_apart (c ∷ cs) [] h k n e = absurd (omega arith)
-changes_apart (c ∷ cs) (d ∷ ds) h k n e =
-    let first = change_apart c d (changes_bytes cs) (changes_bytes ds) h.0 k.0 e in
-    let rest = changes_apart cs ds h.1 k.1 (omega arith) first.1 in
-    λ i. first.0 i ∷ rest i
+pub changes_apart : (cs ds : List RowChange) (x y : List ℕ) → AreHeldChanges cs → AreHeldChanges ds
+    → length cs ≡ length ds → changes_bytes cs ++ x ≡ changes_bytes ds ++ y → (cs ≡ ds) × (x ≡ y)
+changes_apart [] [] x y h k n e = (refl, e)
+changes_apart [] (d ∷ ds) x y h k n e = absurd (omega arith)
+changes_apart (c ∷ cs) [] x y h k n e = absurd (omega arith)
+changes_apart (c ∷ cs) (d ∷ ds) x y h k n e =
+    let first = change_apart c d (changes_bytes cs ++ x) (changes_bytes ds ++ y) h.0 k.0
+    (sym (append_assoc (change_bytes c) (changes_bytes cs) x) ∙ e
+    ∙ append_assoc (change_bytes d) (changes_bytes ds) y) in
+    let rest = changes_apart cs ds x y h.1 k.1 (omega arith) first.1 in
+    ((λ i. first.0 i ∷ rest.0 i), rest.1)
 
--- No two writes have the same bytes.
-pub one_write : (v w : Write) → IsHeldWrite v → IsHeldWrite w → write_bytes v ≡ write_bytes w
-    → v ≡ w
+-- the parts of a write, with what stands behind it
+pub write_pieces : (w : Write) (x : List ℕ) → write_bytes w ++ x
+    ≡ to_be_bytes w64 w.number
+    ++ (to_be_bytes w64 (length w.changes) ++ (changes_bytes w.changes ++ x))
 unfolding write_bytes
-one_write v w h k e =
-    let number = eight_apart v.number w.number _ _ (fits v h) (fits w k) e in
-    let count = eight_apart (length v.changes) (length w.changes) (changes_bytes v.changes)
-    (changes_bytes w.changes) h.count k.count number.1 in
-    let changes = changes_apart v.changes w.changes h.changes k.changes count.0 count.1 in
-    λ i. record { number = number.0 i; changes = changes i }
+write_pieces w x =
+    append_assoc (to_be_bytes w64 w.number)
+    (to_be_bytes w64 (length w.changes) ++ changes_bytes w.changes) x
+    ∙ ap (λ s. to_be_bytes w64 w.number ++ s)
+    (append_assoc (to_be_bytes w64 (length w.changes)) (changes_bytes w.changes) x)
+
+-- two writes
+pub write_apart : (v w : Write) (x y : List ℕ) → IsHeldWrite v → IsHeldWrite w
+    → write_bytes v ++ x ≡ write_bytes w ++ y → (v ≡ w) × (x ≡ y)
+write_apart v w x y h k e =
+    let number = eight_apart v.number w.number _ _ (fits v h) (fits w k)
+    (sym (write_pieces v x) ∙ e ∙ write_pieces w y) in
+    let count = eight_apart (length v.changes) (length w.changes) (changes_bytes v.changes ++ x)
+    (changes_bytes w.changes ++ y) h.count k.count number.1 in
+    let changes = changes_apart v.changes w.changes x y h.changes k.changes count.0 count.1 in
+    ((λ i. record { number = number.0 i; changes = changes.0 i }), changes.1)
   where
     fits : (u : Write) → IsHeldWrite u → u.number < 2 ^ 64
     fits u held = let low = held.number in omega (arith, low)
 
--- nor have two lists of writes the same entries
-pub same_writes : (vs ws : List Write) → AllHeld vs → AllHeld ws
-    → map write_bytes vs ≡ map write_bytes ws → vs ≡ ws
-same_writes [] [] h k e = refl
-same_writes [] (w ∷ ws) h k e = let none : [] ≡ write_bytes w ∷ map write_bytes ws = e in cc none
-same_writes (v ∷ vs) [] h k e = let none : write_bytes v ∷ map write_bytes vs ≡ [] = e in cc none
-same_writes (v ∷ vs) (w ∷ ws) h k e =
-    let heads : write_bytes v ≡ write_bytes w = first_of e in
-    let rest : map write_bytes vs ≡ map write_bytes ws = ap (drop 1) e in
-    λ i. one_write v w h.0 k.0 heads i ∷ same_writes vs ws h.1 k.1 rest i
-  where
-    first_of : {a b : List ℕ} {x y : List (List ℕ)} → a ∷ x ≡ b ∷ y → a ≡ b
-    first_of e = cc e
+-- No two writes have the same bytes.
+pub one_write : (v w : Write) → IsHeldWrite v → IsHeldWrite w → write_bytes v ≡ write_bytes w
+    → v ≡ w
+one_write v w h k e = (write_apart v w [] [] h k
+    (append-nil (write_bytes v) ∙ e ∙ sym (append-nil (write_bytes w)))).0
+
+-- two lists of writes, of one length
+pub writes_apart : (vs ws : List Write) (x y : List ℕ) → AllHeld vs → AllHeld ws
+    → length vs ≡ length ws → writes_bytes vs ++ x ≡ writes_bytes ws ++ y → (vs ≡ ws) × (x ≡ y)
+writes_apart [] [] x y h k n e = (refl, e)
+writes_apart [] (w ∷ ws) x y h k n e = absurd (omega arith)
+writes_apart (v ∷ vs) [] x y h k n e = absurd (omega arith)
+writes_apart (v ∷ vs) (w ∷ ws) x y h k n e =
+    let first = write_apart v w (writes_bytes vs ++ x) (writes_bytes ws ++ y) h.0 k.0
+    (sym (append_assoc (write_bytes v) (writes_bytes vs) x) ∙ e
+    ∙ append_assoc (write_bytes w) (writes_bytes ws) y) in
+    let rest = writes_apart vs ws x y h.1 k.1 (omega arith) first.1 in
+    ((λ i. first.0 i ∷ rest.0 i), rest.1)
+
+-- No two groups have the same bytes.
+pub one_group : (vs ws : List Write) → IsHeldGroup vs → IsHeldGroup ws
+    → group_bytes vs ≡ group_bytes ws → vs ≡ ws
+unfolding group_bytes
+one_group vs ws h k e =
+    let count = eight_apart (length vs) (length ws) (writes_bytes vs) (writes_bytes ws) h.count
+    k.count e in
+    (writes_apart vs ws [] [] h.writes k.writes count.0
+    (append-nil (writes_bytes vs) ∙ count.1 ∙ sym (append-nil (writes_bytes ws)))).0

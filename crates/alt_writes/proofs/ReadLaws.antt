@@ -1,17 +1,18 @@
--- Reading a write back: what was read is what was put, and where reading stops nothing was.
-use Rattle.std.proofs.Common.{◌≡◌, ◌<◌, ◌≤◌, ◌+◌, ◌-◌, ◌^◌, ℕ, Bool, true, false, List, [], ◌∷◌, ◌++◌, length, Option, Some, None, sym, ap, refl, ◌∙◌, arith, append_assoc, length-append}
+-- Reading writes back: what was read is what was put, and where reading stops nothing was.
+use Rattle.std.proofs.Common.{◌≡◌, ◌<◌, ◌≤◌, ◌+◌, ◌-◌, ◌^◌, ℕ, Bool, true, false, List, [], ◌∷◌, ◌++◌, length, Option, Some, None, sym, ap, refl, subst, suc, ◌∙◌, arith, append_assoc, length-append}
 use Rattle.std.proofs.lemmas.List.{append-nil}
 use Rattle.std.specs.Int.{w32, w64, to_be_bytes}
 use Rattle.alt_cells.specs.declared.batch.RowChange.{RowChange}
 use Rattle.alt_fields.specs.Bytes.{IsShort}
 use Rattle.alt_fields.specs.Field.{field, told_length}
 use Rattle.alt_fields.proofs.Apart.{field_whole}
-use Rattle.alt_writes.specs.Writes.{Write}
-use Rattle.alt_writes.specs.Bytes.{clear_byte, value_bytes, cells_bytes, change_bytes, changes_bytes, write_bytes, IsShortValue, AreShortCells, IsHeldChange, AreHeldChanges, IsHeldWrite}
-use Rattle.alt_writes.specs.Reading.{IsNoWrite, IsNone, NoNumber, NoFamily, NoField, NoFlag, NoValue, NoCells, NoChange, NoChanges}
+use Rattle.alt_writes.specs.Writes.{AreRising, Write, past}
+use Rattle.alt_writes.specs.Bytes.{clear_byte, value_bytes, cells_bytes, change_bytes, changes_bytes, write_bytes, writes_bytes, group_bytes, IsShortValue, AreShortCells, IsHeldChange, AreHeldChanges, IsHeldWrite, AllHeld, IsHeldGroup}
+use Rattle.alt_writes.specs.Reading.{IsNoGroup, IsNoWrite, IsNone, NoNumber, NoFamily, NoField, NoFlag, NoValue, NoCells, NoChange, NoChanges, NoWrite, NoWrites, write_of, writes_of}
+use Rattle.alt_writes.specs.declared.read.LoggedWrite.{LoggedWrite}
 use Rattle.alt_writes.specs.declared.read.Stop.{Stop}
 use Rattle.alt_writes.specs.declared.read.Stop.TheVariants.{Bad, NoMemory}
-use Rattle.alt_writes.proofs.OneWrite.{eight_apart, four_apart, field_apart, value_apart, clear_apart, change_pieces, change_apart}
+use Rattle.alt_writes.proofs.OneWrite.{eight_apart, four_apart, field_apart, value_apart, clear_apart, change_pieces, change_apart, write_apart, write_pieces, writes_apart}
 
 -- what is true of the bytes where one thing is bad is true where another is
 pub none_map : (P Q : Type 0) (s : Stop) → (P → Q) → IsNone P s → IsNone Q s
@@ -239,78 +240,181 @@ no_changes count done bytes rest few held is non cs y h n e =
     let next = next_change done cs rest y held h (omega (arith, n)) (sym is ∙ e) in
     non next.change next.more next.held next.is
 
--- as many changes as were read have nothing else behind them
-pub same_behind : (done cs : List RowChange) (rest y : List ℕ) → AreHeldChanges done
-    → AreHeldChanges cs → length done ≡ length cs
-    → changes_bytes done ++ rest ≡ changes_bytes cs ++ y → rest ≡ y
-same_behind [] [] rest y h k n e = e
-same_behind [] (b ∷ cs) rest y h k n e = absurd (omega arith)
-same_behind (a ∷ done) [] rest y h k n e = absurd (omega arith)
-same_behind (a ∷ done) (b ∷ cs) rest y h k n e =
-    let first = change_apart a b (changes_bytes done ++ rest) (changes_bytes cs ++ y) h.0 k.0
-    (sym (append_assoc (change_bytes a) (changes_bytes done) rest) ∙ e
-    ∙ append_assoc (change_bytes b) (changes_bytes cs) y) in
-    same_behind done cs rest y h.1 k.1 (omega arith) first.1
-
 -- ---- a write
 
 module _ (least : ℕ) (bytes : List ℕ) where
   -- where no number stands there is no write
-  pub no_write-number : NoNumber bytes → IsNoWrite least bytes
-  unfolding write_bytes
-  no_write-number non w h later e =
-      let low = h.number in non w.number _ (omega (arith, low)) e
+  pub no_write-number : NoNumber bytes → NoWrite least bytes
+  no_write-number non w y h later e =
+      let low = h.number in non w.number _ (omega (arith, low)) (e ∙ write_pieces w y)
 
   module _ (number : ℕ) (counted : List ℕ) (fits : number < 2 ^ 64)
       (is : bytes ≡ to_be_bytes w64 number ++ counted) where
-    behind_number : (w : Write) → IsHeldWrite w → bytes ≡ write_bytes w → (number ≡ w.number)
-        × (counted ≡ to_be_bytes w64 (length w.changes) ++ changes_bytes w.changes)
-    unfolding write_bytes
-    behind_number w h e = let low = h.number in
-        eight_apart number w.number counted _ fits (omega (arith, low)) (sym is ∙ e)
+    behind_number : (w : Write) (y : List ℕ) → IsHeldWrite w → bytes ≡ write_bytes w ++ y
+        → (number ≡ w.number)
+        × (counted ≡ to_be_bytes w64 (length w.changes) ++ (changes_bytes w.changes ++ y))
+    behind_number w y h e = let low = h.number in
+        eight_apart number w.number counted _ fits (omega (arith, low))
+        (sym is ∙ e ∙ write_pieces w y)
 
-    pub no_write-early : number < least → IsNoWrite least bytes
-    no_write-early early w h later e =
-        let same = (behind_number w h e).0 in omega (arith, same)
+    pub no_write-early : number < least → NoWrite least bytes
+    no_write-early early w y h later e =
+        let same = (behind_number w y h e).0 in omega (arith, same)
 
-    pub no_write-last : 2 ^ 62 - 1 ≤ number → IsNoWrite least bytes
-    no_write-last late w h later e =
-        let same = (behind_number w h e).0 in let low = h.number in omega (arith, same, low)
+    pub no_write-last : 2 ^ 62 - 1 ≤ number → NoWrite least bytes
+    no_write-last late w y h later e =
+        let same = (behind_number w y h e).0 in let low = h.number in omega (arith, same, low)
 
-    pub no_write-count : NoNumber counted → IsNoWrite least bytes
-    no_write-count non w h later e = non (length w.changes) _ h.count (behind_number w h e).1
+    pub no_write-count : NoNumber counted → NoWrite least bytes
+    no_write-count non w y h later e = non (length w.changes) _ h.count (behind_number w y h e).1
 
     module _ (count : ℕ) (rest : List ℕ) (small : count < 2 ^ 64)
         (told : counted ≡ to_be_bytes w64 count ++ rest) where
-      behind_count : (w : Write) → IsHeldWrite w → bytes ≡ write_bytes w
-          → (count ≡ length w.changes) × (rest ≡ changes_bytes w.changes)
-      behind_count w h e = eight_apart count (length w.changes) rest _ small h.count
-          (sym told ∙ (behind_number w h e).1)
+      behind_count : (w : Write) (y : List ℕ) → IsHeldWrite w → bytes ≡ write_bytes w ++ y
+          → (count ≡ length w.changes) × (rest ≡ changes_bytes w.changes ++ y)
+      behind_count w y h e = eight_apart count (length w.changes) rest _ small h.count
+          (sym told ∙ (behind_number w y h e).1)
 
-      pub no_write-changes : NoChanges count rest → IsNoWrite least bytes
-      no_write-changes non w h later e = let parts = behind_count w h e in
-          non w.changes [] h.changes (sym parts.0)
-          (parts.1 ∙ sym (append-nil (changes_bytes w.changes)))
-
-      pub no_write-behind : (done : List RowChange) (behind : List ℕ) → length done ≡ count
-          → AreHeldChanges done → rest ≡ changes_bytes done ++ behind → 0 < length behind
-          → IsNoWrite least bytes
-      no_write-behind done behind n held read some w h later e =
-          let parts = behind_count w h e in
-          let none = same_behind done w.changes behind [] held h.changes (n ∙ parts.0)
-          (sym read ∙ parts.1 ∙ sym (append-nil (changes_bytes w.changes))) in
-          let zero : length behind ≡ 0 = ap length none in omega arith
+      pub no_write-changes : NoChanges count rest → NoWrite least bytes
+      no_write-changes non w y h later e = let parts = behind_count w y h e in
+          non w.changes y h.changes (sym parts.0) parts.1
 
       -- what was read is a write
       pub write_read : (done : List RowChange) (behind : List ℕ) → length done ≡ count
-          → rest ≡ changes_bytes done ++ behind → length behind ≡ 0
-          → bytes ≡ write_bytes (record { number = number; changes = done })
-      unfolding write_bytes
-      write_read done behind n read none =
+          → rest ≡ changes_bytes done ++ behind
+          → bytes ≡ write_bytes (record { number = number; changes = done }) ++ behind
+      write_read done behind n read =
           is ∙ ap (λ x. to_be_bytes w64 number ++ x) (told
-          ∙ (λ i. to_be_bytes w64 (sym n i) ++ (read ∙ ap (λ x. changes_bytes done ++ x)
-          (no_length behind none) ∙ append-nil (changes_bytes done)) i))
-        where
-          no_length : (xs : List ℕ) → length xs ≡ 0 → xs ≡ []
-          no_length [] e = refl
-          no_length (x ∷ xs) e = absurd (omega arith)
+          ∙ (λ i. to_be_bytes w64 (sym n i) ++ read i))
+          ∙ sym (write_pieces (record { number = number; changes = done }) behind)
+
+-- no bytes
+no_length : (xs : List ℕ) → length xs ≡ 0 → xs ≡ []
+no_length [] e = refl
+no_length (x ∷ xs) e = absurd (omega arith)
+
+-- ---- an entry that is one write
+
+-- no write at the front of an entry
+pub none_whole : (least : ℕ) (bytes : List ℕ) → NoWrite least bytes → IsNoWrite least bytes
+none_whole least bytes non w h later e =
+    non w [] h later (e ∙ sym (append-nil (write_bytes w)))
+
+-- bytes behind a write
+pub none_behind : (least : ℕ) (bytes : List ℕ) (v : Write) (behind : List ℕ) → IsHeldWrite v
+    → bytes ≡ write_bytes v ++ behind → 0 < length behind → IsNoWrite least bytes
+none_behind least bytes v behind k is some w h later e =
+    let none = (write_apart v w behind [] k h
+    (sym is ∙ e ∙ sym (append-nil (write_bytes w)))).1 in
+    let zero : length behind ≡ 0 = ap length none in omega (arith, zero)
+
+-- a write with nothing behind it
+pub whole : (front bytes behind : List ℕ) → bytes ≡ front ++ behind → length behind ≡ 0
+    → bytes ≡ front
+whole front bytes behind is none =
+    is ∙ ap (λ x. front ++ x) (no_length behind none) ∙ append-nil front
+
+-- ---- writes
+
+-- a write more
+pub writes_push : (ws : List Write) (w : Write) (bytes rest behind : List ℕ)
+    → bytes ≡ writes_bytes ws ++ rest → rest ≡ write_bytes w ++ behind
+    → bytes ≡ writes_bytes (ws ++ w ∷ []) ++ behind
+writes_push [] w bytes rest behind is next =
+    is ∙ next ∙ ap (λ x. x ++ behind) (sym (append-nil (write_bytes w)))
+writes_push (v ∷ ws) w bytes rest behind is next =
+    is ∙ append_assoc (write_bytes v) (writes_bytes ws) rest
+    ∙ ap (λ x. write_bytes v ++ x)
+    (writes_push ws w (writes_bytes ws ++ rest) rest behind refl next)
+    ∙ sym (append_assoc (write_bytes v) (writes_bytes (ws ++ w ∷ [])) behind)
+
+-- those that were read, with one more
+pub reads_push : (reads : List LoggedWrite) (read : LoggedWrite)
+    → writes_of (reads ++ read ∷ []) ≡ writes_of reads ++ write_of read ∷ []
+reads_push [] read = refl
+reads_push (r ∷ reads) read = ap (λ ws. write_of r ∷ ws) (reads_push reads read)
+
+-- as many
+pub length-reads : (reads : List LoggedWrite) → length (writes_of reads) ≡ length reads
+length-reads [] = refl
+length-reads (r ∷ reads) = ap (λ n. suc n) (length-reads reads)
+
+-- the write behind those that were read
+pub record NextWrite (least : ℕ) (rest : List ℕ) : Type 0 where
+  pub write : Write
+  pub more : List ℕ
+  pub held : IsHeldWrite write
+  pub later : least ≤ write.number
+  pub is : rest ≡ write_bytes write ++ more
+
+-- where there are more writes than were read
+pub next_write : (least : ℕ) (done ws : List Write) (rest y : List ℕ) → AllHeld done
+    → AllHeld ws → AreRising least ws → length done < length ws
+    → writes_bytes done ++ rest ≡ writes_bytes ws ++ y → NextWrite (past least done) rest
+next_write least [] [] rest y h k rising less e = absurd (omega arith)
+next_write least [] (b ∷ ws) rest y h k rising less e = record {
+  write = b;
+  more = writes_bytes ws ++ y;
+  held = k.0;
+  later = rising.0;
+  is = e ∙ append_assoc (write_bytes b) (writes_bytes ws) y;
+}
+next_write least (a ∷ done) [] rest y h k rising less e = absurd (omega arith)
+next_write least (a ∷ done) (b ∷ ws) rest y h k rising less e =
+    let first = write_apart a b (writes_bytes done ++ rest) (writes_bytes ws ++ y) h.0 k.0
+    (sym (append_assoc (write_bytes a) (writes_bytes done) rest) ∙ e
+    ∙ append_assoc (write_bytes b) (writes_bytes ws) y) in
+    next_write (a.number + 1) done ws rest y h.1 k.1
+    (subst (λ (w : Write). AreRising (w.number + 1) ws) (sym first.0) rising.1)
+    (omega (arith, less)) first.1
+
+-- no write behind those that were read
+pub no_writes : (least count : ℕ) (done : List Write) (bytes rest : List ℕ) → length done < count
+    → AllHeld done → bytes ≡ writes_bytes done ++ rest → NoWrite (past least done) rest
+    → NoWrites least count bytes
+no_writes least count done bytes rest few held is non ws y h rising n e =
+    let next = next_write least done ws rest y held h rising (omega (arith, n, few))
+    (sym is ∙ e) in
+    non next.write next.more next.held next.later next.is
+
+-- ---- an entry that is a group
+
+module _ (least : ℕ) (bytes : List ℕ) where
+  -- where no number stands there is no group
+  pub no_group-count : NoNumber bytes → IsNoGroup least bytes
+  unfolding group_bytes
+  no_group-count non ws h rising e = non (length ws) (writes_bytes ws) h.count e
+
+  module _ (count : ℕ) (rest : List ℕ) (small : count < 2 ^ 64)
+      (is : bytes ≡ to_be_bytes w64 count ++ rest) where
+    behind_groups : (ws : List Write) → IsHeldGroup ws → bytes ≡ group_bytes ws
+        → (count ≡ length ws) × (rest ≡ writes_bytes ws)
+    unfolding group_bytes
+    behind_groups ws h e = eight_apart count (length ws) rest (writes_bytes ws) small h.count
+        (sym is ∙ e)
+
+    pub no_group-empty : count ≡ 0 → IsNoGroup least bytes
+    no_group-empty zero ws h rising e =
+        let same = (behind_groups ws h e).0 in let some = h.some in omega (arith, same, some, zero)
+
+    pub no_group-writes : NoWrites least count rest → IsNoGroup least bytes
+    no_group-writes non ws h rising e = let parts = behind_groups ws h e in
+        non ws [] h.writes rising (sym parts.0)
+        (parts.1 ∙ sym (append-nil (writes_bytes ws)))
+
+    pub no_group-behind : (done : List Write) (behind : List ℕ) → length done ≡ count
+        → AllHeld done → rest ≡ writes_bytes done ++ behind → 0 < length behind
+        → IsNoGroup least bytes
+    no_group-behind done behind n held read some ws h rising e =
+        let parts = behind_groups ws h e in
+        let none = (writes_apart done ws behind [] held h.writes (n ∙ parts.0)
+        (sym read ∙ parts.1 ∙ sym (append-nil (writes_bytes ws)))).1 in
+        let zero : length behind ≡ 0 = ap length none in omega (arith, zero, some)
+
+    -- what was read is a group
+    pub group_read : (done : List Write) (behind : List ℕ) → length done ≡ count
+        → rest ≡ writes_bytes done ++ behind → length behind ≡ 0 → bytes ≡ group_bytes done
+    unfolding group_bytes
+    group_read done behind n read none =
+        is ∙ (λ i. to_be_bytes w64 (sym n i)
+        ++ whole (writes_bytes done) rest behind read none i)

@@ -1,4 +1,4 @@
--- The bytes of a write (docs/formats/log-entries.md).
+-- The bytes of a write, and of a group of writes (docs/formats/log-entries.md).
 use Rattle.std.specs.Prelude.{◌<◌, ◌-◌, ◌^◌, ℕ, List, [], ◌∷◌, ◌++◌, Bool, true, false, length}
 use Rattle.std.specs.Prelude.{Option, Some, None}
 use Rattle.std.specs.Int.{w32, w64, to_be_bytes}
@@ -39,6 +39,15 @@ unfoldable pub write_bytes : Write → List ℕ
 write_bytes w =
     to_be_bytes w64 w.number ++ (to_be_bytes w64 (length w.changes) ++ changes_bytes w.changes)
 
+-- writes, one behind another
+abbrev pub writes_bytes : List Write → List ℕ
+writes_bytes [] = []
+writes_bytes (w ∷ ws) = write_bytes w ++ writes_bytes ws
+
+-- a group of writes: how many there are, and each of them
+unfoldable pub group_bytes : List Write → List ℕ
+group_bytes ws = to_be_bytes w64 (length ws) ++ writes_bytes ws
+
 -- ---- what the bytes can tell
 
 -- a value that is given is short enough for its length
@@ -73,3 +82,9 @@ pub record IsHeldWrite (w : Write) : Type 0 where
 abbrev pub AllHeld : List Write → Type 0
 AllHeld [] = Unit {0}
 AllHeld (w ∷ ws) = IsHeldWrite w × AllHeld ws
+
+-- a group has a write, and its bytes can tell how many it has and each of them
+pub record IsHeldGroup (ws : List Write) : Type 0 where
+  pub some : 0 < length ws
+  pub count : IsShort ws
+  pub writes : AllHeld ws

@@ -1,17 +1,18 @@
-//! The bytes of a write.
+//! The bytes of a write, and of a group of writes.
 
-ghost use Rattle.std.specs.Prelude.{◌≡◌, ◌<◌, ◌-◌, ◌^◌, ◌++◌, ◌∷◌, [], IfOk, OnOk, length, ℕ, List};
+ghost use Rattle.std.specs.Prelude.{◌≡◌, ◌<◌, ◌≤◌, ◌+◌, ◌-◌, ◌^◌, ◌++◌, ◌∷◌, [], IfOk, OnOk, length, ℕ, List};
 ghost use Rattle.std.specs.Int.{w32, w64, to_be_bytes};
 ghost use Rattle.alt_fields.specs.Bytes.{IsShort};
 ghost use Rattle.alt_fields.specs.Field.{field};
-ghost use Rattle.alt_writes.specs.Bytes.{clear_byte, value_bytes, cells_bytes, change_bytes, changes_bytes, write_bytes, IsShortValue, AreShortCells, IsHeldChange, AreHeldChanges, IsHeldWrite};
+ghost use Rattle.alt_writes.specs.Bytes.{clear_byte, value_bytes, cells_bytes, change_bytes, changes_bytes, write_bytes, writes_bytes, group_bytes, IsShortValue, AreShortCells, IsHeldChange, AreHeldChanges, IsHeldWrite, AllHeld, IsHeldGroup};
+ghost use Rattle.alt_writes.specs.Writes.{numbered};
 
 use alt_base::NoMemory;
-use alt_cells::RowChange;
+use alt_cells::{Batch, RowChange};
 use alt_fields::{Bytes, put_bytes, put_u32, put_u64};
 use std::alloc::Global;
 
-/// Most writes take no more bytes than this, and so one block of memory.
+/// Most entries take no more bytes than this, and so one block of memory.
 const ROOM: usize = 1_000;
 
 /// The bytes of a write.
@@ -24,6 +25,35 @@ pub fn write_of(alloc: Global, number: u64, changes: &[RowChange]) -> Result<Vec
     let mut bytes = Vec::with_capacity(alloc, ROOM)?;
     put_write(&mut bytes, number, changes)?;
     Ok(bytes)
+}
+
+/// The bytes of batches as a group of writes, which are numbered in order from this number on.
+pub fn group_of(alloc: Global, number: u64, batches: &[Batch]) -> Result<Vec<u8>, NoMemory>
+    requires some { 0 < length batches.now }
+    requires numbers { number + length batches.now ≤ 2 ^ 62 - 1 }
+    ensures bytes { IfOk result (λ bytes. bytes.items
+        ≡ group_bytes (numbered number batches.now)) }
+    ensures held { OnOk result (IsHeldGroup (numbered number batches.now)) }
+{
+    let mut bytes = Vec::with_capacity(alloc, ROOM)?;
+    put_u64(&mut bytes, batches.len() as u64)?;
+    put_writes(&mut bytes, number, batches)?;
+    Ok(bytes)
+}
+
+/// Appends the bytes of batches as writes, which are numbered in order from this number on.
+fn put_writes(out: &mut Vec<u8>, number: u64, batches: &[Batch]) -> Result<(), NoMemory>
+    requires { number + length batches.now ≤ 2 ^ 62 - 1 }
+    ensures appended { OnOk result (out.new.items
+        ≡ out.old.items ++ writes_bytes (numbered number batches.now)) }
+    ensures held { OnOk result (AllHeld (numbered number batches.now)) }
+{
+    let mut next = number;
+    for batch in batches {
+        put_write(out, next, batch.as_slice())?;
+        next += 1;
+    }
+    Ok(())
 }
 
 /// Appends the bytes of a write.

@@ -4,5 +4,5 @@
 mod format;
 mod read;
 
-pub use format::write_of;
-pub use read::{Stop, read_write};
+pub use format::{group_of, write_of};
+pub use read::{LoggedWrite, Stop, read_group, read_write};

@@ -1,12 +1,13 @@
-//! Reading a write back from the bytes of its entry, as docs/formats/log-entries.md lays them out.
+//! Reading writes back from the bytes of an entry, as docs/formats/log-entries.md lays them out.
 
 ghost use Rattle.std.specs.Prelude.{◌≡◌, ◌<◌, ◌≤◌, ◌^◌, ◌∷◌, ◌++◌, ℕ, List, Option, Bool, IfOk, IfErr, length};
 ghost use Rattle.std.specs.Int.{w32, w64, to_be_bytes};
 ghost use Rattle.alt_cells.specs.declared.batch.RowChange.{RowChange};
 ghost use Rattle.alt_fields.specs.Bytes.{IsShort};
 ghost use Rattle.alt_fields.specs.Field.{field};
-ghost use Rattle.alt_writes.specs.Bytes.{clear_byte, value_bytes, cells_bytes, change_bytes, changes_bytes, write_bytes, IsShortValue, AreShortCells, IsHeldChange, AreHeldChanges, IsHeldWrite};
-ghost use Rattle.alt_writes.specs.Reading.{IsNoWrite, IsNone, NoNumber, NoFamily, NoField, NoFlag, NoValue, NoCells, NoChange, NoChanges};
+ghost use Rattle.alt_writes.specs.Bytes.{clear_byte, value_bytes, cells_bytes, change_bytes, changes_bytes, write_bytes, writes_bytes, group_bytes, IsShortValue, AreShortCells, IsHeldChange, AreHeldChanges, IsHeldWrite, AllHeld, IsHeldGroup};
+ghost use Rattle.alt_writes.specs.Reading.{IsNoGroup, IsNoWrite, IsNone, NoNumber, NoFamily, NoField, NoFlag, NoValue, NoCells, NoChange, NoChanges, NoWrite, NoWrites, write_of, writes_of};
+ghost use Rattle.alt_writes.specs.Writes.{AreRising};
 
 use alt_base::NoMemory;
 use alt_cells::{CellList, RowChange};
@@ -16,7 +17,7 @@ use std::alloc::Global;
 /// The number that no write takes: 2^62 - 1.
 const LAST_NUMBER: u64 = 4_611_686_018_427_387_903;
 
-/// Why no write was read.
+/// Why nothing was read.
 #[derive(Clone, Copy, Debug, PartialEq, Eq, Drop)]
 pub enum Stop {
     /// The bytes are none of what was to be read.
@@ -36,14 +37,93 @@ impl From<NoMemory> for Stop {
     }
 }
 
-/// The write whose bytes the bytes are: its number, which isn't below the least, and its changes.
-pub fn read_write(alloc: Global, least: u64, bytes: &[u8]) -> Result<(u64, Vec<RowChange>), Stop>
-    ensures held { IfOk result
-        (λ p. IsHeldWrite (record { number = p.0; changes = p.1.items })) }
-    ensures least { IfOk result (λ p. least ≤ p.0) }
-    ensures bytes { IfOk result (λ p. bytes.now
-        ≡ write_bytes (record { number = p.0; changes = p.1.items })) }
+/// A write as it was read.
+#[derive(Drop)]
+pub struct LoggedWrite {
+    pub number: u64,
+    pub changes: Vec<RowChange>,
+}
+
+/// The write whose bytes the bytes are. Its number isn't below the least.
+pub fn read_write(alloc: Global, least: u64, bytes: &[u8]) -> Result<LoggedWrite, Stop>
+    ensures held { IfOk result (λ read. IsHeldWrite (write_of read)) }
+    ensures least { IfOk result (λ read. least ≤ read.number) }
+    ensures bytes { IfOk result (λ read. bytes.now ≡ write_bytes (write_of read)) }
     ensures none { IfErr result (IsNone (IsNoWrite least bytes.now)) }
+{
+    match take_write(alloc, least, bytes) {
+        Ok((alone, behind)) => {
+            if behind.is_empty() {
+                Ok(alone)
+            } else {
+                Err(Stop::Bad)
+            }
+        }
+        Err(stop) => Err(stop),
+    }
+}
+
+/// The group of writes whose bytes the bytes are. Their numbers rise, and the first isn't below the least.
+pub fn read_group(alloc: Global, least: u64, bytes: &[u8]) -> Result<Vec<LoggedWrite>, Stop>
+    ensures held { IfOk result (λ reads. IsHeldGroup (writes_of reads.items)) }
+    ensures rising { IfOk result (λ reads. AreRising least (writes_of reads.items)) }
+    ensures bytes { IfOk result (λ reads. bytes.now ≡ group_bytes (writes_of reads.items)) }
+    ensures none { IfErr result (IsNone (IsNoGroup least bytes.now)) }
+{
+    let (count, rest) = take_number(bytes)?;
+    if count == 0 {
+        return Err(Stop::Bad);
+    }
+    match take_writes(alloc, least, count, rest) {
+        Ok((reads, behind)) => {
+            if behind.is_empty() {
+                Ok(reads)
+            } else {
+                Err(Stop::Bad)
+            }
+        }
+        Err(stop) => Err(stop),
+    }
+}
+
+/// So many writes whose numbers rise from the least on, and what follows them.
+fn take_writes(
+    alloc: Global,
+    least: u64,
+    count: u64,
+    bytes: &[u8],
+) -> Result<(Vec<LoggedWrite>, &[u8]), Stop>
+    ensures held { IfOk result (λ p. (length (writes_of p.0.items) ≡ count)
+        × AllHeld (writes_of p.0.items)) }
+    ensures rising { IfOk result (λ p. AreRising least (writes_of p.0.items)) }
+    ensures bytes { IfOk result (λ p. bytes.now ≡ writes_bytes (writes_of p.0.items) ++ p.1.now) }
+    ensures none { IfErr result (IsNone (NoWrites least count bytes.now)) }
+{
+    let mut reads = Vec::new(alloc);
+    let mut rest = bytes;
+    let mut next = least;
+    for _done in 0..count {
+        match take_write(alloc, next, rest) {
+            Ok((read, behind)) => {
+                next = read.number + 1;
+                match reads.push(read) {
+                    Ok(()) => {}
+                    Err(_) => return Err(Stop::NoMemory),
+                }
+                rest = behind;
+            }
+            Err(stop) => return Err(stop),
+        }
+    }
+    Ok((reads, rest))
+}
+
+/// A write whose number isn't below the least, and what follows it.
+fn take_write(alloc: Global, least: u64, bytes: &[u8]) -> Result<(LoggedWrite, &[u8]), Stop>
+    ensures held { IfOk result (λ p. IsHeldWrite (write_of p.0)) }
+    ensures least { IfOk result (λ p. least ≤ p.0.number) }
+    ensures bytes { IfOk result (λ p. bytes.now ≡ write_bytes (write_of p.0) ++ p.1.now) }
+    ensures none { IfErr result (IsNone (NoWrite least bytes.now)) }
 {
     let (number, counted) = take_number(bytes)?;
     if number < least {
@@ -54,13 +134,7 @@ pub fn read_write(alloc: Global, least: u64, bytes: &[u8]) -> Result<(u64, Vec<R
     }
     let (count, rest) = take_number(counted)?;
     match take_changes(alloc, count, rest) {
-        Ok((changes, behind)) => {
-            if behind.is_empty() {
-                Ok((number, changes))
-            } else {
-                Err(Stop::Bad)
-            }
-        }
+        Ok((changes, behind)) => Ok((LoggedWrite { number, changes }, behind)),
         Err(stop) => Err(stop),
     }
 }

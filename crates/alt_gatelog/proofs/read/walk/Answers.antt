@@ -3,7 +3,6 @@ use Rattle.std.specs.List.{All}
 use Rattle.alt_disk.specs.Disk.{DiskState, contents, bytes_or_none}
 use Rattle.alt_disk.proofs.Calls.{goes_on}
 use Rattle.alt_disk.proofs.Runs.{quiet_then}
-use Rattle.alt_gatelog.specs.Log.{first_form}
 use Rattle.alt_gatelog.specs.Parse.{GateIs, HasRoom, HasEntry, IsCutAt}
 use Rattle.alt_gatelog.specs.declared.frame.Gate.TheVariants.{Open}
 use Rattle.alt_gatelog.proofs.Append.{below_push}
@@ -22,7 +21,7 @@ returns-in-Err-clause-damaged g c told =
     let same : contents b f ≡ contents a f = ap bytes_or_none ((inv.quiet told).file f) in
     let cut = subst (λ (bytes : List ℕ). IsCutAt f c.gates.at bytes c.in-Err.fault) same
     (c.in-Err.ensures.damaged told_b (c.requires.size told ∙ ap length (sym same))) in
-    cut_explains first_form f c.gates.at (contents a f) c.gates.places.items c.in-Err.fault
+    cut_explains c.args.form f c.gates.at (contents a f) c.gates.places.items c.in-Err.fault
     (inv.read told) cut
 
 pub gates-preserved : goal.gates-preserved
@@ -51,8 +50,8 @@ gates-preserved g c =
           (gate.gate (told_b told) (c.requires.size told ∙ ap length (sym (same told)))) in
           let has : HasEntry (contents a f) c.gates.at n =
           subst (λ (bytes : List ℕ). HasEntry bytes c.gates.at n) (same told) here in
-          subst (ReadSoFar first_form (contents a f) (c.gates.at + (9 + n)))
+          subst (ReadSoFar c.args.form (contents a f) (c.gates.at + (9 + n)))
           (sym c.in_ok-push-in-Ok-Open.ensures.items)
-          (read_more first_form (contents a f) c.gates.at n c.gates.places.items
+          (read_more c.args.form (contents a f) c.gates.at n c.gates.places.items
           (omega (arith, room, c.requires.bound.1)) (inv.read told) has);
     }

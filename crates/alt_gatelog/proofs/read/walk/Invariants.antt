@@ -2,7 +2,6 @@ use Rattle.std.proofs.Common.{◌≡◌, ◌≤◌, ◌<◌, ◌^◌, ◌-◌, I
 use Rattle.std.specs.List.{All}
 use Rattle.alt_disk.specs.Disk.{Goes, contents}
 use Rattle.alt_disk.specs.Runs.{Quiet}
-use Rattle.alt_gatelog.specs.Log.{first_form}
 use Rattle.alt_gatelog.proofs.Entries.{ReadSoFar}
 use Rattle.alt_gatelog.proofs.read.walk.Given as goal
 
@@ -16,7 +15,7 @@ invariant-gates g l =
       well : (state l.disk).faults ≡ (state l.fn.disk).faults;
       goes : Goes (state l.fn.disk) (state l.disk);
       quiet : IsTrue (state l.fn.disk).tells → Quiet (state l.fn.disk) (state l.disk);
-      read : IsTrue (state l.fn.disk).tells → ReadSoFar first_form
+      read : IsTrue (state l.fn.disk).tells → ReadSoFar l.fn.form
           (contents (state l.fn.disk) l.f) l.at l.places.items;
     }
 

@@ -1,66 +1,24 @@
--- The number, the count and the changes, and nothing behind them.
+-- A write, and nothing behind it.
 use Rattle.std.proofs.Common.{◌<◌, length, sym, ◌∙◌, arith, eqb-true}
 use Rattle.std.proofs.lemmas.Bool.Decides.{nat_tests}
-use Rattle.std.proofs.lemmas.Result.{err_from_is_err_and}
-use Rattle.alt_writes.specs.Reading.{IsNoWrite}
-use Rattle.alt_writes.proofs.ReadLaws.{none_map, no_write-number, no_write-early, no_write-last, no_write-count, no_write-changes, no_write-behind, write_read}
+use Rattle.alt_writes.specs.Bytes.{write_bytes}
+use Rattle.alt_writes.specs.Reading.{IsNoWrite, write_of}
+use Rattle.alt_writes.proofs.ReadLaws.{none_map, none_whole, none_behind, whole}
 use Rattle.alt_writes.proofs.read.read_write.Goals as goal
-
-pub returns-in_err-number-clause-none : goal.returns-in_err-number-clause-none
-returns-in_err-number-clause-none c =
-    let p = err_from_is_err_and c.from_residual.result
-    c.from_residual.ensures.1 in
-    rw (p.1, p.2) (none_map _ (IsNoWrite c.args.least c.args.bytes.now) c.in_err-number.field-0.0
-    (no_write-number c.args.least c.args.bytes.now) c.in_err-number.ensures.none)
-
-pub returns-then-number-least-clause-none : goal.returns-then-number-least-clause-none
-returns-then-number-least-clause-none c =
-    let number = c.in_ok-number.ensures.number in
-    no_write-early c.args.least c.args.bytes.now c.in_ok-number.number c.in_ok-number.counted.now
-    number.0 number.1 c.if-number-least.true
-
-pub returns-then-number-ge-LAST_NUMBER-clause-none :
-    goal.returns-then-number-ge-LAST_NUMBER-clause-none
-returns-then-number-ge-LAST_NUMBER-clause-none c =
-    let number = c.in_ok-number.ensures.number in
-    no_write-last c.args.least c.args.bytes.now c.in_ok-number.number c.in_ok-number.counted.now
-    number.0 number.1 (omega arith)
-
-pub returns-in_err-count-clause-none : goal.returns-in_err-count-clause-none
-returns-in_err-count-clause-none c =
-    let p = err_from_is_err_and c.from_residual-in_err-count.result
-    c.from_residual-in_err-count.ensures.1 in
-    let number = c.in_ok-number.ensures.number in
-    rw (p.1, p.2) (none_map _ (IsNoWrite c.args.least c.args.bytes.now) c.in_err-count.field-0.0
-    (no_write-count c.args.least c.args.bytes.now c.in_ok-number.number c.in_ok-number.counted.now
-    number.0 number.1) c.in_err-count.ensures.none)
 
 pub returns-in-Err-clause-none : goal.returns-in-Err-clause-none
 returns-in-Err-clause-none c =
-    let number = c.in_ok-number.ensures.number in
-    let count = c.in_ok-count.ensures.number in
     none_map _ (IsNoWrite c.args.least c.args.bytes.now) c.in-Err.stop
-    (no_write-changes c.args.least c.args.bytes.now c.in_ok-number.number
-    c.in_ok-number.counted.now number.0 number.1 c.in_ok-count.count c.in_ok-count.rest.now
-    count.0 count.1) c.in-Err.ensures.none
+    (none_whole c.args.least c.args.bytes.now) c.in-Err.ensures.none
 
 pub returns-else-is_empty-clause-none : goal.returns-else-is_empty-clause-none
 returns-else-is_empty-clause-none c =
-    let number = c.in_ok-number.ensures.number in
-    let count = c.in_ok-count.ensures.number in
-    let changes = c.in-Ok.ensures.changes in
     let some : 0 < length c.in-Ok.behind.now =
     grind (arith, nat_tests, c.is_empty.ensures, c.if-is_empty.false) in
-    no_write-behind c.args.least c.args.bytes.now c.in_ok-number.number c.in_ok-number.counted.now
-    number.0 number.1 c.in_ok-count.count c.in_ok-count.rest.now count.0 count.1
-    c.in-Ok.changes.items c.in-Ok.behind.now changes.0 changes.1 changes.2 some
+    none_behind c.args.least c.args.bytes.now (write_of c.in-Ok.alone) c.in-Ok.behind.now
+    c.in-Ok.ensures.held c.in-Ok.ensures.bytes some
 
 pub returns-then-is_empty-clause-bytes : goal.returns-then-is_empty-clause-bytes
 returns-then-is_empty-clause-bytes c =
-    let number = c.in_ok-number.ensures.number in
-    let count = c.in_ok-count.ensures.number in
-    let changes = c.in-Ok.ensures.changes in
-    write_read c.args.least c.args.bytes.now c.in_ok-number.number c.in_ok-number.counted.now
-    number.0 number.1 c.in_ok-count.count c.in_ok-count.rest.now count.0 count.1
-    c.in-Ok.changes.items c.in-Ok.behind.now changes.0 changes.2
-    (eqb-true _ 0 (sym c.is_empty.ensures ∙ c.if-is_empty.true))
+    whole (write_bytes (write_of c.in-Ok.alone)) c.args.bytes.now c.in-Ok.behind.now
+    c.in-Ok.ensures.bytes (eqb-true _ 0 (sym c.is_empty.ensures ∙ c.if-is_empty.true))

@@ -1,129 +1,68 @@
-use Rattle.std.proofs.Common.{◌≡◌, ◌<◌, ◌+◌, ◌^◌, ℕ, List, [], ◌∷◌, ◌++◌, length, Some, sym, ◌∙◌, ap, subst, arith}
-use Rattle.std.specs.List.{All}
-use Rattle.alt_disk.specs.Fates.{synced}
-use Rattle.alt_disk.specs.Disk.{DiskState, IsTrusted, contents, overwritten}
+-- The frame and the memory, and then the calls of the disk.
+use Rattle.std.proofs.Common.{◌≡◌, ℕ, List, Some, ap, subst, sym, ◌∙◌}
+use Rattle.alt_disk.specs.Disk.{DiskState}
 use Rattle.alt_disk.specs.Runs.{Run}
-use Rattle.alt_disk.proofs.Runs.{trusted_on}
-use Rattle.alt_gatelog.specs.Log.{first_form, framed}
-use Rattle.alt_gatelog.specs.InHand.{AroundWrite, Lasts}
-use Rattle.alt_gatelog.proofs.Append.{first_run, second_run, staged_is, opened_is, after_is, stands_after, below_push}
+use Rattle.alt_gatelog.specs.InHand.{IsFramed, SameLog}
+use Rattle.alt_gatelog.specs.Log.{BeforeOrAfter, log_after}
+use Rattle.alt_gatelog.specs.declared.form.Form.{Form}
+use Rattle.alt_gatelog.specs.declared.gatelog.GateLog.{GateLog}
+use Rattle.alt_gatelog.proofs.Elsewhere.{reads_same, rest-same, stands_same_log}
 use Rattle.alt_gatelog.proofs.gatelog.GateLog.append.Goals as goal
 
-pub returns-in_err-write_and_sync-clause-any_moment :
-    goal.returns-in_err-write_and_sync-clause-any_moment
-returns-in_err-write_and_sync-clause-any_moment g c trusted entries stands =
-    let log = c.args.self.now in
-    let entry = c.args.bytes.now in
-    let s0 : DiskState = g.D.Disk.state c.args.disk.now in
-    let s1 : DiskState = g.D.Disk.state c.write_and_sync.new.disk in
-    let block : c.as_slice.result.now ≡ framed entry ++ 0 ∷ [] =
-    c.as_slice.ensures.value ∙ c.in_ok-block.ensures.block in
-    first_run first_form s0 log.file log.gate log.places.items entries entry
-    c.in_ok-block.ensures.fits stands.reads stands.settled s1
-    (subst (λ (b : List ℕ). Run s0 s1 log.file (AroundWrite s0 log.file (log.gate + 1) (length b)))
-    block (c.write_and_sync.ensures.any_moment trusted))
+-- the slice of a frame is one
+framed_by : (block out entry : List ℕ) → out ≡ block → IsFramed block entry → IsFramed out entry
+framed_by block out entry same framed = subst (λ (b : List ℕ). IsFramed b entry) (sym same) framed
 
-pub returns-in_err-write_and_sync-2-clause-any_moment :
-    goal.returns-in_err-write_and_sync-2-clause-any_moment
-returns-in_err-write_and_sync-2-clause-any_moment g c trusted entries stands =
-    let log = c.args.self.now in
-    let entry = c.args.bytes.now in
-    let s0 : DiskState = g.D.Disk.state c.args.disk.now in
-    let s1 : DiskState = g.D.Disk.state c.write_and_sync.new.disk in
-    let s2 : DiskState = g.D.Disk.state c.write_and_sync-2.new.disk in
-    let trusted_1 : IsTrusted s1 = trusted_on s0 s1 c.write_and_sync.ensures.goes trusted in
-    let block : c.as_slice.result.now ≡ framed entry ++ 0 ∷ [] =
-    c.as_slice.ensures.value ∙ c.in_ok-block.ensures.block in
-    let short = c.in_ok-block.ensures.fits in
-    let first : Run s0 s1 log.file (AroundWrite s0 log.file (log.gate + 1)
-    (length (framed entry ++ 0 ∷ []))) =
-    subst (λ (b : List ℕ). Run s0 s1 log.file (AroundWrite s0 log.file (log.gate + 1) (length b)))
-    block (c.write_and_sync.ensures.any_moment trusted) in
-    let written = ap (λ (b : List ℕ). overwritten (contents s0 log.file) (log.gate + 1) b) block
-    ∙ staged_is first_form s0 log.file log.gate log.places.items entries entry short
-    stands.reads in
-    let kept = (c.in_ok-write_and_sync.ensures.ok trusted).kept ∙ ap synced written in
-    second_run first_form s0 log.file log.gate log.places.items entries entry short stands.reads
-    stands.settled s1 s2 first kept (c.write_and_sync-2.ensures.any_moment trusted_1)
+-- the moments of an append to the same log
+run_same : (a b : DiskState) (old new : GateLog) (entries : List (List ℕ)) (entry : List ℕ)
+    → SameLog old new → Run a b new.file (BeforeOrAfter new.form entries entry)
+    → Run a b old.file (BeforeOrAfter old.form entries entry)
+run_same a b old new entries entry same run =
+    subst (λ (f : ℕ). Run a b f (BeforeOrAfter old.form entries entry)) same.file
+    (subst (λ (form : Form). Run a b new.file (BeforeOrAfter form entries entry)) same.form run)
+
+pub add-requires-clause-reads : goal.add-requires-clause-reads
+add-requires-clause-reads g c trusted =
+    let given = c.requires trusted in (
+      given.0,
+      reads_same (g.D.Disk.state c.args.disk.now) c.args.self.now c.reserve.new.self given.0
+          c.reserve.ensures.same given.1,
+    )
+
+pub returns-in_err-add-clause-any_moment : goal.returns-in_err-add-clause-any_moment
+returns-in_err-add-clause-any_moment g c trusted entries stands =
+    let a : DiskState = g.D.Disk.state c.args.disk.now in
+    run_same a (g.D.Disk.state c.add.new.disk) c.args.self.now c.reserve.new.self entries
+    c.args.bytes.now c.reserve.ensures.same (c.add.ensures.any_moment trusted entries c.args.bytes.now
+    (framed_by c.in_ok-block.block.items c.as_slice.result.now c.args.bytes.now
+    c.as_slice.ensures.value c.in_ok-block.ensures)
+    (stands_same_log a c.args.self.now c.reserve.new.self entries c.reserve.ensures.same stands))
 
 pub returns-clause-any_moment : goal.returns-clause-any_moment
 returns-clause-any_moment g c trusted entries stands =
-    let log = c.args.self.now in
-    let entry = c.args.bytes.now in
-    let s0 : DiskState = g.D.Disk.state c.args.disk.now in
-    let s1 : DiskState = g.D.Disk.state c.write_and_sync.new.disk in
-    let s2 : DiskState = g.D.Disk.state c.write_and_sync-2.new.disk in
-    let trusted_1 : IsTrusted s1 = trusted_on s0 s1 c.write_and_sync.ensures.goes trusted in
-    let block : c.as_slice.result.now ≡ framed entry ++ 0 ∷ [] =
-    c.as_slice.ensures.value ∙ c.in_ok-block.ensures.block in
-    let short = c.in_ok-block.ensures.fits in
-    let first : Run s0 s1 log.file (AroundWrite s0 log.file (log.gate + 1)
-    (length (framed entry ++ 0 ∷ []))) =
-    subst (λ (b : List ℕ). Run s0 s1 log.file (AroundWrite s0 log.file (log.gate + 1) (length b)))
-    block (c.write_and_sync.ensures.any_moment trusted) in
-    let written = ap (λ (b : List ℕ). overwritten (contents s0 log.file) (log.gate + 1) b) block
-    ∙ staged_is first_form s0 log.file log.gate log.places.items entries entry short
-    stands.reads in
-    let kept = (c.in_ok-write_and_sync.ensures.ok trusted).kept ∙ ap synced written in
-    second_run first_form s0 log.file log.gate log.places.items entries entry short stands.reads
-    stands.settled s1 s2 first kept (c.write_and_sync-2.ensures.any_moment trusted_1)
+    let a : DiskState = g.D.Disk.state c.args.disk.now in
+    run_same a (g.D.Disk.state c.add.new.disk) c.args.self.now c.reserve.new.self entries
+    c.args.bytes.now c.reserve.ensures.same (c.add.ensures.any_moment trusted entries c.args.bytes.now
+    (framed_by c.in_ok-block.block.items c.as_slice.result.now c.args.bytes.now
+    c.as_slice.ensures.value c.in_ok-block.ensures)
+    (stands_same_log a c.args.self.now c.reserve.new.self entries c.reserve.ensures.same stands))
 
 pub returns-clause-ok : goal.returns-clause-ok
 returns-clause-ok g c trusted entries reads =
-    let log = c.args.self.now in
-    let entry = c.args.bytes.now in
-    let s0 : DiskState = g.D.Disk.state c.args.disk.now in
-    let s1 : DiskState = g.D.Disk.state c.write_and_sync.new.disk in
-    let s2 : DiskState = g.D.Disk.state c.write_and_sync-2.new.disk in
-    let trusted_1 : IsTrusted s1 = trusted_on s0 s1 c.write_and_sync.ensures.goes trusted in
-    let block : c.as_slice.result.now ≡ framed entry ++ 0 ∷ [] =
-    c.as_slice.ensures.value ∙ c.in_ok-block.ensures.block in
-    let short = c.in_ok-block.ensures.fits in
-    let first = c.in_ok-write_and_sync.ensures.ok trusted in
-    let written = ap (λ (b : List ℕ). overwritten (contents s0 log.file) (log.gate + 1) b) block
-    ∙ staged_is first_form s0 log.file log.gate log.places.items entries entry short reads in
-    let lasts = subst (Lasts s2 log.file) (opened_is first_form s0 log.file log.gate
-    log.places.items entries entry short reads s1
-    (first.file ∙ ap (λ (l : List ℕ). Some l) written))
-    (c.in_ok-write_and_sync-2.ensures.ok trusted_1) in
-    stands_after first_form s0 log.file log.gate log.places.items entries entry short reads s2
-    (log.gate + c.len.result) c.push_reserved.new.self.items lasts
-    (omega (arith, c.len.ensures, c.in_ok-block.ensures.short))
-    (c.push_reserved.ensures.items ∙ ap (λ (l : List ℕ). l ++ log.gate ∷ [])
-    c.reserve.ensures.items)
+    c.in_ok-add.ensures.ok trusted entries c.args.bytes.now
+    (framed_by c.in_ok-block.block.items c.as_slice.result.now c.args.bytes.now
+    c.as_slice.ensures.value c.in_ok-block.ensures)
+    (reads_same (g.D.Disk.state c.args.disk.now) c.args.self.now c.reserve.new.self entries
+    c.reserve.ensures.same reads)
 
 pub returns-clause-bytes : goal.returns-clause-bytes
 returns-clause-bytes g c trusted entries reads =
-    let log = c.args.self.now in
-    let entry = c.args.bytes.now in
-    let s0 : DiskState = g.D.Disk.state c.args.disk.now in
-    let s1 : DiskState = g.D.Disk.state c.write_and_sync.new.disk in
-    let trusted_1 : IsTrusted s1 = trusted_on s0 s1 c.write_and_sync.ensures.goes trusted in
-    let block : c.as_slice.result.now ≡ framed entry ++ 0 ∷ [] =
-    c.as_slice.ensures.value ∙ c.in_ok-block.ensures.block in
-    let short = c.in_ok-block.ensures.fits in
-    let first = c.in_ok-write_and_sync.ensures.ok trusted in
-    let written = ap (λ (b : List ℕ). overwritten (contents s0 log.file) (log.gate + 1) b) block
-    ∙ staged_is first_form s0 log.file log.gate log.places.items entries entry short reads in
-    let opened = opened_is first_form s0 log.file log.gate log.places.items entries entry short
-    reads s1
-    (first.file ∙ ap (λ (l : List ℕ). Some l) written) in
-    (c.in_ok-write_and_sync-2.ensures.ok trusted_1).file
-    ∙ ap (λ (l : List ℕ). Some l)
-    (opened ∙ after_is first_form s0 log.file log.gate log.places.items entries entry short reads)
-
-pub invariant_of-self-2 : goal.invariant_of-self-2
-invariant_of-self-2 g c =
-    let log = c.args.self.now in
-    record {
-      small = omega (
-        arith,
-        c.in_ok-write_and_sync.ensures.fits,
-        c.as_slice.ensures.len,
-        c.len.ensures,
-      );
-      within = subst (All (λ at. at < 2 ^ 62))
-          (sym (c.push_reserved.ensures.items
-          ∙ ap (λ (l : List ℕ). l ++ log.gate ∷ []) c.reserve.ensures.items))
-          (below_push log.places.items log.gate log.within log.small);
-    }
+    let same = c.reserve.ensures.same in
+    ap (g.D.Disk.state c.add.new.disk).file (sym same.file)
+    ∙ c.in_ok-add.ensures.bytes trusted entries c.args.bytes.now
+    (framed_by c.in_ok-block.block.items c.as_slice.result.now c.args.bytes.now
+    c.as_slice.ensures.value c.in_ok-block.ensures)
+    (reads_same (g.D.Disk.state c.args.disk.now) c.args.self.now c.reserve.new.self entries same reads)
+    ∙ (λ i. Some (log_after (same.form i) entries c.args.bytes.now
+    (rest-same (g.D.Disk.state c.args.disk.now) c.args.self.now c.reserve.new.self entries same
+    reads i)))

@@ -3,7 +3,6 @@ use Rattle.std.proofs.lemmas.Grind.{get_or_default_zero}
 use Rattle.std.proofs.lemmas.List.{length-take, take_all, take_at}
 use Rattle.std.proofs.Math.ListN.{replicate}
 use Rattle.alt_disk.specs.Disk.{DiskState, contents}
-use Rattle.alt_gatelog.specs.Log.{first_form}
 use Rattle.alt_gatelog.proofs.Places.{EntryAt, place_is, next_is, entry_is, count_all, read_entry, read_behind}
 use Rattle.alt_gatelog.proofs.gatelog.GateLog.entry.Goals as goal
 
@@ -32,9 +31,9 @@ returns-then-count-length-clause-ok g c told entries reads =
     sym (c.index-at.ensures ∙ get_or_default_zero log.places.items i at less) in
     let here : EntryAt (contents s log.file) at entry =
     subst (λ (p : ℕ). EntryAt (contents s log.file) p entry) place
-    (entry_is first_form s log.file log.gate log.places.items entries reads i less) in
+    (entry_is log.form s log.file log.gate log.places.items entries reads i less) in
     let next : c.next_gate-next.result ≡ at + (9 + length entry) =
-    c.next_gate-next.ensures.next ∙ next_is first_form s log.file log.gate log.places.items
+    c.next_gate-next.ensures.next ∙ next_is log.form s log.file log.gate log.places.items
     entries reads i less ∙ ap (λ (p : ℕ). p + (9 + length entry)) place in
     let long : length whole ≡ start + n = omega
     (arith, c.deref_mut.ensures.len, c.in_ok-resize.ensures.len) in
@@ -82,9 +81,9 @@ returns-else-count-length-clause-undamaged g c told entries reads =
     sym (c.index-at.ensures ∙ get_or_default_zero log.places.items i at less) in
     let here : EntryAt (contents s log.file) at entry =
     subst (λ (p : ℕ). EntryAt (contents s log.file) p entry) place
-    (entry_is first_form s log.file log.gate log.places.items entries reads i less) in
+    (entry_is log.form s log.file log.gate log.places.items entries reads i less) in
     let next : c.next_gate-next.result ≡ at + (9 + length entry) =
-    c.next_gate-next.ensures.next ∙ next_is first_form s log.file log.gate log.places.items
+    c.next_gate-next.ensures.next ∙ next_is log.form s log.file log.gate log.places.items
     entries reads i less ∙ ap (λ (p : ℕ). p + (9 + length entry)) place in
     let long : length whole ≡ start + n = omega
     (arith, c.deref_mut.ensures.len, c.in_ok-resize.ensures.len) in
@@ -111,6 +110,6 @@ returns-else-count-length-clause-damaged g c s entries reads =
     let place : get_or log.places.items i 0 ≡ at =
     sym (c.index-at.ensures ∙ get_or_default_zero log.places.items i at less) in (
       refl,
-      sym place ∙ place_is first_form s log.file log.gate log.places.items entries reads i
+      sym place ∙ place_is log.form s log.file log.gate log.places.items entries reads i
           less,
     )

@@ -1,5 +1,5 @@
 -- What a family shows after calls of an engine, beside what the batches alone give.
-use Rattle.std.proofs.Common.{◌≡◌, ◌+◌, ⊎_elim, ℕ, List, [], ◌∷◌, sym, ap, ◌∙◌, arith}
+use Rattle.std.proofs.Common.{◌≡◌, ◌+◌, ⊎_elim, ℕ, List, [], ◌∷◌, length, refl, sym, ap, subst, ◌∙◌}
 use Rattle.std.specs.Prelude.{None, option_and_then}
 use Rattle.std.specs.FinMap.{empty, get as row_of, get-empty}
 use Rattle.alt_cells.specs.Joined.{joined_map}
@@ -8,13 +8,14 @@ use Rattle.alt_cells.specs.Rows.{join_row}
 use Rattle.alt_cells.specs.Shown.{row_shown}
 use Rattle.alt_cells.specs.declared.batch.RowChange.{RowChange}
 use Rattle.alt_layout.specs.Layout.{Layout, IsPast, RowMap, shown}
-use Rattle.alt_layout.specs.Writes.{with_write}
-use Rattle.alt_layout.proofs.MergeLaws.{same_after}
+use Rattle.alt_layout.specs.Writes.{with_write, with_writes}
+use Rattle.alt_layout.proofs.MergeLaws.{same_after_all}
 use Rattle.alt_layout.proofs.PastLaws.{is_past_after}
-use Rattle.alt_layout.proofs.RowLaws.{none_behind}
-use Rattle.alt_writes.specs.Writes.{Write}
-use Rattle.alt_hand.specs.InHand.{batch_write}
-use Rattle.alt_engine.specs.Histories.{Call, HasNone, IsNamed, IsNamedSince, Lead, applied, opened, with_batches, worked}
+use Rattle.alt_layout.proofs.RowLaws.{next_number-numbered, none_behind}
+use Rattle.alt_writes.specs.Writes.{AreRising, Write, numbered}
+use Rattle.alt_writes.proofs.PushLaws.{rising-numbered}
+use Rattle.alt_hand.specs.InHand.{batch_writes}
+use Rattle.alt_engine.specs.Histories.{Call, HaveNone, IsNamed, IsNamedSince, Lead, applied, opened, with_batches, worked}
 
 -- a family without rows shows none
 none_shown : (l : Layout) (family : ℕ) → l.rows family ≡ empty → (key : List ℕ)
@@ -23,28 +24,47 @@ none_shown l family none key =
     ap (λ (rows : RowMap). option_and_then row_shown (row_of rows key)) none
     ∙ ap (option_and_then row_shown) (get-empty key_cmp key)
 
--- the same batch is the same write of both
-module _ (l n k : Layout) (family : ℕ) (changes : List RowChange) (past_l : IsPast l)
-    (past_n : IsPast n) (next : n.next_number ≡ l.next_number)
-    (is : k ≡ with_write l (batch_write l changes)) where
-  abbrev more : Layout
-  more = with_write n (batch_write n changes)
+-- no row is of a later write behind writes whose numbers rise from the next one on
+past_all : (l : Layout) (ws : List Write) → IsPast l → AreRising l.next_number ws
+    → IsPast (with_writes l ws)
+past_all l [] past rising = past
+past_all l (w ∷ ws) past rising =
+    past_all (with_write l w) ws (is_past_after l w past rising.0) rising.1
 
-  same_write : batch_write n changes ≡ batch_write l changes
-  same_write = ap (λ number. record { number = number; changes = changes }) next
+-- batches without rows of a family leave its rows
+rows_left : (l : Layout) (number family : ℕ) (bs : List (List RowChange)) → HaveNone family bs
+    → (with_writes l (numbered number bs)).rows family ≡ l.rows family
+rows_left l number family [] none = refl
+rows_left l number family (b ∷ bs) none =
+    rows_left (with_write l (record { number = number; changes = b })) (number + 1) family bs none.1
+    ∙ ap (joined_map join_row (l.rows family)) (none.0 number) ∙ none_behind (l.rows family)
+
+-- the same batches are the same writes of both
+module _ (l n k : Layout) (family : ℕ) (batches : List (List RowChange)) (past_l : IsPast l)
+    (past_n : IsPast n) (next : n.next_number ≡ l.next_number)
+    (is : k ≡ with_writes l (batch_writes l batches)) where
+  abbrev more : Layout
+  more = with_writes n (batch_writes n batches)
+
+  same_writes : batch_writes n batches ≡ batch_writes l batches
+  same_writes = ap (λ number. numbered number batches) next
 
   past_more : IsPast more
-  past_more = is_past_after n (batch_write n changes) past_n (omega arith)
+  past_more = past_all n (batch_writes n batches) past_n (rising-numbered n.next_number batches)
 
   next_more : more.next_number ≡ k.next_number
-  next_more = ap (λ number. number + 1) next ∙ sym (ap (λ (m : Layout). m.next_number) is)
+  next_more = next_number-numbered n n.next_number batches refl
+      ∙ ap (λ number. number + length batches) next
+      ∙ sym (ap (λ (m : Layout). m.next_number) is
+      ∙ next_number-numbered l l.next_number batches refl)
 
   shows_more : ((key : List ℕ) → shown l family key ≡ shown n family key) → (key : List ℕ)
       → shown k family key ≡ shown more family key
   shows_more same key = ap (λ (m : Layout). shown m family key) is
-      ∙ same_after l n (batch_write l changes) past_l past_n (omega arith) (omega (arith, next)) family
-      key (same key)
-      ∙ ap (λ (w : Write). shown (with_write n w) family key) (sym same_write)
+      ∙ same_after_all n l (batch_writes l batches) past_n past_l (sym next)
+      (subst (λ number. AreRising number (batch_writes l batches)) (sym next)
+      (rising-numbered l.next_number batches)) family key (same key)
+      ∙ ap (λ (ws : List Write). shown (with_writes n ws) family key) (sym same_writes)
 
 -- Where each call of work names the family it goes on as the batches alone do.
 shows_named : (cs : List Call) (l n m : Layout) (family : ℕ) → IsPast l → IsPast n
@@ -53,11 +73,11 @@ shows_named : (cs : List Call) (l n m : Layout) (family : ℕ) → IsPast l → 
     → IsNamed family cs → (key : List ℕ) → shown m family key ≡ shown (with_batches cs n) family key
 shows_named [] l n m family past_l past_n next same lead named key =
     ap (λ (k : Layout). shown k family key) lead ∙ same key
-shows_named (applied changes ∷ cs) l n m family past_l past_n next same lead named key =
-    shows_named cs lead.0 (with_write n (batch_write n changes)) m family lead.2
-    (past_more l n lead.0 family changes past_l past_n next lead.1)
-    (next_more l n lead.0 family changes past_l past_n next lead.1)
-    (shows_more l n lead.0 family changes past_l past_n next lead.1 same) lead.3 named key
+shows_named (applied batches ∷ cs) l n m family past_l past_n next same lead named key =
+    shows_named cs lead.0 (with_writes n (batch_writes n batches)) m family lead.2
+    (past_more l n lead.0 family batches past_l past_n next lead.1)
+    (next_more l n lead.0 family batches past_l past_n next lead.1)
+    (shows_more l n lead.0 family batches past_l past_n next lead.1 same) lead.3 named key
 shows_named (worked live ∷ cs) l n m family past_l past_n next same lead named key =
     shows_named cs lead.0 n m family lead.2 past_n (next ∙ sym lead.1.number)
     (λ k. lead.1.lives family named.0 k ∙ same k) lead.3 named.1 key
@@ -74,19 +94,18 @@ pub shows_since : (cs : List Call) (l n m : Layout) (family : ℕ) → IsPast l 
     → shown m family key ≡ shown (with_batches cs n) family key
 shows_since [] l n m family past_l past_n next same none lead named key =
     ap (λ (k : Layout). shown k family key) lead ∙ same key
-shows_since (applied changes ∷ cs) l n m family past_l past_n next same none lead named key = ⊎_elim
-    (λ (before : HasNone family changes × IsNamedSince family cs).
-    shows_since cs lead.0 (with_write n (batch_write n changes)) m family lead.2
-    (past_more l n lead.0 family changes past_l past_n next lead.1)
-    (next_more l n lead.0 family changes past_l past_n next lead.1)
-    (shows_more l n lead.0 family changes past_l past_n next lead.1 same)
-    (ap (joined_map join_row (n.rows family)) (before.0 n.next_number) ∙ none_behind (n.rows family)
-    ∙ none) lead.3 before.1 key)
+shows_since (applied batches ∷ cs) l n m family past_l past_n next same none lead named key = ⊎_elim
+    (λ (before : HaveNone family batches × IsNamedSince family cs).
+    shows_since cs lead.0 (with_writes n (batch_writes n batches)) m family lead.2
+    (past_more l n lead.0 family batches past_l past_n next lead.1)
+    (next_more l n lead.0 family batches past_l past_n next lead.1)
+    (shows_more l n lead.0 family batches past_l past_n next lead.1 same)
+    (rows_left n n.next_number family batches before.0 ∙ none) lead.3 before.1 key)
     (λ (since : IsNamed family cs).
-    shows_named cs lead.0 (with_write n (batch_write n changes)) m family lead.2
-    (past_more l n lead.0 family changes past_l past_n next lead.1)
-    (next_more l n lead.0 family changes past_l past_n next lead.1)
-    (shows_more l n lead.0 family changes past_l past_n next lead.1 same) lead.3 since key) named
+    shows_named cs lead.0 (with_writes n (batch_writes n batches)) m family lead.2
+    (past_more l n lead.0 family batches past_l past_n next lead.1)
+    (next_more l n lead.0 family batches past_l past_n next lead.1)
+    (shows_more l n lead.0 family batches past_l past_n next lead.1 same) lead.3 since key) named
 shows_since (worked live ∷ cs) l n m family past_l past_n next same none lead named key =
     shows_since cs lead.0 n m family lead.2 past_n (next ∙ sym lead.1.number)
     (λ k. ⊎_elim

@@ -1,22 +1,23 @@
 -- What families show after any calls of an engine, in any order.
 use Rattle.std.specs.Prelude.{◌≡◌, ◌⊎◌, ℕ, List, [], ◌∷◌}
 use Rattle.std.specs.FinMap.{empty}
+use Rattle.std.specs.List.{AllByRecursion}
 use Rattle.alt_cells.specs.declared.batch.RowChange.{RowChange}
 use Rattle.alt_layout.specs.Layout.{Layout, IsPast, shown}
-use Rattle.alt_layout.specs.Writes.{changes_in, with_write}
+use Rattle.alt_layout.specs.Writes.{changes_in, with_writes}
 use Rattle.alt_manifest.specs.Versions.{IsIn}
-use Rattle.alt_hand.specs.InHand.{batch_write}
+use Rattle.alt_hand.specs.InHand.{batch_writes}
 use Rattle.alt_hand.specs.Working.{Works}
 
--- A call of an engine: a batch is joined, work is done while these families are live, or the store is opened again.
+-- A call of an engine: batches are joined, work is done while these families are live, or the store is opened again.
 pub data Call : Type 0 where
-  applied : List RowChange → Call
+  applied : List (List RowChange) → Call
   worked : List ℕ → Call
   opened : Call
 
--- What one call makes of the layout that the engine stands for, as the clauses `ok` of `apply`, `work` and `recover` say.
+-- What one call makes of the layout that the engine stands for, as the clauses `ok` of `apply_all`, `work` and `recover` say.
 abbrev pub Leads : Call → Layout → Layout → Type 0
-Leads (applied changes) l m = m ≡ with_write l (batch_write l changes)
+Leads (applied batches) l m = m ≡ with_writes l (batch_writes l batches)
 Leads (worked live) l m = Works live l m
 Leads opened l m = m ≡ l
 
@@ -28,7 +29,8 @@ Lead (c ∷ cs) l m = (k : Layout) × Leads c l k × IsPast k × Lead cs k m
 -- The layout with the batches alone.
 abbrev pub with_batches : List Call → Layout → Layout
 with_batches [] l = l
-with_batches (applied changes ∷ cs) l = with_batches cs (with_write l (batch_write l changes))
+with_batches (applied batches ∷ cs) l =
+    with_batches cs (with_writes l (batch_writes l batches))
 with_batches (worked live ∷ cs) l = with_batches cs l
 with_batches (opened ∷ cs) l = with_batches cs l
 
@@ -36,18 +38,22 @@ with_batches (opened ∷ cs) l = with_batches cs l
 abbrev pub HasNone : ℕ → List RowChange → Type 0
 HasNone family changes = (number : ℕ) → changes_in number family changes ≡ empty
 
+-- None of the batches has.
+abbrev pub HaveNone : ℕ → List (List RowChange) → Type 0
+HaveNone family batches = AllByRecursion (HasNone family) batches
+
 -- Each call of work names the family.
 abbrev pub IsNamed : ℕ → List Call → Type 0
 IsNamed family [] = Unit {0}
-IsNamed family (applied changes ∷ cs) = IsNamed family cs
+IsNamed family (applied batches ∷ cs) = IsNamed family cs
 IsNamed family (worked live ∷ cs) = IsIn live family × IsNamed family cs
 IsNamed family (opened ∷ cs) = IsNamed family cs
 
 -- Each does since the first batch that has a row of it.
 abbrev pub IsNamedSince : ℕ → List Call → Type 0
 IsNamedSince family [] = Unit {0}
-IsNamedSince family (applied changes ∷ cs) =
-    (HasNone family changes × IsNamedSince family cs) ⊎ IsNamed family cs
+IsNamedSince family (applied batches ∷ cs) =
+    (HaveNone family batches × IsNamedSince family cs) ⊎ IsNamed family cs
 IsNamedSince family (worked live ∷ cs) = IsNamedSince family cs
 IsNamedSince family (opened ∷ cs) = IsNamedSince family cs
 

@@ -3,7 +3,8 @@ use Rattle.std.specs.Prelude.{◌≡◌, ℕ, false, Option, Some, None}
 use Rattle.alt_cells.specs.Walks.{RowList}
 use Rattle.alt_disk.specs.Disk.{DiskState}
 use Rattle.alt_layout.specs.Layout.{Layout}
-use Rattle.alt_hand.specs.InHand.{limits_of as hand_limits, next_file_of as hand_file, next_of as hand_number, Reads as HandReads, Stands as HandStands}
+use Rattle.alt_gatelog.specs.declared.form.Form.{Form}
+use Rattle.alt_hand.specs.InHand.{last_form_of as hand_form, limits_of as hand_limits, next_file_of as hand_file, next_of as hand_number, work_file_of, Reads as HandReads, Stands as HandStands}
 use Rattle.alt_hand.specs.Merging.{HasMany}
 use Rattle.alt_hand.specs.declared.hand.Hand.{Hand}
 use Rattle.alt_hand.specs.declared.hand.Limits.{Limits}
@@ -27,18 +28,23 @@ next_of e = hand_number e.hand
 abbrev pub next_file_of : Engine → ℕ
 next_file_of e = hand_file e.hand
 
+-- The form of its last segment.
+abbrev pub last_form_of : Engine → Form
+last_form_of e = hand_form e.hand
+
 -- From how many bytes on a family is flushed, and from how many files on merged.
 abbrev pub limits_of : Engine → Limits
 limits_of e = hand_limits e.hand
 
--- What work goes by: these limits, and the number of the next file.
+-- What work goes by: these limits, and the number of the first file that it makes, which is one more than the next while a write makes a segment
+-- before.
 pub record Bounds : Type 0 where
   pub limits : Limits
   pub file : ℕ
 
 -- Those of the engine.
 abbrev pub bounds_of : Engine → Bounds
-bounds_of e = record { limits = limits_of e; file = next_file_of e }
+bounds_of e = record { limits = limits_of e; file = work_file_of e.hand }
 
 -- The engine is that of this layout, as the disk reads.
 abbrev pub Reads : DiskState → Engine → Layout → Type 0

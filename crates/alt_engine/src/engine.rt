@@ -1,19 +1,21 @@
 //! The engine in hand, from its opening on, and its writes.
 
-ghost use Rattle.std.specs.Prelude.{◌≡◌, ◌≤◌, ◌+◌, ◌-◌, ◌^◌, ⊤, Err, IfOk, IfErr, OnOk, IsErrOf, IsTrue};
+ghost use Rattle.std.specs.Prelude.{ℕ, ◌≡◌, ◌<◌, ◌≤◌, ◌+◌, ◌-◌, ◌^◌, ⊤, Err, IfOk, IfErr, IfSome, None, OnOk, IsErrOf, IsTrue, length, max};
 ghost use Rattle.alt_base.specs.Counts.{Rose};
 ghost use Rattle.alt_disk.specs.Disk.{DiskState, IsTrusted, Goes};
 ghost use Rattle.alt_disk.specs.Runs.{Spans};
 ghost use Rattle.alt_layout.specs.Files.{IsLayout};
 ghost use Rattle.alt_layout.specs.Fresh.{versions_file};
 ghost use Rattle.alt_layout.specs.Layout.{Layout};
-ghost use Rattle.alt_layout.specs.Writes.{with_write};
+ghost use Rattle.alt_layout.specs.Writes.{with_write, with_writes};
 ghost use Rattle.alt_manifest.specs.Versions.{HasVersion};
 ghost use Rattle.alt_manifest.specs.declared.version.Version.{Version};
-ghost use Rattle.alt_hand.specs.InHand.{IsSpentAt, batch_write, BeforeOrWith, IsWritten};
+ghost use Rattle.alt_gatelog.specs.declared.form.Form.TheVariants.{One};
+ghost use Rattle.alt_hand.specs.Adding.{IsBehind};
+ghost use Rattle.alt_hand.specs.InHand.{BeforeOrAll, BeforeOrWith, IsSpentBy, batch_write, batch_writes, files_made};
 ghost use Rattle.alt_hand.specs.Recovery.{ExplainsStore, HasNoLayout, IsNextFile, LeavesFiles, LeavesStore, LeftLike};
 ghost use Rattle.alt_hand.specs.Syncing.{AllSynced};
-ghost use Rattle.alt_engine.specs.InHand.{bounds_of, limits_of, next_file_of, next_of, Reads, Stands};
+ghost use Rattle.alt_engine.specs.InHand.{bounds_of, hand_of, last_form_of, limits_of, next_file_of, next_of, Reads, Stands};
 
 use alt_cells::Batch;
 use alt_disk::Disk;
@@ -103,8 +105,69 @@ impl Engine {
         self.hand.next_number()
     }
 
-    /// Joins a batch to the rows, as one write with the next number. A merge under way stays one. After an Err the engine is spent,
-    /// unless it is Spent.
+    /// The number of the file that the segment of a write wants and can't have.
+    pub fn wanting_file(&self) -> Option<u64>
+        ensures none { result ≡ None → (bounds_of self.now).file < 2 ^ 32 }
+        ensures last { IfSome result (λ n. (n ≡ 2 ^ 32 - 1)
+            × (2 ^ 32 ≤ (bounds_of self.now).file)) }
+    {
+        self.hand.wanting_file()
+    }
+
+    /// Joins batches to the rows as one entry, each as a write, which are numbered in order from the next number on; the first one is
+    /// answered. Behind a segment of the first form a new one is made before. A merge under way stays one. After an Err the engine is
+    /// spent, unless it is Spent.
+    pub fn apply_all<D: Disk>(
+        &mut self,
+        disk: &mut D,
+        batches: &[Batch],
+    ) -> Result<u64, EngineFault>
+        requires some { 0 < length batches.now }
+        requires stands { IsTrusted (D.state disk.old)
+            → (l : Layout) × Stands (D.state disk.old) self.old l }
+        ensures ok { OnOk result (IsTrusted (D.state disk.old) → (l : Layout)
+            → Stands (D.state disk.old) self.old l → Stands (D.state disk.new) self.new
+            (with_writes l (batch_writes l batches.now))) }
+        ensures number { IfOk result (λ n. n ≡ next_of self.old) }
+        ensures next { OnOk result (next_of self.new ≡ next_of self.old + length batches.now) }
+        ensures limits { limits_of self.new ≡ limits_of self.old }
+
+        // At Ok the entry stands in a segment of the second form: in the last one, or in one that was made and named behind the others.
+        ensures segment { OnOk result (IsBehind (last_form_of self.old)
+            (hand_of self.old) (hand_of self.new)) }
+        ensures most { next_file_of self.new
+            ≤ next_file_of self.old + files_made (last_form_of self.old) }
+        ensures least { next_file_of self.old ≤ next_file_of self.new }
+        // A write takes no number of a file from work: that which it may take is counted before.
+        ensures bounds { bounds_of self.new ≡ bounds_of self.old }
+
+        // A stop at any moment of the call, also one that fails, leaves the rows from before it or with all batches.
+        ensures any_moment { IsTrusted (D.state disk.old) → (l : Layout)
+            → Stands (D.state disk.old) self.old l
+            → Spans (D.state disk.old) (D.state disk.new) (λ _. ⊤) (BeforeOrAll l batches.now) }
+
+        // A number is spent exactly where one of those that are wanted is 2^62 - 1, and else where the new segment wants file 2^32 - 1.
+        ensures spent_number { 2 ^ 62 - 1 < next_of self.old + length batches.now
+            → result ≡ Err (EngineFault.Spent (max (next_of self.old) (2 ^ 62 - 1))) }
+        ensures spent_file { next_of self.old + length batches.now ≤ 2 ^ 62 - 1
+            → last_form_of self.old ≡ One → 2 ^ 32 - 1 ≤ next_file_of self.old
+            → result ≡ Err (EngineFault.Spent (next_file_of self.old)) }
+        ensures cause_spent { IfErr result (IsSpentBy (hand_of self.old) (length batches.now)) }
+        ensures unchanged { (number : ℕ) → IsErrOf result (EngineFault.Spent number)
+            → D.state disk.new ≡ D.state disk.old }
+        ensures same { (number : ℕ) → IsErrOf result (EngineFault.Spent number)
+            → self.new ≡ self.old }
+        ensures no_memory { IsErrOf result EngineFault.NoMemory
+            → D.state disk.new ≡ D.state disk.old }
+        ensures goes { Goes (D.state disk.old) (D.state disk.new) }
+        ensures cause { IsErrOf result EngineFault.Failed
+            → Rose (D.state disk.old).faults (D.state disk.new).faults }
+        ensures well { OnOk result ((D.state disk.new).faults ≡ (D.state disk.old).faults) }
+    {
+        self.hand.apply_all(disk, batches)
+    }
+
+    /// Joins a batch to the rows, as `apply_all` of it alone.
     pub fn apply<D: Disk>(&mut self, disk: &mut D, batch: &Batch) -> Result<u64, EngineFault>
         requires { IsTrusted (D.state disk.old)
             → (l : Layout) × Stands (D.state disk.old) self.old l }
@@ -114,20 +177,29 @@ impl Engine {
         ensures number { IfOk result (λ n. n ≡ next_of self.old) }
         ensures next { OnOk result (next_of self.new ≡ next_of self.old + 1) }
         ensures limits { limits_of self.new ≡ limits_of self.old }
+        ensures segment { OnOk result (IsBehind (last_form_of self.old)
+            (hand_of self.old) (hand_of self.new)) }
+        ensures most { next_file_of self.new
+            ≤ next_file_of self.old + files_made (last_form_of self.old) }
+        ensures least { next_file_of self.old ≤ next_file_of self.new }
+        // A write takes no number of a file from work: that which it may take is counted before.
         ensures bounds { bounds_of self.new ≡ bounds_of self.old }
 
         // A stop at any moment of the call, also one that fails, leaves the rows from before it or with the whole batch.
         ensures any_moment { IsTrusted (D.state disk.old) → (l : Layout)
             → Stands (D.state disk.old) self.old l
-            → Spans (D.state disk.old) (D.state disk.new) IsWritten (BeforeOrWith l batch.now) }
+            → Spans (D.state disk.old) (D.state disk.new) (λ _. ⊤) (BeforeOrWith l batch.now) }
 
-        // A number is spent exactly where the next one is 2^62 - 1.
-        ensures spent { 2 ^ 62 - 1 ≤ next_of self.old
+        // A number is spent exactly where the next one is 2^62 - 1, and else where the new segment wants file 2^32 - 1.
+        ensures spent_number { 2 ^ 62 - 1 ≤ next_of self.old
             → result ≡ Err (EngineFault.Spent (next_of self.old)) }
-        ensures cause_spent { IfErr result (IsSpentAt (next_of self.old)) }
-        ensures unchanged { IsErrOf result (EngineFault.Spent (next_of self.old))
+        ensures spent_file { next_of self.old < 2 ^ 62 - 1 → last_form_of self.old ≡ One
+            → 2 ^ 32 - 1 ≤ next_file_of self.old
+            → result ≡ Err (EngineFault.Spent (next_file_of self.old)) }
+        ensures cause_spent { IfErr result (IsSpentBy (hand_of self.old) 1) }
+        ensures unchanged { (number : ℕ) → IsErrOf result (EngineFault.Spent number)
             → D.state disk.new ≡ D.state disk.old }
-        ensures same { IsErrOf result (EngineFault.Spent (next_of self.old))
+        ensures same { (number : ℕ) → IsErrOf result (EngineFault.Spent number)
             → self.new ≡ self.old }
         ensures no_memory { IsErrOf result EngineFault.NoMemory
             → D.state disk.new ≡ D.state disk.old }

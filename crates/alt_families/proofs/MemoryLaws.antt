@@ -1,6 +1,6 @@
 -- Changes of a write, joined to the rows in memory one by one.
-use Rattle.std.proofs.Common.{◌≡◌, ◌+◌, ◌<◌, ◌==◌, ◌++◌, ℕ, Bool, true, false, cond, List, [], ◌∷◌, take, length, get_or, Some, refl, sym, ap, subst, ◌∙◌, eqb-true, eq-eqb, inl, inr, ⊎_elim, arith}
-use Rattle.std.proofs.lemmas.List.{take_more}
+use Rattle.std.proofs.Common.{◌≡◌, ◌+◌, ◌<◌, ◌==◌, ◌++◌, ℕ, Bool, true, false, cond, List, [], ◌∷◌, drop, take, length, get_or, Some, refl, sym, ap, subst, ◌∙◌, eqb-true, eq-eqb, inl, inr, ⊎_elim, arith}
+use Rattle.std.proofs.lemmas.List.{drop_more, take_more}
 use Rattle.std.specs.Prelude.{if◌then◌else◌}
 use Rattle.std.specs.BTreeMap.{get}
 use Rattle.std.specs.Cmp.{ranked}
@@ -13,10 +13,11 @@ use Rattle.alt_cells.specs.Changes.{row_of_change}
 use Rattle.alt_cells.specs.Joined.{joined_map}
 use Rattle.alt_cells.specs.Rows.{join_row}
 use Rattle.alt_layout.specs.Layout.{RowMap}
-use Rattle.alt_layout.specs.Writes.{changes_in, one_row}
+use Rattle.alt_layout.specs.Writes.{changes_in, one_row, rows_with}
+use Rattle.alt_writes.specs.Writes.{numbered}
 use Rattle.alt_layout.proofs.RowLaws.{rows_join, none_before, none_behind}
 use Rattle.alt_families.specs.Families.{Families, rows_in, files_in}
-use Rattle.alt_families.specs.Memory.{IsChanged, IsWrittenTo}
+use Rattle.alt_families.specs.Memory.{AreChanged, AreWrittenTo, IsChanged, IsWrittenTo}
 use Rattle.alt_families.specs.declared.family.Family.{Family}
 
 -- changes behind changes
@@ -86,6 +87,44 @@ others_written a b c i cs x within at first later f out =
     last : (ys : List RowChange) → f ≡ x.family → IsChanged (ys ++ x ∷ []) f
     last [] same = inl same
     last (y ∷ ys) same = inr (last ys same)
+
+-- ---- batches
+
+-- a write in front of others
+written_first : (a b z : Families) (number : ℕ) (cs : List RowChange)
+    (bs : List (List RowChange)) → IsWrittenTo a b number cs
+    → AreWrittenTo b z (numbered (number + 1) bs) → AreWrittenTo a z (numbered number (cs ∷ bs))
+written_first a b z number cs bs first later = record {
+  rows = λ f. later.rows f
+      ∙ ap (λ (m : RowMap). rows_with f m (numbered (number + 1) bs)) (first.rows f);
+  files = λ f. later.files f ∙ first.files f;
+}
+
+-- the batch at a place, and those behind it
+pub batch_written : (a b z : Families) (number i : ℕ) (bs : List (List RowChange))
+    (x cs : List RowChange) → i < length bs → x ≡ get_or bs i x → cs ≡ x
+    → IsWrittenTo a b number cs → AreWrittenTo b z (numbered (number + 1) (drop (i + 1) bs))
+    → AreWrittenTo a z (numbered number (drop i bs))
+batch_written a b z number i bs x cs within at is first later =
+    subst (λ (ys : List (List RowChange)). AreWrittenTo a z (numbered number ys))
+    (ap (λ (y : List RowChange). y ∷ drop (i + 1) bs) at ∙ sym (drop_more bs i x within))
+    (written_first a b z number x (drop (i + 1) bs)
+    (subst (IsWrittenTo a b number) is first) later)
+
+-- a family that none of them changes is as it was
+pub batch_others : (a b z : Families) (i : ℕ) (bs : List (List RowChange))
+    (x cs : List RowChange) → i < length bs → x ≡ get_or bs i x → cs ≡ x
+    → ((f : ℕ) → (IsChanged cs f → ⊥) → get nat_cmp b f ≡ get nat_cmp a f)
+    → ((f : ℕ) → (AreChanged (drop (i + 1) bs) f → ⊥) → get nat_cmp z f ≡ get nat_cmp b f)
+    → (f : ℕ) → (AreChanged (drop i bs) f → ⊥) → get nat_cmp z f ≡ get nat_cmp a f
+batch_others a b z i bs x cs within at is first later f out =
+    let parts : (AreChanged (x ∷ drop (i + 1) bs) f → ⊥) =
+    subst (λ (ys : List (List RowChange)). AreChanged ys f → ⊥) (drop_more bs i x within
+    ∙ ap (λ (y : List RowChange). y ∷ drop (i + 1) bs) (sym at)) out in
+    later f (λ there. parts (inr there))
+    ∙ first f (λ there. parts (inl (subst (λ (ys : List RowChange). IsChanged ys f) is there)))
+
+-- ---- one family
 
 -- a family's rows and files, with a change of another family or of it
 pub changes_one : (number f : ℕ) (c : RowChange)

@@ -10,6 +10,6 @@ mod source;
 
 pub use family::Family;
 pub use first::first_shown;
-pub use memory::{put_changes, with_more};
+pub use memory::{put_batches, put_changes, with_more};
 pub use row::shown_row;
 pub use rows::shown_rows;

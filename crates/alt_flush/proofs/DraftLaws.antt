@@ -5,8 +5,7 @@ use Rattle.std.specs.List.{AllByRecursion}
 use Rattle.alt_disk.specs.Disk.{DiskState, IsSettled}
 use Rattle.alt_disk.specs.Fates.{Fates, Fits}
 use Rattle.alt_disk.specs.Runs.{Run, Spans}
-use Rattle.alt_gatelog.specs.Log.{first_form}
-use Rattle.alt_gatelog.specs.InHand.{file_of as log_file, Stands as LogStands}
+use Rattle.alt_gatelog.specs.InHand.{file_of as log_file, form_of, Stands as LogStands}
 use Rattle.alt_gatelog.specs.declared.gatelog.GateLog.{GateLog}
 use Rattle.alt_gatelog.proofs.Elsewhere.{reads_log, reads_stays}
 use Rattle.alt_rowfile.specs.InHand.{Stands as RowFileStands}
@@ -19,7 +18,7 @@ use Rattle.alt_manifest.specs.declared.version.FamilyVersion.{FamilyVersion}
 use Rattle.alt_manifest.specs.declared.version.Version.{Version}
 use Rattle.alt_manifest.proofs.AppendLaws.{has_version}
 use Rattle.alt_layout.specs.Families.{Held, IsMapBelow, flushed_of, layout_of, next_after, with_later}
-use Rattle.alt_layout.specs.Files.{HoldsRows, IsOf, Stored, all_of}
+use Rattle.alt_layout.specs.Files.{HoldsRows, IsOf, IsSegment, Stored, all_of}
 use Rattle.alt_layout.specs.Flushes.{HasNext, with_rows}
 use Rattle.alt_layout.specs.Fresh.{versions_file}
 use Rattle.alt_layout.specs.Layout.{RowMap}
@@ -29,9 +28,10 @@ use Rattle.alt_layout.proofs.FileLaws.{in_back, stored_on}
 use Rattle.alt_layout.proofs.FlushLaws.{above_all, all_later, flush_same, named_with, next_after-stays, stored_with, version_with_is}
 use Rattle.alt_layout.proofs.MomentLaws.{layout_where, lies_on, lies_version, spans_version}
 use Rattle.alt_layout.proofs.PastLaws.{none_below, with_later-past}
-use Rattle.alt_flush.specs.Drafts.{Drafted, From, over_new_log, renumbered, with_flush, without}
+use Rattle.alt_flush.specs.Drafts.{Drafted, From, over_new_log, renumbered, with_flush, with_segment, without}
 use Rattle.alt_flush.proofs.DropLaws.{named_without, without_is, without_stored}
 use Rattle.alt_flush.proofs.NewLogLaws.{named_new_log, new_log_is, new_log_stored}
+use Rattle.alt_flush.proofs.SegmentLaws.{all_of-none, in_inserted, with_segment_is, with_segment_stored}
 
 -- ---- the first draft
 
@@ -206,6 +206,16 @@ module _ (a : DiskState) (u : Version) (held : Held) (parts : List (List Write))
 
 -- ---- a new segment
 
+-- A log without entries is a segment without writes.
+pub empty_segment : (s : DiskState) (f : ℕ) (log : GateLog) → log_file log ≡ f
+    → LogStands s log [] → IsSegment [] (s.file f)
+empty_segment s f log is stands = subst (λ g. IsSegment [] (s.file g)) is (record {
+  form = form_of log;
+  entries = [];
+  log = reads_log s log [] stands.reads;
+  holds = record { groups = []; each = tt; are = refl };
+})
+
 -- The draft over a new segment is one, once the segment lies there.
 pub new_log_drafted : (a b : DiskState) (u : Version) (held : Held) (parts : List (List Write))
     (P : ℕ → Option (List ℕ) → Type 0) (log : GateLog) → Drafted a u held parts
@@ -214,14 +224,32 @@ pub new_log_drafted : (a b : DiskState) (u : Version) (held : Held) (parts : Lis
 new_log_drafted a b u held parts P log drafted room run log_is stands = record {
   is = new_log_is u drafted.is room (next_above u drafted.is);
   stored = new_log_stored b.file u held parts (stored_still a b u held parts P drafted run)
-      (subst (λ f. Rattle.alt_gatelog.specs.Log.IsLog first_form [] (b.file f)) log_is
-      (reads_log b log [] stands.reads));
+      (empty_segment b u.next_file log log_is stands);
   settled = λ g there. ⊎_elim
       (λ (e : g ≡ u.next_file). subst (IsSettled b) (log_is ∙ sym e) stands.settled)
       (λ (old : IsIn (row_files u.families) g). settled_still a b u held parts P drafted run g
       (in_back u.segments (row_files u.families) g old)) (named_new_log u g there);
   fresh = fresh_behind a b u held parts P drafted run;
   next = refl;
+}
+
+-- So is the draft with it behind the other segments.
+pub with_segment_drafted : (a b : DiskState) (u : Version) (held : Held)
+    (parts : List (List Write)) (P : ℕ → Option (List ℕ) → Type 0) (log : GateLog)
+    → Drafted a u held parts → u.next_file + 1 < 2 ^ 32 → Run a b u.next_file P
+    → log_file log ≡ u.next_file → LogStands b log []
+    → Drafted b (with_segment u) held (parts ++ [] ∷ [])
+with_segment_drafted a b u held parts P log drafted room run log_is stands = record {
+  is = with_segment_is u drafted.is room (next_above u drafted.is);
+  stored = with_segment_stored b.file u held parts
+      (stored_still a b u held parts P drafted run)
+      (empty_segment b u.next_file log log_is stands);
+  settled = λ g there. ⊎_elim
+      (λ (e : g ≡ u.next_file). subst (IsSettled b) (log_is ∙ sym e) stands.settled)
+      (λ (old : IsIn (files_named u) g). settled_still a b u held parts P drafted run g old)
+      (in_inserted u.segments (row_files u.families) u.next_file g there);
+  fresh = fresh_behind a b u held parts P drafted run;
+  next = drafted.next ∙ ap (next_after u.next_number) (sym (all_of-none parts));
 }
 
 -- ---- the last version, while other files are touched
@@ -270,6 +298,7 @@ manifest_still a b touched P spans m not_it stands = record {
   reads = record {
     before = stands.reads.before;
     log = reads_stays a b m.log _ (spans.file (file_of m) not_it) stands.reads.log;
+    form = stands.reads.form;
     is = stands.reads.is;
   };
   settled = settled_beside a b touched P spans (file_of m) not_it stands.settled;

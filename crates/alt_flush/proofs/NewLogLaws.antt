@@ -6,13 +6,12 @@ use Rattle.std.specs.List.{AllByRecursion}
 use Rattle.alt_fields.proofs.Apart.{all_back}
 use Rattle.alt_cells.specs.Joined.{joined_map}
 use Rattle.alt_cells.specs.Rows.{join_row}
-use Rattle.alt_gatelog.specs.Log.{IsLog, first_form}
 use Rattle.alt_writes.specs.Writes.{Write}
 use Rattle.alt_manifest.specs.Versions.{AreDistinct, IsFamily, IsIn, IsVersion, RiseFrom, files_named, numbers_of, row_files}
 use Rattle.alt_manifest.specs.declared.version.FamilyVersion.{FamilyVersion}
 use Rattle.alt_manifest.specs.declared.version.Version.{Version}
 use Rattle.alt_layout.specs.Families.{Held, flushed_of, files_of, with_later, next_after, joined_files, layout_of}
-use Rattle.alt_layout.specs.Files.{Image, AreRowFiles, Stored, all_of}
+use Rattle.alt_layout.specs.Files.{Image, AreRowFiles, IsSegment, Stored, all_of}
 use Rattle.alt_layout.proofs.FamilyLaws.{same_layouts}
 use Rattle.alt_layout.proofs.FlushLaws.{above_all, all_later, count_numbers, differs, numbers_fit, rise_count}
 use Rattle.alt_layout.proofs.RowLaws.{none_behind, with_later-from}
@@ -128,7 +127,7 @@ new_log_is u is fits two =
 
 -- Its files hold what they held, and the segment no write.
 pub new_log_stored : (image : Image) (u : Version) (held : Held) (parts : List (List Write))
-    → Stored image u held parts → IsLog first_form [] (image u.next_file)
+    → Stored image u held parts → IsSegment [] (image u.next_file)
     → Stored image (over_new_log u) held ([] ∷ [])
 new_log_stored image u held parts stored log = record {
   files = all_with_files (AreRowFiles image held) u.families stored.files;

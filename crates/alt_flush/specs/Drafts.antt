@@ -1,5 +1,5 @@
 -- A draft of the next version: what its files hold on the disk, and the steps by which it comes from the last version.
-use Rattle.std.specs.Prelude.{◌≡◌, ◌≤◌, ◌+◌, ◌-◌, ◌==◌, ℕ, List, [], ◌∷◌, if◌then◌else◌, nat_lt, None}
+use Rattle.std.specs.Prelude.{◌≡◌, ◌≤◌, ◌+◌, ◌-◌, ◌==◌, ℕ, List, [], ◌∷◌, ◌++◌, if◌then◌else◌, nat_lt, None}
 use Rattle.alt_disk.specs.Disk.{DiskState, IsSettled}
 use Rattle.alt_writes.specs.Writes.{Write}
 use Rattle.alt_manifest.specs.Versions.{IsIn, IsVersion, files_named}
@@ -70,6 +70,15 @@ over_new_log u = record {
   next_number = u.next_number;
   segments = u.next_file ∷ [];
   families = with_files u.families;
+}
+
+-- The draft with one segment more behind the others, its next file.
+abbrev pub with_segment : Version → Version
+with_segment u = record {
+  next_file = u.next_file + 1;
+  next_number = u.next_number;
+  segments = u.segments ++ u.next_file ∷ [];
+  families = u.families;
 }
 
 -- ---- What is touched, and what is left over.

@@ -5,7 +5,7 @@ use Rattle.alt_manifest.specs.declared.version.FamilyVersion.{FamilyVersion}
 use Rattle.alt_manifest.specs.declared.version.Version.{Version}
 use Rattle.alt_layout.specs.Families.{files_of, flushed_of}
 use Rattle.alt_layout.specs.Merged.{version_made}
-use Rattle.alt_flush.specs.Drafts.{over_new_log, with_flush, without}
+use Rattle.alt_flush.specs.Drafts.{over_new_log, with_flush, with_segment, without}
 
 -- The family has these files, up to this number, and each other family is as it was.
 pub record HasFiles (old new : List FamilyVersion) (family : ℕ) (files : List ℕ)
@@ -48,6 +48,10 @@ LogNames = (u : Version) → RiseFrom 0 (numbers_of u.families) → (family : �
 -- The segments go.
 abbrev pub LogDrops : Type 0
 LogDrops = (u : Version) → DropsOnly u (over_new_log u) u.segments
+
+-- With a segment more each family is as it was, and no file goes.
+abbrev pub SegmentDrops : Type 0
+SegmentDrops = (u : Version) → DropsOnly u (with_segment u) []
 
 -- Of a merge those files go that it took.
 abbrev pub MergeDrops : Type 0

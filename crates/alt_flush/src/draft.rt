@@ -1,7 +1,7 @@
 //! The steps by which a draft of the next version comes from the last one.
 
 ghost use Rattle.std.specs.Prelude.{◌≡◌, ◌<◌, ◌+◌, ◌-◌, ◌^◌, IfOk};
-ghost use Rattle.alt_flush.specs.Drafts.{over_new_log, renumbered, with_flush, without};
+ghost use Rattle.alt_flush.specs.Drafts.{over_new_log, renumbered, with_flush, with_segment, without};
 
 use crate::lists::{copy_files, put_copies, with_file, with_files, with_none};
 use alt_base::NoMemory;
@@ -76,6 +76,23 @@ pub fn over_new_log(alloc: Global, old: &Version) -> Result<Version, NoMemory>
     let mut segments = FileList::new(alloc);
     segments.push(old.next_file)?;
     let families = with_files(alloc, old.families.as_slice())?;
+    Ok(Version {
+        next_file: old.next_file + 1,
+        next_number: old.next_number,
+        segments,
+        families,
+    })
+}
+
+/// The draft with one segment more behind the others, its next file.
+pub fn with_segment(alloc: Global, old: &Version) -> Result<Version, NoMemory>
+    requires room { old.now.next_file + 1 < 2 ^ 32 }
+    ensures { IfOk result (λ v. v ≡ with_segment old.now) }
+{
+    let mut segments = copy_files(alloc, old.segments.as_slice())?;
+    segments.push(old.next_file)?;
+    let mut families = FamilyList::new(alloc);
+    put_copies(alloc, &mut families, old.families.as_slice())?;
     Ok(Version {
         next_file: old.next_file + 1,
         next_number: old.next_number,

@@ -8,7 +8,7 @@ mod merge;
 mod remove;
 mod write;
 
-pub use draft::{over_new_log, renumbered, with_flush, without};
+pub use draft::{over_new_log, renumbered, with_flush, with_segment, without};
 pub use laws::draft_laws;
 pub use merge::with_merge;
 pub use remove::{has, remove_left_over};

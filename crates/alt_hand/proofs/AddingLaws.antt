@@ -8,7 +8,8 @@ use Rattle.alt_disk.proofs.Runs.{run_spans, spans_on, spans_weaker}
 use Rattle.alt_flush.specs.Drafts.{From, IsLeftOver, renumbered}
 use Rattle.alt_flush.specs.Laws.{DropsOnly}
 use Rattle.alt_flush.proofs.DraftLaws.{from_untouched}
-use Rattle.alt_gatelog.specs.Log.{first_form, log_bytes}
+use Rattle.alt_gatelog.specs.Log.{log_bytes}
+use Rattle.alt_gatelog.specs.declared.form.Form.TheVariants.{One}
 use Rattle.alt_layout.specs.Files.{IsOf}
 use Rattle.alt_layout.specs.Fresh.{versions_file}
 use Rattle.alt_layout.specs.Layout.{Layout}
@@ -46,7 +47,7 @@ drops_first e first u left listed is drops same =
 -- a file with a version is there
 some_versions : (v : Version) (file : Option (List ℕ)) → HasVersion v file → file ≡ None → ⊥
 some_versions v file has none =
-    let no : Some (log_bytes first_form (has.before ++ version_bytes v ∷ []) has.log.gate has.log.rest)
+    let no : Some (log_bytes One (has.before ++ version_bytes v ∷ []) has.log.gate has.log.rest)
     ≡ None = sym has.log.is ∙ none in cc no
 
 -- A draft that becomes the next version.

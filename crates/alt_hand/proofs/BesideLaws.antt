@@ -1,5 +1,5 @@
 -- An engine and a merge under way beside calls on a file that isn't the store's; and where a merge begins.
-use Rattle.std.proofs.Common.{◌≡◌, ◌≤◌, ◌<◌, ◌+◌, inl, inr, ℕ, Bool, true, false, List, [], ◌∷◌, ◌++◌, length, map, take, drop, suc, Option, refl, sym, ap, subst, ◌∙◌, arith}
+use Rattle.std.proofs.Common.{◌≡◌, ◌≤◌, ◌<◌, ◌+◌, inl, inr, ℕ, Bool, true, false, List, [], ◌∷◌, ◌++◌, length, take, drop, suc, Option, refl, sym, ap, subst, ◌∙◌, arith}
 use Rattle.std.proofs.lemmas.List.{take-append-drop}
 use Rattle.std.specs.Prelude.{◌==◌, if◌then◌else◌}
 use Rattle.std.specs.FinMap.{entries}
@@ -16,7 +16,7 @@ use Rattle.alt_layout.specs.Families.{Held, IsMapBelow, files_of, flushed_of, la
 use Rattle.alt_layout.specs.Files.{AreRowFiles, HoldsRows, IsLayout, IsOf, all_of}
 use Rattle.alt_layout.specs.Layout.{Layout, RowMap}
 use Rattle.alt_layout.specs.Moments.{Has, IsIt}
-use Rattle.alt_layout.proofs.FileLaws.{in_back, last_named, stored_on}
+use Rattle.alt_layout.proofs.FileLaws.{in_back, in_front, last_named, stored_on}
 use Rattle.alt_layout.proofs.FlushLaws.{all_later, of_family, unnamed}
 use Rattle.alt_manifest.specs.InHand.{file_of as manifest_file, version_of}
 use Rattle.alt_manifest.specs.Versions.{IsIn, files_named, row_files}
@@ -25,13 +25,13 @@ use Rattle.alt_manifest.specs.declared.version.Version.{Version}
 use Rattle.alt_merge.specs.Merges.{Each2}
 use Rattle.alt_rowfile.specs.InHand.{file_of as row_file, Reads as RowReads}
 use Rattle.alt_rowfile.specs.declared.rowfile.RowFile.{RowFile}
-use Rattle.alt_writes.specs.Bytes.{write_bytes}
 use Rattle.alt_families.specs.Families.{files_in}
 use Rattle.alt_hand.specs.Beside.{FilesBeside, FilesRead, MergingStays, StandsBeside}
 use Rattle.alt_hand.specs.InHand.{AreOpen, Stands, family_of}
 use Rattle.alt_hand.specs.Merging.{IsLater, IsMerging, IsOlder, MayEnd, files_at}
 use Rattle.alt_hand.specs.declared.hand.Hand.{Hand}
 use Rattle.alt_hand.proofs.HandLaws.{in_row_files, lies_of}
+use Rattle.alt_hand.proofs.LogLaws.{holds_on, length_on}
 use Rattle.alt_hand.proofs.MakesLaws.{open_still}
 use Rattle.alt_hand.proofs.MergingLaws.{one_map}
 
@@ -77,18 +77,21 @@ module _ (a b : DiskState) (e : Hand) (l : Layout) (stands : Stands a e l)
         before = stands.reads.versions.before;
         log = reads_stays a b e.manifest.log _
             (on (manifest_file e.manifest) (inl stands.reads.first)) stands.reads.versions.log;
+        form = stands.reads.versions.form;
         is = stands.reads.versions.is;
       };
       first = stands.reads.first;
       stored = stored_on a.file b.file v stands.reads.held stands.reads.held stands.reads.parts
           (λ g there. on g (inr there)) (λ g there. refl) stands.reads.stored;
       ends = stands.reads.ends;
-      log = reads_stays a b e.log (map write_bytes stands.reads.writes) (on (log_file e.log)
+      log = holds_on a b e.log stands.reads.writes (on (log_file e.log)
           (inr (last_named v stands.reads.parts (log_file e.log) stands.reads.writes
           stands.reads.ends))) stands.reads.log;
       is = stands.reads.is;
       next = stands.reads.next;
-      length = stands.reads.length;
+      length = length_on a.file b.file v.segments e.length
+          (λ g there. on g (inr (in_front v.segments (row_files v.families) g there)))
+          stands.reads.length;
       free = stands.reads.free;
       fresh = fresh;
       calm = stands.reads.calm;

@@ -1,11 +1,10 @@
 -- A merge under way, carried over calls of its engine.
-use Rattle.std.proofs.Common.{◌≡◌, ◌≢◌, ◌≤◌, ◌<◌, ⊎_elim, inl, inr, ℕ, Bool, List, [], ◌∷◌, ◌++◌, Option, refl, sym, ap, subst, ◌∙◌, arith}
+use Rattle.std.proofs.Common.{◌≡◌, ◌≢◌, ◌≤◌, ◌<◌, ⊎_elim, inl, inr, ℕ, Bool, List, [], ◌∷◌, ◌++◌, Option, refl, sym, ap, subst, ◌∙◌, arith, append_assoc}
 use Rattle.std.proofs.lemmas.List.{append-nil}
 use Rattle.std.specs.Prelude.{◌⊎◌, Result, Ok, Err, OnOk}
 use Rattle.std.specs.BTreeMap.{get}
 use Rattle.std.specs.List.{AllByRecursion}
 use Rattle.std.specs.Ordering.{nat_cmp}
-use Rattle.alt_cells.specs.declared.batch.RowChange.{RowChange}
 use Rattle.alt_disk.specs.Disk.{DiskState}
 use Rattle.alt_disk.specs.Runs.{Run, Spans}
 use Rattle.alt_fields.proofs.Apart.{all_front}
@@ -22,10 +21,10 @@ use Rattle.alt_manifest.specs.declared.version.Version.{Version}
 use Rattle.alt_rowfile.specs.InHand.{file_of as row_file}
 use Rattle.alt_rowfile.specs.declared.rowfile.RowFile.{RowFile}
 use Rattle.alt_families.specs.Families.{Families, files_in}
-use Rattle.alt_families.specs.Memory.{IsWrittenTo}
+use Rattle.alt_families.specs.Memory.{AreWrittenTo}
 use Rattle.alt_writes.specs.Writes.{Write}
 use Rattle.alt_hand.specs.Carrying.{AreStill, Carries, CarriesDraft}
-use Rattle.alt_hand.specs.Drafting.{Makes}
+use Rattle.alt_hand.specs.Drafting.{IsSameHand, Makes}
 use Rattle.alt_hand.specs.InHand.{Stands, family_of}
 use Rattle.alt_hand.specs.Merging.{MayEnd, files_at, version_in}
 use Rattle.alt_hand.specs.declared.hand.Hand.{Hand}
@@ -75,8 +74,7 @@ module _ (a b : DiskState) (e : Hand) (l : Layout) (stands : Stands a e l)
 
   -- A write leaves a merge of any family one.
   pub carries_write : (log : GateLog) (size next : ℕ) (families : Families) (full : Bool)
-      (changes : List RowChange) (number family : ℕ)
-      → IsWrittenTo e.families families number changes
+      (ws : List Write) (family : ℕ) → AreWrittenTo e.families families ws
       → Carries a b e (record e {
         log = log;
         length = size;
@@ -84,7 +82,7 @@ module _ (a b : DiskState) (e : Hand) (l : Layout) (stands : Stands a e l)
         families = families;
         full = full;
       }) family
-  carries_write log size next families full changes number family written = record {
+  carries_write log size next families full ws family written = record {
     more = [];
     files = written.files family ∙ sym (append-nil (files_at e family));
     still = still family;
@@ -100,6 +98,41 @@ module _ (a b : DiskState) (e : Hand) (l : Layout) (stands : Stands a e l)
         may.new (subst (IsIn (files_named v)) (sym same)
         (last_named v stands.reads.parts (log_file e.log) stands.reads.writes stands.reads.ends)));
   }
+
+-- ---- one call behind another
+
+-- What is carried twice is carried.
+pub carries_on : (a b c : DiskState) (e f g : Hand) (family : ℕ) → Carries a b e f family
+    → Carries b c f g family → Carries a c e g family
+carries_on a b c e f g family first later = record {
+  more = first.more ++ later.more;
+  files = later.files ∙ ap (λ fs. fs ++ later.more) first.files
+      ∙ append_assoc (files_at e family) first.more later.more;
+  still = still_then a b c (files_at e family) first.still
+      (all_front (λ f. c.file (row_file f) ≡ b.file (row_file f)) (files_at e family) first.more
+      (subst (AreStill b c) first.files later.still));
+  merging = λ taken number file may.
+      later.merging taken number file (first.merging taken number file may);
+  beside = λ taken number file may.
+      later.beside taken number file (first.merging taken number file may)
+      ∙ first.beside taken number file may;
+}
+
+-- Memory that is taken leaves a merge one.
+pub carries_prepared : (s : DiskState) (e f : Hand) (family : ℕ) → IsSameHand e f
+    → Carries s s e f family
+carries_prepared s e f family same =
+    subst (λ (h : Hand). Carries s s e h family) (sym same.others) (record {
+      more = [];
+      files = sym (append-nil (files_at e family));
+      still = all_still s (files_at e family);
+      merging = λ taken number file may.
+          may_end_by s (renumbered (version_in e) e.next_file e.next)
+          (renumbered (version_of f.manifest) e.next_file e.next) (files_at e family) family taken
+          number file refl (ap (λ (v : Version). v.segments) same.manifest.version)
+          (ap (λ (v : Version). v.families) same.manifest.version) may;
+      beside = λ taken number file may. refl;
+    })
 
 -- ---- a new version
 

@@ -24,7 +24,7 @@ use Rattle.alt_writes.specs.Writes.{Write}
 use Rattle.alt_families.specs.declared.family.Family.{Family}
 use Rattle.alt_families.specs.Families.{Families, files_in}
 use Rattle.alt_hand.specs.Drafting.{AreDead, Empties, IsLying, IsReady, Makes, without_all}
-use Rattle.alt_hand.specs.InHand.{Stands}
+use Rattle.alt_hand.specs.InHand.{IsLength, Stands}
 use Rattle.alt_hand.specs.Merging.{IsMadeOf, MayEnd}
 use Rattle.alt_hand.specs.Working.{Works, WorksIn}
 use Rattle.alt_hand.specs.declared.hand.Hand.{Hand}
@@ -140,7 +140,7 @@ module _ (s : DiskState) (e : Hand) (l : Layout) (stands : Stands s e l) where
       parts_are = stands.reads.ends.parts_are;
     };
     log = stands.reads.log;
-    length = stands.reads.length;
+    length = subst (λ fs. IsLength s.file fs e.length) (sym segments) stands.reads.length;
     next = stands.reads.next ∙ sym number;
   }
 

@@ -1,5 +1,5 @@
 -- Flushes from their beginning to the draft that is to be the next version, and what a stop leaves on the way.
-use Rattle.std.proofs.Common.{◌≡◌, ◌≤◌, ◌<◌, ◌+◌, ◌^◌, ⊎_elim, inl, inr, ℕ, List, [], ◌∷◌, map, Option, refl, sym, ap, subst, ◌∙◌, arith}
+use Rattle.std.proofs.Common.{◌≡◌, ◌≤◌, ◌<◌, ◌+◌, ◌^◌, ⊎_elim, inl, inr, ℕ, List, [], ◌∷◌, Option, refl, sym, ap, subst, ◌∙◌, arith}
 use Rattle.std.specs.Prelude.{◌⊎◌}
 use Rattle.std.specs.BTreeMap.{get}
 use Rattle.std.specs.FinMap.{empty}
@@ -9,25 +9,26 @@ use Rattle.alt_disk.specs.Runs.{Run, Spans}
 use Rattle.alt_disk.proofs.Runs.{run_spans, spans_on, spans_weaker}
 use Rattle.alt_flush.specs.Drafts.{From, over_new_log, renumbered}
 use Rattle.alt_flush.proofs.DraftLaws.{from_untouched, layout_still, lies_still, manifest_still}
-use Rattle.alt_gatelog.specs.InHand.{file_of as log_file, Stands as LogStands}
+use Rattle.alt_gatelog.specs.InHand.{file_of as log_file, form_of, Stands as LogStands}
 use Rattle.alt_gatelog.specs.declared.gatelog.GateLog.{GateLog}
-use Rattle.alt_gatelog.proofs.Elsewhere.{reads_stays}
+use Rattle.alt_gatelog.proofs.Elsewhere.{reads_log}
 use Rattle.alt_layout.specs.Families.{layout_of}
 use Rattle.alt_layout.specs.Files.{IsLayout, IsOf, all_of}
 use Rattle.alt_layout.specs.Layout.{Layout}
+use Rattle.alt_layout.specs.Sizes.{IsSized}
 use Rattle.alt_layout.specs.Moments.{Has, HasEither}
-use Rattle.alt_layout.proofs.FileLaws.{last_named}
+use Rattle.alt_layout.proofs.FileLaws.{in_front, last_named}
 use Rattle.alt_layout.proofs.MomentLaws.{same_or_not}
 use Rattle.alt_manifest.specs.InHand.{file_of as manifest_file, version_of, Stands as ManifestStands}
-use Rattle.alt_manifest.specs.Versions.{IsIn}
+use Rattle.alt_manifest.specs.Versions.{IsIn, row_files}
 use Rattle.alt_manifest.specs.declared.version.Version.{Version}
-use Rattle.alt_writes.specs.Bytes.{write_bytes}
 use Rattle.alt_writes.specs.Writes.{Write}
 use Rattle.alt_families.specs.Families.{Families, rows_in}
 use Rattle.alt_hand.specs.Drafting.{Empties, EmptiedIn, IsLying, IsReady, Makes}
-use Rattle.alt_hand.specs.InHand.{Stands}
+use Rattle.alt_hand.specs.InHand.{IsLength, Stands}
 use Rattle.alt_hand.specs.declared.hand.Hand.{Hand}
 use Rattle.alt_hand.proofs.HandLaws.{lies_of}
+use Rattle.alt_hand.proofs.LogLaws.{holds_empty, holds_on, length_on}
 use Rattle.alt_hand.proofs.MakesLaws.{empties_same, makes_first, makes_new_log}
 use Rattle.alt_hand.proofs.PublishLaws.{in_or_not}
 
@@ -104,10 +105,13 @@ module _ (a b : DiskState) (e : Hand) (l : Layout) (live : List ℕ) (stands : S
       segments = segments ∙ stands.reads.ends.segments;
       parts_are = stands.reads.ends.parts_are;
     };
-    log = reads_stays a b e.log (map write_bytes stands.reads.writes)
+    log = holds_on a b e.log stands.reads.writes
         (spans.file (log_file e.log) (untouched (log_file e.log) (inr (last_named v stands.reads.parts
         (log_file e.log) stands.reads.writes stands.reads.ends)))) stands.reads.log;
-    length = stands.reads.length;
+    length = length_on a.file b.file u.segments e.length (λ g there.
+        spans.file g (untouched g (inr (in_front v.segments (row_files v.families) g
+        (subst (λ fs. IsIn fs g) segments there)))))
+        (subst (λ fs. IsLength a.file fs e.length) (sym segments) stands.reads.length);
     next = stands.reads.next ∙ sym empties.number;
   }
 
@@ -130,8 +134,23 @@ module _ (a b : DiskState) (e : Hand) (l : Layout) (live : List ℕ) (stands : S
       segments = ap (λ f. f ∷ []) (sym log_is);
       parts_are = refl;
     };
-    log = log_stands.reads;
-    length = omega arith;
+    log = holds_empty b log log_stands;
+    length = record {
+      bytes = 0;
+      sized = (
+        0,
+        0,
+        subst (λ f. IsSized 0 (b.file f)) log_is (record {
+          form = form_of log;
+          entries = [];
+          log = reads_log b log [] log_stands.reads;
+          is = refl;
+        }),
+        refl,
+        omega arith,
+      );
+      is = omega arith;
+    };
     next = stands.reads.next ∙ sym empties.number;
   }
 

@@ -1,5 +1,5 @@
 -- The engine of what files hold, from its pieces, and why there is none.
-use Rattle.std.proofs.Common.{◌≡◌, ◌<◌, ◌≤◌, ◌+◌, ◌-◌, ◌++◌, ◌∷◌, ⊎_elim, inl, inr, ℕ, List, [], take, drop, length, map, max, min, refl, sym, ap, subst, ◌∙◌, arith}
+use Rattle.std.proofs.Common.{◌≡◌, ◌<◌, ◌≤◌, ◌+◌, ◌-◌, ◌++◌, ◌∷◌, ⊎_elim, inl, inr, ℕ, List, [], take, drop, length, max, min, refl, sym, ap, subst, ◌∙◌, arith}
 use Rattle.std.specs.Prelude.{◌⊎◌}
 use Rattle.std.specs.BTreeMap.{BTreeMap, get}
 use Rattle.std.specs.FinMap.{empty}
@@ -8,8 +8,9 @@ use Rattle.sha2.specs.Sha256.{sha256}
 use Rattle.alt_disk.specs.Disk.{DiskState, bytes_or_none}
 use Rattle.alt_disk.specs.Runs.{Quiet}
 use Rattle.alt_families.specs.Families.{Families, files_in, rows_in}
-use Rattle.alt_gatelog.specs.Log.{IsLog, first_form, gate_place}
-use Rattle.alt_gatelog.specs.InHand.{file_of as log_file, Reads as LogReads}
+use Rattle.alt_gatelog.specs.Log.{IsLog, gate_place}
+use Rattle.alt_gatelog.specs.declared.form.Form.{Form}
+use Rattle.alt_gatelog.specs.InHand.{file_of as log_file}
 use Rattle.alt_gatelog.specs.declared.fault.LogFault.{LogFault}
 use Rattle.alt_gatelog.specs.declared.fault.LogFault.TheVariants as log
 use Rattle.alt_gatelog.specs.declared.gatelog.GateLog.{GateLog}
@@ -21,7 +22,8 @@ use Rattle.alt_layout.specs.Layout.{Layout}
 use Rattle.alt_layout.proofs.RowLaws.{next_after-least}
 use Rattle.alt_manifest.proofs.AppendLaws.{has_version}
 use Rattle.alt_manifest.specs.InHand.{file_of as manifest_file, version_of, Reads as ManifestReads}
-use Rattle.alt_manifest.specs.Recovery.{ExplainsVersions, IsBadLast}
+use Rattle.alt_manifest.specs.Recovery.{ExplainsVersions, IsNoVersions}
+use Rattle.alt_manifest.specs.Recovery.IsNoVersions.{no_last, no_log, other_form as is_other}
 use Rattle.alt_manifest.specs.Versions.{HasVersion, IsIn, version_bytes}
 use Rattle.alt_manifest.specs.declared.manifest.Manifest.{Manifest}
 use Rattle.alt_manifest.specs.declared.version.Version.{Version}
@@ -29,7 +31,7 @@ use Rattle.alt_memtable.specs.Rows.{most_bytes}
 use Rattle.alt_recovery.specs.Families.{AreFamilies, AreInHand, ExplainsFamilies, IsBadFamily}
 use Rattle.alt_recovery.specs.Flushed.{flushed_in}
 use Rattle.alt_recovery.specs.Opening.{ExplainsRows}
-use Rattle.alt_recovery.specs.Replays.{ExplainsSegments, IsBadEntry, Replays, ReplaysLast, logged_bytes}
+use Rattle.alt_recovery.specs.Replays.{ExplainsSegments, IsBadEntry, Replays, ReplaysLast}
 use Rattle.alt_recovery.specs.declared.replay.Replay.{Replay}
 use Rattle.alt_recovery.proofs.HeldLaws.{families_quiet}
 use Rattle.alt_recovery.proofs.ReplayLaws.{held-append, next_after-append, rising-append}
@@ -37,12 +39,12 @@ use Rattle.alt_rowfile.specs.Recovery.{HasDigest, NoRowFile}
 use Rattle.alt_rowfile.specs.declared.fault.RowFileFault.{RowFileFault}
 use Rattle.alt_rowfile.specs.declared.fault.RowFileFault.TheVariants as rows
 use Rattle.alt_rowfile.specs.declared.rowfile.RowFile.{RowFile}
-use Rattle.alt_writes.specs.Bytes.{write_bytes}
-use Rattle.alt_writes.specs.Reading.{IsNoWrite}
+use Rattle.alt_layout.specs.Sizes.{AreSized}
+use Rattle.alt_layout.specs.Entries.{IsNoEntry}
 use Rattle.alt_writes.specs.Writes.{Write}
 use Rattle.alt_hand.specs.Found.{Found, log_fault, rows_fault}
-use Rattle.alt_hand.specs.InHand.{AreOpen, family_of, written_bytes}
-use Rattle.alt_hand.specs.Recovery.{ExplainsStore, IsBadAt, IsBadDigest, IsRowFileOf, late_rows, no_rows, no_segment, no_version, no_versions, no_write}
+use Rattle.alt_hand.specs.InHand.{AreOpen, LogHolds, family_of}
+use Rattle.alt_hand.specs.Recovery.{ExplainsStore, IsBadAt, IsBadDigest, IsRowFileOf, late_rows, no_rows, no_segment, no_version, no_versions, no_write, other_form}
 use Rattle.alt_hand.specs.declared.hand.Hand.{Hand}
 
 -- ---- the pieces
@@ -56,11 +58,6 @@ next_after-max first next (w ∷ ws) le =
     (omega (arith, le)) in
     let least = next_after-least (max first (w.number + 1)) ws in
     omega (arith, le, rest, least)
-
--- bytes are counted alike
-logged_written : (ws : List Write) → logged_bytes ws ≡ written_bytes ws
-logged_written [] = refl
-logged_written (w ∷ ws) = ap (λ n. length (write_bytes w) + n) (logged_written ws)
 
 -- files in hand are open
 hand_open : (s : DiskState) (held : Held) (gs : List ℕ) (fs : List RowFile)
@@ -77,6 +74,7 @@ manifest_quiet a b m quiet reads = record {
   before = reads.before;
   log = reads_stays a b m.log (reads.before ++ version_bytes (version_of m) ∷ [])
       (quiet.file m.log.file) reads.log;
+  form = reads.form;
   is = reads.is;
 }
 
@@ -106,8 +104,8 @@ module _ (a b d : DiskState) (m : Manifest) (families : Families) (flushed : BTr
   abbrev s : Replay
   s = record { families = families; flushed = flushed; least = 1; length = 0 }
 
-  replays : Replays s done ws
-  replays = subst (λ (r : Replay). Replays r done ws) begun last.replays
+  replays : Replays s done ws last.bytes
+  replays = subst (λ (r : Replay). Replays r done ws last.bytes) begun last.replays
 
   open_d : AreFamilies d held v.families families
   open_d = families_quiet b d held v.families families to_d opened
@@ -137,11 +135,22 @@ module _ (a b d : DiskState) (m : Manifest) (families : Families) (flushed : BTr
             ∙ ap (λ (x : GateLog). last.firsts ++ log_file x ∷ []) (sym log_is);
         parts_are = refl;
       };
-      log = subst (λ (x : GateLog). LogReads d x (map write_bytes last.writes)) (sym log_is) last.reads;
+      log = subst (λ (x : GateLog). LogHolds d x last.writes) (sym log_is) (record {
+        entries = last.entries;
+        reads = last.reads;
+        holds = last.holds;
+      });
       is = ap (λ (n : Manifest). layout_of (version_of n) held ws) (sym manifest);
       next = next ∙ ap (max v.next_number) replays.least
           ∙ sym (next_after-max 1 v.next_number ws reads.is.next_number.0);
-      length = length ∙ replays.length (omega arith) ∙ bytes;
+      length = record {
+        bytes = last.bytes;
+        sized = subst (λ (n : Manifest). AreSized d.file (version_of n).segments last.bytes)
+            (sym manifest) last.sized;
+        is = length ∙ replays.length (omega arith)
+            ∙ (let same : min (0 + last.bytes) most_bytes ≡ min last.bytes most_bytes = omega arith in
+            same);
+      };
       file = file ∙ ap (λ (n : Manifest). (version_of n).next_file) (sym manifest);
       memory = λ family. memory family
           ∙ ap (λ (n : Manifest). with_later (flushed_of (version_of n).families family) family empty ws)
@@ -155,9 +164,6 @@ module _ (a b d : DiskState) (m : Manifest) (families : Families) (flushed : BTr
     },
   )
     where
-      bytes : min (0 + logged_bytes ws) most_bytes ≡ min (written_bytes ws) most_bytes
-      bytes = let same = logged_written ws in omega (arith, same)
-
       memory : (family : ℕ) → rows_in (family_of e family)
           ≡ with_later (flushed_of v.families family) family empty ws
       memory family = ap (λ (x : Families). rows_in (get nat_cmp x family)) families_are
@@ -169,10 +175,12 @@ module _ (a b d : DiskState) (m : Manifest) (families : Families) (flushed : BTr
 -- the log of the versions
 pub versions_explain : (files : Image) (fault : LogFault)
     → ExplainsVersions versions_file (files versions_file) fault → ExplainsStore files (log_fault fault)
-versions_explain files (log.Damaged f at) h = ⊎_elim
-    (λ bad. no_versions h.0 bad)
-    (λ (last : (es : List (List ℕ)) × IsLog first_form es (files versions_file) × IsBadLast es at).
-    no_version h.0 last.0 last.1 last.2) h.1
+versions_explain files (log.Damaged f at) h = by_case h.1
+  where
+    by_case : IsNoVersions (files versions_file) at → IsBadAt files f at
+    by_case (no_log bad) = no_versions h.0 bad
+    by_case (is_other place es is) = other_form h.0 place es is
+    by_case (no_last es is bad) = no_version h.0 es is bad
 versions_explain files log.Failed h = tt
 versions_explain files log.NoMemory h = tt
 
@@ -239,18 +247,20 @@ module _ (files : Image) (v : Version) (has : HasVersion v (files versions_file)
       → ExplainsStore files (log_fault fault)
   segments_explain (log.Damaged f at) bad = ⊎_elim
       (λ damaged. no_segment v has bad.before (record { behind = bad.behind; is = bad.is }) damaged)
-      (λ (entry : (es : List (List ℕ)) × IsLog first_form es (files f)
-      × IsBadEntry es (next_after 1 (all_of bad.parts)) at). by_entry entry.0 entry.1 entry.2) bad.bad
+      (λ (entry : (form : Form) × (es : List (List ℕ)) × IsLog form es (files f)
+      × IsBadEntry form es (next_after 1 (all_of bad.parts)) at).
+      by_entry entry.0 entry.1 entry.2 entry.3) bad.bad
     where
-      by_entry : (es : List (List ℕ)) → IsLog first_form es (files f)
-          → IsBadEntry es (next_after 1 (all_of bad.parts)) at → IsBadAt files f at
-      by_entry es is h = no_write v has bad.before (record { behind = bad.behind; is = bad.is })
-          bad.parts bad.are h.writes h.entry h.behind
-          (subst (λ (x : List (List ℕ)). IsLog first_form x (files f)) h.is is)
+      by_entry : (form : Form) (es : List (List ℕ)) → IsLog form es (files f)
+          → IsBadEntry form es (next_after 1 (all_of bad.parts)) at → IsBadAt files f at
+      by_entry form es is h = no_write v has bad.before
+          (record { behind = bad.behind; is = bad.is })
+          bad.parts bad.are form h.front h.writes h.entry h.behind
+          (subst (λ (x : List (List ℕ)). IsLog form x (files f)) h.is is) h.holds
           (held-append (all_of bad.parts) h.writes bad.held h.held)
           (rising-append 1 1 (all_of bad.parts) h.writes (omega arith) bad.rising h.rising)
-          (subst (λ (n : ℕ). IsNoWrite n h.entry)
+          (subst (λ (n : ℕ). IsNoEntry form n h.entry)
           (sym (next_after-append 1 (all_of bad.parts) h.writes)) h.none)
-          (h.place ∙ ap (λ (x : List (List ℕ)). gate_place first_form x (length h.writes)) h.is)
+          (h.place ∙ ap (λ (x : List (List ℕ)). gate_place x (length h.front)) h.is)
   segments_explain log.Failed bad = tt
   segments_explain log.NoMemory bad = tt

@@ -10,7 +10,9 @@ use Rattle.alt_disk.specs.Fates.{Fates, Fits}
 use Rattle.alt_disk.specs.Disk.{DiskState, IsImage, IsSettled, IsNames}
 use Rattle.alt_disk.specs.Runs.{Quiet, Run, Spans}
 use Rattle.alt_disk.proofs.Runs.{quiet_spans, run_spans, spans_on}
-use Rattle.alt_gatelog.specs.Log.{IsLog, first_form, header, log_bytes}
+use Rattle.alt_gatelog.specs.Log.{IsLog, header, log_bytes}
+use Rattle.alt_gatelog.specs.declared.form.Form.{Form}
+use Rattle.alt_gatelog.specs.declared.form.Form.TheVariants.{One, Two}
 use Rattle.alt_layout.specs.Layout.{no_rows}
 use Rattle.alt_layout.specs.Fresh.{IsFresh, IsMade, versions_file, entries_file}
 use Rattle.alt_layout.specs.Files.{IsLayout}
@@ -21,13 +23,13 @@ use Rattle.alt_hand.specs.Making.{HasSegment, LeavesNoVersions}
 use Rattle.std.specs.Prelude.{⊤}
 
 -- the header of a log has eight bytes
-length-header : length (header first_form) ≡ 8
+length-header : (form : Form) → length (header form) ≡ 8
 unfolding header
-length-header = refl
+length-header One = refl
+length-header Two = refl
 
 -- and one without entries is an empty log
-has_none : (file : Option (List ℕ)) → file ≡ Some (log_bytes first_form [] 0 [])
-    → IsLog first_form [] file
+has_none : (file : Option (List ℕ)) → file ≡ Some (log_bytes Two [] 0 []) → IsLog Two [] file
 has_none file is = record { gate = 0; closed = omega arith; rest = []; is = is; lengths = tt }
 
 -- a stop leaves no row of a fresh store, and its first version
@@ -51,7 +53,7 @@ settled_on a b f g P run other settled left fits =
 -- a file that is missing has no version
 no_version : (file : Option (List ℕ)) → file ≡ None → (v : Version) → HasVersion v file → ⊥
 no_version file missing v version =
-    let both : None ≡ Some (log_bytes first_form (version.before ++ version_bytes v ∷ [])
+    let both : None ≡ Some (log_bytes One (version.before ++ version_bytes v ∷ [])
     version.log.gate version.log.rest) = sym missing ∙ version.log.is in let f : ⊥ = cc in f
 
 -- where nothing is made no stop leaves one
@@ -73,7 +75,7 @@ segment_first a b c none quiet run = spans_on a b c IsMade HasSegment
 
 -- Behind the segment, which lasts, the versions may be made.
 pub segment_then : (a c d : DiskState) (f : ℕ) → f ≡ 1 → Spans a c IsMade HasSegment
-    → IsSettled c 2 → c.file 2 ≡ Some (log_bytes first_form [] 0 []) → Run c d f (λ _ _. ⊤)
+    → IsSettled c 2 → c.file 2 ≡ Some (log_bytes Two [] 0 []) → Run c d f (λ _ _. ⊤)
     → Spans a d IsMade HasSegment
 segment_then a c d f is_first so_far settled empty run = spans_on a c d IsMade HasSegment so_far
     (run_spans c d f (λ _ _. ⊤) IsMade HasSegment run (inl is_first)
@@ -82,19 +84,18 @@ segment_then a c d f is_first so_far settled empty run = spans_on a c d IsMade H
     ∙ empty)))
 
 -- what stands behind the closed gate of an empty log with nothing behind it
-pub rest_none : (file : Option (List ℕ)) (gate : ℕ) (rest : List ℕ)
-    → file ≡ Some (log_bytes first_form [] 0 []) → file ≡ Some (log_bytes first_form [] gate rest)
-    → rest ≡ []
-rest_none file gate rest one two =
-    let both : Some (log_bytes first_form [] gate rest) ≡ Some (log_bytes first_form [] 0 []) =
+pub rest_none : (form : Form) (file : Option (List ℕ)) (gate : ℕ) (rest : List ℕ)
+    → file ≡ Some (log_bytes form [] 0 []) → file ≡ Some (log_bytes form [] gate rest) → rest ≡ []
+rest_none form file gate rest one two =
+    let both : Some (log_bytes form [] gate rest) ≡ Some (log_bytes form [] 0 []) =
     sym two ∙ one in
-    let bytes : log_bytes first_form [] gate rest ≡ log_bytes first_form [] 0 [] = cc both in
+    let bytes : log_bytes form [] gate rest ≡ log_bytes form [] 0 [] = cc both in
     ap (drop 1) (sym (behind gate rest) ∙ ap (drop 8) bytes ∙ behind 0 [])
   where
-    behind : (g : ℕ) (r : List ℕ) → drop 8 (log_bytes first_form [] g r) ≡ g ∷ r
+    behind : (g : ℕ) (r : List ℕ) → drop 8 (log_bytes form [] g r) ≡ g ∷ r
     behind g r =
-        ap (drop 8) (append_assoc (header first_form) [] (g ∷ r))
-        ∙ drop_at (header first_form) (g ∷ r) 8 length-header
+        ap (drop 8) (append_assoc (header form) [] (g ∷ r))
+        ∙ drop_at (header form) (g ∷ r) 8 (length-header form)
 
 -- a number below all of a list isn't in it
 not_listed : (f : ℕ) (xs : List ℕ) → ((k : ℕ) → k < length xs → f < get_or xs k 0)

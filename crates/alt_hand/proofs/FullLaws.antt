@@ -8,7 +8,7 @@ use Rattle.std.specs.Map.{lookup, values_of}
 use Rattle.std.specs.Ordering.{nat_cmp}
 use Rattle.alt_cells.specs.declared.batch.RowChange.{RowChange}
 use Rattle.alt_families.specs.Families.{Families, files_in}
-use Rattle.alt_families.specs.Memory.{IsChanged}
+use Rattle.alt_families.specs.Memory.{AreChanged, IsChanged}
 use Rattle.alt_families.specs.declared.family.Family.{Family}
 use Rattle.alt_layout.proofs.MomentLaws.{same_or_not}
 use Rattle.alt_hand.specs.InHand.{AreBelow, bytes_in}
@@ -40,17 +40,43 @@ changed_more cs i family x within at there = parts (take i cs)
         (λ (old : IsChanged ys family). inl (inr old)) (λ (e : family ≡ x.family). inr e)
         (parts ys later)) there
 
--- Where each family was below and those that a write changes are, all are.
-pub still_below : (old new : Families) (flush : ℕ) (before : Bool) (changes : List RowChange)
-    (after : Bool) → (before ≡ false → AreBelow flush old)
-    → ((f : ℕ) → (IsChanged changes f → ⊥) → get nat_cmp new f ≡ get nat_cmp old f)
+-- One of several writes does, or none.
+any_changed_or_not : (bs : List (List RowChange)) (family : ℕ)
+    → AreChanged bs family ⊎ (AreChanged bs family → ⊥)
+any_changed_or_not [] family = inr (λ there. there)
+any_changed_or_not (b ∷ bs) family = ⊎_elim (λ (here : IsChanged b family). inl (inl here))
+    (λ (apart : IsChanged b family → ⊥).
+    ⊎_elim (λ (later : AreChanged bs family). inl (inr later))
+    (λ (out : AreChanged bs family → ⊥). inr (λ there. ⊎_elim apart out there))
+    (any_changed_or_not bs family)) (changed_or_not b family)
+
+-- the batches so far, with one more
+pub changed_batch : (bs : List (List RowChange)) (i family : ℕ) (x : List RowChange)
+    → i < length bs → x ≡ get_or bs i x → AreChanged (take (i + 1) bs) family
+    → AreChanged (take i bs) family ⊎ IsChanged x family
+changed_batch bs i family x within at there = parts (take i bs)
+    (subst (λ (ys : List (List RowChange)). AreChanged ys family) (take_more bs i x within
+    ∙ ap (λ (y : List RowChange). take i bs ++ y ∷ []) (sym at)) there)
+  where
+    parts : (ys : List (List RowChange)) → AreChanged (ys ++ x ∷ []) family
+        → AreChanged ys family ⊎ IsChanged x family
+    parts [] there = ⊎_elim (λ (e : IsChanged x family). inr e) (λ (no : ⊥). absurd no) there
+    parts (y ∷ ys) there = ⊎_elim (λ (e : IsChanged y family). inl (inl e))
+        (λ (later : AreChanged (ys ++ x ∷ []) family). ⊎_elim
+        (λ (old : AreChanged ys family). inl (inr old)) (λ (e : IsChanged x family). inr e)
+        (parts ys later)) there
+
+-- Where each family was below and those that batches change are, all are.
+pub still_below : (old new : Families) (flush : ℕ) (before : Bool)
+    (batches : List (List RowChange)) (after : Bool) → (before ≡ false → AreBelow flush old)
+    → ((f : ℕ) → (AreChanged batches f → ⊥) → get nat_cmp new f ≡ get nat_cmp old f)
     → (after ≡ false → before ≡ false)
-    → (after ≡ false → (f : ℕ) → IsChanged changes f → bytes_in (get nat_cmp new f) < flush)
+    → (after ≡ false → (f : ℕ) → AreChanged batches f → bytes_in (get nat_cmp new f) < flush)
     → after ≡ false → AreBelow flush new
-still_below old new flush before changes after calm others back changed none family = ⊎_elim
-    (λ (there : IsChanged changes family). changed none family there)
-    (λ (out : IsChanged changes family → ⊥). subst (λ o. bytes_in o < flush)
-    (sym (others family out)) (calm (back none) family)) (changed_or_not changes family)
+still_below old new flush before batches after calm others back changed none family = ⊎_elim
+    (λ (there : AreChanged batches family). changed none family there)
+    (λ (out : AreChanged batches family → ⊥). subst (λ o. bytes_in o < flush)
+    (sym (others family out)) (calm (back none) family)) (any_changed_or_not batches family)
 
 -- Each value that a map finds is below where all are.
 pub found_below : (test : ℕ → Bool) (es : List (ℕ × Family)) (flush : ℕ) → 0 < flush

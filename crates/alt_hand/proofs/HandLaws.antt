@@ -1,45 +1,48 @@
 -- An engine in hand, by the store that lies on the disk.
-use Rattle.std.proofs.Common.{◌≡◌, ◌≢◌, ◌≤◌, ◌+◌, ◌==◌, ℕ, Bool, true, false, List, [], ◌∷◌, ◌++◌, map, length, min, Option, refl, sym, ap, subst, ◌∙◌, arith, inl, inr}
+use Rattle.std.proofs.Common.{◌≡◌, ◌≢◌, ◌+◌, ◌==◌, ℕ, Bool, true, false, List, [], ◌∷◌, ◌++◌, length, min, Option, refl, sym, ap, subst, ◌∙◌, arith, inl, inr}
 use Rattle.std.specs.Prelude.{◌⊎◌, if◌then◌else◌}
 use Rattle.std.specs.BTreeMap.{get}
 use Rattle.std.specs.FinMap.{empty}
 use Rattle.std.specs.Ordering.{nat_cmp}
-use Rattle.alt_cells.specs.Joined.{joined_map}
-use Rattle.alt_cells.specs.Rows.{join_row}
 use Rattle.alt_cells.specs.declared.batch.RowChange.{RowChange}
 use Rattle.alt_disk.specs.Disk.{DiskState, IsImage, IsSettled}
 use Rattle.alt_disk.specs.Runs.{Quiet, Run, Spans}
 use Rattle.alt_disk.proofs.Runs.{spans_weaker}
-use Rattle.alt_gatelog.specs.InHand.{file_of as log_file, Reads as LogReads, Stands as LogStands}
+use Rattle.alt_gatelog.specs.InHand.{file_of as log_file, form_of, Stands as LogStands}
+use Rattle.alt_gatelog.specs.declared.form.Form.{Form}
 use Rattle.alt_gatelog.specs.declared.gatelog.GateLog.{GateLog}
-use Rattle.alt_gatelog.specs.Log.{BeforeOrAfter, IsLog, first_form}
+use Rattle.alt_gatelog.specs.Log.{BeforeOrAfter, IsLog}
 use Rattle.alt_gatelog.proofs.Elsewhere.{reads_log, reads_stays}
 use Rattle.alt_rowfile.specs.declared.rowfile.RowFile.{RowFile}
 use Rattle.alt_layout.specs.Layout.{Layout, IsPast}
-use Rattle.alt_writes.specs.Writes.{Write}
-use Rattle.alt_writes.proofs.PushLaws.{bytes-push}
+use Rattle.alt_writes.specs.Writes.{AreRising, Write, numbered}
+use Rattle.alt_writes.proofs.PushLaws.{rising-numbered}
 use Rattle.alt_memtable.specs.Rows.{most_bytes}
-use Rattle.alt_writes.specs.Bytes.{IsHeldWrite, write_bytes}
+use Rattle.alt_layout.specs.Entries.{HoldWrites, IsEntry}
+use Rattle.alt_layout.specs.Sizes.{AreSized, bytes_in}
+use Rattle.alt_layout.proofs.EntryLaws.{holds_push}
+use Rattle.alt_layout.proofs.SizeLaws.{bytes_in-push, one_size, sized_last, sized_on, sized_with}
 use Rattle.alt_layout.specs.Fresh.{versions_file}
 use Rattle.alt_manifest.specs.InHand.{version_of}
-use Rattle.alt_manifest.specs.Versions.{HasVersion, IsIn, files_named, row_files, version_bytes}
+use Rattle.alt_manifest.specs.Versions.{AreDistinct, HasVersion, IsIn, files_named, row_files, version_bytes}
 use Rattle.alt_manifest.specs.declared.version.FamilyVersion.{FamilyVersion}
 use Rattle.alt_manifest.specs.declared.version.Version.{Version}
 use Rattle.alt_manifest.proofs.AppendLaws.{has_version}
 use Rattle.alt_layout.specs.Families.{Held, files_of, flushed_of, layout_of, next_after, with_later}
 use Rattle.alt_layout.specs.Files.{IsLayout, all_of}
 use Rattle.alt_layout.specs.Moments.{Lies, HasEither, IsIt}
-use Rattle.alt_layout.proofs.FileLaws.{all_of-push, apart, in_back, in_front, last_named, layout_push, named_later, stored_on}
+use Rattle.alt_layout.proofs.FileLaws.{all_of-join, apart, distinct_front, in_back, in_front, last_named, layout_join, named_later, stored_on}
 use Rattle.alt_layout.proofs.FamilyLaws.{flushed_below}
 use Rattle.alt_layout.proofs.FlushLaws.{unnamed}
-use Rattle.alt_layout.proofs.RowLaws.{next_after-least, with_later-push, with_one-above}
-use Rattle.alt_layout.proofs.MomentLaws.{in_each_image, lies_quiet, lies_write, spans_write}
+use Rattle.alt_layout.proofs.RowLaws.{next_after-least, next_number-numbered, with_later-above, with_later-append}
+use Rattle.alt_layout.proofs.MomentLaws.{in_each_image, lies_quiet, lies_writes, spans_writes}
 use Rattle.alt_layout.proofs.PastLaws.{stored_past}
-use Rattle.alt_layout.specs.Writes.{changes_in, with_write}
-use Rattle.alt_hand.specs.InHand.{Reads, Stands, AreBelow, AreOpen, batch_write, BeforeOrWith, IsWritten, family_of, written_bytes}
+use Rattle.alt_layout.specs.Writes.{rows_with, with_writes}
+use Rattle.alt_hand.specs.InHand.{Reads, Stands, AreBelow, AreOpen, batch_writes, BeforeOrAll, IsLength, IsWritten, family_of}
 use Rattle.alt_families.specs.Families.{Families, files_in, rows_in}
-use Rattle.alt_families.specs.Memory.{IsWrittenTo}
+use Rattle.alt_families.specs.Memory.{AreWrittenTo}
 use Rattle.alt_hand.specs.declared.hand.Hand.{Hand}
+use Rattle.alt_hand.proofs.LogLaws.{holds_on, length_on}
 
 -- the last version, as the disk reads
 last_of : (s : DiskState) (e : Hand) (l : Layout) → Reads s e l
@@ -107,16 +110,18 @@ reads_quiet a b e l reads quiet = record {
     log = reads_stays a b e.manifest.log (reads.versions.before
         ++ version_bytes (version_of e.manifest) ∷ []) (quiet.file e.manifest.log.file)
         reads.versions.log;
+    form = reads.versions.form;
     is = reads.versions.is;
   };
   first = reads.first;
   stored = stored_on a.file b.file (version_of e.manifest) reads.held reads.held reads.parts
       (λ g there. quiet.file g) (λ g there. refl) reads.stored;
   ends = reads.ends;
-  log = reads_stays a b e.log (map write_bytes reads.writes) (quiet.file e.log.file) reads.log;
+  log = holds_on a b e.log reads.writes (quiet.file e.log.file) reads.log;
   is = reads.is;
   next = reads.next;
-  length = reads.length;
+  length = length_on a.file b.file (version_of e.manifest).segments e.length
+      (λ g there. quiet.file g) reads.length;
   free = reads.free;
   fresh = λ f le. quiet.file f ∙ reads.fresh f le;
   memory = reads.memory;
@@ -134,29 +139,36 @@ stays_quiet a b e l stands quiet = record {
       (lies_of a e l stands) quiet).settled;
 }
 
--- While a batch is added to the last segment each image has the rows before, or with it.
-pub write_images : (a b : DiskState) (e : Hand) (l : Layout) (changes : List RowChange)
-    (bytes : List ℕ) (stands : Stands a e l) → bytes ≡ write_bytes (batch_write l changes)
-    → IsHeldWrite (batch_write l changes)
-    → Run a b (log_file e.log) (BeforeOrAfter first_form
-    (map write_bytes stands.reads.writes) bytes)
-    → Spans a b IsWritten (BeforeOrWith l changes)
-write_images a b e l changes bytes stands spelled fits run =
+-- The writes of batches have numbers that rise from the next one of the log on.
+pub rise_on : (s : DiskState) (e : Hand) (l : Layout) (batches : List (List RowChange))
+    (reads : Reads s e l)
+    → AreRising (next_after (version_of e.manifest).next_number (all_of reads.parts))
+    (batch_writes l batches)
+rise_on s e l batches reads =
+    subst (λ (n : ℕ). AreRising n (batch_writes l batches))
+    (ap (λ (m : Layout). m.next_number) reads.is) (rising-numbered l.next_number batches)
+
+-- While batches are added to the last segment each image has the rows before, or with all of them.
+pub write_images : (a b : DiskState) (e : Hand) (l : Layout) (batches : List (List RowChange))
+    (entry : List ℕ) (stands : Stands a e l)
+    → IsEntry (form_of e.log) entry (batch_writes l batches)
+    → Run a b (log_file e.log) (BeforeOrAfter (form_of e.log) stands.reads.log.entries entry)
+    → Spans a b IsWritten (BeforeOrAll l batches)
+write_images a b e l batches entry stands is run =
     let reads = stands.reads in
     let v = version_of e.manifest in
     let before : Layout = layout_of v reads.held (all_of reads.parts) in
-    spans_weaker a b (IsIt (log_file e.log)) IsWritten (BeforeOrWith l changes)
-    (HasEither before (with_write before (batch_write l changes)))
-    (spans_write a b v reads.held reads.parts (log_file e.log) reads.writes (batch_write l changes)
-    bytes (lies_of a e l stands) reads.ends spelled fits
-    (let same : l.next_number ≡ before.next_number = ap (λ (m : Layout). m.next_number) reads.is in
-    omega (arith, same)) run)
+    spans_weaker a b (IsIt (log_file e.log)) IsWritten (BeforeOrAll l batches)
+    (HasEither before (with_writes before (batch_writes l batches)))
+    (spans_writes a b v reads.held reads.parts (log_file e.log) reads.writes (form_of e.log)
+    reads.log.entries entry (batch_writes l batches) (lies_of a e l stands) reads.ends
+    reads.log.holds is (rise_on a e l batches reads) run)
     (λ g it first. named_later v (log_file e.log) reads.versions.is
     (last_named v reads.parts (log_file e.log) reads.writes reads.ends) (sym it ∙ first))
     (λ t image has. subst (λ (m : Layout). IsLayout image m
-    ⊎ IsLayout image (with_write m (batch_write l changes))) (sym reads.is) has)
+    ⊎ IsLayout image (with_writes m (batch_writes l batches))) (sym reads.is) has)
 
--- ---- a batch more
+-- ---- batches more
 
 -- files in hand read as they read where their files do
 pub open_elsewhere : (a b : DiskState) (held : Held) (gs : List ℕ) (fs : List RowFile)
@@ -185,17 +197,11 @@ in_row_files (f ∷ fs) family g there = by_test (f.family == family) (in_row_fi
     by_test true rest there = in_front f.files (row_files fs) g there
     by_test false rest there = in_back f.files (row_files fs) g (rest there)
 
--- the entries of writes and one more
-written_push : (ws : List Write) (w : Write)
-    → written_bytes (ws ++ w ∷ []) ≡ written_bytes ws + length (write_bytes w)
-written_push [] w = omega arith
-written_push (v ∷ vs) w = let rest = written_push vs w in omega (arith, rest)
-
-module _ (a b : DiskState) (e : Hand) (l : Layout) (changes : List RowChange) (bytes : List ℕ)
-    (stands : Stands a e l) (spelled : bytes ≡ write_bytes (batch_write l changes))
-    (fits : IsHeldWrite (batch_write l changes))
-    (run : Run a b (log_file e.log) (BeforeOrAfter first_form
-    (map write_bytes stands.reads.writes) bytes)) where
+module _ (a b : DiskState) (e : Hand) (l : Layout) (batches : List (List RowChange))
+    (bytes : List ℕ) (stands : Stands a e l)
+    (is_entry : IsEntry (form_of e.log) bytes (batch_writes l batches))
+    (run : Run a b (log_file e.log)
+    (BeforeOrAfter (form_of e.log) stands.reads.log.entries bytes)) where
   abbrev reads : Reads a e l
   reads = stands.reads
 
@@ -205,14 +211,14 @@ module _ (a b : DiskState) (e : Hand) (l : Layout) (changes : List RowChange) (b
   abbrev f : ℕ
   f = log_file e.log
 
-  abbrev w : Write
-  w = batch_write l changes
+  abbrev ws : List Write
+  ws = batch_writes l batches
 
   abbrev before : Layout
   before = layout_of v reads.held (all_of reads.parts)
 
   abbrev parts : List (List Write)
-  parts = reads.ends.fronts ++ (reads.writes ++ w ∷ []) ∷ []
+  parts = reads.ends.fronts ++ (reads.writes ++ ws) ∷ []
 
   lies : Lies a v reads.held reads.parts
   lies = lies_of a e l stands
@@ -220,14 +226,16 @@ module _ (a b : DiskState) (e : Hand) (l : Layout) (changes : List RowChange) (b
   named : IsIn (files_named v) f
   named = last_named v reads.parts f reads.writes reads.ends
 
-  later : next_after v.next_number (all_of reads.parts) ≤ w.number
-  later = let same : l.next_number ≡ before.next_number = ap (λ (m : Layout). m.next_number) reads.is in
-      omega (arith, same)
+  abbrev logged : List (List ℕ)
+  logged = reads.log.entries
+
+  later : AreRising (next_after v.next_number (all_of reads.parts)) ws
+  later = rise_on a e l batches reads
 
   -- its writes, in a list
-  all : all_of parts ≡ all_of reads.parts ++ w ∷ []
-  all = all_of-push reads.ends.fronts reads.writes w
-      ∙ ap (λ x. all_of x ++ w ∷ []) (sym reads.ends.parts_are)
+  all : all_of parts ≡ all_of reads.parts ++ ws
+  all = all_of-join reads.ends.fronts reads.writes ws
+      ∙ ap (λ x. all_of x ++ ws) (sym reads.ends.parts_are)
 
   -- the file of a row file is another than the segment
   other : (g : ℕ) → IsIn (row_files v.families) g → g ≢ f
@@ -235,31 +243,77 @@ module _ (a b : DiskState) (e : Hand) (l : Layout) (changes : List RowChange) (b
       (subst (λ xs. IsIn xs f) (sym reads.ends.segments)
       (in_back reads.ends.firsts (f ∷ []) f (inl refl))) there (sym same)
 
-  module _ (log : GateLog) (size : ℕ) (families : Families) (same_file : log_file log ≡ f)
-      (added : LogStands b log (map write_bytes reads.writes ++ bytes ∷ []))
+  -- and so is an earlier segment
+  other_segment : (g : ℕ) → IsIn reads.ends.firsts g → g ≢ f
+  other_segment g there = apart reads.ends.firsts (f ∷ []) g f
+      (subst AreDistinct reads.ends.segments
+      (distinct_front v.segments (row_files v.families) reads.versions.is.differ)) there (inl refl)
+
+  module _ (log : GateLog) (size next : ℕ) (families : Families) (same_file : log_file log ≡ f)
+      (same_form : form_of log ≡ form_of e.log) (added : LogStands b log (logged ++ bytes ∷ []))
       (size_is : size ≡ min (e.length + length bytes) most_bytes)
-      (written : IsWrittenTo e.families families e.next changes) (full : Bool)
+      (next_is : next ≡ e.next + length batches)
+      (written : AreWrittenTo e.families families (numbered e.next batches)) (full : Bool)
       (calm : full ≡ false → AreBelow e.limits.flush families) where
+    -- the segment is a log with the entry
+    written_there : IsLog (form_of e.log) (logged ++ bytes ∷ []) (b.file f)
+    written_there = subst (λ (x : Form). IsLog x (logged ++ bytes ∷ []) (b.file f)) same_form
+        (subst (λ g. IsLog (form_of log) (logged ++ bytes ∷ []) (b.file g)) same_file
+        (reads_log b log (logged ++ bytes ∷ []) added.reads))
+
     lies_after : Lies b v reads.held parts
-    lies_after = lies_write a b v reads.held reads.parts f reads.writes w bytes lies reads.ends spelled
-        fits later (BeforeOrAfter first_form (map write_bytes reads.writes) bytes) run
-        (subst (λ g. IsLog first_form (map write_bytes reads.writes ++ bytes ∷ []) (b.file g)) same_file
-        (reads_log b log (map write_bytes reads.writes ++ bytes ∷ []) added.reads))
+    lies_after = lies_writes a b v reads.held reads.parts f reads.writes (form_of e.log) logged bytes
+        ws lies reads.ends reads.log.holds is_entry later
+        (BeforeOrAfter (form_of e.log) logged bytes) run written_there
         (subst (IsSettled b) same_file added.settled)
+
+    -- and all segments have its bytes more
+    size_after : IsLength b.file v.segments size
+    size_after =
+        let split = sized_last a.file reads.ends.firsts f reads.length.bytes
+        (subst (λ fs. AreSized a.file fs reads.length.bytes) reads.ends.segments
+        reads.length.sized) in
+        let own = one_size split.0 (bytes_in logged) (a.file f) split.2
+        (record {
+          form = form_of e.log;
+          entries = logged;
+          log = reads_log a e.log logged reads.log.reads;
+          is = refl;
+        }) in
+        let front = sized_on a.file b.file reads.ends.firsts split.1
+        (λ g there. run.file g (other_segment g there)) split.3 in
+        let more = bytes_in-push logged bytes in
+        let sum = split.4 in
+        let old = reads.length.is in
+        record {
+          bytes = split.1 + bytes_in (logged ++ bytes ∷ []);
+          sized = subst (λ fs. AreSized b.file fs (split.1 + bytes_in (logged ++ bytes ∷ [])))
+              (sym reads.ends.segments) (sized_with b.file reads.ends.firsts f split.1
+              (bytes_in (logged ++ bytes ∷ [])) front (record {
+                form = form_of e.log;
+                entries = logged ++ bytes ∷ [];
+                log = written_there;
+                is = refl;
+              }));
+          is = size_is ∙ (let same : min (e.length + length bytes) most_bytes
+              ≡ min (split.1 + bytes_in (logged ++ bytes ∷ [])) most_bytes =
+              omega (arith, old, own, sum, more) in same);
+        }
 
     memory : (family : ℕ) → rows_in (get nat_cmp families family)
         ≡ with_later (flushed_of v.families family) family empty (all_of parts)
     memory family =
         let flushed = flushed_of v.families family in
         written.rows family
-        ∙ (λ i. joined_map join_row (reads.memory family i) (changes_in (reads.next i) family changes))
+        ∙ (λ i. rows_with family (reads.memory family i) (numbered (reads.next i) batches))
         ∙ sym (ap (with_later flushed family empty) all
-        ∙ with_later-push flushed family empty (all_of reads.parts) w
-        ∙ with_one-above flushed family (with_later flushed family empty (all_of reads.parts)) w
+        ∙ with_later-append flushed family empty (all_of reads.parts) ws
+        ∙ with_later-above flushed family (next_after v.next_number (all_of reads.parts))
+        (with_later flushed family empty (all_of reads.parts)) ws
         (let low = flushed_below v.next_number v.families family reads.versions.is.next_number.0
         reads.versions.is.families in
         let least = next_after-least v.next_number (all_of reads.parts) in
-        let late = later in omega (arith, low, least, late)))
+        omega (arith, low, least)) later)
 
     opened : (family : ℕ) → AreOpen b reads.held (files_of v.families family)
         (files_in (get nat_cmp families family))
@@ -269,24 +323,25 @@ module _ (a b : DiskState) (e : Hand) (l : Layout) (changes : List RowChange) (b
         (λ g there. run.file g (other g (in_row_files v.families family g there)))
         (reads.opened family))
 
-    -- then the engine stands with the batch
-    pub with_batch : Stands b (record e {
+    -- then the engine stands with the batches
+    pub with_batches : Stands b (record e {
       log = log;
       length = size;
-      next = e.next + 1;
+      next = next;
       families = families;
       full = full;
-    }) (with_write l w)
-    with_batch = record {
+    }) (with_writes l ws)
+    with_batches = record {
       reads = record {
         held = reads.held;
         parts = parts;
-        writes = reads.writes ++ w ∷ [];
+        writes = reads.writes ++ ws;
         versions = record {
           before = reads.versions.before;
           log = reads_stays a b e.manifest.log (reads.versions.before ++ version_bytes v ∷ [])
               (run.file e.manifest.log.file (λ same. named_later v f reads.versions.is named
               (sym same ∙ reads.first))) reads.versions.log;
+          form = reads.versions.form;
           is = reads.versions.is;
         };
         first = reads.first;
@@ -297,15 +352,19 @@ module _ (a b : DiskState) (e : Hand) (l : Layout) (changes : List RowChange) (b
           segments = reads.ends.segments ∙ ap (λ g. reads.ends.firsts ++ g ∷ []) (sym same_file);
           parts_are = refl;
         };
-        log = subst (LogReads b log) (ap (λ x. map write_bytes reads.writes ++ x ∷ []) spelled
-            ∙ sym (bytes-push reads.writes w)) added.reads;
-        is = ap (λ (m : Layout). with_write m w) reads.is
-            ∙ sym (layout_push v reads.held reads.parts f reads.writes w reads.versions.is reads.ends
-            later);
-        next = ap (λ n. n + 1) reads.next;
-        length = size_is ∙ (let old = reads.length in let more = written_push (all_of reads.parts) w in
-            let same = ap written_bytes all in let by = ap length spelled in
-            omega (arith, old, more, same, by));
+        log = record {
+          entries = logged ++ bytes ∷ [];
+          reads = added.reads;
+          holds = subst (λ (x : Form). HoldWrites x (logged ++ bytes ∷ []) (reads.writes ++ ws))
+              (sym same_form) (holds_push (form_of e.log) logged reads.writes bytes ws
+              reads.log.holds is_entry);
+        };
+        is = ap (λ (m : Layout). with_writes m ws) reads.is
+            ∙ sym (layout_join v reads.held reads.parts f reads.writes ws reads.versions.is
+            reads.ends later);
+        next = next_is ∙ ap (λ n. n + length batches) reads.next
+            ∙ sym (next_number-numbered l l.next_number batches refl);
+        length = size_after;
         free = reads.free;
         fresh = λ g le. run.file g (λ same. unnamed v g reads.versions.is
             (let low = reads.free in omega (arith, low, le)) (subst (IsIn (files_named v)) (sym same)

@@ -1,5 +1,5 @@
 -- The engine once the files are removed that its version doesn't name.
-use Rattle.std.proofs.Common.{◌≡◌, ◌≢◌, ◌<◌, ◌≤◌, ◌+◌, ◌-◌, ◌^◌, ◌==◌, ◌++◌, ◌∷◌, ⊎_elim, inl, inr, ℕ, true, List, [], length, map, max, min, Option, Some, None, refl, sym, ap, subst, ◌∙◌, arith, Bool, false}
+use Rattle.std.proofs.Common.{◌≡◌, ◌≢◌, ◌<◌, ◌≤◌, ◌+◌, ◌-◌, ◌^◌, ◌==◌, ◌++◌, ◌∷◌, ⊎_elim, inl, inr, ℕ, true, List, [], length, max, min, Option, Some, None, refl, sym, ap, subst, ◌∙◌, arith, Bool, false}
 use Rattle.std.specs.Prelude.{◌⊎◌, ⊤, is_some}
 use Rattle.std.specs.List.{AllByRecursion, list_any}
 use Rattle.alt_disk.specs.Disk.{DiskState, IsNames}
@@ -12,7 +12,7 @@ use Rattle.alt_layout.specs.Families.{Held, files_of}
 use Rattle.alt_layout.specs.Files.{AreRowFiles, AreSegments, HoldsRows, Image, IsLayout, IsOf, Stored}
 use Rattle.alt_layout.specs.Fresh.{versions_file}
 use Rattle.alt_layout.specs.Layout.{Layout}
-use Rattle.alt_layout.proofs.FileLaws.{in_back, in_either, last_named, stored_on}
+use Rattle.alt_layout.proofs.FileLaws.{in_back, in_either, in_front, last_named, stored_on}
 use Rattle.alt_layout.proofs.FlushLaws.{unnamed}
 use Rattle.alt_layout.proofs.MomentLaws.{same_or_not}
 use Rattle.alt_manifest.specs.Versions.{HasVersion, IsIn, IsVersion, RiseFrom, files_named, row_files, version_bytes}
@@ -20,7 +20,6 @@ use Rattle.alt_manifest.specs.declared.version.FamilyVersion.{FamilyVersion}
 use Rattle.alt_manifest.specs.declared.version.Version.{Version}
 use Rattle.alt_manifest.proofs.OneVersion.{same_version}
 use Rattle.alt_recovery.specs.Others.{IsOther, next_past}
-use Rattle.alt_writes.specs.Bytes.{write_bytes}
 use Rattle.alt_writes.specs.Writes.{Write}
 use Rattle.alt_hand.specs.Found.{Found, version_in}
 use Rattle.alt_hand.specs.InHand.{AreBelow, Reads, Stands, family_of}
@@ -28,6 +27,7 @@ use Rattle.alt_hand.specs.Syncing.{AllSynced}
 use Rattle.alt_hand.specs.declared.hand.Hand.{Hand}
 use Rattle.alt_hand.proofs.FoundLaws.{version_there}
 use Rattle.alt_hand.proofs.HandLaws.{in_row_files, open_elsewhere}
+use Rattle.alt_hand.proofs.LogLaws.{holds_on, length_on}
 
 -- ---- numbers of files
 
@@ -95,7 +95,7 @@ segments_there : (image : Image) (fs : List ℕ) (parts : List (List Write)) (f 
 segments_there image [] parts f are there = absurd there
 segments_there image (g ∷ fs) [] f are there = absurd are
 segments_there image (g ∷ fs) (ws ∷ parts) f are (inl same) =
-    record { bytes = _; there = ap image same ∙ are.0.is }
+    record { bytes = _; there = ap image same ∙ are.0.log.is }
 segments_there image (g ∷ fs) (ws ∷ parts) f are (inr later) =
     segments_there image fs parts f are.1 later
 
@@ -155,18 +155,20 @@ found_reads a b e l n found kept le gone full calm =
         before = found.versions.before;
         log = reads_stays a b e.manifest.log (found.versions.before ++ version_bytes v ∷ [])
             (kept e.manifest.log.file (inl found.first)) found.versions.log;
+        form = found.versions.form;
         is = found.versions.is;
       };
       first = found.first;
       stored = stored_on a.file b.file v found.held found.held found.parts
           (λ g there. kept g (inr there)) (λ g there. refl) found.stored;
       ends = found.ends;
-      log = reads_stays a b e.log (map write_bytes found.writes)
+      log = holds_on a b e.log found.writes
           (kept (log_file e.log) (inr (last_named v found.parts (log_file e.log) found.writes found.ends)))
           found.log;
       is = found.is;
       next = found.next;
-      length = found.length;
+      length = length_on a.file b.file v.segments e.length
+          (λ g there. kept g (inr (in_front v.segments (row_files v.families) g there))) found.length;
       free = past;
       fresh = λ f above. gone f (later_other v f found.versions.is (omega (arith, past, above)));
       memory = found.memory;

@@ -1,5 +1,5 @@
 -- A draft and the families in hand, step by step.
-use Rattle.std.proofs.Common.{◌≡◌, ◌≢◌, ◌≤◌, ◌<◌, ◌+◌, ◌-◌, ◌^◌, max, min, ℕ, Option, List, [], ◌∷◌, ◌++◌, map, refl, sym, ap, subst, ◌∙◌, arith, inl, inr, ⊎_elim, Bool, false}
+use Rattle.std.proofs.Common.{◌≡◌, ◌≢◌, ◌≤◌, ◌<◌, ◌+◌, ◌-◌, ◌^◌, max, min, ℕ, Option, List, [], ◌∷◌, ◌++◌, refl, sym, ap, subst, ◌∙◌, arith, inl, inr, ⊎_elim, Bool, false}
 use Rattle.std.specs.BTreeMap.{get}
 use Rattle.std.specs.FinMap.{empty, entries}
 use Rattle.std.specs.Ordering.{nat_cmp}
@@ -9,15 +9,14 @@ use Rattle.alt_flush.specs.Drafts.{over_new_log, renumbered, with_flush, without
 use Rattle.alt_flush.proofs.DraftLaws.{first_drafted, first_same, flush_drafted, flush_layout, new_log_drafted, next_above, old_file, settled_on, without_drafted}
 use Rattle.alt_flush.proofs.DropLaws.{files_of-none, flushed_of-none, none-other, without_others, without_rows}
 use Rattle.alt_flush.proofs.NewLogLaws.{files_of-with_files, new_log_same}
-use Rattle.alt_gatelog.specs.InHand.{file_of as log_file, Reads as LogReads, Stands as LogStands}
+use Rattle.alt_gatelog.specs.InHand.{file_of as log_file, Stands as LogStands}
 use Rattle.alt_gatelog.specs.declared.gatelog.GateLog.{GateLog}
-use Rattle.alt_gatelog.proofs.Elsewhere.{reads_stays}
 use Rattle.alt_layout.specs.Families.{Held, files_of, flushed_of, layout_of, next_after, with_later}
 use Rattle.alt_layout.specs.Files.{EndsWith, IsOf, Stored, all_of}
 use Rattle.alt_layout.specs.Flushes.{with_rows}
 use Rattle.alt_layout.specs.Fresh.{versions_file}
 use Rattle.alt_layout.specs.Layout.{Layout, RowMap}
-use Rattle.alt_layout.proofs.FileLaws.{in_back, last_named, named_later, stored_on}
+use Rattle.alt_layout.proofs.FileLaws.{in_back, in_front, last_named, named_later, stored_on}
 use Rattle.alt_layout.proofs.FlushLaws.{files_of-own, flushed_of-own, of-other, other_rows, own_rows}
 use Rattle.alt_layout.proofs.MomentLaws.{same_or_not}
 use Rattle.alt_layout.proofs.RowLaws.{next_after-least, with_later-none}
@@ -26,16 +25,16 @@ use Rattle.alt_manifest.specs.Versions.{IsIn, files_named, row_files}
 use Rattle.alt_manifest.specs.declared.manifest.Manifest.{Manifest}
 use Rattle.alt_manifest.specs.declared.version.FamilyVersion.{FamilyVersion}
 use Rattle.alt_manifest.specs.declared.version.Version.{Version}
-use Rattle.alt_memtable.specs.Rows.{most_bytes}
 use Rattle.alt_rowfile.specs.InHand.{file_of as row_file, Reads as RowReads, Stands as RowFileStands}
 use Rattle.alt_rowfile.specs.declared.rowfile.RowFile.{RowFile}
-use Rattle.alt_writes.specs.Bytes.{AllHeld, write_bytes}
+use Rattle.alt_writes.specs.Bytes.{AllHeld}
 use Rattle.alt_writes.specs.Writes.{Write}
 use Rattle.alt_families.specs.Families.{Families, files_in, rows_in}
 use Rattle.alt_hand.specs.Drafting.{Empties, Makes}
-use Rattle.alt_hand.specs.InHand.{AreBelow, AreOpen, Stands, written_bytes}
+use Rattle.alt_hand.specs.InHand.{AreBelow, AreOpen, IsLength, LogHolds, Stands}
 use Rattle.alt_hand.specs.declared.hand.Hand.{Hand}
 use Rattle.alt_hand.proofs.HandLaws.{in_row_files, lies_of}
+use Rattle.alt_hand.proofs.LogLaws.{holds_on, length_on}
 
 -- ---- files in hand
 
@@ -298,8 +297,7 @@ pub stands_by : (b c : DiskState) (e : Hand) (u : Version) (families : Families)
     (n : Manifest) (log : GateLog) (writes : List Write) (size : ℕ)
     → Makes b u families parts l → Run b c versions_file P → manifest_file n ≡ versions_file
     → version_of n ≡ u → ManifestStands c n → EndsWith u parts (log_file log) writes
-    → LogReads b log (map write_bytes writes)
-    → size ≡ min (written_bytes (all_of parts)) most_bytes → e.next ≡ l.next_number
+    → LogHolds b log writes → IsLength b.file u.segments size → e.next ≡ l.next_number
     → (full : Bool) → (full ≡ false → AreBelow e.limits.flush families)
     → Stands c (record e {
       manifest = n;
@@ -321,11 +319,13 @@ stands_by b c e u families parts l P n log writes size makes run first version m
             (stored_on b.file c.file u makes.held makes.held parts on (λ g there. refl)
             makes.drafted.stored);
         ends = subst (λ (w : Version). EndsWith w parts (log_file log) writes) (sym version) ends;
-        log = reads_stays b c log (map write_bytes writes) (on (log_file log)
+        log = holds_on b c log writes (on (log_file log)
             (last_named u parts (log_file log) writes ends)) reads;
         is = makes.is ∙ ap (λ (w : Version). layout_of w makes.held (all_of parts)) (sym version);
         next = next;
-        length = size_is;
+        length = subst (λ (w : Version). IsLength c.file w.segments size) (sym version)
+            (length_on b.file c.file u.segments size
+            (λ g there. on g (in_front u.segments (row_files u.families) g there)) size_is);
         free = subst (λ (w : Version). w.next_file ≤ u.next_file) (sym version) (omega arith);
         fresh = λ g le. run.file g (λ same. let two = next_above u makes.drafted.is in
             omega (arith, le, same, two)) ∙ makes.drafted.fresh g le;

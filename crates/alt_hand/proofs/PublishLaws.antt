@@ -1,5 +1,5 @@
 -- An engine by its new version, and what calls on the way leave.
-use Rattle.std.proofs.Common.{◌≡◌, ◌≤◌, ⊎_elim, inl, inr, ℕ, List, [], ◌∷◌, map, Option, refl, sym, subst, ◌∙◌, arith, Bool, false}
+use Rattle.std.proofs.Common.{◌≡◌, ◌≤◌, ⊎_elim, inl, inr, ℕ, List, [], ◌∷◌, Option, refl, sym, subst, ◌∙◌, arith, Bool, false}
 use Rattle.std.specs.Prelude.{◌⊎◌}
 use Rattle.alt_disk.specs.Disk.{DiskState}
 use Rattle.alt_disk.specs.Runs.{Run, Spans}
@@ -13,19 +13,19 @@ use Rattle.alt_layout.specs.Files.{IsLayout, IsOf, all_of}
 use Rattle.alt_layout.specs.Fresh.{versions_file}
 use Rattle.alt_layout.specs.Layout.{Layout}
 use Rattle.alt_layout.specs.Moments.{Has, HasEither, IsIt}
-use Rattle.alt_layout.proofs.FileLaws.{in_back, last_named, stored_on}
+use Rattle.alt_layout.proofs.FileLaws.{in_back, in_front, last_named, stored_on}
 use Rattle.alt_layout.proofs.FlushLaws.{unnamed}
 use Rattle.alt_layout.proofs.MomentLaws.{same_or_not}
 use Rattle.alt_manifest.specs.InHand.{file_of as manifest_file, version_of, OldOrNew, Stands as ManifestStands}
 use Rattle.alt_manifest.specs.Versions.{IsIn, files_named, row_files}
 use Rattle.alt_manifest.specs.declared.manifest.Manifest.{Manifest}
 use Rattle.alt_manifest.specs.declared.version.Version.{Version}
-use Rattle.alt_writes.specs.Bytes.{write_bytes}
 use Rattle.alt_families.specs.Families.{files_in}
 use Rattle.alt_hand.specs.Drafting.{IsLying, IsReady}
 use Rattle.alt_hand.specs.InHand.{AreBelow, Stands, family_of}
 use Rattle.alt_hand.specs.declared.hand.Hand.{Hand}
 use Rattle.alt_hand.proofs.HandLaws.{in_row_files, lies_of}
+use Rattle.alt_hand.proofs.LogLaws.{holds_on, length_on}
 use Rattle.alt_hand.proofs.MakesLaws.{open_still, stands_by}
 
 -- a number is among others, or not
@@ -68,18 +68,21 @@ module _ (a b : DiskState) (e : Hand) (l : Layout) (files : List ℕ) (stands : 
         before = stands.reads.versions.before;
         log = reads_stays a b e.manifest.log _
             (on (manifest_file e.manifest) (inl stands.reads.first)) stands.reads.versions.log;
+        form = stands.reads.versions.form;
         is = stands.reads.versions.is;
       };
       first = stands.reads.first;
       stored = stored_on a.file b.file v stands.reads.held stands.reads.held stands.reads.parts
           (λ g there. on g (inr there)) (λ g there. refl) stands.reads.stored;
       ends = stands.reads.ends;
-      log = reads_stays a b e.log (map write_bytes stands.reads.writes) (on (log_file e.log)
+      log = holds_on a b e.log stands.reads.writes (on (log_file e.log)
           (inr (last_named v stands.reads.parts (log_file e.log) stands.reads.writes
           stands.reads.ends))) stands.reads.log;
       is = stands.reads.is;
       next = stands.reads.next;
-      length = stands.reads.length;
+      length = length_on a.file b.file v.segments e.length
+          (λ g there. on g (inr (in_front v.segments (row_files v.families) g there)))
+          stands.reads.length;
       free = stands.reads.free;
       fresh = λ f le. ⊎_elim
           (λ (there : IsIn files f). gone f (there, not_of f le))

@@ -1,5 +1,5 @@
 -- Why files that are explained as no store's have no layout, and what is left on the way of a recovery.
-use Rattle.std.proofs.Common.{◌≡◌, ◌<◌, ◌≤◌, ◌+◌, ◌-◌, ◌++◌, ◌∷◌, ⊎_elim, inl, inr, ℕ, List, [], take, drop, length, map, max, Option, Some, refl, sym, ap, subst, ◌∙◌, length-append, append_assoc, arith}
+use Rattle.std.proofs.Common.{◌≡◌, ◌<◌, ◌≤◌, ◌+◌, ◌-◌, ◌++◌, ◌∷◌, ⊎_elim, inl, inr, ℕ, List, [], take, drop, length, max, Option, Some, refl, sym, ap, subst, ◌∙◌, length-append, append_assoc, arith}
 use Rattle.std.proofs.lemmas.List.{drop_at, take_at}
 use Rattle.std.specs.Prelude.{⊤, Result, Ok, Err, IfOk, OnOk}
 use Rattle.std.specs.FinMap.{entries, same_entries_map}
@@ -11,13 +11,16 @@ use Rattle.alt_disk.specs.Fates.{Fates, Fits}
 use Rattle.alt_disk.specs.Runs.{Spans}
 use Rattle.alt_disk.proofs.Settled.{synced_settled}
 use Rattle.alt_fields.proofs.Apart.{back, front, same_fronts}
-use Rattle.alt_gatelog.specs.Log.{IsDamaged, IsLog, first_form}
-use Rattle.alt_gatelog.proofs.OneList.{damaged_no_log, one_list}
+use Rattle.alt_gatelog.specs.Log.{IsDamaged, IsLog}
+use Rattle.alt_gatelog.specs.declared.form.Form.{Form}
+use Rattle.alt_gatelog.specs.declared.form.Form.TheVariants.{One, Two}
+use Rattle.alt_gatelog.proofs.OneList.{damaged_no_log, one_form, one_list}
 use Rattle.alt_layout.specs.Families.{IsMapBelow, next_after}
-use Rattle.alt_layout.specs.Files.{AreRowFiles, AreSegments, HoldsRows, Image, IsLayout, IsOf, all_of}
+use Rattle.alt_layout.specs.Files.{AreRowFiles, AreSegments, HoldsRows, Image, IsLayout, IsOf, IsSegment, all_of}
+use Rattle.alt_layout.specs.Entries.{AreEntries, HoldWrites, IsEntry}
 use Rattle.alt_layout.specs.Fresh.{versions_file}
 use Rattle.alt_layout.specs.Layout.{Layout, RowMap}
-use Rattle.alt_layout.proofs.OneLayout.{held_back, held_front, same_parts}
+use Rattle.alt_layout.proofs.OneLayout.{same_parts}
 use Rattle.alt_manifest.specs.Recovery.{IsBadLast, no_entry, no_version as bad_version}
 use Rattle.alt_manifest.specs.Versions.{HasVersion, IsIn, version_bytes}
 use Rattle.alt_manifest.specs.declared.version.Version.{Version}
@@ -27,11 +30,10 @@ use Rattle.alt_recovery.specs.Others.{IsOther}
 use Rattle.alt_rowfile.proofs.OneFile.{one_list as one_list_of_rows}
 use Rattle.alt_rowfile.specs.Format.{IsRowFile, body}
 use Rattle.alt_rowfile.specs.Recovery.{HasDigest, NoRowFile}
-use Rattle.alt_writes.proofs.OneWrite.{one_write}
-use Rattle.alt_writes.specs.Bytes.{AllHeld, IsHeldWrite, write_bytes}
+use Rattle.alt_layout.proofs.EntryLaws.{one_entry}
 use Rattle.alt_writes.specs.Writes.{AreRising, Write}
 use Rattle.alt_hand.specs.Found.{Found, version_in}
-use Rattle.alt_hand.specs.Recovery.{ExplainsStore, HasNoLayout, IsBadAt, IsBadDigest, IsRowFileOf, IsSegmentOf, LeftLike, late_rows, no_rows, no_segment, no_version, no_versions, no_write}
+use Rattle.alt_hand.specs.Recovery.{ExplainsStore, HasNoLayout, IsBadAt, IsBadDigest, IsRowFileOf, IsSegmentOf, LeftLike, late_rows, no_rows, no_segment, no_version, no_versions, no_write, other_form}
 use Rattle.alt_hand.specs.Syncing.{AllSynced, Narrows}
 use Rattle.alt_hand.specs.declared.hand.Hand.{Hand}
 use Rattle.alt_hand.specs.declared.recover.RecoverFault.{RecoverFault}
@@ -93,38 +95,39 @@ rising_back first (x ∷ xs) ys rising =
     let same : x.number + 1 ≡ max first (x.number + 1) = (let low = rising.0 in omega (arith, low)) in
     subst (λ (n : ℕ). AreRising (next_after n xs) ys) same (rising_back (x.number + 1) xs ys rising.1)
 
--- a write that an entry is, with this number or a later one
-record IsWriteFrom (number : ℕ) (entry : List ℕ) : Type 0 where
-  pub write : Write
-  pub held : IsHeldWrite write
-  pub later : number ≤ write.number
-  pub is : entry ≡ write_bytes write
+-- writes that an entry holds, with this number or later ones
+record IsEntryFrom (form : Form) (number : ℕ) (entry : List ℕ) : Type 0 where
+  pub writes : List Write
+  pub is : IsEntry form entry writes
+  pub rising : AreRising number writes
 
--- an entry behind writes is one of those that a log has
-among : (n : ℕ) (vs ws : List Write) (entry : List ℕ) (behind : List (List ℕ)) → AllHeld vs
-    → AllHeld ws → map write_bytes vs ≡ map write_bytes ws ++ entry ∷ behind
-    → AreRising n vs → IsWriteFrom (next_after n ws) entry
-among n [] [] entry behind held_v held_w e rising =
+-- an entry behind others that hold writes is one of those that a log has
+among : (form : Form) (n : ℕ) (es : List (List ℕ)) (gs : List (List Write))
+    (before : List (List ℕ)) (hs : List (List Write)) (entry : List ℕ) (behind : List (List ℕ))
+    → AreEntries form es gs → AreEntries form before hs → es ≡ before ++ entry ∷ behind
+    → AreRising n (all_of gs) → IsEntryFrom form (next_after n (all_of hs)) entry
+among form n [] gs [] hs entry behind each_g each_h e rising =
     let none : [] ≡ entry ∷ behind = e in cc none
-among n (v ∷ vs) [] entry behind held_v held_w e rising = record {
-  write = v;
-  held = held_v.0;
-  later = rising.0;
-  is = sym (front (write_bytes v) entry (map write_bytes vs) behind e);
+among form n [] gs (x ∷ before) hs entry behind each_g each_h e rising =
+    let none : [] ≡ x ∷ (before ++ entry ∷ behind) = e in cc none
+among form n (y ∷ es) [] before hs entry behind each_g each_h e rising = absurd each_g
+among form n (y ∷ es) (g ∷ gs) [] [] entry behind each_g each_h e rising = record {
+  writes = g;
+  is = subst (λ (x : List ℕ). IsEntry form x g) (front y entry es behind e) each_g.0;
+  rising = rising_front n g (all_of gs) rising;
 }
-among n [] (w ∷ ws) entry behind held_v held_w e rising =
-    let none : [] ≡ write_bytes w ∷ (map write_bytes ws ++ entry ∷ behind) = e in cc none
-among n (v ∷ vs) (w ∷ ws) entry behind held_v held_w e rising =
-    let same : v ≡ w = one_write v w held_v.0 held_w.0
-    (front (write_bytes v) (write_bytes w) (map write_bytes vs)
-    (map write_bytes ws ++ entry ∷ behind) e) in
-    let next : v.number + 1 ≡ max n (w.number + 1) =
-    (let low = rising.0 in let number = ap (λ (u : Write). u.number) same in
-    omega (arith, low, number)) in
-    among (max n (w.number + 1)) vs ws entry behind held_v.1 held_w.1
-    (back (write_bytes v) (write_bytes w) (map write_bytes vs)
-    (map write_bytes ws ++ entry ∷ behind) e)
-    (subst (λ (k : ℕ). AreRising k vs) next rising.1)
+among form n (y ∷ es) (g ∷ gs) [] (h ∷ hs) entry behind each_g each_h e rising = absurd each_h
+among form n (y ∷ es) (g ∷ gs) (x ∷ before) [] entry behind each_g each_h e rising =
+    absurd each_h
+among form n (y ∷ es) (g ∷ gs) (x ∷ before) (h ∷ hs) entry behind each_g each_h e rising =
+    let same : y ≡ x = front y x es (before ++ entry ∷ behind) e in
+    let group : g ≡ h = one_entry form x g h
+    (subst (λ (z : List ℕ). IsEntry form z g) same each_g.0) each_h.0 in
+    subst (λ (k : ℕ). IsEntryFrom form k entry)
+    (ap (λ (z : List Write). next_after (next_after n z) (all_of hs)) group
+    ∙ sym (next_after-append n h (all_of hs)))
+    (among form (next_after n g) es gs before hs entry behind each_g.1 each_h.1
+    (back y x es (before ++ entry ∷ behind) e) (rising_back n g (all_of gs) rising))
 
 -- ---- segments
 
@@ -135,7 +138,7 @@ record SegmentAt (image : Image) (before : List ℕ) (f : ℕ) (parts : List (Li
   pub behind : List (List Write)
   pub is : parts ≡ fronts ++ writes ∷ behind
   pub are : AreSegments image before fronts
-  pub log : IsLog first_form (map write_bytes writes) (image f)
+  pub log : IsSegment writes (image f)
 
 segment_at : (image : Image) (before behind : List ℕ) (f : ℕ) (parts : List (List Write))
     → AreSegments image (before ++ f ∷ behind) parts → SegmentAt image before f parts
@@ -170,10 +173,10 @@ all_of-split (us ∷ fronts) ws behind = ap (λ x. us ++ x) (all_of-split fronts
 
 module _ (files : Image) (l : Layout) (layout : IsLayout files l) where
   -- a log isn't damaged
-  no_log : (f at : ℕ) (es : List (List ℕ)) → IsLog first_form es (files f)
-      → IsDamaged first_form at (bytes_or_none (files f)) → ⊥
-  no_log f at es is bad = damaged_no_log first_form at (bytes_or_none (files f)) bad es
-      (subst (IsLog first_form es) (is.is
+  no_log : (form : Form) (f at : ℕ) (es : List (List ℕ)) → IsLog form es (files f)
+      → IsDamaged at (bytes_or_none (files f)) → ⊥
+  no_log form f at es is bad = damaged_no_log at (bytes_or_none (files f)) bad form es
+      (subst (IsLog form es) (is.is
       ∙ ap (λ (file : Option (List ℕ)). Some (bytes_or_none file)) (sym is.is)) is)
 
   -- the version is the layout's
@@ -204,10 +207,10 @@ module _ (files : Image) (l : Layout) (layout : IsLayout files l) where
       (sym (ap (λ (w : Version). w.segments) (same v has)) ∙ of.is) layout.stored.segments)
 
   -- the last entry of the versions is one
-  last_is_none : (es : List (List ℕ)) (at : ℕ) → IsLog first_form es (files versions_file)
+  last_is_none : (es : List (List ℕ)) (at : ℕ) → IsLog One es (files versions_file)
       → IsBadLast es at → ⊥
   last_is_none es at is (no_entry empty place) =
-      let both = one_list first_form (files versions_file) es _ is layout.last.log in
+      let both = one_list One (files versions_file) es _ is layout.last.log in
       let n : 0 ≡ length (layout.last.before ++ version_bytes layout.version ∷ []) =
       sym (ap length empty) ∙ ap length both in
       let m = length-append layout.last.before (version_bytes layout.version ∷ []) in
@@ -215,38 +218,43 @@ module _ (files : Image) (l : Layout) (layout : IsLayout files l) where
   last_is_none es at is (bad_version before last ends none place) =
       none layout.version layout.last.is (last_same before layout.last.before last
       (version_bytes layout.version)
-      (sym ends ∙ one_list first_form (files versions_file) es _ is layout.last.log))
+      (sym ends ∙ one_list One (files versions_file) es _ is layout.last.log))
 
-  -- an entry that is no write
+  -- an entry that holds no writes
   entry_is_none : (v : Version) (before : List ℕ) (f : ℕ) → HasVersion v (files versions_file)
       → IsSegmentOf v before f → (parts : List (List Write)) → AreSegments files before parts
-      → (ws : List Write) (entry : List ℕ) (behind : List (List ℕ))
-      → IsLog first_form (map write_bytes ws ++ entry ∷ behind) (files f)
-      → AllHeld (all_of parts ++ ws)
-      → IsWriteFrom (next_after 1 (all_of parts ++ ws)) entry
-  entry_is_none v before f has of parts are ws entry behind log held =
+      → (form : Form) (front : List (List ℕ)) (ws : List Write) (entry : List ℕ)
+      (behind : List (List ℕ)) → IsLog form (front ++ entry ∷ behind) (files f)
+      → HoldWrites form front ws → IsEntryFrom form (next_after 1 (all_of parts ++ ws)) entry
+  entry_is_none v before f has of parts are form front ws entry behind log holds =
       let at = segment v before f has of in
+      let own = at.log in
       let all = all_of-split at.fronts at.writes at.behind in
-      let whole = subst AllHeld (ap all_of at.is ∙ all) layout.stored.writes in
-      let fronts_held = held_front (all_of at.fronts) (at.writes ++ all_of at.behind) whole in
-      let writes_held = held_front at.writes (all_of at.behind)
-      (held_back (all_of at.fronts) (at.writes ++ all_of at.behind) whole) in
-      let fronts_are : at.fronts ≡ parts = same_parts files before at.fronts parts at.are are
-      fronts_held (held_front (all_of parts) ws held) in
+      let fronts_are : at.fronts ≡ parts = same_parts files before at.fronts parts at.are are in
       let rising : AreRising (next_after 1 (all_of parts)) at.writes =
       subst (λ (ps : List (List Write)). AreRising (next_after 1 (all_of ps)) at.writes) fronts_are
       (rising_front (next_after 1 (all_of at.fronts)) at.writes (all_of at.behind)
       (rising_back 1 (all_of at.fronts) (at.writes ++ all_of at.behind)
       (subst (AreRising 1) (ap all_of at.is ∙ all) layout.stored.rising))) in
-      subst (λ (n : ℕ). IsWriteFrom n entry) (sym (next_after-append 1 (all_of parts) ws))
-      (among (next_after 1 (all_of parts)) at.writes ws entry behind writes_held
-      (held_back (all_of parts) ws held)
-      (one_list first_form (files f) (map write_bytes at.writes) (map write_bytes ws ++ entry ∷ behind)
-      at.log log) rising)
+      let same_form : own.form ≡ form = one_form own.form form (files f) own.entries
+      (front ++ entry ∷ behind) own.log log in
+      let entries : own.entries ≡ front ++ entry ∷ behind = one_list form (files f) own.entries
+      (front ++ entry ∷ behind)
+      (subst (λ (x : Form). IsLog x own.entries (files f)) same_form own.log) log in
+      subst (λ (n : ℕ). IsEntryFrom form n entry)
+      (ap (next_after (next_after 1 (all_of parts))) (sym holds.are)
+      ∙ sym (next_after-append 1 (all_of parts) ws))
+      (among form (next_after 1 (all_of parts)) own.entries own.holds.groups front holds.groups
+      entry behind
+      (subst (λ (x : Form). AreEntries x own.entries own.holds.groups) same_form own.holds.each)
+      holds.each entries
+      (subst (AreRising (next_after 1 (all_of parts))) own.holds.are rising))
 
   -- files that have a layout are bad at no place
   bad_is_none : (f at : ℕ) → IsBadAt files f at → ⊥
-  bad_is_none f at (no_versions is bad) = no_log versions_file at _ layout.last.log bad
+  bad_is_none f at (no_versions is bad) = no_log One versions_file at _ layout.last.log bad
+  bad_is_none f at (other_form is place es log) =
+      let no : One ≡ Two = one_form One Two (files versions_file) _ es layout.last.log log in cc no
   bad_is_none f at (no_version is es log bad) = last_is_none es at log bad
   bad_is_none f at (no_rows v has flushed of place why) =
       let h = holds v f flushed has of in
@@ -265,10 +273,11 @@ module _ (files : Image) (l : Layout) (layout : IsLayout files l) where
       (one_list_of_rows (entries m) (entries (layout.held f)) h.bytes
       (subst (IsRowFile (entries m)) one are) h.rows))) h.past)
   bad_is_none f at (no_segment v has before of bad) =
-      no_log f at _ (segment v before f has of).log bad
-  bad_is_none f at (no_write v has before of parts are ws entry behind log held rising none place) =
-      let found = entry_is_none v before f has of parts are ws entry behind log held in
-      none found.write found.held found.later found.is
+      let own = (segment v before f has of).log in no_log own.form f at own.entries own.log bad
+  bad_is_none f at (no_write v has before of parts are form front ws entry behind log holds held
+      rising none place) =
+      let found = entry_is_none v before f has of parts are form front ws entry behind log holds in
+      none found.writes found.is found.rising
 
   -- and no digest differs
   digest_is_none : (f : ℕ) (kept found : List ℕ) → IsBadDigest files f kept found → ⊥

@@ -1,9 +1,12 @@
 -- What an engine's new version says, and what becomes of the files of the one before.
-use Rattle.std.specs.Prelude.{◌≡◌, ◌≢◌, ◌⊎◌, ◌<◌, ◌+◌, ◌-◌, ℕ, List, [], ◌∷◌, Option, None}
+use Rattle.std.specs.Prelude.{◌≡◌, ◌≢◌, ◌⊎◌, ◌<◌, ◌+◌, ◌-◌, ◌++◌, ℕ, List, [], ◌∷◌, Option, None}
 use Rattle.std.specs.FinMap.{empty}
 use Rattle.alt_disk.specs.Disk.{DiskState}
 use Rattle.alt_families.specs.Families.{rows_in}
 use Rattle.alt_families.specs.declared.family.Family.{Family}
+use Rattle.alt_gatelog.specs.InHand.{file_of as log_file, form_of}
+use Rattle.alt_gatelog.specs.declared.form.Form.{Form}
+use Rattle.alt_gatelog.specs.declared.form.Form.TheVariants.{One, Two}
 use Rattle.alt_layout.specs.Families.{files_of, flushed_of}
 use Rattle.alt_layout.specs.Files.{Image, IsOf}
 use Rattle.alt_layout.specs.Fresh.{versions_file}
@@ -58,11 +61,32 @@ pub record LeavesOut (live : List ℕ) (old new : Hand) : Type 0 where
 
 -- ---- A flush of all.
 
--- The new version names a new segment alone, so none of the old ones, and no family that isn't live.
+-- The new version names a new segment alone, of the second form, so none of the old ones, and no family that isn't live.
 pub record IsOverNewLog (live : List ℕ) (old new : Hand) : Type 0 where
   pub segment : ℕ
   pub segments : (version_in new).segments ≡ segment ∷ []
   pub last : next_file_of new ≡ segment + 1
+  pub log : log_file new.log ≡ segment
+  pub form : form_of new.log ≡ Two
   pub left : (f : ℕ) → IsIn (version_in old).segments f → IsOf (version_in new) f → ⊥
   pub only : (family : ℕ) → IsIn (numbers_of (version_in new).families) family
       → IsIn live family
+
+-- ---- A segment more.
+
+-- The new version names a new segment of the second form behind the others, and the families of the last one.
+pub record IsSegmentMore (old new : Hand) : Type 0 where
+  pub segments : (version_in new).segments ≡ (version_in old).segments ++ next_file_of old ∷ []
+  pub families : (version_in new).families ≡ (version_in old).families
+  pub number : (version_in new).next_number ≡ next_of old
+  pub next_file : (version_in new).next_file ≡ next_file_of new
+  pub last : next_file_of new ≡ next_file_of old + 1
+  pub log : log_file new.log ≡ next_file_of old
+  pub form : form_of new.log ≡ Two
+
+-- Behind a segment of the first form a write makes one, and behind one of the second it adds no version.
+abbrev pub IsBehind : Form → Hand → Hand → Type 0
+IsBehind One old new = IsSegmentMore old new
+IsBehind Two old new = (version_in new ≡ version_in old)
+    × (next_file_of new ≡ next_file_of old) × (log_file new.log ≡ log_file old.log)
+    × (form_of new.log ≡ Two)

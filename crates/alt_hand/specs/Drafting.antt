@@ -1,17 +1,16 @@
 -- A draft of the next version, with the families in hand as they are by it. Private contracts alone cite these words.
-use Rattle.std.specs.Prelude.{◌≡◌, ◌⊎◌, ◌≤◌, ◌+◌, ◌-◌, ◌^◌, ℕ, Bool, true, false, List, [], ◌∷◌, ◌++◌, length, map, min, Option}
+use Rattle.std.specs.Prelude.{◌≡◌, ◌⊎◌, ◌≤◌, ◌<◌, ◌+◌, ◌-◌, ◌^◌, ℕ, Bool, true, false, List, [], ◌∷◌, ◌++◌, length, Option, Some, None}
 use Rattle.std.specs.BTreeMap.{get}
 use Rattle.std.specs.FinMap.{empty, entries}
 use Rattle.std.specs.Ordering.{nat_cmp}
 use Rattle.alt_disk.specs.Disk.{DiskState}
-use Rattle.alt_flush.specs.Drafts.{Drafted, without}
-use Rattle.alt_gatelog.specs.InHand.{file_of as log_file, Reads as LogReads}
-use Rattle.alt_manifest.specs.InHand.{file_of as manifest_file, version_of, Stands as ManifestStands}
-use Rattle.alt_manifest.specs.Versions.{IsIn}
+use Rattle.alt_flush.specs.Drafts.{Drafted, renumbered, with_segment, without}
+use Rattle.alt_gatelog.specs.InHand.{file_of as log_file, form_of, HasPlace, IsFramed, SameLog}
+use Rattle.alt_gatelog.specs.declared.form.Form.TheVariants.{One, Two}
+use Rattle.alt_manifest.specs.InHand.{file_of as manifest_file, version_of, SameManifest, Stands as ManifestStands}
+use Rattle.alt_manifest.specs.Versions.{IsIn, version_bytes}
 use Rattle.alt_manifest.specs.declared.manifest.Manifest.{Manifest}
 use Rattle.alt_manifest.specs.declared.version.Version.{Version}
-use Rattle.alt_memtable.specs.Rows.{most_bytes}
-use Rattle.alt_writes.specs.Bytes.{write_bytes}
 use Rattle.alt_writes.specs.Writes.{Write}
 use Rattle.alt_layout.specs.Families.{Held, files_of, flushed_of, layout_of, with_later}
 use Rattle.alt_layout.specs.Files.{EndsWith, Image, IsLayout, all_of}
@@ -21,8 +20,9 @@ use Rattle.alt_layout.specs.Layout.{Layout}
 use Rattle.alt_families.specs.Families.{Families, rows_in, files_in}
 use Rattle.alt_families.specs.declared.family.Family.{Family}
 use Rattle.alt_rowfile.specs.declared.rowfile.RowFile.{RowFile}
-use Rattle.alt_hand.specs.InHand.{AreOpen, written_bytes}
+use Rattle.alt_hand.specs.InHand.{AreOpen, IsLength, LogHolds}
 use Rattle.alt_hand.specs.declared.hand.Hand.{Hand}
+use Rattle.alt_hand.specs.declared.renew.Renewal.{Renewal}
 use Rattle.alt_hand.specs.declared.hand.EngineFault.{EngineFault}
 use Rattle.alt_hand.specs.Faults.{told_by_engine}
 use Rattle.alt_faults.specs.Faults.{IsOutside, OnlySpent}
@@ -46,8 +46,8 @@ pub record IsReady (s : DiskState) (e : Hand) (u : Version) (l : Layout) : Type 
   pub manifest : ManifestStands s e.manifest
   pub first : manifest_file e.manifest ≡ versions_file
   pub ends : EndsWith u parts (log_file e.log) writes
-  pub log : LogReads s e.log (map write_bytes writes)
-  pub length : e.length ≡ min (written_bytes (all_of parts)) most_bytes
+  pub log : LogHolds s e.log writes
+  pub length : IsLength s.file u.segments e.length
   pub next : e.next ≡ l.next_number
 
 -- The store lies on the disk by the version in hand, with this layout.
@@ -113,3 +113,23 @@ IsSpentFor next f = OnlySpent (λ number. (number ≡ 2 ^ 32 - 1) × (2 ^ 32 ≤
 -- The fault tells of no spent number, and of no damage.
 abbrev pub IsUnspent : EngineFault → Type 0
 IsUnspent f = IsOutside (told_by_engine f)
+
+-- ---- A write.
+
+-- A call left all as it was, but for memory that was taken.
+pub record IsSameHand (old new : Hand) : Type 0 where
+  pub manifest : SameManifest old.manifest new.manifest
+  pub log : SameLog old.log new.log
+  pub others : new ≡ record old { manifest = new.manifest; log = new.log }
+
+-- Behind a segment of the first form the version is made that names one more, its file is free, and there is memory to add it; behind one of the second
+-- there is memory for an entry.
+abbrev pub IsPrepared : Hand → Option Renewal → Type 0
+IsPrepared e None = (form_of e.log ≡ Two) × HasPlace e.log
+IsPrepared e (Some r) = (form_of e.log ≡ One) × (e.next_file < 2 ^ 32 - 1)
+    × HasPlace e.manifest.log × (r.draft ≡ with_segment (renumbered (version_of e.manifest) e.next_file e.next))
+    × IsFramed r.block.items (version_bytes r.draft)
+
+-- The same engine with other rows in memory.
+abbrev pub with_rows : Hand → Families → Bool → Hand
+with_rows e families full = record e { families = families; full = full }

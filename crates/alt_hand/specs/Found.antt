@@ -1,11 +1,11 @@
 -- What a recovery finds before it removes files, and what it removes. Private contracts alone cite `Found` and the words of faults.
-use Rattle.std.specs.Prelude.{◌≡◌, ℕ, List, map, min}
+use Rattle.std.specs.Prelude.{◌≡◌, ℕ, List}
 use Rattle.std.specs.FinMap.{empty}
 use Rattle.alt_disk.specs.Disk.{DiskState}
 use Rattle.alt_disk.specs.declared.disk.DiskFault.{DiskFault}
 use Rattle.alt_disk.specs.declared.disk.DiskFault.TheVariants as disk
 use Rattle.alt_families.specs.Families.{files_in, rows_in}
-use Rattle.alt_gatelog.specs.InHand.{file_of as log_file, Reads as LogReads}
+use Rattle.alt_gatelog.specs.InHand.{file_of as log_file}
 use Rattle.alt_gatelog.specs.declared.fault.LogFault.{LogFault}
 use Rattle.alt_gatelog.specs.declared.fault.LogFault.TheVariants as log
 use Rattle.alt_layout.specs.Families.{Held, files_of, flushed_of, layout_of, with_later}
@@ -14,14 +14,12 @@ use Rattle.alt_layout.specs.Fresh.{versions_file}
 use Rattle.alt_layout.specs.Layout.{Layout}
 use Rattle.alt_manifest.specs.InHand.{file_of as manifest_file, version_of, Reads as ManifestReads}
 use Rattle.alt_manifest.specs.declared.version.Version.{Version}
-use Rattle.alt_memtable.specs.Rows.{most_bytes}
 use Rattle.alt_rowfile.specs.declared.fault.RowFileFault.{RowFileFault}
 use Rattle.alt_rowfile.specs.declared.fault.RowFileFault.TheVariants as rows
-use Rattle.alt_writes.specs.Bytes.{write_bytes}
 use Rattle.alt_writes.specs.Writes.{Write}
 use Rattle.alt_hand.specs.Faults.{told_by_recovery}
 use Rattle.alt_faults.specs.Faults.{IsOutside}
-use Rattle.alt_hand.specs.InHand.{AreOpen, family_of, written_bytes}
+use Rattle.alt_hand.specs.InHand.{AreOpen, IsLength, LogHolds, family_of}
 use Rattle.alt_hand.specs.declared.hand.Hand.{Hand}
 use Rattle.alt_hand.specs.declared.recover.RecoverFault.{RecoverFault}
 use Rattle.alt_hand.specs.declared.recover.RecoverFault.TheVariants.{Damaged, DigestDiffers, Failed, NoMemory}
@@ -35,10 +33,10 @@ pub record Found (s : DiskState) (e : Hand) (l : Layout) : Type 0 where
   pub first : manifest_file e.manifest ≡ versions_file
   pub stored : Stored s.file (version_of e.manifest) held parts
   pub ends : EndsWith (version_of e.manifest) parts (log_file e.log) writes
-  pub log : LogReads s e.log (map write_bytes writes)
+  pub log : LogHolds s e.log writes
   pub is : l ≡ layout_of (version_of e.manifest) held (all_of parts)
   pub next : e.next ≡ l.next_number
-  pub length : e.length ≡ min (written_bytes (all_of parts)) most_bytes
+  pub length : IsLength s.file (version_of e.manifest).segments e.length
   pub file : e.next_file ≡ (version_of e.manifest).next_file
   pub memory : (family : ℕ) → rows_in (family_of e family)
       ≡ with_later (flushed_of (version_of e.manifest).families family) family empty (all_of parts)

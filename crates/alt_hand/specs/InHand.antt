@@ -1,22 +1,26 @@
 -- An engine in hand over files, and the disk on which they lie.
-use Rattle.std.specs.Prelude.{◌≡◌, ◌⊎◌, ◌≤◌, ◌+◌, ◌-◌, ◌^◌, ℕ, List, [], ◌∷◌, length, map, min, Option, None, ◌<◌, false, Some}
+use Rattle.std.specs.Prelude.{◌≡◌, ◌⊎◌, ◌≤◌, ◌+◌, ◌-◌, ◌^◌, ℕ, List, [], ◌∷◌, map, max, min, Option, None, ◌<◌, false, Some}
 use Rattle.std.specs.BTreeMap.{get}
 use Rattle.std.specs.FinMap.{empty, entries}
 use Rattle.std.specs.Ordering.{nat_cmp}
 use Rattle.alt_cells.specs.declared.batch.RowChange.{RowChange}
 use Rattle.alt_disk.specs.Disk.{DiskState, IsSettled}
-use Rattle.alt_gatelog.specs.InHand.{file_of as log_file, Reads as LogReads}
+use Rattle.alt_gatelog.specs.InHand.{file_of as log_file, form_of, Reads as LogReads}
+use Rattle.alt_gatelog.specs.declared.form.Form.{Form}
+use Rattle.alt_gatelog.specs.declared.form.Form.TheVariants.{One, Two}
+use Rattle.alt_gatelog.specs.declared.gatelog.GateLog.{GateLog}
 use Rattle.alt_rowfile.specs.InHand.{file_of as row_file, Reads as RowReads}
 use Rattle.alt_rowfile.specs.declared.rowfile.RowFile.{RowFile}
 use Rattle.alt_layout.specs.Layout.{Layout, RowMap}
-use Rattle.alt_writes.specs.Writes.{Write}
-use Rattle.alt_writes.specs.Bytes.{write_bytes}
+use Rattle.alt_writes.specs.Writes.{Write, numbered}
+use Rattle.alt_layout.specs.Entries.{HoldWrites}
+use Rattle.alt_layout.specs.Sizes.{AreSized}
 use Rattle.alt_layout.specs.Fresh.{versions_file}
 use Rattle.alt_memtable.specs.Rows.{most_bytes}
 use Rattle.alt_manifest.specs.InHand.{file_of as manifest_file, version_of, Reads as ManifestReads}
 use Rattle.alt_layout.specs.Families.{Held, flushed_of, files_of, layout_of, with_later}
-use Rattle.alt_layout.specs.Files.{EndsWith, IsLayout, IsOf, Stored, all_of}
-use Rattle.alt_layout.specs.Writes.{with_write}
+use Rattle.alt_layout.specs.Files.{EndsWith, Image, IsLayout, IsOf, Stored, all_of}
+use Rattle.alt_layout.specs.Writes.{with_write, with_writes}
 use Rattle.alt_hand.specs.declared.hand.Hand.{Hand}
 use Rattle.alt_hand.specs.declared.hand.EngineFault.{EngineFault}
 use Rattle.alt_hand.specs.Faults.{told_by_engine}
@@ -53,14 +57,34 @@ limits_of e = e.limits
 abbrev pub next_file_of : Hand → ℕ
 next_file_of e = e.next_file
 
+-- The form of its last segment.
+abbrev pub last_form_of : Hand → Form
+last_form_of e = form_of e.log
+
+-- How many files a write makes: behind a segment of the first form it makes one of the second.
+abbrev pub files_made : Form → ℕ
+files_made One = 1
+files_made Two = 0
+
+-- The number of the first file that work makes: behind a segment of the first form the first write makes one before.
+abbrev pub work_file_of : Hand → ℕ
+work_file_of e = next_file_of e + files_made (last_form_of e)
+
 -- The bytes of the entries of all segments, counted up to 2^62.
 abbrev pub length_of : Hand → ℕ
 length_of e = e.length
 
--- How many bytes the entries of these writes have together.
-abbrev pub written_bytes : List Write → ℕ
-written_bytes [] = 0
-written_bytes (w ∷ ws) = length (write_bytes w) + written_bytes ws
+-- The entries of these segments have so many bytes together, counted up to 2^62.
+pub record IsLength (image : Image) (segments : List ℕ) (length : ℕ) : Type 0 where
+  pub bytes : ℕ
+  pub sized : AreSized image segments bytes
+  pub is : length ≡ min bytes most_bytes
+
+-- The log in hand is that of its file as it reads, and its entries hold these writes.
+pub record LogHolds (s : DiskState) (log : GateLog) (ws : List Write) : Type 0 where
+  pub entries : List (List ℕ)
+  pub reads : LogReads s log entries
+  pub holds : HoldWrites (form_of log) entries ws
 
 -- How many bytes were put into the rows that a family has in memory, counted up to 2^62.
 abbrev pub bytes_in : Option Family → ℕ
@@ -81,10 +105,10 @@ pub record Reads (s : DiskState) (e : Hand) (l : Layout) : Type 0 where
   pub first : manifest_file e.manifest ≡ versions_file
   pub stored : Stored s.file (version_of e.manifest) held parts
   pub ends : EndsWith (version_of e.manifest) parts (log_file e.log) writes
-  pub log : LogReads s e.log (map write_bytes writes)
+  pub log : LogHolds s e.log writes
   pub is : l ≡ layout_of (version_of e.manifest) held (all_of parts)
   pub next : e.next ≡ l.next_number
-  pub length : e.length ≡ min (written_bytes (all_of parts)) most_bytes
+  pub length : IsLength s.file (version_of e.manifest).segments e.length
   pub free : (version_of e.manifest).next_file ≤ e.next_file
   pub fresh : (f : ℕ) → e.next_file ≤ f → s.file f ≡ None
   pub memory : (family : ℕ) → rows_in (family_of e family)
@@ -107,10 +131,31 @@ abbrev pub BeforeOrWith : Layout → List RowChange → ℕ → (ℕ → Option 
 BeforeOrWith l changes t image = IsLayout image l
     ⊎ IsLayout image (with_write l (batch_write l changes))
 
--- A fault that tells a spent number names the next one, which is 2^62 - 1; and no damage is told.
-abbrev pub IsSpentAt : ℕ → EngineFault → Type 0
-IsSpentAt next f = OnlySpent (λ number. (number ≡ next) × (2 ^ 62 - 1 ≤ next)) (told_by_engine f)
+-- The writes of batches have the next number and those behind it, in order.
+abbrev pub batch_writes : Layout → List (List RowChange) → List Write
+batch_writes l batches = numbered l.next_number batches
 
--- A write touches any file but the one of the versions.
+-- The image has the layout before, or the one with all batches.
+abbrev pub BeforeOrAll : Layout → List (List RowChange) → ℕ → (ℕ → Option (List ℕ)) → Type 0
+BeforeOrAll l batches t image = IsLayout image l
+    ⊎ IsLayout image (with_writes l (batch_writes l batches))
+
+-- One of so many numbers from the next one on is 2^62 - 1, and it is named.
+abbrev pub WantsNumber : ℕ → ℕ → ℕ → Type 0
+WantsNumber next count number =
+    (2 ^ 62 - 1 < next + count) × (number ≡ max next (2 ^ 62 - 1))
+
+-- Behind a segment of the first form the next file is 2^32 - 1, and it is named.
+abbrev pub WantsFile : Form → ℕ → ℕ → Type 0
+WantsFile One file number = (2 ^ 32 - 1 ≤ file) × (number ≡ file) × (number ≡ 2 ^ 32 - 1)
+WantsFile Two file number = ⊥
+
+-- A fault that tells a spent number tells one of so many writes, or else the file of the segment that they want; and no damage is told.
+abbrev pub IsSpentBy : Hand → ℕ → EngineFault → Type 0
+IsSpentBy e count f = OnlySpent (λ number. WantsNumber (next_of e) count number
+    ⊎ ((next_of e + count ≤ 2 ^ 62 - 1) × WantsFile (last_form_of e) (next_file_of e) number))
+    (told_by_engine f)
+
+-- An entry touches any file but the one of the versions.
 abbrev pub IsWritten : ℕ → Type 0
 IsWritten f = f ≡ versions_file → ⊥

@@ -1,14 +1,14 @@
 -- What follows of engines in hand from their definitions, for those who use them.
-use Rattle.std.specs.Prelude.{◌≡◌, ℕ, List, map, Option}
+use Rattle.std.specs.Prelude.{ℕ, List, Option}
 use Rattle.alt_cells.specs.declared.batch.RowChange.{RowChange}
 use Rattle.alt_disk.specs.Disk.{DiskState, IsImage}
 use Rattle.alt_disk.specs.Runs.{Quiet, Run, Spans}
-use Rattle.alt_gatelog.specs.InHand.{file_of as log_file}
-use Rattle.alt_gatelog.specs.Log.{BeforeOrAfter, first_form}
+use Rattle.alt_gatelog.specs.InHand.{file_of as log_file, form_of}
+use Rattle.alt_gatelog.specs.Log.{BeforeOrAfter}
 use Rattle.alt_layout.specs.Layout.{Layout, IsPast}
-use Rattle.alt_writes.specs.Bytes.{IsHeldWrite, write_bytes}
+use Rattle.alt_layout.specs.Entries.{IsEntry}
 use Rattle.alt_layout.specs.Files.{IsLayout}
-use Rattle.alt_hand.specs.InHand.{Reads, Stands, batch_write, BeforeOrWith, IsWritten}
+use Rattle.alt_hand.specs.InHand.{Reads, Stands, batch_writes, BeforeOrAll, IsWritten}
 use Rattle.alt_hand.specs.declared.hand.Hand.{Hand}
 
 -- Each timestamp of an engine's rows is below its next number.
@@ -32,11 +32,10 @@ ReadsQuiet = (a b : DiskState) (e : Hand) (l : Layout) → Reads a e l → Quiet
 abbrev pub StaysQuiet : Type 0
 StaysQuiet = (a b : DiskState) (e : Hand) (l : Layout) → Stands a e l → Quiet a b → Stands b e l
 
--- While a batch is added to the last segment each image has the layout before, or the one with the batch.
+-- While batches are added to the last segment as one entry each image has the layout before, or the one with all of them.
 abbrev pub WritesImages : Type 0
-WritesImages = (a b : DiskState) (e : Hand) (l : Layout) (changes : List RowChange)
-    (bytes : List ℕ) → (stands : Stands a e l) → bytes ≡ write_bytes (batch_write l changes)
-    → IsHeldWrite (batch_write l changes)
-    → Run a b (log_file e.log) (BeforeOrAfter first_form
-    (map write_bytes stands.reads.writes) bytes)
-    → Spans a b IsWritten (BeforeOrWith l changes)
+WritesImages = (a b : DiskState) (e : Hand) (l : Layout) (batches : List (List RowChange))
+    (entry : List ℕ) → (stands : Stands a e l)
+    → IsEntry (form_of e.log) entry (batch_writes l batches)
+    → Run a b (log_file e.log) (BeforeOrAfter (form_of e.log) stands.reads.log.entries entry)
+    → Spans a b IsWritten (BeforeOrAll l batches)

@@ -4,7 +4,8 @@ use Rattle.alt_disk.specs.Disk.{DiskState, now}
 use Rattle.alt_disk.specs.Fates.{Fits}
 use Rattle.alt_disk.specs.declared.disk.DiskFault.{DiskFault}
 use Rattle.alt_disk.specs.declared.disk.DiskFault.TheVariants as disk_fault
-use Rattle.alt_gatelog.specs.Log.{IsLog, first_form}
+use Rattle.alt_gatelog.specs.Log.{IsLog}
+use Rattle.alt_gatelog.specs.declared.form.Form.TheVariants.{Two}
 use Rattle.alt_layout.specs.Fresh.{versions_file, entries_file}
 use Rattle.alt_manifest.specs.Versions.{HasVersion}
 use Rattle.alt_manifest.specs.declared.version.Version.{Version}
@@ -29,4 +30,4 @@ LeavesNoVersions s = (left : Option (List ℕ)) → Fits (now s versions_file) l
 -- files with a version have the segment that it names, which has no entry
 abbrev pub HasSegment : ℕ → (ℕ → Option (List ℕ)) → Type 0
 HasSegment moment image =
-    (v : Version) → HasVersion v (image versions_file) → IsLog first_form [] (image entries_file)
+    (v : Version) → HasVersion v (image versions_file) → IsLog Two [] (image entries_file)

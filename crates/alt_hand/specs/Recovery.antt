@@ -1,14 +1,16 @@
 -- Why a store isn't recovered: its files have no layout; and what a recovery leaves on its way.
-use Rattle.std.specs.Prelude.{◌≡◌, ◌≢◌, ◌⊎◌, ◌≤◌, ◌<◌, ◌+◌, ◌-◌, ◌++◌, ℕ, List, ◌∷◌, map, length, take, drop, Some, None}
+use Rattle.std.specs.Prelude.{◌≡◌, ◌≢◌, ◌⊎◌, ◌≤◌, ◌<◌, ◌+◌, ◌-◌, ◌++◌, ℕ, List, ◌∷◌, length, take, drop, Some, None}
 use Rattle.std.specs.FinMap.{entries}
 use Rattle.sha2.specs.Sha256.{sha256}
 use Rattle.alt_disk.specs.Disk.{DiskState, IsImage, IsNames, bytes_or_none}
-use Rattle.alt_gatelog.specs.Log.{IsLog, IsDamaged, first_form, gate_place}
+use Rattle.alt_gatelog.specs.Log.{IsLog, IsDamaged, gate_place}
+use Rattle.alt_gatelog.specs.declared.form.Form.{Form}
+use Rattle.alt_gatelog.specs.declared.form.Form.TheVariants.{One, Two}
 use Rattle.alt_rowfile.specs.Format.{IsRowFile}
 use Rattle.alt_rowfile.specs.Recovery.{HasDigest, NoRowFile}
 use Rattle.alt_writes.specs.Writes.{Write, AreRising}
-use Rattle.alt_writes.specs.Bytes.{AllHeld, write_bytes}
-use Rattle.alt_writes.specs.Reading.{IsNoWrite}
+use Rattle.alt_writes.specs.Bytes.{AllHeld}
+use Rattle.alt_layout.specs.Entries.{HoldWrites, IsNoEntry}
 use Rattle.alt_manifest.specs.Recovery.{IsBadLast}
 use Rattle.alt_manifest.specs.Versions.{HasVersion, IsIn}
 use Rattle.alt_manifest.specs.declared.version.FamilyVersion.{FamilyVersion}
@@ -41,10 +43,13 @@ pub record IsSegmentOf (v : Version) (before : List ℕ) (f : ℕ) : Type 0 wher
 -- Files have no layout at a place of one of them. A damaged entry is named by the place of its gate, and a row file by its beginning.
 pub data IsBadAt (files : Image) (f at : ℕ) : Type 0 where
   -- File 1 is no log.
-  no_versions : f ≡ versions_file → IsDamaged first_form at (bytes_or_none (files versions_file))
+  no_versions : f ≡ versions_file → IsDamaged at (bytes_or_none (files versions_file))
       → IsBadAt files f at
+  -- It is one of the second form.
+  other_form : f ≡ versions_file → at ≡ 0 → (es : List (List ℕ))
+      → IsLog Two es (files versions_file) → IsBadAt files f at
   -- It has no entry, or its last one is no version.
-  no_version : f ≡ versions_file → (es : List (List ℕ)) → IsLog first_form es (files versions_file)
+  no_version : f ≡ versions_file → (es : List (List ℕ)) → IsLog One es (files versions_file)
       → IsBadLast es at → IsBadAt files f at
   -- A row file is too short, or its digest is right and it is no row file all the same.
   no_rows : (v : Version) → HasVersion v (files versions_file) → (flushed : ℕ)
@@ -58,16 +63,17 @@ pub data IsBadAt (files : Image) (f at : ℕ) : Type 0 where
       → IsRowFile (entries m) bytes → (IsMapBelow (flushed + 1) m → ⊥) → IsBadAt files f at
   -- A segment is no log.
   no_segment : (v : Version) → HasVersion v (files versions_file) → (before : List ℕ)
-      → IsSegmentOf v before f → IsDamaged first_form at (bytes_or_none (files f))
+      → IsSegmentOf v before f → IsDamaged at (bytes_or_none (files f))
       → IsBadAt files f at
-  -- Behind writes with rising numbers an entry is no write with a later one.
+  -- Behind entries that hold writes with rising numbers an entry holds none with later ones.
   no_write : (v : Version) → HasVersion v (files versions_file) → (before : List ℕ)
       → IsSegmentOf v before f → (parts : List (List Write)) → AreSegments files before parts
-      → (writes : List Write) (entry : List ℕ) (behind : List (List ℕ))
-      → IsLog first_form (map write_bytes writes ++ entry ∷ behind) (files f)
+      → (form : Form) (front : List (List ℕ)) (writes : List Write) (entry : List ℕ)
+      (behind : List (List ℕ)) → IsLog form (front ++ entry ∷ behind) (files f)
+      → HoldWrites form front writes
       → AllHeld (all_of parts ++ writes) → AreRising 1 (all_of parts ++ writes)
-      → IsNoWrite (next_after 1 (all_of parts ++ writes)) entry
-      → at ≡ gate_place first_form (map write_bytes writes ++ entry ∷ behind) (length writes)
+      → IsNoEntry form (next_after 1 (all_of parts ++ writes)) entry
+      → at ≡ gate_place (front ++ entry ∷ behind) (length front)
       → IsBadAt files f at
 
 -- A row file that the last version names doesn't end with the digest of what stands before it.

@@ -4,14 +4,14 @@ use Rattle.std.specs.FinMap.{empty, entries}
 use Rattle.alt_faults.specs.Faults.{IsUndamaged, Tells}
 use Rattle.alt_manifest.specs.Versions.{HasVersion, IsIn, RiseFrom}
 use Rattle.alt_manifest.specs.declared.version.Version.{Version}
-use Rattle.alt_writes.specs.Writes.{Write}
-use Rattle.alt_layout.specs.Files.{AreSegments, Image, IsLayout, all_of}
+use Rattle.alt_layout.specs.Files.{Image, IsLayout}
 use Rattle.alt_layout.specs.Fresh.{versions_file}
 use Rattle.alt_layout.specs.Layout.{Layout, shown}
+use Rattle.alt_layout.specs.Sizes.{AreSized}
 use Rattle.alt_families.specs.Families.{rows_in}
 use Rattle.alt_hand.specs.Drafting.{IsFlushed, IsSpentFor, files_for, files_needed}
 use Rattle.alt_hand.specs.Faults.{told_by_engine}
-use Rattle.alt_hand.specs.InHand.{bytes_in, family_of, length_of, limits_of, next_file_of, written_bytes}
+use Rattle.alt_hand.specs.InHand.{bytes_in, family_of, length_of, limits_of, next_file_of}
 use Rattle.alt_hand.specs.declared.hand.Hand.{Hand}
 use Rattle.alt_hand.specs.declared.hand.EngineFault.{EngineFault}
 
@@ -42,9 +42,7 @@ WorksIn live l t image = IsWorked live l image
 pub record HasEntries (files : Image) (bytes : ℕ) : Type 0 where
   pub version : Version
   pub last : HasVersion version (files versions_file)
-  pub parts : List (List Write)
-  pub segments : AreSegments files version.segments parts
-  pub is : bytes ≡ written_bytes (all_of parts)
+  pub segments : AreSized files version.segments bytes
 
 -- ---- What applies.
 

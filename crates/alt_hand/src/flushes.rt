@@ -27,7 +27,7 @@ use alt_base::NoMemory;
 use alt_disk::Disk;
 use alt_families::Family;
 use alt_flush::{over_new_log, renumbered};
-use alt_gatelog::GateLog;
+use alt_gatelog::{Form, GateLog};
 use alt_manifest::Version;
 use std::alloc::Global;
 use std::collections::BTreeMap;
@@ -86,7 +86,7 @@ impl Hand {
                 number: flushed.next_file as u64,
             });
         }
-        let log = GateLog::make(self.alloc, disk, flushed.next_file)?;
+        let log = GateLog::make(self.alloc, disk, flushed.next_file, Form::Two)?;
         let draft = over_new_log(self.alloc, &flushed)?;
         self.log = log;
         self.length = 0;

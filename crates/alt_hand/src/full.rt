@@ -4,10 +4,10 @@ ghost use Rattle.std.specs.Prelude.{◌≡◌, ◌<◌, ◌≤◌, ℕ, IfSome, 
 ghost use Rattle.std.specs.BTreeMap.{get};
 ghost use Rattle.std.specs.Ordering.{nat_cmp};
 ghost use Rattle.alt_manifest.specs.Versions.{IsIn, RiseFrom};
-ghost use Rattle.alt_families.specs.Memory.{IsChanged};
+ghost use Rattle.alt_families.specs.Memory.{AreChanged, IsChanged};
 ghost use Rattle.alt_hand.specs.InHand.{AreBelow, bytes_in};
 
-use alt_cells::RowChange;
+use alt_cells::{Batch, RowChange};
 use alt_families::Family;
 use std::collections::BTreeMap;
 
@@ -55,20 +55,33 @@ pub(crate) fn has_full(families: &BTreeMap<u32, Family>, flush: u64) -> bool
     false
 }
 
-/// Whether a family may have that many bytes in memory after these changes, where one may have had them before or none had.
+/// Whether a family may have that many bytes in memory after these batches, where one may have had them before or none had.
 pub(crate) fn full_after(
     before: bool,
     families: &BTreeMap<u32, Family>,
-    changes: &[RowChange],
+    batches: &[Batch],
     flush: u64,
 ) -> bool
     ensures before { result ≡ false → before ≡ false }
-    ensures changed { result ≡ false → (family : ℕ) → IsChanged changes.now family
+    ensures changed { result ≡ false → (family : ℕ) → AreChanged batches.now family
         → bytes_in (get nat_cmp families.now family) < flush }
 {
     if before {
         return true;
     }
+    for batch in batches {
+        if fills(families, batch.as_slice(), flush) {
+            return true;
+        }
+    }
+    false
+}
+
+/// Whether a family that these changes are of has that many bytes in memory.
+fn fills(families: &BTreeMap<u32, Family>, changes: &[RowChange], flush: u64) -> bool
+    ensures { result ≡ false → (family : ℕ) → IsChanged changes.now family
+        → bytes_in (get nat_cmp families.now family) < flush }
+{
     for change in changes {
         if bytes_of(families, change.family) >= flush {
             return true;

@@ -10,7 +10,7 @@ ghost use Rattle.alt_layout.specs.Files.{IsLayout};
 ghost use Rattle.alt_hand.specs.Making.{HasSegment, LeavesNoVersions, NamesFirst};
 
 use alt_disk::{Disk, DiskFault};
-use alt_gatelog::GateLog;
+use alt_gatelog::{Form, GateLog};
 use std::alloc::Global;
 
 /// The file of the versions.
@@ -73,8 +73,8 @@ pub fn make_store<D: Disk>(alloc: Global, disk: &mut D) -> Result<(), MakeFault>
         Ok(()) => {}
         Err(fault) => return Err(fault),
     }
-    let _ = GateLog::make(alloc, disk, ENTRIES)?;
-    let mut versions = GateLog::make(alloc, disk, VERSIONS)?;
+    let _ = GateLog::make(alloc, disk, ENTRIES, Form::Two)?;
+    let mut versions = GateLog::make(alloc, disk, VERSIONS, Form::One)?;
     versions.append(disk, &FIRST_VERSION)?;
     Ok(())
 }

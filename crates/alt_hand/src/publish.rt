@@ -36,6 +36,7 @@ impl Hand {
         ensures limits { limits_of self.new ≡ limits_of self.old }
         ensures families { self.new.families ≡ self.old.families }
         ensures length { self.new.length ≡ self.old.length }
+        ensures log { self.new.log ≡ self.old.log }
         ensures file { self.new.next_file ≡ draft.next_file }
         ensures version { OnOk result (version_in self.new ≡ draft) }
 

@@ -1,30 +1,35 @@
 -- Writes replayed one after another, and why an entry isn't.
-use Rattle.std.proofs.Common.{◌≡◌, ◌<◌, ◌≤◌, ◌+◌, ◌-◌, ◌++◌, ◌∷◌, inl, inr, ℕ, suc, List, [], take, drop, drop-cons, length, map, max, min, get_or, Option, refl, sym, ap, subst, ◌∙◌, append_assoc, append-nil, arith}
-use Rattle.std.proofs.lemmas.List.{drop_all, length-map, length-take, take_more, take_all}
+use Rattle.std.proofs.Common.{◌≡◌, ◌<◌, ◌≤◌, ◌+◌, ◌-◌, ◌++◌, ◌∷◌, inl, inr, ℕ, zero, suc, List, [], take, drop, drop-cons, length, max, min, get_or, Option, refl, sym, ap, subst, ◌∙◌, append_assoc, append-nil, arith}
+use Rattle.std.proofs.lemmas.List.{drop_all, length-take, take_more, take_all}
 use Rattle.std.proofs.Common.{take-append-drop}
 use Rattle.std.specs.BTreeMap.{get}
 use Rattle.std.specs.Ordering.{nat_cmp}
 use Rattle.alt_disk.specs.Disk.{DiskState, bytes_or_none}
 use Rattle.alt_disk.specs.Runs.{Quiet}
-use Rattle.alt_families.specs.Families.{rows_in}
+use Rattle.alt_families.specs.Families.{files_in, rows_in}
 use Rattle.alt_gatelog.proofs.Elsewhere.{reads_log, reads_stays}
-use Rattle.alt_gatelog.specs.InHand.{Reads, file_of}
-use Rattle.alt_gatelog.specs.Log.{ExplainsLog as ExplainsGateLog, IsLog, first_form, gate_place}
+use Rattle.alt_gatelog.specs.InHand.{Reads, file_of, form_of}
+use Rattle.alt_gatelog.specs.Log.{ExplainsLog as ExplainsGateLog, IsLog, gate_place}
 use Rattle.alt_gatelog.specs.declared.fault.LogFault.{LogFault}
 use Rattle.alt_gatelog.specs.declared.fault.LogFault.TheVariants.{Damaged, Failed, NoMemory}
+use Rattle.alt_gatelog.specs.declared.form.Form.{Form}
 use Rattle.alt_gatelog.specs.declared.gatelog.GateLog.{GateLog}
+use Rattle.alt_layout.specs.Entries.{HoldWrites, IsEntry, IsNoEntry}
 use Rattle.alt_layout.specs.Families.{next_after, with_later, with_one}
-use Rattle.alt_layout.specs.Files.{AreSegments, Image, all_of}
+use Rattle.alt_layout.specs.Files.{AreSegments, Image, IsSegment, all_of}
 use Rattle.alt_layout.specs.Layout.{RowMap}
+use Rattle.alt_layout.specs.Sizes.{AreSized, IsSized, bytes_in}
+use Rattle.alt_layout.proofs.EntryLaws.{holds_none, holds_push}
 use Rattle.alt_layout.proofs.FileLaws.{segments_on, segments_with}
+use Rattle.alt_layout.proofs.SizeLaws.{bytes_in-push, sized_on, sized_with}
 use Rattle.alt_memtable.specs.Rows.{most_bytes}
-use Rattle.alt_writes.proofs.PushLaws.{bytes-push}
-use Rattle.alt_writes.specs.Bytes.{AllHeld, IsHeldWrite, write_bytes}
-use Rattle.alt_writes.specs.Reading.{IsNoWrite}
+use Rattle.alt_writes.specs.Bytes.{AllHeld, IsHeldWrite}
+use Rattle.alt_writes.specs.Reading.{write_of, writes_of}
 use Rattle.alt_writes.specs.Writes.{AreRising, Write}
+use Rattle.alt_writes.specs.declared.read.LoggedWrite.{LoggedWrite}
 use Rattle.alt_recovery.specs.Entries.{ExplainsEntry}
 use Rattle.alt_recovery.specs.Flushed.{flushed_in}
-use Rattle.alt_recovery.specs.Replays.{ExplainsLog, ExplainsSegment, ExplainsSegments, IsBadSegment, IsJoinedTo, Replays, ReplaysLast, logged_bytes}
+use Rattle.alt_recovery.specs.Replays.{ExplainsLog, ExplainsSegment, ExplainsSegments, IsBadSegment, IsJoinedTo, Replays, ReplaysLast}
 use Rattle.alt_recovery.specs.declared.replay.Replay.{Replay}
 
 -- ---- lists of writes
@@ -51,14 +56,10 @@ with_later-append : (flushed f : ℕ) (m : RowMap) (xs ys : List Write)
 with_later-append flushed f m [] ys = refl
 with_later-append flushed f m (x ∷ xs) ys = with_later-append flushed f (with_one flushed f m x) xs ys
 
-logged-append : (xs ys : List Write) → logged_bytes (xs ++ ys) ≡ logged_bytes xs + logged_bytes ys
-logged-append [] ys = omega arith
-logged-append (x ∷ xs) ys = let rest = logged-append xs ys in omega (arith, rest)
-
 -- ---- replays
 
 -- nothing was replayed yet
-pub replays_none : (r : Replay) → Replays r r []
+pub replays_none : (r : Replay) → Replays r r [] 0
 replays_none r = record {
   held = tt;
   rising = tt;
@@ -70,9 +71,9 @@ replays_none r = record {
 }
 
 -- one replay behind another
-pub replays_then : (a b c : Replay) (xs ys : List Write) → Replays a b xs → Replays b c ys
-    → Replays a c (xs ++ ys)
-replays_then a b c xs ys first later = record {
+pub replays_then : (a b c : Replay) (xs ys : List Write) (m n : ℕ) → Replays a b xs m
+    → Replays b c ys n → Replays a c (xs ++ ys) (m + n)
+replays_then a b c xs ys m n first later = record {
   held = held-append xs ys first.held later.held;
   rising = rising-append a.least a.least xs ys (omega arith) first.rising
       (subst (λ (n : ℕ). AreRising n ys) first.least later.rising);
@@ -87,53 +88,95 @@ replays_then a b c xs ys first later = record {
 }
   where
     length_is : a.length ≤ most_bytes
-        → c.length ≡ min (a.length + logged_bytes (xs ++ ys)) most_bytes
+        → c.length ≡ min (a.length + (m + n)) most_bytes
     length_is low =
         let x = first.length low in
         let within : b.length ≤ most_bytes = omega (arith, x) in
         let y = later.length within in
-        let sum = logged-append xs ys in omega (arith, x, y, sum)
+        omega (arith, x, y)
 
--- a write alone
+-- a write alone, whose bytes aren't counted
 pub replays_one : (old new : Replay) (w : Write) → IsHeldWrite w → old.least ≤ w.number
-    → new.least ≡ w.number + 1
-    → new.length ≡ min (old.length + length (write_bytes w)) most_bytes
-    → new.flushed ≡ old.flushed → IsJoinedTo old.flushed old.families new.families w
-    → Replays old new (w ∷ [])
+    → new.least ≡ w.number + 1 → new.length ≡ old.length → new.flushed ≡ old.flushed
+    → IsJoinedTo old.flushed old.families new.families w → Replays old new (w ∷ []) 0
 replays_one old new w held low least long flushed joined = record {
   held = (held, tt);
   rising = (low, tt);
   least = omega (arith, low, least);
-  length = λ within. let same : new.length ≡ min (old.length + (length (write_bytes w) + 0)) most_bytes =
-      omega (arith, long) in same;
+  length = λ within. let same : new.length ≡ min (old.length + 0) most_bytes =
+      omega (arith, long, within) in same;
   flushed = flushed;
   rows = joined.rows;
   files = joined.files;
 }
 
+-- the bytes of an entry, counted behind its writes
+pub replays_counted : (old now new : Replay) (ws : List Write) (bytes : ℕ)
+    → Replays old now ws 0 → new.least ≡ now.least → new.flushed ≡ now.flushed
+    → new.families ≡ now.families → new.length ≡ min (now.length + bytes) most_bytes
+    → now.length ≡ old.length → Replays old new ws bytes
+replays_counted old now new ws bytes replays least flushed families length same = record {
+  held = replays.held;
+  rising = replays.rising;
+  least = least ∙ replays.least;
+  length = λ within. length ∙ ap (λ n. min (n + bytes) most_bytes) same;
+  flushed = flushed ∙ replays.flushed;
+  rows = λ f. ap (λ fs. rows_in (get nat_cmp fs f)) families ∙ replays.rows f;
+  files = λ f. ap (λ fs. files_in (get nat_cmp fs f)) families ∙ replays.files f;
+}
+
+-- a write of several isn't below the number behind those before it
+pub rising_at : (least : ℕ) (ws : List Write) (i : ℕ) (w : Write) → AreRising least ws
+    → i < length ws → next_after least (take i ws) ≤ (get_or ws i w).number
+rising_at least [] i w rising less = absurd (omega (arith, less))
+rising_at least (v ∷ ws) zero w rising less = rising.0
+rising_at least (v ∷ ws) (suc i) w rising less =
+    let low = rising.0 in
+    let top : v.number + 1 ≡ max least (v.number + 1) = omega (arith, low) in
+    rising_at (max least (v.number + 1)) ws i w
+    (subst (λ (n : ℕ). AreRising n ws) top rising.1) (omega (arith, less))
+
+-- and its bytes can tell it
+pub held_at : (ws : List Write) (i : ℕ) (w : Write) → AllHeld ws → i < length ws
+    → IsHeldWrite (get_or ws i w)
+held_at [] i w held less = absurd (omega (arith, less))
+held_at (v ∷ ws) zero w held less = held.0
+held_at (v ∷ ws) (suc i) w held less = held_at ws i w held.1 (omega (arith, less))
+
 -- ---- the entries of a log
 
--- Entries so far are writes that were replayed.
-pub record ReplayedSoFar (old new : Replay) (entries : List (List ℕ)) : Type 0 where
+-- Entries so far hold writes that were replayed.
+pub record ReplayedSoFar (form : Form) (old new : Replay) (entries : List (List ℕ)) : Type 0 where
   pub writes : List Write
-  pub is : map write_bytes writes ≡ entries
-  pub replays : Replays old new writes
+  pub holds : HoldWrites form entries writes
+  pub replays : Replays old new writes (bytes_in entries)
 
 -- no entry yet
-pub so_far_none : (r : Replay) (entries : List (List ℕ)) → ReplayedSoFar r r (take 0 entries)
-so_far_none r entries = record { writes = []; is = refl; replays = replays_none r }
+pub so_far_none : (form : Form) (r : Replay) (entries : List (List ℕ))
+    → ReplayedSoFar form r r (take 0 entries)
+so_far_none form r entries =
+    record { writes = []; holds = holds_none form; replays = replays_none r }
+
+-- an entry whose writes were replayed
+abbrev pub EntryDone : Form → List ℕ → Replay → Replay → Type 0
+EntryDone form entry b c =
+    (ws : List Write) × IsEntry form entry ws × Replays b c ws (length entry)
 
 -- one entry more
-pub so_far_more : (a b c : Replay) (entries : List (List ℕ)) (i : ℕ) → i < length entries
-    → ReplayedSoFar a b (take i entries)
-    → (w : Write) × (get_or entries i [] ≡ write_bytes w) × Replays b c (w ∷ [])
-    → ReplayedSoFar a c (take (i + 1) entries)
-so_far_more a b c entries i within so_far one = record {
-  writes = so_far.writes ++ one.0 ∷ [];
-  is = bytes-push so_far.writes one.0 ∙ (λ j. so_far.is j ++ sym one.1 j ∷ [])
-      ∙ sym (take_more entries i [] within);
-  replays = replays_then a b c so_far.writes (one.0 ∷ []) so_far.replays one.2;
-}
+pub so_far_more : (form : Form) (a b c : Replay) (entries : List (List ℕ)) (i : ℕ)
+    → i < length entries → ReplayedSoFar form a b (take i entries)
+    → EntryDone form (get_or entries i []) b c → ReplayedSoFar form a c (take (i + 1) entries)
+so_far_more form a b c entries i within so_far one =
+    let entry : List ℕ = get_or entries i [] in
+    let bytes : bytes_in (take i entries) + length entry
+    ≡ bytes_in (take i entries ++ entry ∷ []) = sym (bytes_in-push (take i entries) entry) in
+    subst (ReplayedSoFar form a c) (sym (take_more entries i [] within)) (record {
+      writes = so_far.writes ++ one.0;
+      holds = holds_push form (take i entries) so_far.writes entry one.0 so_far.holds one.1;
+      replays = subst (Replays a c (so_far.writes ++ one.0)) bytes
+          (replays_then a b c so_far.writes one.0 (bytes_in (take i entries)) (length entry)
+          so_far.replays one.2);
+    })
 
 -- a list before a place, what stands there, and what is behind
 split : (entries : List (List ℕ)) (i : ℕ) → i < length entries
@@ -144,35 +187,39 @@ split entries i within =
     ∙ ap (λ es. take i entries ++ es) (drop-cons entries i [] within
     ∙ ap (λ (n : ℕ). get_or entries i [] ∷ drop n entries) more)
 
--- an entry that is no write
-pub entry_explains : (f : ℕ) (old now : Replay) (entries : List (List ℕ)) (i : ℕ) (fault : LogFault)
-    → i < length entries → ReplayedSoFar old now (take i entries)
-    → ExplainsEntry f entries i now.least fault → ExplainsLog f entries old.least fault
-entry_explains f old now entries i (Damaged file at) within so_far h =
-    let size : length so_far.writes ≡ i = sym (length-map so_far.writes write_bytes)
-    ∙ ap length so_far.is ∙ omega (arith, length-take i entries, within) in (
+-- an entry that holds no writes
+pub entry_explains : (form : Form) (f : ℕ) (old now : Replay) (entries : List (List ℕ)) (i : ℕ)
+    (fault : LogFault) → i < length entries → ReplayedSoFar form old now (take i entries)
+    → ExplainsEntry form f entries i now.least fault → ExplainsLog form f entries old.least fault
+entry_explains form f old now entries i (Damaged file at) within so_far h =
+    let size : i ≡ length (take i entries) = omega (arith, length-take i entries, within) in (
       h.0,
       record {
+        front = take i entries;
         writes = so_far.writes;
         entry = get_or entries i [];
         behind = drop (i + 1) entries;
-        is = split entries i within
-            ∙ ap (λ es. es ++ get_or entries i [] ∷ drop (i + 1) entries) (sym so_far.is);
+        is = split entries i within;
+        holds = so_far.holds;
         held = so_far.replays.held;
         rising = so_far.replays.rising;
-        none = subst (λ (n : ℕ). IsNoWrite n (get_or entries i [])) so_far.replays.least h.2;
-        place = h.1 ∙ ap (gate_place first_form entries) (sym size);
+        none = subst (λ (n : ℕ). IsNoEntry form n (get_or entries i [])) so_far.replays.least h.2;
+        place = h.1 ∙ ap (gate_place entries) size;
       },
     )
-entry_explains f old now entries i Failed within so_far h = tt
-entry_explains f old now entries i NoMemory within so_far h = tt
+entry_explains form f old now entries i Failed within so_far h = tt
+entry_explains form f old now entries i NoMemory within so_far h = tt
 
 -- all of them
-pub so_far_all : (old new : Replay) (entries : List (List ℕ)) (i : ℕ) → length entries ≤ i
-    → ReplayedSoFar old new (take i entries)
-    → (ws : List Write) × (map write_bytes ws ≡ entries) × Replays old new ws
-so_far_all old new entries i past so_far =
-    (so_far.writes, so_far.is ∙ take_all i entries past, so_far.replays)
+pub so_far_all : (form : Form) (old new : Replay) (entries : List (List ℕ)) (i : ℕ)
+    → length entries ≤ i → ReplayedSoFar form old new (take i entries)
+    → (ws : List Write) × HoldWrites form entries ws × Replays old new ws (bytes_in entries)
+so_far_all form old new entries i past so_far =
+    let all : take i entries ≡ entries = take_all i entries past in (
+      so_far.writes,
+      subst (λ es. HoldWrites form es so_far.writes) all so_far.holds,
+      subst (λ es. Replays old new so_far.writes (bytes_in es)) all so_far.replays,
+    )
 
 -- ---- one segment
 
@@ -184,31 +231,50 @@ log_while a b log entries quiet reads =
 
 -- a segment that is no log
 pub no_log_explains : (f least : ℕ) (file : Option (List ℕ)) (fault : LogFault)
-    → ExplainsGateLog first_form f (bytes_or_none file) fault → ExplainsSegment f least file fault
+    → ExplainsGateLog f (bytes_or_none file) fault → ExplainsSegment f least file fault
 no_log_explains f least file (Damaged g at) h = (h.0, inl h.1)
 no_log_explains f least file Failed h = tt
 no_log_explains f least file NoMemory h = tt
 
 -- one with an entry that is no write
-pub log_explains : (f least : ℕ) (file : Option (List ℕ)) (entries : List (List ℕ)) (fault : LogFault)
-    → IsLog first_form entries file → ExplainsLog f entries least fault
+pub log_explains : (form : Form) (f least : ℕ) (file : Option (List ℕ)) (entries : List (List ℕ))
+    (fault : LogFault) → IsLog form entries file → ExplainsLog form f entries least fault
     → ExplainsSegment f least file fault
-log_explains f least file entries (Damaged g at) is h = (h.0, inr (entries, is, h.1))
-log_explains f least file entries Failed is h = tt
-log_explains f least file entries NoMemory is h = tt
+log_explains form f least file entries (Damaged g at) is h = (h.0, inr (form, entries, is, h.1))
+log_explains form f least file entries Failed is h = tt
+log_explains form f least file entries NoMemory is h = tt
+
+-- a segment that was replayed
+abbrev pub SegmentDone : DiskState → GateLog → Replay → Replay → Type 0
+SegmentDone s log b c = (ws : List Write) × (entries : List (List ℕ)) × Reads s log entries
+    × HoldWrites (form_of log) entries ws × Replays b c ws (bytes_in entries)
+
+-- is one, and has so many bytes
+done_segment : (s : DiskState) (log : GateLog) (b c : Replay) (f : ℕ) (image : Image)
+    → file_of log ≡ f → s.file f ≡ image f → (done : SegmentDone s log b c)
+    → IsSegment done.0 (image f) × IsSized (bytes_in done.1) (image f)
+done_segment s log b c f image named same done =
+    let there : IsLog (form_of log) done.1 (image f) =
+    subst (IsLog (form_of log) done.1) (ap s.file named ∙ same) (reads_log s log done.1 done.2) in (
+      record { form = form_of log; entries = done.1; log = there; holds = done.3 },
+      record { form = form_of log; entries = done.1; log = there; is = refl },
+    )
 
 -- ---- several segments
 
 -- Segments so far hold these writes, which were replayed.
 pub record SegmentsSoFar (image : Image) (old new : Replay) (segments : List ℕ) : Type 0 where
   pub parts : List (List Write)
+  pub bytes : ℕ
   pub are : AreSegments image segments parts
-  pub replays : Replays old new (all_of parts)
+  pub sized : AreSized image segments bytes
+  pub replays : Replays old new (all_of parts) bytes
 
 -- no segment yet
 pub segments_none : (image : Image) (r : Replay) (segments : List ℕ)
     → SegmentsSoFar image r r (take 0 segments)
-segments_none image r segments = record { parts = []; are = tt; replays = replays_none r }
+segments_none image r segments =
+    record { parts = []; bytes = 0; are = tt; sized = refl; replays = replays_none r }
 
 all_of-push : (parts : List (List Write)) (ws : List Write) → all_of (parts ++ ws ∷ []) ≡ all_of parts ++ ws
 all_of-push [] ws = append-nil ws
@@ -216,27 +282,29 @@ all_of-push (us ∷ parts) ws = ap (λ x. us ++ x) (all_of-push parts ws)
     ∙ sym (append_assoc us (all_of parts) ws)
 
 -- the writes of segments, and of one more
-pub replays_push : (a b c : Replay) (parts : List (List Write)) (ws : List Write)
-    → Replays a b (all_of parts) → Replays b c ws → Replays a c (all_of (parts ++ ws ∷ []))
-replays_push a b c parts ws first later = subst (Replays a c) (sym (all_of-push parts ws))
-    (replays_then a b c (all_of parts) ws first later)
+pub replays_push : (a b c : Replay) (parts : List (List Write)) (ws : List Write) (m n : ℕ)
+    → Replays a b (all_of parts) m → Replays b c ws n
+    → Replays a c (all_of (parts ++ ws ∷ [])) (m + n)
+replays_push a b c parts ws m n first later =
+    subst (λ x. Replays a c x (m + n)) (sym (all_of-push parts ws))
+    (replays_then a b c (all_of parts) ws m n first later)
 
 -- one segment more
 pub segments_more : (image : Image) (s : DiskState) (a b c : Replay) (segments : List ℕ) (i : ℕ)
     (log : GateLog) → i < length segments → file_of log ≡ get_or segments i 0
     → ((f : ℕ) → s.file f ≡ image f) → SegmentsSoFar image a b (take i segments)
-    → (ws : List Write) × Reads s log (map write_bytes ws) × Replays b c ws
-    → SegmentsSoFar image a c (take (i + 1) segments)
-segments_more image s a b c segments i log within named same so_far one = record {
-  parts = so_far.parts ++ one.0 ∷ [];
-  are = subst (λ fs. AreSegments image fs (so_far.parts ++ one.0 ∷ []))
-      (sym (take_more segments i 0 within))
-      (segments_with image (take i segments) (get_or segments i 0) so_far.parts one.0 so_far.are
-      (subst (IsLog first_form (map write_bytes one.0)) (same (get_or segments i 0))
-      (subst (λ (n : ℕ). IsLog first_form (map write_bytes one.0) (s.file n)) named
-      (reads_log s log (map write_bytes one.0) one.1))));
-  replays = replays_push a b c so_far.parts one.0 so_far.replays one.2;
-}
+    → SegmentDone s log b c → SegmentsSoFar image a c (take (i + 1) segments)
+segments_more image s a b c segments i log within named same so_far one =
+    let f : ℕ = get_or segments i 0 in
+    let last = done_segment s log b c f image named (same f) one in
+    subst (SegmentsSoFar image a c) (sym (take_more segments i 0 within)) (record {
+      parts = so_far.parts ++ one.0 ∷ [];
+      bytes = so_far.bytes + bytes_in one.1;
+      are = segments_with image (take i segments) f so_far.parts one.0 so_far.are last.0;
+      sized = sized_with image (take i segments) f so_far.bytes (bytes_in one.1) so_far.sized last.1;
+      replays = replays_push a b c so_far.parts one.0 so_far.bytes (bytes_in one.1) so_far.replays
+          one.4;
+    })
 
 -- a segment that wasn't replayed
 pub segment_explains : (image other : Image) (old now : Replay) (segments before behind : List ℕ)
@@ -288,31 +356,47 @@ split_at xs i within =
 -- all segments were replayed, where the last one was behind the first ones
 pub replays_last : (image : Image) (s : DiskState) (a b c : Replay) (segments firsts : List ℕ)
     (log : GateLog) → segments ≡ firsts ++ file_of log ∷ [] → ((f : ℕ) → s.file f ≡ image f)
-    → (parts : List (List Write)) × AreSegments image firsts parts × Replays a b (all_of parts)
-    → (ws : List Write) × Reads s log (map write_bytes ws) × Replays b c ws
+    → (front : SegmentsSoFar image a b firsts) → SegmentDone s log b c
     → ReplaysLast s segments a c log
-replays_last image s a b c segments firsts log is same front last = record {
-  firsts = firsts;
-  fronts = front.0;
-  writes = last.0;
-  segments_are = is;
-  are = subst (λ fs. AreSegments s.file fs (front.0 ++ last.0 ∷ [])) (sym is)
-      (segments_with s.file firsts (file_of log) front.0 last.0
-      (segments_on image s.file firsts front.0 (λ g there. same g) front.1)
-      (reads_log s log (map write_bytes last.0) last.1));
-  reads = last.1;
-  replays = replays_push a b c front.0 last.0 front.2 last.2;
-}
+replays_last image s a b c segments firsts log is same front one =
+    let last = done_segment s log b c (file_of log) s.file refl refl one in
+    record {
+      firsts = firsts;
+      fronts = front.parts;
+      writes = one.0;
+      entries = one.1;
+      bytes = front.bytes + bytes_in one.1;
+      segments_are = is;
+      are = subst (λ fs. AreSegments s.file fs (front.parts ++ one.0 ∷ [])) (sym is)
+          (segments_with s.file firsts (file_of log) front.parts one.0
+          (segments_on image s.file firsts front.parts (λ g there. same g) front.are) last.0);
+      sized = subst (λ fs. AreSized s.file fs (front.bytes + bytes_in one.1)) (sym is)
+          (sized_with s.file firsts (file_of log) front.bytes (bytes_in one.1)
+          (sized_on image s.file firsts front.bytes (λ g there. same g) front.sized) last.1);
+      reads = one.2;
+      holds = one.3;
+      replays = replays_push a b c front.parts one.0 front.bytes (bytes_in one.1) front.replays
+          one.4;
+    }
+
+-- what is said of several segments
+abbrev pub SegmentsDone : Image → Replay → Replay → List ℕ → Type 0
+SegmentsDone image old new segments = (parts : List (List Write)) × (bytes : ℕ)
+    × AreSegments image segments parts × AreSized image segments bytes
+    × Replays old new (all_of parts) bytes
 
 -- all segments in a list
 pub segments_all : (image : Image) (old new : Replay) (segments : List ℕ) (i : ℕ)
     → length segments ≤ i → SegmentsSoFar image old new (take i segments)
-    → (parts : List (List Write)) × AreSegments image segments parts × Replays old new (all_of parts)
-segments_all image old new segments i past so_far = (
-  so_far.parts,
-  subst (λ fs. AreSegments image fs so_far.parts) (take_all i segments past) so_far.are,
-  so_far.replays,
-)
+    → SegmentsDone image old new segments
+segments_all image old new segments i past so_far =
+    let all : take i segments ≡ segments = take_all i segments past in (
+      so_far.parts,
+      so_far.bytes,
+      subst (λ fs. AreSegments image fs so_far.parts) all so_far.are,
+      subst (λ fs. AreSized image fs so_far.bytes) all so_far.sized,
+      so_far.replays,
+    )
 
 -- a list that isn't empty is its front and its last number
 pub last_split : (xs : List ℕ) → 0 < length xs
@@ -324,10 +408,18 @@ last_split xs some =
 
 -- the same of all segments so far
 pub so_far_of : (image : Image) (old new : Replay) (segments : List ℕ)
-    → (parts : List (List Write)) × AreSegments image segments parts × Replays old new (all_of parts)
-    → SegmentsSoFar image old new segments
+    → SegmentsDone image old new segments → SegmentsSoFar image old new segments
 so_far_of image old new segments done = record {
   parts = done.0;
-  are = done.1;
-  replays = done.2;
+  bytes = done.1;
+  are = done.2;
+  sized = done.3;
+  replays = done.4;
 }
+
+-- the write of what was read at a place
+pub write_at : (reads : List LoggedWrite) (i : ℕ) (read : LoggedWrite)
+    → get_or (writes_of reads) i (write_of read) ≡ write_of (get_or reads i read)
+write_at [] i read = refl
+write_at (r ∷ reads) zero read = refl
+write_at (r ∷ reads) (suc i) read = write_at reads i read

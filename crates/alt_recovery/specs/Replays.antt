@@ -1,19 +1,21 @@
 -- What a replay of writes makes of families, and why entries are none that can be replayed.
-use Rattle.std.specs.Prelude.{◌≡◌, ◌⊎◌, ◌≤◌, ◌+◌, ◌++◌, ℕ, List, [], ◌∷◌, map, length, min, Option}
+use Rattle.std.specs.Prelude.{◌≡◌, ◌⊎◌, ◌≤◌, ◌+◌, ◌++◌, ℕ, List, [], ◌∷◌, length, min, Option}
 use Rattle.std.specs.BTreeMap.{BTreeMap, get}
 use Rattle.std.specs.Ordering.{nat_cmp}
 use Rattle.alt_disk.specs.Disk.{DiskState, bytes_or_none}
 use Rattle.alt_families.specs.Families.{Families, files_in, rows_in}
-use Rattle.alt_gatelog.specs.InHand.{file_of, Reads}
-use Rattle.alt_gatelog.specs.Log.{IsDamaged, IsLog, first_form, gate_place}
+use Rattle.alt_gatelog.specs.InHand.{file_of, form_of, Reads}
+use Rattle.alt_gatelog.specs.Log.{IsDamaged, IsLog, gate_place}
 use Rattle.alt_gatelog.specs.declared.fault.LogFault.{LogFault}
 use Rattle.alt_gatelog.specs.declared.fault.LogFault.TheVariants.{Damaged, Failed, NoMemory}
+use Rattle.alt_gatelog.specs.declared.form.Form.{Form}
 use Rattle.alt_gatelog.specs.declared.gatelog.GateLog.{GateLog}
+use Rattle.alt_layout.specs.Entries.{HoldWrites, IsNoEntry}
 use Rattle.alt_layout.specs.Families.{next_after, with_later, with_one}
 use Rattle.alt_layout.specs.Files.{AreSegments, Image, all_of}
+use Rattle.alt_layout.specs.Sizes.{AreSized}
 use Rattle.alt_memtable.specs.Rows.{most_bytes}
-use Rattle.alt_writes.specs.Bytes.{AllHeld, write_bytes}
-use Rattle.alt_writes.specs.Reading.{IsNoWrite}
+use Rattle.alt_writes.specs.Bytes.{AllHeld}
 use Rattle.alt_writes.specs.Writes.{AreRising, Write}
 use Rattle.alt_recovery.specs.Flushed.{flushed_in}
 use Rattle.alt_recovery.specs.declared.replay.Replay.{Replay}
@@ -26,17 +28,12 @@ pub record IsJoinedTo (flushed : BTreeMap ℕ ℕ) (old new : Families) (w : Wri
       ≡ with_one (flushed_in flushed f) f (rows_in (get nat_cmp old f)) w
   pub files : (f : ℕ) → files_in (get nat_cmp new f) ≡ files_in (get nat_cmp old f)
 
--- How many bytes the entries of these writes have together.
-abbrev pub logged_bytes : List Write → ℕ
-logged_bytes [] = 0
-logged_bytes (w ∷ ws) = length (write_bytes w) + logged_bytes ws
-
--- These writes, whose numbers rise, were joined one after another, and their bytes counted.
-pub record Replays (old new : Replay) (ws : List Write) : Type 0 where
+-- These writes, whose numbers rise, were joined one after another, and so many bytes counted.
+pub record Replays (old new : Replay) (ws : List Write) (bytes : ℕ) : Type 0 where
   pub held : AllHeld ws
   pub rising : AreRising old.least ws
   pub least : new.least ≡ next_after old.least ws
-  pub length : old.length ≤ most_bytes → new.length ≡ min (old.length + logged_bytes ws) most_bytes
+  pub length : old.length ≤ most_bytes → new.length ≡ min (old.length + bytes) most_bytes
   pub flushed : new.flushed ≡ old.flushed
   pub rows : (f : ℕ) → rows_in (get nat_cmp new.families f)
       ≡ with_later (flushed_in old.flushed f) f (rows_in (get nat_cmp old.families f)) ws
@@ -48,34 +45,42 @@ pub record ReplaysLast (s : DiskState) (segments : List ℕ) (old new : Replay)
   pub firsts : List ℕ
   pub fronts : List (List Write)
   pub writes : List Write
+  pub entries : List (List ℕ)
+  pub bytes : ℕ
   pub segments_are : segments ≡ firsts ++ file_of log ∷ []
   pub are : AreSegments s.file segments (fronts ++ writes ∷ [])
-  pub reads : Reads s log (map write_bytes writes)
-  pub replays : Replays old new (all_of (fronts ++ writes ∷ []))
+  pub sized : AreSized s.file segments bytes
+  pub reads : Reads s log entries
+  pub holds : HoldWrites (form_of log) entries writes
+  pub replays : Replays old new (all_of (fronts ++ writes ∷ [])) bytes
 
 -- ---- Why not.
 
--- Behind writes with rising numbers an entry is no write with a later one.
-pub record IsBadEntry (entries : List (List ℕ)) (least at : ℕ) : Type 0 where
+-- Behind entries that hold writes with rising numbers an entry holds none with later ones.
+pub record IsBadEntry (form : Form) (entries : List (List ℕ)) (least at : ℕ) : Type 0 where
+  pub front : List (List ℕ)
   pub writes : List Write
   pub entry : List ℕ
   pub behind : List (List ℕ)
-  pub is : entries ≡ map write_bytes writes ++ entry ∷ behind
+  pub is : entries ≡ front ++ entry ∷ behind
+  pub holds : HoldWrites form front writes
   pub held : AllHeld writes
   pub rising : AreRising least writes
-  pub none : IsNoWrite (next_after least writes) entry
-  pub place : at ≡ gate_place first_form entries (length writes)
+  pub none : IsNoEntry form (next_after least writes) entry
+  pub place : at ≡ gate_place entries (length front)
 
 -- Damaged names the file and the place of such an entry.
-abbrev pub ExplainsLog : ℕ → List (List ℕ) → ℕ → LogFault → Type 0
-ExplainsLog f entries least (Damaged file at) = (file ≡ f) × IsBadEntry entries least at
-ExplainsLog f entries least Failed = Unit {0}
-ExplainsLog f entries least NoMemory = Unit {0}
+abbrev pub ExplainsLog : Form → ℕ → List (List ℕ) → ℕ → LogFault → Type 0
+ExplainsLog form f entries least (Damaged file at) =
+    (file ≡ f) × IsBadEntry form entries least at
+ExplainsLog form f entries least Failed = Unit {0}
+ExplainsLog form f entries least NoMemory = Unit {0}
 
 -- The file is no log at the place, or one with such an entry.
 abbrev pub IsBadSegment : ℕ → Option (List ℕ) → ℕ → Type 0
-IsBadSegment least file at = IsDamaged first_form at (bytes_or_none file)
-    ⊎ ((entries : List (List ℕ)) × IsLog first_form entries file × IsBadEntry entries least at)
+IsBadSegment least file at = IsDamaged at (bytes_or_none file)
+    ⊎ ((form : Form) × (entries : List (List ℕ)) × IsLog form entries file
+    × IsBadEntry form entries least at)
 
 -- Damaged names it.
 abbrev pub ExplainsSegment : ℕ → ℕ → Option (List ℕ) → LogFault → Type 0

@@ -8,7 +8,7 @@ mod next;
 mod open;
 mod replay;
 
-pub use entries::{LoggedWrite, read_entry};
+pub use entries::{LoggedEntry, read_entry};
 pub use families::open_families;
 pub use flushed::flushed_numbers;
 pub use next::next_file;

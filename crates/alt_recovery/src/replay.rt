@@ -1,13 +1,16 @@
 //! The writes of segments, joined to the rows in memory where no row file has them.
 
-ghost use Rattle.std.specs.Prelude.{◌≡◌, ◌<◌, ℕ, List, [], ◌∷◌, map, get_or, IfOk, IfErr, OnOk, IsErrOf, IsTrue};
+ghost use Rattle.std.specs.Prelude.{◌≡◌, ◌<◌, ℕ, List, [], ◌∷◌, length, get_or, IfOk, IfErr, OnOk, IsErrOf, IsTrue};
 ghost use Rattle.alt_base.specs.Counts.{Rose};
 ghost use Rattle.alt_disk.specs.Disk.{Goes};
 ghost use Rattle.alt_disk.specs.Runs.{Quiet};
-ghost use Rattle.alt_gatelog.specs.InHand.{count_of, file_of, Reads};
+ghost use Rattle.alt_gatelog.specs.InHand.{count_of, file_of, form_of, Reads};
+ghost use Rattle.alt_layout.specs.Entries.{HoldWrites, IsEntry};
 ghost use Rattle.alt_layout.specs.Files.{AreSegments, all_of};
-ghost use Rattle.alt_writes.specs.Bytes.{write_bytes};
-ghost use Rattle.alt_writes.specs.Writes.{Write};
+ghost use Rattle.alt_layout.specs.Sizes.{AreSized, bytes_in};
+ghost use Rattle.alt_writes.specs.Bytes.{AllHeld};
+ghost use Rattle.alt_writes.specs.Reading.{writes_of};
+ghost use Rattle.alt_writes.specs.Writes.{AreRising, Write};
 ghost use Rattle.alt_recovery.specs.Entries.{ExplainsEntry};
 ghost use Rattle.alt_recovery.specs.Flushed.{flushed_in};
 ghost use Rattle.alt_recovery.specs.Replays.{ExplainsLog, ExplainsSegment, ExplainsSegments, IsJoinedTo, Replays, ReplaysLast};
@@ -18,6 +21,7 @@ use alt_cells::RowChange;
 use alt_disk::Disk;
 use alt_families::{Family, put_changes, with_more};
 use alt_gatelog::{GateLog, LogFault};
+use alt_writes::LoggedWrite;
 use std::alloc::Global;
 use std::collections::BTreeMap;
 
@@ -69,8 +73,9 @@ fn replay_firsts<D: Disk>(
     replay: &mut Replay,
 ) -> Result<(), LogFault>
     ensures ok { IsTrue (D.state disk.old).tells → OnOk result ((parts : List (List Write))
-        × AreSegments (D.state disk.old).file segments.now parts
-        × Replays replay.old replay.new (all_of parts)) }
+        × (bytes : ℕ) × AreSegments (D.state disk.old).file segments.now parts
+        × AreSized (D.state disk.old).file segments.now bytes
+        × Replays replay.old replay.new (all_of parts) bytes) }
     ensures explained { IsTrue (D.state disk.old).tells
         → IfErr result (ExplainsSegments (D.state disk.old).file segments.now replay.old.least) }
     ensures quiet { IsTrue (D.state disk.old).tells
@@ -99,8 +104,9 @@ fn replay_segment<D: Disk>(
 ) -> Result<GateLog, LogFault>
     ensures file { IfOk result (λ log. file_of log ≡ f) }
     ensures ok { IfOk result (λ log. IsTrue (D.state disk.old).tells → (ws : List Write)
-        × Reads (D.state disk.new) log (map write_bytes ws)
-        × Replays replay.old replay.new ws) }
+        × (entries : List (List ℕ)) × Reads (D.state disk.new) log entries
+        × HoldWrites (form_of log) entries ws
+        × Replays replay.old replay.new ws (bytes_in entries)) }
     ensures explained { IsTrue (D.state disk.old).tells
         → IfErr result (ExplainsSegment f replay.old.least ((D.state disk.old).file f)) }
     ensures quiet { IsTrue (D.state disk.old).tells
@@ -132,10 +138,11 @@ fn replay_log<D: Disk>(
     ensures log { log.new ≡ log.old }
     ensures ok { IsTrue (D.state disk.old).tells → (entries : List (List ℕ))
         → Reads (D.state disk.old) log.old entries → OnOk result ((ws : List Write)
-        × (map write_bytes ws ≡ entries) × Replays replay.old replay.new ws) }
+        × HoldWrites (form_of log.old) entries ws
+        × Replays replay.old replay.new ws (bytes_in entries)) }
     ensures damaged { IsTrue (D.state disk.old).tells → (entries : List (List ℕ))
         → Reads (D.state disk.old) log.old entries
-        → IfErr result (ExplainsLog f entries replay.old.least) }
+        → IfErr result (ExplainsLog (form_of log.old) f entries replay.old.least) }
     ensures quiet { IsTrue (D.state disk.old).tells
         → Quiet (D.state disk.old) (D.state disk.new) }
     ensures goes { Goes (D.state disk.old) (D.state disk.new) }
@@ -153,7 +160,7 @@ fn replay_log<D: Disk>(
     Ok(())
 }
 
-/// Joins the write of an entry.
+/// Joins the writes of an entry, and counts its bytes.
 fn replay_entry<D: Disk>(
     alloc: Global,
     disk: &mut D,
@@ -165,11 +172,12 @@ fn replay_entry<D: Disk>(
     requires { i < count_of log.old }
     ensures log { log.new ≡ log.old }
     ensures ok { IsTrue (D.state disk.old).tells → (entries : List (List ℕ))
-        → Reads (D.state disk.old) log.old entries → OnOk result ((w : Write)
-        × (get_or entries i [] ≡ write_bytes w) × Replays replay.old replay.new (w ∷ [])) }
+        → Reads (D.state disk.old) log.old entries → OnOk result ((ws : List Write)
+        × IsEntry (form_of log.old) (get_or entries i []) ws
+        × Replays replay.old replay.new ws (length (get_or entries i []))) }
     ensures damaged { IsTrue (D.state disk.old).tells → (entries : List (List ℕ))
         → Reads (D.state disk.old) log.old entries
-        → IfErr result (ExplainsEntry f entries i replay.old.least) }
+        → IfErr result (ExplainsEntry (form_of log.old) f entries i replay.old.least) }
     ensures quiet { IsTrue (D.state disk.old).tells
         → Quiet (D.state disk.old) (D.state disk.new) }
     ensures goes { Goes (D.state disk.old) (D.state disk.new) }
@@ -182,18 +190,31 @@ fn replay_entry<D: Disk>(
         Ok(read) => read,
         Err(fault) => return Err(fault),
     };
-    match join_later(
-        alloc,
-        &mut replay.families,
-        &replay.flushed,
-        read.number,
-        read.changes.as_slice(),
-    ) {
+    match join_writes(alloc, replay, read.writes.as_slice()) {
         Ok(()) => {}
         Err(_) => return Err(LogFault::NoMemory),
     }
-    replay.least = read.number + 1;
     replay.length = with_more(replay.length, read.length);
+    Ok(())
+}
+
+/// Joins writes whose numbers rise, one after another.
+fn join_writes(alloc: Global, replay: &mut Replay, writes: &[LoggedWrite]) -> Result<(), NoMemory>
+    requires held { AllHeld (writes_of writes.now) }
+    requires rising { AreRising replay.old.least (writes_of writes.now) }
+    ensures joined { OnOk result (Replays replay.old replay.new (writes_of writes.now) 0) }
+    ensures length { replay.new.length ≡ replay.old.length }
+{
+    for write in writes {
+        join_later(
+            alloc,
+            &mut replay.families,
+            &replay.flushed,
+            write.number,
+            write.changes.as_slice(),
+        )?;
+        replay.least = write.number + 1;
+    }
     Ok(())
 }
 

@@ -1,4 +1,5 @@
 -- The laws of drafts.
+use Rattle.alt_flush.proofs.SegmentLaws.{segment_drops}
 use Rattle.alt_flush.proofs.NamedLaws.{flush_drops, flush_names, log_drops, log_names, merge_drops, without_drops, without_names}
 use Rattle.alt_flush.proofs.laws.draft_laws.Goals as goal
 
@@ -10,5 +11,6 @@ returns c = record {
   without_drops = without_drops;
   new_log = log_names;
   new_log_drops = log_drops;
+  segment_drops = segment_drops;
   merge_drops = merge_drops;
 }

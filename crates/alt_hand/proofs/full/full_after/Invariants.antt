@@ -2,10 +2,10 @@
 use Rattle.std.proofs.Common.{◌<◌, ℕ, take}
 use Rattle.std.specs.BTreeMap.{get}
 use Rattle.std.specs.Ordering.{nat_cmp}
-use Rattle.alt_families.specs.Memory.{IsChanged}
+use Rattle.alt_families.specs.Memory.{AreChanged}
 use Rattle.alt_hand.specs.InHand.{bytes_in}
 use Rattle.alt_hand.proofs.full.full_after.Given as goal
 
-abbrev pub invariant-loop-change : goal.invariant-loop-change
-invariant-loop-change l = (family : ℕ) → IsChanged (take l.change-index l.changes) family
+abbrev pub invariant-loop-batch : goal.invariant-loop-batch
+invariant-loop-batch l = (family : ℕ) → AreChanged (take l.batch-index l.batches) family
     → bytes_in (get nat_cmp l.families family) < l.flush

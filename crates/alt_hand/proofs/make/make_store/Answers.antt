@@ -1,7 +1,8 @@
 use Rattle.std.proofs.Common.{◌≡◌, ◌≢◌, ℕ, List, [], Some, sym, ap, subst, ◌∙◌, arith}
 use Rattle.alt_disk.specs.Disk.{DiskState, IsTrusted, IsSettled}
 use Rattle.alt_disk.proofs.Runs.{trusted_on, tells_of}
-use Rattle.alt_gatelog.specs.Log.{first_form, log_after}
+use Rattle.alt_gatelog.specs.Log.{log_after, log_bytes}
+use Rattle.alt_gatelog.specs.declared.form.Form.{Form}
 use Rattle.alt_layout.specs.Fresh.{first_version}
 use Rattle.alt_hand.proofs.Fresh.{fresh_layout, settled_on, rest_none}
 use Rattle.alt_hand.proofs.make.make_store.Goals as goal
@@ -28,13 +29,15 @@ returns-clause-fresh g c trusted =
     let apart : 2 ≢ log.file = λ same. omega (arith, same, file) in
     let first = c.in_ok-make.ensures.made trusted_1 in
     let file_2 = c.in_ok-make.ensures.file in
-    let rest : made.reads.rest ≡ [] = rest_none (s3.file log.file) made.reads.gate made.reads.rest
+    let rest : made.reads.rest ≡ [] = rest_none log.form (s3.file log.file) made.reads.gate made.reads.rest
     (ap (λ (f : ℕ). s3.file f) file ∙ c.in_ok-versions.ensures.bytes trusted_2) made.reads.file in
     record {
       versions = ap (λ (f : ℕ). s4.file f) (sym file) ∙ bytes
-          ∙ ap (λ (r : List ℕ). Some (log_after first_form none first_version r)) rest;
+          ∙ ap (λ (r : List ℕ). Some (log_after log.form none first_version r)) rest
+          ∙ ap (λ (x : Form). Some (log_after x none first_version [])) c.in_ok-versions.ensures.given;
       entries = run_4.file 2 apart ∙ run_3.file 2 (omega arith)
-          ∙ c.in_ok-make.ensures.bytes trusted_1;
+          ∙ c.in_ok-make.ensures.bytes trusted_1
+          ∙ ap (λ (x : Form). Some (log_bytes x none 0 [])) c.in_ok-make.ensures.given;
       others = λ f not_1 not_2. run_4.file f (λ same. not_1 (same ∙ file)) ∙ run_3.file f not_1
           ∙ (c.make.ensures.any_moment trusted_1).file f not_2
           ∙ c.in-Ok.ensures.none (tells_of s0 trusted) f;

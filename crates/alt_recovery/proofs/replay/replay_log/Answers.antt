@@ -1,12 +1,13 @@
 -- One entry more.
-use Rattle.std.proofs.Common.{rules, ◌<◌, IsTrue, length, sym, subst, ◌∙◌, arith}
+use Rattle.std.proofs.Common.{rules, ◌<◌, [], IsTrue, get_or, length, sym, subst, ◌∙◌, arith}
 use Rattle.alt_cells.proofs.Keeping.{tells_on}
 use Rattle.alt_disk.specs.Disk.{DiskState}
 use Rattle.alt_disk.proofs.Calls.{goes_on}
 use Rattle.alt_disk.proofs.Runs.{quiet_then}
-use Rattle.alt_gatelog.specs.InHand.{Reads}
+use Rattle.alt_gatelog.specs.InHand.{form_of, Reads}
 use Rattle.alt_gatelog.specs.declared.gatelog.GateLog.{GateLog}
-use Rattle.alt_recovery.proofs.ReplayLaws.{entry_explains, log_while, so_far_all, so_far_more}
+use Rattle.alt_recovery.specs.Entries.{ExplainsEntry}
+use Rattle.alt_recovery.proofs.ReplayLaws.{EntryDone, entry_explains, log_while, so_far_all, so_far_more}
 use Rattle.alt_recovery.proofs.replay.replay_log.Goals as goal
 
 pub returns-in-Err-clause-damaged : goal.returns-in-Err-clause-damaged
@@ -19,9 +20,11 @@ returns-in-Err-clause-damaged g c told entries reads =
     (subst (λ (l : GateLog). Reads a l entries) (sym inv.log) reads) in
     let within : c.loop-i.i < length entries =
     omega (arith, c.loop-i-test.true, c.entries-i-end.ensures.list a entries reads) in
-    entry_explains c.args.f c.args.replay.now c.loop-i.replay entries c.loop-i.i c.in-Err.fault
+    entry_explains (form_of c.args.log.now) c.args.f c.args.replay.now c.loop-i.replay entries c.loop-i.i c.in-Err.fault
     within (inv.done told entries reads)
-    (c.in-Err.ensures.damaged (tells_on a b inv.goes told) entries reads_b)
+    (subst (λ (l : GateLog). ExplainsEntry (form_of l) c.args.f entries c.loop-i.i
+    c.loop-i.replay.least c.in-Err.fault) inv.log
+    (c.in-Err.ensures.damaged (tells_on a b inv.goes told) entries reads_b))
 
 pub loop-i-preserved : goal.loop-i-preserved
 loop-i-preserved g c =
@@ -41,13 +44,16 @@ loop-i-preserved g c =
           (subst (λ (l : GateLog). Reads a l entries) (sym inv.log) reads) in
           let within : c.loop-i.i < length entries =
           omega (arith, c.loop-i-test.true, c.entries-i-end.ensures.list a entries reads) in
-          so_far_more c.args.replay.now c.loop-i.replay c.replay_entry.new.replay entries c.loop-i.i
-          within (inv.done told entries reads) (c.in-Ok.ensures.ok (told_b told) entries reads_b);
+          so_far_more (form_of c.args.log.now) c.args.replay.now c.loop-i.replay
+          c.replay_entry.new.replay entries c.loop-i.i within (inv.done told entries reads)
+          (subst (λ (l : GateLog). EntryDone (form_of l) (get_or entries c.loop-i.i [])
+          c.loop-i.replay c.replay_entry.new.replay) inv.log
+          (c.in-Ok.ensures.ok (told_b told) entries reads_b));
     }
 
 pub returns-clause-ok : goal.returns-clause-ok
 returns-clause-ok g c told entries reads =
     let a : DiskState = g.D.Disk.state c.args.disk.now in
-    so_far_all c.args.replay.now c.loop-i.replay entries c.loop-i.i
+    so_far_all (form_of c.args.log.now) c.args.replay.now c.loop-i.replay entries c.loop-i.i
     (omega (arith, c.loop-i-test.false, c.entries-i-end.ensures.list a entries reads))
     (c.loop-i.invariant.done told entries reads)

@@ -1,17 +1,15 @@
 -- The first segments, and then the last one.
-use Rattle.std.proofs.Common.{◌≡◌, ◌<◌, ◌-◌, ◌++◌, ◌∷◌, [], ℕ, List, IsTrue, get_or, length, map, sym, ap, take, ◌∙◌, arith}
+use Rattle.std.proofs.Common.{◌≡◌, ◌<◌, ◌-◌, ◌++◌, ◌∷◌, [], ℕ, List, IsTrue, get_or, length, sym, ap, take, ◌∙◌, arith}
 use Rattle.std.proofs.lemmas.Bool.Decides.{nat_tests}
 use Rattle.alt_cells.proofs.Keeping.{tells_on}
 use Rattle.alt_disk.specs.Disk.{DiskState}
 use Rattle.alt_disk.proofs.Runs.{quiet_then}
-use Rattle.alt_gatelog.specs.InHand.{Reads, file_of}
+use Rattle.alt_gatelog.specs.InHand.{file_of}
 use Rattle.alt_gatelog.specs.declared.gatelog.GateLog.{GateLog}
 use Rattle.alt_gatelog.proofs.OneList.{if_err}
 use Rattle.alt_manifest.proofs.RecoverLaws.{if_both}
-use Rattle.alt_writes.specs.Bytes.{write_bytes}
-use Rattle.alt_writes.specs.Writes.{Write}
-use Rattle.alt_recovery.specs.Replays.{ExplainsSegment, ExplainsSegments, Replays, ReplaysLast}
-use Rattle.alt_recovery.proofs.ReplayLaws.{firsts_explain, last_split, replays_last, segment_explains, so_far_of}
+use Rattle.alt_recovery.specs.Replays.{ExplainsSegment, ExplainsSegments, ReplaysLast}
+use Rattle.alt_recovery.proofs.ReplayLaws.{SegmentDone, firsts_explain, last_split, replays_last, segment_explains, so_far_of}
 use Rattle.alt_recovery.proofs.replay.replay_segments.Goals as goal
 
 pub returns-in-Err-clause-explained : goal.returns-in-Err-clause-explained
@@ -33,8 +31,8 @@ returns-clause-ok g c =
     let some : 0 < length fs = grind (arith, nat_tests) in
     if_both c.replay_segment.result
     (λ (log : GateLog). file_of log ≡ get_or fs (length fs - 1) 0)
-    (λ (log : GateLog). IsTrue b.tells → (ws : List Write) × Reads d log (map write_bytes ws)
-    × Replays c.replay_firsts.new.replay c.replay_segment.new.replay ws)
+    (λ (log : GateLog). IsTrue b.tells
+    → SegmentDone d log c.replay_firsts.new.replay c.replay_segment.new.replay)
     (λ (log : GateLog). IsTrue a.tells
     → ReplaysLast d fs c.args.replay.now c.replay_segment.new.replay log)
     (λ log named done told.
@@ -43,7 +41,8 @@ returns-clause-ok g c =
     (take (length fs - 1) fs) log
     (last_split fs some ∙ ap (λ (n : ℕ). take (length fs - 1) fs ++ n ∷ []) (sym named))
     (quiet_then a b d (c.replay_firsts.ensures.quiet told) (c.replay_segment.ensures.quiet told_b)).file
-    (c.in-Ok.ensures.ok told) (done told_b))
+    (so_far_of a.file c.args.replay.now c.replay_firsts.new.replay (take (length fs - 1) fs)
+    (c.in-Ok.ensures.ok told)) (done told_b))
     c.replay_segment.ensures.file c.replay_segment.ensures.ok
 
 pub returns-clause-explained : goal.returns-clause-explained

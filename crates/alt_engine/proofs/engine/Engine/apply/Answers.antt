@@ -32,7 +32,3 @@ returns-clause-ok g c =
 
 pub returns-clause-any_moment : goal.returns-clause-any_moment
 returns-clause-any_moment g c trusted l stands = c.apply.ensures.any_moment trusted l stands.hand
-
-pub returns-clause-bounds : goal.returns-clause-bounds
-returns-clause-bounds g c =
-    λ i. record { limits = c.apply.ensures.limits i; file = c.apply.ensures.next_file i }

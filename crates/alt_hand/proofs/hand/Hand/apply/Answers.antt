@@ -1,105 +1,51 @@
--- A batch is an entry of the last segment, and its rows are in memory before.
-use Rattle.std.proofs.Common.{◌≡◌, ◌<◌, ℕ, List, false, ◌+◌, map, min, ap, subst, sym, ◌∙◌}
-use Rattle.alt_memtable.specs.Rows.{most_bytes}
-use Rattle.alt_disk.specs.Disk.{DiskState}
-use Rattle.alt_writes.specs.Bytes.{write_bytes}
-use Rattle.std.specs.BTreeMap.{get}
-use Rattle.std.specs.Ordering.{nat_cmp}
+-- A batch is a list of one.
+use Rattle.std.proofs.Common.{◌≡◌, ◌+◌, ◌-◌, ◌^◌, List, OnOk, IfErr, Err, length, max, ap, subst, ◌∙◌, arith}
 use Rattle.alt_cells.specs.declared.batch.RowChange.{RowChange}
-use Rattle.alt_families.specs.Memory.{IsChanged, IsWrittenTo}
-use Rattle.alt_hand.specs.InHand.{bytes_in}
-use Rattle.alt_hand.proofs.ApplyLaws.{at_rest, fits_as, log_stands, spelled_as}
-use Rattle.alt_hand.proofs.CarryLaws.{carries_write}
-use Rattle.alt_hand.proofs.HandLaws.{write_images, with_batch}
-use Rattle.alt_hand.proofs.FullLaws.{still_below}
-use Rattle.alt_gatelog.specs.Log.{BeforeOrAfter, first_form}
+use Rattle.alt_disk.specs.Disk.{IsTrusted}
+use Rattle.alt_disk.specs.Runs.{Spans}
+use Rattle.alt_layout.specs.Layout.{Layout}
+use Rattle.alt_layout.specs.Writes.{with_writes}
+use Rattle.alt_hand.specs.InHand.{BeforeOrAll, IsSpentBy, Stands, batch_writes, next_of}
+use Rattle.alt_hand.specs.declared.hand.EngineFault.TheVariants.{Spent}
 use Rattle.alt_hand.proofs.hand.Hand.apply.Goals as goal
 
-pub returns-then-self-ge-LAST_NUMBER-clause-any_moment :
-    goal.returns-then-self-ge-LAST_NUMBER-clause-any_moment
-returns-then-self-ge-LAST_NUMBER-clause-any_moment g c trusted l stands =
-    at_rest (g.D.Disk.state c.args.disk.now) c.args.self.now l c.args.batch.now stands
-
-pub returns-in_err-bytes-clause-any_moment : goal.returns-in_err-bytes-clause-any_moment
-returns-in_err-bytes-clause-any_moment g c trusted l stands =
-    at_rest (g.D.Disk.state c.args.disk.now) c.args.self.now l c.args.batch.now stands
-
-pub returns-in_err-put_changes-clause-any_moment : goal.returns-in_err-put_changes-clause-any_moment
-returns-in_err-put_changes-clause-any_moment g c trusted l stands =
-    at_rest (g.D.Disk.state c.args.disk.now) c.args.self.now l c.args.batch.now stands
-
-pub returns-in-Err-Failed-clause-any_moment : goal.returns-in-Err-Failed-clause-any_moment
-returns-in-Err-Failed-clause-any_moment g c trusted l stands =
-    let s : DiskState = g.D.Disk.state c.args.disk.now in
-    let e = c.args.self.now in
-    let batch = c.args.batch.now in
-    write_images s (g.D.Disk.state c.append.new.disk) e l batch c.as_slice-4.result.now stands
-    (spelled_as s e l c.as_slice.result.now batch c.as_slice-4.result.now _ stands
-    c.as_slice.ensures.changes c.as_slice-4.ensures.value c.in_ok-bytes.ensures.bytes)
-    (fits_as s e l c.as_slice.result.now batch stands c.as_slice.ensures.changes
-    c.in_ok-bytes.ensures.held)
-    (c.append.ensures.any_moment trusted (map write_bytes stands.reads.writes)
-    (log_stands s e l stands))
-
-pub returns-in-Err-NoMemory-clause-any_moment : goal.returns-in-Err-NoMemory-clause-any_moment
-returns-in-Err-NoMemory-clause-any_moment g c trusted l stands =
-    let s : DiskState = g.D.Disk.state c.args.disk.now in
-    let e = c.args.self.now in
-    let batch = c.args.batch.now in
-    write_images s (g.D.Disk.state c.append.new.disk) e l batch c.as_slice-4.result.now stands
-    (spelled_as s e l c.as_slice.result.now batch c.as_slice-4.result.now _ stands
-    c.as_slice.ensures.changes c.as_slice-4.ensures.value c.in_ok-bytes.ensures.bytes)
-    (fits_as s e l c.as_slice.result.now batch stands c.as_slice.ensures.changes
-    c.in_ok-bytes.ensures.held)
-    (c.append.ensures.any_moment trusted (map write_bytes stands.reads.writes)
-    (log_stands s e l stands))
-
-pub returns-clause-any_moment : goal.returns-clause-any_moment
-returns-clause-any_moment g c trusted l stands =
-    let s : DiskState = g.D.Disk.state c.args.disk.now in
-    let e = c.args.self.now in
-    let batch = c.args.batch.now in
-    write_images s (g.D.Disk.state c.append.new.disk) e l batch c.as_slice-4.result.now stands
-    (spelled_as s e l c.as_slice.result.now batch c.as_slice-4.result.now _ stands
-    c.as_slice.ensures.changes c.as_slice-4.ensures.value c.in_ok-bytes.ensures.bytes)
-    (fits_as s e l c.as_slice.result.now batch stands c.as_slice.ensures.changes
-    c.in_ok-bytes.ensures.held)
-    (c.append.ensures.any_moment trusted (map write_bytes stands.reads.writes)
-    (log_stands s e l stands))
+pub apply_all-requires-clause-some : goal.apply_all-requires-clause-some
+apply_all-requires-clause-some g c =
+    let one = ap (λ (bs : List (List RowChange)). length bs) c.from_ref.ensures.value in
+    omega (arith, one)
 
 pub returns-clause-ok : goal.returns-clause-ok
-returns-clause-ok g c trusted l stands =
-    let s : DiskState = g.D.Disk.state c.args.disk.now in
-    let e = c.args.self.now in
-    let batch = c.args.batch.now in
-    with_batch s (g.D.Disk.state c.append.new.disk) e l batch c.as_slice-4.result.now stands
-    (spelled_as s e l c.as_slice.result.now batch c.as_slice-4.result.now _ stands
-    c.as_slice.ensures.changes c.as_slice-4.ensures.value c.in_ok-bytes.ensures.bytes)
-    (fits_as s e l c.as_slice.result.now batch stands c.as_slice.ensures.changes
-    c.in_ok-bytes.ensures.held)
-    (c.append.ensures.any_moment trusted (map write_bytes stands.reads.writes)
-    (log_stands s e l stands)) c.append.new.self c.with_more-self.result c.put_changes.new.families
-    c.append.ensures.file
-    (c.in-Ok.ensures.ok trusted (map write_bytes stands.reads.writes) stands.reads.log)
-    (c.with_more-self.ensures ∙ ap (λ n. min (e.length + n) most_bytes)
-    (c.len.ensures ∙ sym c.as_slice-4.ensures.len))
-    (subst (IsWrittenTo e.families c.put_changes.new.families e.next) c.as_slice-2.ensures.changes
-    c.in_ok-put_changes.ensures.written) c.full_after-self.result
-    (still_below e.families c.put_changes.new.families e.limits.flush e.full batch
-    c.full_after-self.result stands.reads.calm
-    (subst (λ (cs : List RowChange). (f : ℕ) → (IsChanged cs f → ⊥)
-    → get nat_cmp c.put_changes.new.families f ≡ get nat_cmp e.families f)
-    c.as_slice-2.ensures.changes c.in_ok-put_changes.ensures.others) c.full_after-self.ensures.before
-    (subst (λ (cs : List RowChange). c.full_after-self.result ≡ false → (f : ℕ) → IsChanged cs f
-    → bytes_in (get nat_cmp c.put_changes.new.families f) < e.limits.flush)
-    c.as_slice-3.ensures.changes c.full_after-self.ensures.changed))
+returns-clause-ok g c = subst (λ (bs : List (List RowChange)). OnOk c.apply_all.result
+    (IsTrusted (g.D.Disk.state c.args.disk.now) → (l : Layout)
+    → Stands (g.D.Disk.state c.args.disk.now) c.args.self.now l
+    → Stands (g.D.Disk.state c.apply_all.new.disk) c.apply_all.new.self
+    (with_writes l (batch_writes l bs)))) c.from_ref.ensures.value c.apply_all.ensures.ok
 
-pub returns-clause-carries : goal.returns-clause-carries
-returns-clause-carries g c trusted l stands family =
-    let e = c.args.self.now in
-    carries_write (g.D.Disk.state c.args.disk.now) (g.D.Disk.state c.append.new.disk) e l stands
-    (BeforeOrAfter first_form (map write_bytes stands.reads.writes) c.as_slice-4.result.now)
-    (c.append.ensures.any_moment trusted (map write_bytes stands.reads.writes)
-    (log_stands (g.D.Disk.state c.args.disk.now) e l stands)) c.append.new.self
-    c.with_more-self.result (e.next + 1) c.put_changes.new.families c.full_after-self.result
-    c.as_slice-2.result.now e.next family c.in_ok-put_changes.ensures.written
+pub returns-clause-next : goal.returns-clause-next
+returns-clause-next g c = subst (λ (bs : List (List RowChange)). OnOk c.apply_all.result
+    (next_of c.apply_all.new.self ≡ next_of c.args.self.now + length bs))
+    c.from_ref.ensures.value c.apply_all.ensures.next
+
+pub returns-clause-any_moment : goal.returns-clause-any_moment
+returns-clause-any_moment g c = subst (λ (bs : List (List RowChange)).
+    IsTrusted (g.D.Disk.state c.args.disk.now) → (l : Layout)
+    → Stands (g.D.Disk.state c.args.disk.now) c.args.self.now l
+    → Spans (g.D.Disk.state c.args.disk.now) (g.D.Disk.state c.apply_all.new.disk) (λ f. Unit {0})
+    (BeforeOrAll l bs)) c.from_ref.ensures.value c.apply_all.ensures.any_moment
+
+pub returns-clause-spent_number : goal.returns-clause-spent_number
+returns-clause-spent_number g c more =
+    let one = ap (λ (bs : List (List RowChange)). length bs) c.from_ref.ensures.value in
+    c.apply_all.ensures.spent_number (omega (arith, one, more))
+    ∙ ap (λ n. Err (Spent n))
+    (let most : max (next_of c.args.self.now) (2 ^ 62 - 1) ≡ next_of c.args.self.now =
+    omega (arith, more) in most)
+
+pub returns-clause-spent_file : goal.returns-clause-spent_file
+returns-clause-spent_file g c few form last =
+    let one = ap (λ (bs : List (List RowChange)). length bs) c.from_ref.ensures.value in
+    c.apply_all.ensures.spent_file (omega (arith, one, few)) form last
+
+pub returns-clause-cause_spent : goal.returns-clause-cause_spent
+returns-clause-cause_spent g c = subst (λ (bs : List (List RowChange)). IfErr c.apply_all.result
+    (IsSpentBy c.args.self.now (length bs))) c.from_ref.ensures.value c.apply_all.ensures.cause_spent

@@ -6,6 +6,7 @@ use Rattle.alt_disk.specs.Disk.{DiskState}
 use Rattle.alt_disk.specs.Runs.{Spans}
 use Rattle.alt_disk.proofs.Runs.{trusted_back, trusted_on}
 use Rattle.alt_flush.specs.Drafts.{From, over_new_log, renumbered}
+use Rattle.alt_gatelog.specs.InHand.{file_of as log_file, form_of}
 use Rattle.alt_flush.proofs.RemoveLaws.{none_removed}
 use Rattle.alt_manifest.specs.InHand.{version_of}
 use Rattle.alt_manifest.specs.declared.version.Version.{Version}
@@ -426,6 +427,8 @@ returns-clause-new_log g c = on_ok_weaker c.publish.result
       segment = flushed.next_file;
       segments = ap (λ (v : Version). v.segments) draft;
       last = c.publish.ensures.file ∙ ap (λ (v : Version). v.next_file) c.in_ok-draft.ensures;
+      log = ap log_file c.publish.ensures.log ∙ c.in_ok-log.ensures.file;
+      form = ap form_of c.publish.ensures.log ∙ c.in_ok-log.ensures.given;
       left = λ f there of.
           let old : IsIn flushed.segments f = subst (λ (xs : List ℕ). IsIn xs f)
           (sym (c.in_ok-flushed.ensures.segments ∙ c.in_ok-alive.ensures.segments

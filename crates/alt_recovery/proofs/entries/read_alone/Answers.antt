@@ -1,0 +1,15 @@
+-- One write, in a list.
+use Rattle.std.proofs.Common.{◌≡◌, ◌∷◌, [], List, ap, sym, subst, ◌∙◌}
+use Rattle.alt_gatelog.specs.declared.form.Form.TheVariants.{One}
+use Rattle.alt_layout.specs.Entries.{IsEntry, IsNoEntry}
+use Rattle.alt_writes.specs.Bytes.{AllHeld}
+use Rattle.alt_writes.specs.Reading.{IsNoWrite, write_of, writes_of}
+use Rattle.alt_writes.specs.Writes.{AreRising, Write}
+use Rattle.alt_recovery.proofs.EntryLaws.{none_alone, none_map}
+use Rattle.alt_recovery.proofs.entries.read_alone.Goals as goal
+
+pub returns-in-Err-clause-none : goal.returns-in-Err-clause-none
+returns-in-Err-clause-none c =
+    none_map (IsNoWrite c.args.least c.args.bytes.now)
+    (IsNoEntry One c.args.least c.args.bytes.now) c.in-Err.stop
+    (none_alone c.args.least c.args.bytes.now) c.in-Err.ensures.none

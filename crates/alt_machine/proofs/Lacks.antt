@@ -4,7 +4,7 @@ use Rattle.std.proofs.lemmas.Bool.{le-leb, leb-true, lt-ltb}
 use Rattle.alt_machine.specs.declared.TheConstants.{NUMBERS_END, FAMILIES_END, MOST_FAMILIES}
 use Rattle.alt_machine.specs.Outcomes.{Wants}
 use Rattle.alt_machine.specs.State.{State}
-use Rattle.alt_machine.specs.Wanted.{number_lack, family_lack, table_lack, lack_of, lack_among, or_later, Lack}
+use Rattle.alt_machine.specs.Wanted.{number_lack, numbers_lack, family_lack, table_lack, lack_of, lack_among, or_later, Lack}
 
 -- a number that doesn't reach a bound is below it
 not_full : (m n : ℕ) → nat_le m n ≡ false → n < m
@@ -60,6 +60,23 @@ has_number n h = by (nat_le NUMBERS_END n) refl
 -- any other is
 pub lacks_number : (n : ℕ) → NUMBERS_END ≤ n → number_lack n ≡ Some n
 lacks_number n h = ap (λ b. cond b (Some n) None) (le-leb NUMBERS_END n h)
+
+-- so many numbers are not lacked, where they end before the bound or there
+pub has_numbers : (count n : ℕ) → n + count ≤ NUMBERS_END → numbers_lack count n ≡ None
+has_numbers count n h = by (nat_lt NUMBERS_END (n + count)) refl
+  where
+    above : (a b : ℕ) → nat_lt a b ≡ true → a < b
+    above a b e = grind arith
+
+    by : (b : Bool) → nat_lt NUMBERS_END (n + count) ≡ b → cond b (Some NUMBERS_END) None ≡ None
+    by true e = absurd (omega (arith, h, above NUMBERS_END (n + count) e))
+    by false e = refl
+
+-- any more are
+pub lacks_numbers : (count n : ℕ) → NUMBERS_END < n + count
+    → numbers_lack count n ≡ Some NUMBERS_END
+lacks_numbers count n h =
+    ap (λ b. cond b (Some NUMBERS_END) None) (lt-ltb NUMBERS_END (n + count) h)
 
 -- families are not lacked, where as many as a table may take are there before the end
 pub has_family : (f : ℕ) → f + MOST_FAMILIES ≤ FAMILIES_END → family_lack f ≡ None

@@ -27,6 +27,7 @@ pub mod States
 pub mod Steps
 pub mod Targets
 pub mod Tests
+pub mod Together
 pub mod Trimming
 pub mod Untouched
 pub mod Updates

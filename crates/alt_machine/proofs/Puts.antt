@@ -26,7 +26,7 @@ use Rattle.alt_machine.specs.Same.{is_same}
 use Rattle.alt_machine.specs.State.{State, Table}
 use Rattle.alt_machine.specs.Valid.{IsStored, IsValid}
 use Rattle.alt_machine.specs.Writes.{item_writes, after_item}
-use Rattle.alt_machine.proofs.Chains.{Steps, AreSteps, no_steps, one_step, steps-unless}
+use Rattle.alt_machine.proofs.Chains.{IsStep, Steps, no_steps, one_step, steps-unless}
 use Rattle.alt_machine.proofs.Targets.{steps-on_item}
 use Rattle.alt_machine.proofs.Lacks.{number_room}
 use Rattle.alt_codec.proofs.Fits.{item_names, item_depth, item_full}
@@ -88,11 +88,11 @@ may_stand d place item read at fits free =
 pub writes_steps : (s : State) (moment : ℕ) (name : List ℕ) (t : Table) (place : List ℕ)
     (new : Option (List Pair)) → map.get s.tables name ≡ Some t
     → (IsValid s → (item : List Pair) → new ≡ Some item → IsStored t.description place item)
-    → AreSteps a_number s (item_writes s moment name t place new)
+    → IsStep a_number s (item_writes s moment name t place new)
 writes_steps s moment name t place new there put = by (is_same (map.get t.items place) new) refl
   where
     by : (b : Bool) → is_same (map.get t.items place) new ≡ b
-        → AreSteps a_number s (if b then [] else after_item s moment name t place new ∷ [])
+        → IsStep a_number s (if b then [] else after_item s moment name t place new ∷ [])
     by true e = no_steps a_number s
     by false e = one_step a_number s (after_item s moment name t place new) (λ v enough.
         after_item_valid s moment User name t place new v (number_room s enough) there e (put v))

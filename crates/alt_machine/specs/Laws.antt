@@ -1,5 +1,5 @@
 -- What is proved of the machine itself.
-use Rattle.std.specs.Prelude.{◌≡◌, ℕ, Bool, false, not, List, map as each, take, Option, Some, None, option_and_then}
+use Rattle.std.specs.Prelude.{◌≡◌, ◌≤◌, ℕ, Bool, false, not, List, length, map as each, take, Option, Some, None, option_and_then}
 use Rattle.std.specs.FinMap as map
 use Rattle.alt_expr.specs.KeyForm.{Key, ask_of}
 use Rattle.alt_expr.specs.Pages.{passes}
@@ -37,6 +37,11 @@ abbrev pub StepsKeepValid : Type 0
 StepsKeepValid = (s : State) (op : Option Operation) (body : List ℕ) (moment k : ℕ) → IsValid s
     → lack_among (step s op body moment).wants s (take k (step s op body moment).atoms) ≡ None
     → IsValid (state_after k s (step s op body moment).atoms)
+
+-- A request makes one state lasting at most, so no stop cuts it.
+abbrev pub OneAtom : Type 0
+OneAtom = (s : State) (op : Option Operation) (body : List ℕ) (moment : ℕ)
+    → length (step s op body moment).atoms ≤ 1
 
 -- The items of a table lie by their keys: their places have an order (the token, then the HASH value, then the RANGE value), in which
 -- only places of equal keys tie, and the bytes of places lie so.

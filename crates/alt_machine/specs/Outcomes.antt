@@ -1,18 +1,19 @@
 -- What a request comes to.
-use Rattle.std.specs.Prelude.{ℕ, List, [], ◌∷◌, take, Option, Some, None, Result, Ok, Err}
+use Rattle.std.specs.Prelude.{ℕ, List, [], ◌∷◌, length, take, Option, Some, None, Result, Ok, Err}
 use Rattle.alt_shape.specs.declared.refusal.Refusal.{Refusal}
 use Rattle.alt_shape.specs.Refusals.{Answer, refused}
 use Rattle.alt_machine.specs.Refusals.{first_answer}
 use Rattle.alt_machine.specs.State.{State}
 
--- what each write of a request wants: nothing, a number, or for a new table a number and 27 families
+-- what a request wants: nothing, a number, so many numbers, or for a new table a number and 27 families
 pub data Wants : Type 0 where
   nothing : Wants
   a_number : Wants
+  numbers : ℕ → Wants
   a_table : Wants
 
--- The answer, and the atoms: the single writes that the request makes, each by the state after it. A stop may come between two
--- of them and never inside one. The state after the request is that after the last of them.
+-- The answer, and the atoms: what the request makes lasting, by the state after it. Each operation has one at most, so a stop comes before
+-- it or behind it, and never inside. The state after the request is that after the last of them.
 pub record Outcome : Type 0 where
   pub answer : Answer
   pub atoms : List State
@@ -34,6 +35,19 @@ says answer = record { answer = answer; atoms = []; wants = nothing }
 -- these writes and an answer
 abbrev pub writes : List State → Answer → Outcome
 writes atoms answer = record { answer = answer; atoms = atoms; wants = a_number }
+
+-- what writes make lasting together: the state after the last of them, and nothing where there are none
+abbrev pub together : State → List State → List State
+together s [] = []
+together s (t ∷ ts) = last_state t ts ∷ []
+
+-- these writes together, and an answer
+abbrev pub writes_together : State → List State → Answer → Outcome
+writes_together s atoms answer = record {
+  answer = answer;
+  atoms = together s atoms;
+  wants = numbers (length atoms);
+}
 
 -- the one write that makes a table, and an answer
 abbrev pub makes : State → Answer → Outcome

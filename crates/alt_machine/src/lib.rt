@@ -4,7 +4,7 @@
 //! and the program share, and no function that does anything.
 #![tactic(auto)]
 
-ghost use Rattle.alt_machine.specs.Laws.{StepsKeepValid, PlacesLie, IndexPlacesLie, AllIndex, OlderConditions, OlderKeys, OlderUpdates};
+ghost use Rattle.alt_machine.specs.Laws.{StepsKeepValid, OneAtom, PlacesLie, IndexPlacesLie, AllIndex, OlderConditions, OlderKeys, OlderUpdates};
 ghost use Rattle.alt_machine.specs.State.{start};
 ghost use Rattle.alt_machine.specs.Valid.{IsValid};
 
@@ -97,12 +97,13 @@ pub const MOST_RECORDS: u64 = 1000;
 /// The bytes of items with which a BatchGetItem ends: 16 MB.
 pub const BATCH_BYTES: u64 = 16_777_216;
 
-/// The laws of the machine: the state of an empty store is valid, each request leads from a valid state to valid ones, the items of a
-/// table and of an index lie by their keys, and an index has the items of its table that have its keys; the trees of members of the
-/// older interface mean what these ask. It does nothing.
+/// The laws of the machine: the state of an empty store is valid, each request leads from a valid state to a valid one and has one atom
+/// at most, the items of a table and of an index lie by their keys, and an index has the items of its table that have its keys; the
+/// trees of members of the older interface mean what these ask. It does nothing.
 pub fn laws()
     ensures start { IsValid start }
     ensures steps { StepsKeepValid }
+    ensures one_atom { OneAtom }
     ensures places { PlacesLie }
     ensures index_places { IndexPlacesLie }
     ensures indexes { AllIndex }

@@ -1,6 +1,7 @@
 pub mod Codes
 pub mod Families
 pub mod Faults
+pub mod FirstFiles
 pub mod Images
 pub mod Live
 pub mod Opened

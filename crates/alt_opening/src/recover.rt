@@ -4,13 +4,13 @@ ghost use Rattle.std.specs.Prelude.{◌≡◌, ℕ, IfOk, IfErr, OnOk, IsErrOf, 
 ghost use Rattle.alt_base.specs.Counts.{Rose};
 ghost use Rattle.alt_disk.specs.Disk.{IsTrusted, Goes};
 ghost use Rattle.alt_disk.specs.Runs.{Spans};
-ghost use Rattle.alt_engine.specs.InHand.{Reads, limits_of, next_file_of};
-ghost use Rattle.alt_hand.specs.Recovery.{IsNextFile};
+ghost use Rattle.alt_engine.specs.InHand.{Reads, bounds_of, limits_of};
 ghost use Rattle.alt_layout.specs.Fresh.{versions_file};
 ghost use Rattle.alt_layout.specs.Layout.{Layout};
 ghost use Rattle.alt_machine.specs.State.{State};
 ghost use Rattle.alt_manifest.specs.Versions.{HasVersion};
 ghost use Rattle.alt_manifest.specs.declared.version.Version.{Version};
+ghost use Rattle.alt_opening.specs.FirstFiles.{IsFirstFile};
 ghost use Rattle.alt_opening.specs.Images.{StandsFor};
 ghost use Rattle.alt_opening.specs.private.Opening.{AllChangesRead, AllIndexesRead, AllItemsRead, AreTablesRead, AreTrimmedIn, Assembled, IsCatalog, IsIndexesFault, IsRowFault, IsStreamsFault};
 ghost use Rattle.alt_opening.specs.Recovery.{IsExplained, HasNoState, WasLeft};
@@ -49,10 +49,10 @@ pub fn open_store<D: Disk>(alloc: Global, disk: &mut D, limits: Limits) -> Resul
     ensures stands { IfOk result (λ o. IsTrusted (D.state disk.old) → (s : State)
         → StandsFor (D.state disk.old).file s → OpensAs (D.state disk.new) o s) }
     ensures limits { IfOk result (λ o. limits_of o.engine ≡ limits) }
-    // The next file is past all that were there, and not below that of the last version.
+    // The next file is past all that were there, and not below that of the last version; work makes it first, or the one behind it.
     ensures next_file { IfOk result (λ o. IsTrue (D.state disk.old).tells → (v : Version)
         → HasVersion v ((D.state disk.old).file versions_file)
-        → IsNextFile v (D.state disk.old).file (next_file_of o.engine)) }
+        → IsFirstFile v (D.state disk.old).file (bounds_of o.engine).file) }
 
     // The files stand, as they read, for the state for which they stood, also where the call fails.
     ensures files { IsTrue (D.state disk.old).tells → (s : State)

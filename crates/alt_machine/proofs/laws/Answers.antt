@@ -4,7 +4,7 @@ use Rattle.alt_legacy.proofs.Keyed.{keys_asked}
 use Rattle.alt_machine.proofs.OlderMeaning.{older_conditions, older_updates}
 use Rattle.alt_machine.proofs.Placed.{places_lie}
 use Rattle.alt_machine.proofs.States.{start_valid}
-use Rattle.alt_machine.proofs.Steps.{step_valid}
+use Rattle.alt_machine.proofs.Steps.{one_atom, step_valid}
 use Rattle.alt_machine.proofs.laws.Goals as goal
 
 pub returns-clause-start : goal.returns-clause-start
@@ -12,6 +12,9 @@ returns-clause-start c = start_valid
 
 pub returns-clause-steps : goal.returns-clause-steps
 returns-clause-steps c = step_valid
+
+pub returns-clause-one_atom : goal.returns-clause-one_atom
+returns-clause-one_atom c = one_atom
 
 pub returns-clause-places : goal.returns-clause-places
 returns-clause-places c = places_lie

@@ -1,4 +1,4 @@
--- Writes behind other writes: what a stop leaves of both, and how they break off.
+-- Writes behind other writes: what a stop leaves of both, and where memory was wanting.
 use Rattle.std.proofs.Common.{◌≡◌, refl, sym, subst, ℕ, ◌+◌, ◌≤◌, List, [], ◌∷◌, ◌++◌, length, Option, None, arith}
 use Rattle.std.proofs.lemmas.List.{length-append}
 use Rattle.alt_disk.specs.Disk.{DiskState, Goes}
@@ -6,47 +6,15 @@ use Rattle.alt_disk.proofs.Runs.{spans_on, spans_weaker}
 use Rattle.alt_machine.specs.Outcomes.{Wants, last_state}
 use Rattle.alt_machine.specs.State.{State}
 use Rattle.alt_machine.specs.Wanted.{lack_among}
-use Rattle.alt_machine.proofs.Behind.{after_behind, front_of, taken_behind, lacks_behind, lacks_front, lacks_within, take_front}
+use Rattle.alt_machine.proofs.Behind.{after_behind, front_of, taken_behind, take_front}
 use Rattle.std.specs.Prelude.{⊤}
-use Rattle.alt_tables.specs.Faults.{BreakOff, WantsMemory}
+use Rattle.alt_tables.specs.Faults.{WantsMemory}
 use Rattle.alt_tables.specs.Images.{AfterSome, Lasts, Leaves}
 use Rattle.alt_opening.specs.Images.{StandsFor}
 use Rattle.alt_tables.specs.Stands.{Stands}
-use Rattle.alt_tables.specs.declared.faults.TableFault.{TableFault}
-use Rattle.alt_tables.specs.declared.faults.TableFault.TheVariants.{Spent, Damaged, BadRow, Failed, NoMemory}
 use Rattle.alt_tables.specs.declared.tables.Tables.{Tables}
 use Rattle.alt_tables.proofs.Left.{leaves_after, leaves_images, leaves_reads}
 use Rattle.alt_tables.proofs.Making.{none_made}
-
--- ---- how they break off
-
--- the first of some writes broke off
-pub broke_front : (now : State → Type 0) (wants : Wants) (s : State) (a b : List State)
-    (f : TableFault) → BreakOff now wants s a f → BreakOff now wants s (a ++ b) f
-broke_front now wants s a b (Spent n) h = (
-  h.0,
-  lacks_front wants a b (record { number = n; before = h.0 }) s h.1,
-  subst (λ l. now (last_state s l)) (sym (take_front h.0 a b
-      (lacks_within wants a (record { number = n; before = h.0 }) s h.1))) h.2,
-)
-broke_front now wants s a b (Damaged file at) h = absurd h
-broke_front now wants s a b (BadRow family key) h = absurd h
-broke_front now wants s a b Failed h = tt
-broke_front now wants s a b NoMemory h = tt
-
--- writes broke off behind others that were made
-pub broke_behind : (now : State → Type 0) (wants : Wants) (s : State) (a b : List State)
-    (f : TableFault) → lack_among wants s a ≡ None → 1 ≤ length b
-    → BreakOff now wants (last_state s a) b f → BreakOff now wants s (a ++ b) f
-broke_behind now wants s a b (Spent n) none some h = (
-  length a + h.0,
-  lacks_behind wants a n h.0 (length a + h.0) s b refl none h.1,
-  subst now (sym (after_behind a (length a + h.0) h.0 s b refl)) h.2,
-)
-broke_behind now wants s a b (Damaged file at) none some h = absurd h
-broke_behind now wants s a b (BadRow family key) none some h = absurd h
-broke_behind now wants s a b Failed none some h = tt
-broke_behind now wants s a b NoMemory none some h = tt
 
 -- ---- where memory was wanting
 

@@ -1,5 +1,5 @@
 -- What the row changes of a write leave as it was, and which of them are of the family of a stream.
-use Rattle.std.proofs.Common.{◌≡◌, ◌<◌, refl, ap, subst, ◌∙◌, ℕ, T, List, [], ◌∷◌, ◌++◌, map, Option, Some, None, option_map, Contains, append_assoc, arith}
+use Rattle.std.proofs.Common.{◌≡◌, ap, subst, ◌∙◌, ℕ, T, List, [], ◌∷◌, ◌++◌, map, Option, Some, None, option_map, Contains, append_assoc, arith}
 use Rattle.std.specs.Option.{option_map_or, option_to_list}
 use Rattle.std.specs.Prelude.{false, if◌then◌else◌}
 use Rattle.alt_cells.specs.Batches.{is_distinct}

@@ -1,5 +1,5 @@
 -- What is known of the fronts of streams when a table comes, goes or is written.
-use Rattle.std.proofs.Common.{◌≡◌, ◌≤◌, ◌+◌, refl, sym, ap, subst, ◌∙◌, ℕ, Bool, true, false, cond, List, [], ◌∷◌, Option, Some, None, All, IsTrue}
+use Rattle.std.proofs.Common.{◌≡◌, ◌≤◌, refl, sym, ap, subst, ◌∙◌, ℕ, Bool, true, false, cond, List, [], ◌∷◌, Some, None, All}
 use Rattle.std.proofs.lemmas.Bool.{false≢true}
 use Rattle.std.proofs.lemmas.Slice.Eq.{bytes_eq-Decides}
 use Rattle.std.specs.FinMap as map
@@ -92,7 +92,7 @@ leftovers_alike l m family trimmed alike i =
     filter (λ n. is_some (alike (row_key n) i)) (range_with_len 1 trimmed)
 
 -- so a front stays
-front_alike : (l m : Layout) (t : Table) (f : Front)
+pub front_alike : (l m : Layout) (t : Table) (f : Front)
     → ((family : ℕ) → t.description.stream_family ≡ Some family → (key : List ℕ)
     → shown m family key ≡ shown l family key) → IsFront l t f → IsFront m t f
 front_alike l m t f alike front = record {

@@ -1,5 +1,5 @@
 -- What the rows beneath the tables show, in reads and in whatever a stop leaves, and what a write makes of it.
-use Rattle.std.proofs.Common.{◌≡◌, ◌&&◌, Bool, IsTrue, T, ⊎_elim, refl, sym, ap, subst, ℕ, List, [], ◌∷◌, Option, Result, Err, ◌∙◌}
+use Rattle.std.proofs.Common.{◌≡◌, ◌<◌, ◌≤◌, ◌+◌, ◌-◌, ◌^◌, arith, ◌&&◌, Bool, IsTrue, T, ⊎_elim, refl, sym, ap, subst, ℕ, List, [], ◌∷◌, Option, Result, Err, ◌∙◌}
 use Rattle.std.specs.Prelude.{⊤}
 use Rattle.alt_cells.specs.Batches.{is_distinct}
 use Rattle.alt_cells.specs.declared.batch.RowChange.{RowChange}
@@ -8,24 +8,28 @@ use Rattle.alt_disk.specs.Runs.{Spans, Quiet}
 use Rattle.alt_disk.proofs.Runs.{spans_on, spans_weaker, quiet_spans, quiet_then, trusted_on}
 use Rattle.alt_layout.specs.Files.{IsLayout}
 use Rattle.alt_engine.specs.InHand.{Stands as EngineStands}
-use Rattle.alt_hand.specs.InHand.{batch_write, BeforeOrWith, IsWritten}
+use Rattle.alt_hand.specs.InHand.{batch_write, batch_writes, last_form_of, next_file_of, next_of, work_file_of, BeforeOrAll, BeforeOrWith, IsSpentBy, WantsFile, WantsNumber}
 use Rattle.alt_layout.specs.Layout.{Layout}
-use Rattle.alt_layout.specs.Writes.{with_write}
+use Rattle.alt_layout.specs.Writes.{with_write, with_writes}
 use Rattle.alt_engine.specs.declared.engine.Engine.{Engine}
+use Rattle.alt_hand.proofs.SegmentFiles.{none-wanting}
+use Rattle.alt_hand.specs.declared.hand.Hand.{Hand}
 use Rattle.alt_hand.specs.declared.hand.EngineFault.{EngineFault}
 use Rattle.alt_hand.specs.declared.hand.EngineFault.TheVariants as engine
 use Rattle.alt_machine.specs.State.{State}
 use Rattle.alt_machine.specs.Valid.{IsValid}
 use Rattle.alt_hand.specs.Faults.{told_by_engine}
-use Rattle.alt_faults.specs.Faults.{no_memory}
-use Rattle.alt_tables.specs.Faults.{told_by_tables}
+use Rattle.alt_faults.specs.Faults.{no_memory, IsOutside}
+use Rattle.alt_tables.specs.Faults.{IsFindFault, told_by_tables}
 use Rattle.alt_tables.specs.declared.faults.TableFault.{TableFault}
 use Rattle.alt_tables.specs.declared.faults.TableFault.TheVariants.{NoMemory}
 use Rattle.alt_opening.specs.Images.{StandsFor}
 use Rattle.alt_tables.specs.Images.{AfterSome, Leaves}
 use Rattle.alt_opening.specs.StateRows.{Shows}
 use Rattle.alt_tables.specs.RowChanges.{Turns}
+use Rattle.alt_tables.specs.Several.{AreDistinct, TurnsAll, with_batches}
 use Rattle.alt_opening.specs.Opened.{Holds}
+use Rattle.alt_tables.proofs.Batches.{with_batches-writes}
 use Rattle.alt_opening.proofs.Engine.{in_each_image, stands_past, stays_quiet, one_layout_in_hand}
 use Rattle.alt_opening.proofs.OneState.{one_state}
 
@@ -76,10 +80,10 @@ module _ (old new : DiskState) (engine : Engine) (s r : State) (changes : List R
     after = with_write holds.layout (batch_write holds.layout changes)
 
     -- what a stop leaves is the state before it or the one after
-    pub write_images : IsValid s → Spans old new IsWritten (BeforeOrWith holds.layout changes)
+    pub write_images : IsValid s → Spans old new (λ _. ⊤) (BeforeOrWith holds.layout changes)
         → Leaves old new s (r ∷ [])
-    write_images valid spans = spans_weaker old new IsWritten (λ _. ⊤) (AfterSome s (r ∷ []))
-        (BeforeOrWith holds.layout changes) spans (λ g is. tt) (λ t image here. ⊎_elim
+    write_images valid spans = spans_weaker old new (λ _. ⊤) (λ _. ⊤) (AfterSome s (r ∷ []))
+        (BeforeOrWith holds.layout changes) spans (λ g is. is) (λ t image here. ⊎_elim
         (λ (is : IsLayout image holds.layout). (
           0,
           record {
@@ -115,6 +119,62 @@ module _ (old new : DiskState) (engine : Engine) (s r : State) (changes : List R
       held = turns.held;
     }
 
+-- ---- several writes, as one entry
+
+module _ (old new : DiskState) (engine : Engine) (s r : State) (batches : List (List RowChange))
+    (holds : Holds old engine s) (turns : TurnsAll batches s r) (distinct : AreDistinct batches)
+  where
+    abbrev after_all : Layout
+    after_all = with_batches holds.layout batches
+
+    abbrev as_writes : Layout
+    as_writes = with_writes holds.layout (batch_writes holds.layout batches)
+
+    same_rows : as_writes ≡ after_all
+    same_rows = sym (with_batches-writes holds.layout batches)
+
+    all_show : Shows after_all r
+    all_show = turns.shows distinct holds.layout (stands_past old engine holds.layout holds.is)
+        holds.shows
+
+    -- what a stop leaves is the state before them or the one after all of them
+    pub all_images : IsValid s → Spans old new (λ _. ⊤) (BeforeOrAll holds.layout batches)
+        → Leaves old new s (r ∷ [])
+    all_images valid spans = spans_weaker old new (λ _. ⊤) (λ _. ⊤) (AfterSome s (r ∷ []))
+        (BeforeOrAll holds.layout batches) spans (λ g is. is) (λ t image here. ⊎_elim
+        (λ (is : IsLayout image holds.layout). (
+          0,
+          record {
+            layout = holds.layout;
+            is = is;
+            shows = holds.shows;
+            valid = valid;
+            held = holds.held;
+          },
+        ))
+        (λ (is : IsLayout image as_writes). (
+          1,
+          record {
+            layout = after_all;
+            is = subst (λ m. IsLayout image m) same_rows is;
+            shows = all_show;
+            valid = turns.valid;
+            held = turns.held;
+          },
+        ))
+        here)
+
+    -- after them the rows show the one after
+    pub all_hold : (later : Engine) → Goes old new → EngineStands new later as_writes
+        → Holds new later r
+    all_hold later goes stands = record {
+      trusted = trusted_on old new goes holds.trusted;
+      layout = after_all;
+      is = subst (λ m. EngineStands new later m) same_rows stands;
+      shows = all_show;
+      held = turns.held;
+    }
+
 -- ---- calls one after the other
 
 -- a call that leaves every file leaves what the state is, whatever writes were to be made
@@ -144,6 +204,22 @@ memory_wanted given fault same none = by given (sym (ap told_by_tables none) ∙
     by (engine.Damaged file at) e = absurd (let g : ⊥ = cc in g)
     by engine.Failed e = absurd (let g : ⊥ = cc in g)
     by engine.NoMemory e = refl
+
+-- where the numbers and the file of a write can be had, what the engine tells is a failure of the device, or want of memory
+pub found_fault : (e : Hand) (count : ℕ) (given : EngineFault) (fault : TableFault)
+    → told_by_tables fault ≡ told_by_engine given → next_of e + count ≤ 2 ^ 62 - 1
+    → work_file_of e < 2 ^ 32 → IsSpentBy e count given → IsFindFault fault
+found_fault e count given fault same few room why = subst IsOutside (sym same) (by given why)
+  where
+    by : (given : EngineFault) → IsSpentBy e count given → IsOutside (told_by_engine given)
+    by (engine.Spent n) why = absurd (⊎_elim
+        (λ (number : WantsNumber (next_of e) count n).
+        let over = number.0 in let g : ⊥ = absurd (omega (arith, over, few)) in g)
+        (λ (file : (next_of e + count ≤ 2 ^ 62 - 1) × WantsFile (last_form_of e) (next_file_of e) n).
+        none-wanting (last_form_of e) (next_file_of e) n room file.1) why)
+    by (engine.Damaged file at) why = absurd why
+    by engine.Failed why = tt
+    by engine.NoMemory why = tt
 
 -- a result has one fault
 pub same_Err : {A B : Type 0} (r : Result A B) (x y : B) → r ≡ Err x → r ≡ Err y → x ≡ y

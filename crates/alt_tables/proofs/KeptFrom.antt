@@ -1,12 +1,12 @@
 -- What a write trims of the changes of a stream, as they are read from the front on.
-use Rattle.std.proofs.Common.{◌≡◌, ◌<◌, ◌≤◌, ◌+◌, ◌⊎◌, inl, inr, refl, sym, ap, subst, ◌∙◌, ℕ, zero, suc, Bool, true, false, cond, List, [], ◌∷◌, ◌++◌, length, take, Option, Some, None, IsSome, All, arith}
+use Rattle.std.proofs.Common.{◌≡◌, ◌<◌, ◌≤◌, ◌+◌, ◌⊎◌, inl, inr, refl, sym, ap, subst, ◌∙◌, ℕ, zero, suc, Bool, true, false, cond, List, [], ◌∷◌, ◌++◌, length, take, Option, Some, None, IsSome, arith}
 use Rattle.std.proofs.lemmas.Bool.{false≢true}
 use Rattle.std.proofs.lemmas.Bool.Decides.{nat_tests}
 use Rattle.std.proofs.lemmas.List.Elements.{All-head, All-tail}
-use Rattle.std.specs.Prelude.{if◌then◌else◌, nat_le, nat_lt, unwrap_or}
+use Rattle.std.specs.Prelude.{if◌then◌else◌, nat_le, unwrap_or}
 use Rattle.alt_machine.specs.Ops.GetRecords.{changes_from}
 use Rattle.alt_machine.specs.State.{Change}
-use Rattle.alt_machine.specs.Trimming.{a_day, is_past, kept, trimmed_at}
+use Rattle.alt_machine.specs.Trimming.{is_past, kept, trimmed_at}
 use Rattle.alt_machine.proofs.Trimming.{Above, Rise, rise_first, rise_rest}
 use Rattle.alt_opening.proofs.StreamKeys.{above, low_of, late_of, up_to}
 use Rattle.alt_tables.specs.Fronts.{first_moment}

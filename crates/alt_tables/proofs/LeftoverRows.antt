@@ -4,7 +4,7 @@ use Rattle.std.proofs.lemmas.Bool.{false≢true}
 use Rattle.std.proofs.lemmas.List.Elements.{All-nil}
 use Rattle.std.specs.BTreeMap.Range.{range_contains}
 use Rattle.std.specs.FinMap as finite
-use Rattle.std.specs.FinMap.Entries.{below_all, find, find-where_key, is_sorted, is_sorted-where_key, same_entries, where_key}
+use Rattle.std.specs.FinMap.Entries.{below_all, find, find-where_key, is_sorted, is_sorted-where_key, same_entries}
 use Rattle.std.specs.List.{cons_option, range_with_len}
 use Rattle.std.specs.Ordering.{eq_by_cmp, is_le, is_lt}
 use Rattle.std.specs.Prelude.{◌&&◌, filter, if◌then◌else◌, is_some, nat_le, not, option_and_then}
@@ -26,8 +26,8 @@ use Rattle.alt_opening.proofs.OneStream.{leftover_or_not}
 use Rattle.alt_opening.proofs.StreamKeys.{IsSmall, Rise, above, found_keyed, get_keyed, is_le-nat, key_one, key_order, late_of, low_of, up_to}
 use Rattle.alt_opening.proofs.Ties.{itself, tied}
 use Rattle.alt_tables.specs.Leftovers.{leftovers}
-use Rattle.alt_tables.specs.private.Trims.{AreNumbersOf, AreTwo, IsLowest, behind}
-use Rattle.alt_tables.proofs.Rising.{behind_low, drop_behind, filter_rising, none_past, range_skip, rising_later, take_two}
+use Rattle.alt_tables.specs.private.Trims.{AreNumbersOf, AreTwo, IsLowest, IsLowestFrom, behind, leftovers_from}
+use Rattle.alt_tables.proofs.Rising.{behind_low, drop_behind, drop_two, filter_rising, none_past, range_skip, rising_later, take_two}
 
 -- ---- numbers at their keys
 
@@ -327,6 +327,62 @@ module _ (l : Layout) (family : ℕ) (t : Table) (small : t.trimmed < 2 ^ 64)
               (drop_behind number (leftovers l family number)
               (filter_rising has 1 number (number + 1) (omega arith)));
         }
+
+    -- Of those in the range the lowest are read, whatever is below, and what is behind them is known.
+    pub range_read : (v : Vec ℕ Global) → AreNumbersOf page v.items → AreTwo number v.items
+        → (end : ℕ) → end ≡ behind number v.items → IsLowestFrom l family from number (v, end)
+    range_read v numbers two end is_end =
+        let lowest : v.items ≡ take 2 there =
+        one_numbers page v.items (take 2 there) numbers read_numbers in
+        let of_end = behind_low number v.items two in
+        record {
+          lowest = lowest;
+          low = (
+            subst (λ n. 1 ≤ n) (sym is_end) of_end.0,
+            subst (λ n. n ≤ number + 1) (sym is_end) of_end.1,
+          );
+          rest = drop_two has from (number + 1 - from) number (omega (arith, low))
+              ∙ ap (λ n. filter has (range_with_len n (number + 1 - n)))
+              (sym (is_end ∙ ap (behind number) lowest));
+        }
+
+-- where none is below a number, those from there on are all that is left over
+pub left_from_there : (l : Layout) (family number from : ℕ) → 1 ≤ from
+    → All (λ n. from ≤ n) (leftovers l family number)
+    → leftovers l family number ≡ leftovers_from l family from number
+left_from_there l family number from some above = by (nat_le from number) refl
+  where
+    has : ℕ → Bool
+    has n = is_some (shown l family (row_key n))
+
+    by : (b : Bool) → nat_le from number ≡ b
+        → leftovers l family number ≡ leftovers_from l family from number
+    by true e =
+        let low = low_of from number e in
+        range_skip has (from - 1) 1 (number + 1 - from) number from (omega (arith, low, some))
+        (omega (arith, some)) above
+    by false e =
+        let past = late_of from number e in
+        let empty : number + 1 - from ≡ 0 = omega (arith, past) in
+        none_past 1 (number + 1) from (leftovers l family number) (omega (arith, past))
+        (filter_rising has 1 number (number + 1) (omega arith)) above
+        ∙ sym (ap (λ n. filter has (range_with_len from n)) empty)
+
+-- where the range is empty, there are none
+pub range_none : (l : Layout) (family number from : ℕ) → number < from → (v : Vec ℕ Global)
+    → v.items ≡ [] → IsLowestFrom l family from number (v, number + 1)
+range_none l family number from past v empty =
+    let before : number + 1 - from ≡ 0 = omega (arith, past) in
+    let after : number + 1 - (number + 1) ≡ 0 = omega arith in
+    record {
+      lowest = empty ∙ sym (ap (λ n. take 2 (filter has (range_with_len from n))) before);
+      low = (omega arith, omega arith);
+      rest = ap (λ n. drop 2 (filter has (range_with_len from n))) before
+          ∙ sym (ap (λ n. filter has (range_with_len (number + 1) n)) after);
+    }
+  where
+    has : ℕ → Bool
+    has n = is_some (shown l family (row_key n))
 
 -- where they begin behind the number, there are none
 pub lowest_none : (l : Layout) (family number from : ℕ) → number < from

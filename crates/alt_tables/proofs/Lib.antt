@@ -1,7 +1,11 @@
+pub mod Ahead
+pub mod Batches
 pub mod Behind
+pub mod ByKeys
 pub mod CatalogLaws
 pub mod ChangeLaws
 pub mod ChangePages
+pub mod Differing
 pub mod Elsewhere
 pub mod FilesLaws
 pub mod FrontLaws
@@ -14,10 +18,13 @@ pub mod Left
 pub mod LeftoverLaws
 pub mod LeftoverRows
 pub mod Making
+pub mod MakingAll
 pub mod Moving
+pub mod Noting
 pub mod Pages
 pub mod Paying
 pub mod Rising
+pub mod Staged
 pub mod Standing
 pub mod Starting
 pub mod StreamShows

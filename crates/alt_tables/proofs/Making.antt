@@ -1,5 +1,5 @@
 -- The writes of the tables: what they leave is what the machine's writes leave.
-use Rattle.std.proofs.Common.{◌≡◌, refl, sym, ap, subst, ◌∙◌, ℕ, ◌+◌, ◌<◌, ◌≤◌, ◌^◌, false, length, drop, T, List, [], ◌∷◌, Option, Some, None, Err, Result, IfSome, Contains, arith}
+use Rattle.std.proofs.Common.{◌≡◌, inl, inr, refl, sym, ap, subst, ◌∙◌, ℕ, ◌+◌, ◌<◌, ◌≤◌, ◌^◌, false, length, drop, T, List, [], ◌∷◌, Option, Some, None, Err, Result, IfSome, Contains, arith}
 use Rattle.std.specs.Prelude.{if◌then◌else◌, ◌-◌, IsSome}
 use Rattle.std.specs.Option.{option_map_or}
 use Rattle.std.specs.Result.{IsErrAnd}
@@ -26,7 +26,7 @@ use Rattle.alt_machine.proofs.Lacks.{has_table, one_has, one_lacks}
 use Rattle.alt_schema.specs.Described.{IsNew}
 use Rattle.alt_schema.specs.Held.{IsHeld}
 use Rattle.alt_schema.specs.declared.schema.TableSchema.{TableSchema}
-use Rattle.alt_tables.specs.Faults.{AreMade, AreSome, BreakOff, IsFindFault, Writes}
+use Rattle.alt_tables.specs.Faults.{AreMade, AreSome, BreakOff, IsFindFault, IsLastFile, Writes}
 use Rattle.alt_opening.specs.Live.{with_all, without_all}
 use Rattle.alt_opening.specs.Opened.{Holds}
 use Rattle.alt_opening.proofs.LiveLaws.{live_insert, live_remove}
@@ -72,26 +72,33 @@ none_made atoms = least (length atoms - 1)
     least n = omega arith
 
 -- want of memory, where a result tells it
-pub want_told : {X : Type 0} (now : State → Type 0) (wants : Wants) (s : State)
+pub want_told : {X : Type 0} (file : ℕ) (now : State → Type 0) (wants : Wants) (s : State)
     (atoms : List State) (r : Result X TableFault) → IsErrAnd r (λ f. f ≡ NoMemory)
-    → Writes now wants s atoms r
-want_told now wants s atoms r told =
+    → Writes file now wants s atoms r
+want_told file now wants s atoms r told =
     let (f, is, none) = err_from_is_err_and r told in
-    subst (λ q. Writes now wants s atoms q) (sym (is ∙ ap (λ e. Err e) none)) tt
+    subst (λ q. Writes file now wants s atoms q) (sym (is ∙ ap (λ e. Err e) none)) tt
 
 -- a number or a family that the one write can't have
-pub spent : (now : State → Type 0) (wants : Wants) (s r : State) (n : ℕ) → lack_of wants s ≡ Some n
-    → now s → BreakOff now wants s (r ∷ []) (Spent n)
-spent now wants s r n lacks stays = (0, one_lacks wants s r n lacks, stays)
+pub spent : {file : ℕ} (now : State → Type 0) (wants : Wants) (s r : State) (n : ℕ)
+    → lack_of wants s ≡ Some n → now s → BreakOff file now wants s (r ∷ []) (Spent n)
+spent now wants s r n lacks stays = (0, inl (one_lacks wants s r n lacks), stays)
+
+-- the file of a segment that it can't have
+pub spent_file : {file : ℕ} (now : State → Type 0) (wants : Wants) (s r : State) (n : ℕ)
+    → lack_of wants s ≡ None → IsLastFile file n → now s
+    → BreakOff file now wants s (r ∷ []) (Spent n)
+spent_file now wants s r n has last stays =
+    (0, inr (refl, one_has wants s r has, (omega arith, last)), stays)
 
 -- one write that failed, or wanted memory
-pub broke : (now : State → Type 0) (wants : Wants) (s r : State) (f : TableFault) → IsFindFault f
-    → BreakOff now wants s (r ∷ []) f
-broke now wants s r (Spent n) known = absurd known
-broke now wants s r (Damaged file at) known = absurd known
-broke now wants s r (BadRow family key) known = absurd known
-broke now wants s r Failed known = tt
-broke now wants s r NoMemory known = tt
+pub broke : (file : ℕ) (now : State → Type 0) (wants : Wants) (s r : State) (f : TableFault)
+    → IsFindFault f → BreakOff file now wants s (r ∷ []) f
+broke file now wants s r (Spent n) given = absurd given
+broke file now wants s r (Damaged f at) given = absurd given
+broke file now wants s r (BadRow family key) given = absurd given
+broke file now wants s r Failed given = tt
+broke file now wants s r NoMemory given = tt
 
 -- ---- fronts
 

@@ -1,5 +1,5 @@
 -- Numbers that rise, as those of a range that pass a test: the lowest two of them, and the others.
-use Rattle.std.proofs.Common.{◌≡◌, ◌<◌, ◌≤◌, ◌+◌, ◌-◌, refl, sym, ap, subst, ◌∙◌, ℕ, zero, suc, Bool, true, false, cond, List, [], ◌∷◌, take, drop, All, arith}
+use Rattle.std.proofs.Common.{◌≡◌, ◌<◌, ◌≤◌, ◌+◌, ◌-◌, refl, sym, ap, ◌∙◌, ℕ, zero, suc, Bool, true, false, cond, List, [], ◌∷◌, take, drop, All, arith}
 use Rattle.std.proofs.lemmas.List.Elements.{All-cons, All-head, All-nil, All-tail, All-weaker}
 use Rattle.std.specs.List.{range_with_len}
 use Rattle.std.specs.Prelude.{◌≢◌, AllPairs, filter}
@@ -152,3 +152,48 @@ none_past a end from (n ∷ ns) past rise all =
     let high = rise.1 in
     let low = All-head (λ n. from ≤ n) n ns all in
     absurd (omega (arith, past, high, low))
+
+-- Behind the first of those that pass are those from the next number on.
+next_rising : (p : ℕ → Bool) (a k x : ℕ) (xs : List ℕ) → filter p (range_with_len a k) ≡ x ∷ xs
+    → xs ≡ filter p (range_with_len (x + 1) (a + k - (x + 1)))
+next_rising p a zero x xs is = absurd (let none : [] ≡ x ∷ xs = is in let f : ⊥ = cc none in f)
+next_rising p a (suc k) x xs is = by (p a) is (next_rising p (a + 1) k x xs)
+  where
+    by : (b : Bool) → cond b (a ∷ filter p (range_with_len (a + 1) k))
+        (filter p (range_with_len (a + 1) k)) ≡ x ∷ xs
+        → (filter p (range_with_len (a + 1) k) ≡ x ∷ xs
+        → xs ≡ filter p (range_with_len (x + 1) (a + 1 + k - (x + 1))))
+        → xs ≡ filter p (range_with_len (x + 1) (a + suc k - (x + 1)))
+    by true e later =
+        let first : a ≡ x = cc e in
+        let others : xs ≡ filter p (range_with_len (a + 1) k) = cc e in
+        let count : k ≡ a + suc k - (x + 1) = omega (arith, first) in
+        others ∙ (λ i. filter p (range_with_len (first i + 1) (count i)))
+    by false e later =
+        let count : a + 1 + k - (x + 1) ≡ a + suc k - (x + 1) = omega arith in
+        later e ∙ ap (λ n. filter p (range_with_len (x + 1) n)) count
+
+-- Behind the first two are those from the number behind these on.
+pub drop_two : (p : ℕ → Bool) (a k most : ℕ) → a + k ≡ most + 1
+    → drop 2 (filter p (range_with_len a k))
+    ≡ filter p (range_with_len (behind most (take 2 (filter p (range_with_len a k))))
+    (most + 1 - behind most (take 2 (filter p (range_with_len a k)))))
+drop_two p a k most whole =
+    by (filter p (range_with_len a k)) refl (filter_rising p a k (a + k) (omega arith))
+  where
+    none : filter p (range_with_len (most + 1) (most + 1 - (most + 1))) ≡ []
+    none = let zero_left : most + 1 - (most + 1) ≡ 0 = omega arith in
+        ap (λ n. filter p (range_with_len (most + 1) n)) zero_left
+
+    by : (xs : List ℕ) → filter p (range_with_len a k) ≡ xs → AreRising a (a + k) xs
+        → drop 2 xs ≡ filter p (range_with_len (behind most (take 2 xs))
+        (most + 1 - behind most (take 2 xs)))
+    by [] e rise = sym none
+    by (x ∷ []) e rise = sym none
+    by (x ∷ y ∷ ys) e rise =
+        let high = rise.1 in
+        let rest = next_rising p a k x (y ∷ ys) e in
+        let count : x + 1 + (a + k - (x + 1)) - (y + 1) ≡ most + 1 - (y + 1) =
+        omega (arith, high, whole) in
+        next_rising p (x + 1) (a + k - (x + 1)) y ys (sym rest)
+        ∙ ap (λ n. filter p (range_with_len (y + 1) n)) count

@@ -7,7 +7,7 @@ use Rattle.alt_cells.specs.Changes.{Columns}
 use Rattle.alt_disk.specs.Disk.{DiskState, Goes, IsTrusted}
 use Rattle.alt_disk.proofs.Calls.{goes_refl, goes_on}
 use Rattle.alt_disk.proofs.Runs.{quiet_start, quiet_then, trusted_on, trusted_back, tells_of}
-use Rattle.alt_engine.specs.InHand.{Reads as EngineReads, Stands as EngineStands}
+use Rattle.alt_engine.specs.InHand.{Bounds, Reads as EngineReads, Stands as EngineStands}
 use Rattle.alt_engine.specs.Opened.{StaysOn}
 use Rattle.alt_layout.specs.Layout.{Layout, shown}
 use Rattle.alt_machine.specs.State.{State, Table, Texts, descriptions}
@@ -16,7 +16,7 @@ use Rattle.alt_schema.specs.declared.schema.TableSchema.{TableSchema}
 use Rattle.alt_views.specs.ItemRows.{IsReadItem, item_columns}
 use Rattle.alt_opening.proofs.Engine.{one_layout_in_hand}
 use Rattle.alt_tables.specs.Fronts.{AreFronts}
-use Rattle.alt_tables.specs.Stands.{AreReady, HasRows, Keeps, Stands, catalog_of, trimmed_of}
+use Rattle.alt_tables.specs.Stands.{AreReady, HasRows, Keeps, Stands, bounds_of, catalog_of, trimmed_of}
 use Rattle.alt_tables.specs.declared.tables.Tables.{Tables}
 use Rattle.alt_opening.specs.Live.{AreLiveIn}
 use Rattle.alt_opening.specs.Trimmed.{AreTrimmedOf, number_at}
@@ -29,6 +29,12 @@ use Rattle.alt_value.specs.Tree.{Pair}
 use Rattle.alt_value.specs.Values.{IsWholeItem}
 use Rattle.alt_value.specs.Members.{text_order}
 use Rattle.alt_value.proofs.Texts.{text_total}
+
+-- ---- what work goes by
+
+-- where that stays, so does the first file that it makes
+pub file_stays : (t u : Tables) → bounds_of u ≡ bounds_of t → (bounds_of u).file ≡ (bounds_of t).file
+file_stays t u same = ap (λ (b : Bounds). b.file) same
 
 -- ---- the descriptions of other tables
 

@@ -1,5 +1,5 @@
 -- What is read of the front of a table's stream before a write, as the tables stand for a state.
-use Rattle.std.proofs.Common.{◌≡◌, ◌≢◌, ◌<◌, ◌≤◌, ◌+◌, ◌^◌, ◌⊎◌, refl, sym, ap, subst, ◌∙◌, ℕ, suc, Bool, true, false, List, [], ◌∷◌, ◌++◌, map as each, take, drop, length, Option, Some, None, IsSome, All, AllPairs, IsTrue, arith}
+use Rattle.std.proofs.Common.{◌≡◌, ◌<◌, ◌≤◌, ◌+◌, ◌^◌, ◌⊎◌, refl, sym, ap, subst, ◌∙◌, ℕ, suc, Bool, true, false, List, [], ◌++◌, take, drop, length, Option, Some, None, IsSome, All, IsTrue, arith}
 use Rattle.std.proofs.lemmas.List.Elements.{All-filter, All-take}
 use Rattle.std.specs.FinMap as map
 use Rattle.std.specs.Option.{option_map_or}
@@ -22,16 +22,14 @@ use Rattle.alt_opening.proofs.Engine.{one_layout_in_hand}
 use Rattle.alt_opening.proofs.KeptChanges.{are_small, trimmed_small}
 use Rattle.alt_opening.proofs.OneState.{some}
 use Rattle.alt_opening.specs.Trimmed.{number_at}
-use Rattle.alt_schema.specs.declared.schema.TableSchema.{TableSchema}
 use Rattle.alt_tables.specs.Fronts.{IsFront, first_moment, front_at}
-use Rattle.alt_tables.specs.Leftovers.{leftovers, lowest_left}
-use Rattle.alt_tables.specs.Stands.{HasRows, Stands, catalog_of, fronts_of, number_of, trimmed_of}
+use Rattle.alt_tables.specs.Leftovers.{leftovers}
+use Rattle.alt_tables.specs.Stands.{HasRows, Stands, fronts_of, number_of, trimmed_of}
 use Rattle.alt_tables.specs.declared.fronts.Front.{Front}
 use Rattle.alt_tables.specs.declared.tables.Tables.{Tables}
-use Rattle.alt_tables.specs.declared.trimming.Trim.{Trim}
-use Rattle.alt_tables.specs.private.Trims.{AreNumbersOf, AreTwo, IsKeptFrom, IsLowest, IsTrim, behind, is_over, left_from, trimmed_by}
+use Rattle.alt_tables.specs.private.Trims.{AreNumbersOf, AreTwo, IsKeptFrom, IsLowest, IsLowestFrom, IsRest, IsTrim, behind, is_over, left_from, leftovers_from}
 use Rattle.alt_tables.proofs.KeptFrom.{KeptPage, all_from, kept_page, page_done, young}
-use Rattle.alt_tables.proofs.LeftoverRows.{lowest_none, lowest_read, read_numbers, read_two}
+use Rattle.alt_tables.proofs.LeftoverRows.{left_from_there, lowest_read, range_read, read_numbers, read_two}
 use Rattle.alt_tables.proofs.Rising.{all_further, filter_rising, rising_least}
 
 -- The walk over the changes of a table has come to a number: those behind it tell the rest.
@@ -219,7 +217,30 @@ module _ (disk : DiskState) (tables : Tables) (s : State) (name : List ℕ) (t :
           is_page (subst (λ x. All (λ n. from ≤ n) (leftovers x family number)) same above) v numbers
           two after is_after)
 
+      -- or of those in the range, whatever is below.
+      pub page_range : (l : Layout) → HasRows disk tables l → (v : Vec ℕ Global)
+          → AreNumbersOf page v.items → AreTwo number v.items → (after : ℕ)
+          → after ≡ behind number v.items → IsLowestFrom l family from number (v, after)
+      page_range l rows v numbers two after is_after =
+          let same : l ≡ stands.rows.layout =
+          one_layout_in_hand disk tables.engine l stands.rows.layout rows stands.rows.is in
+          subst (λ x. IsLowestFrom x family from number (v, after)) (sym same)
+          (range_read stands.rows.layout family t small small_all
+          (stands.valid.tables name t at).changes.rise
+          (stands.rows.shows.changes name t family at stream) from number low high first page
+          is_page v numbers two after is_after)
+
     -- ---- both
+
+    -- Once the rows are hidden the others are those from the number behind them on.
+    pub is_rest : (l : Layout) (number : ℕ) (oldest : Option ℕ) (v : Vec ℕ Global) (from after : ℕ)
+        → 1 ≤ from → All (λ n. from ≤ n) (leftovers l family number)
+        → IsLowestFrom l family from number (v, after) → IsRest l l t
+        (record { number = number; oldest = oldest; leftovers = v; from = after })
+    is_rest l number oldest v from after some_from above lowest g of =
+        subst (λ f. drop 2 (leftovers l f number) ≡ leftovers_from l f after number)
+        (some family g (sym stream ∙ of))
+        (ap (drop 2) (left_from_there l family number from some_from above) ∙ lowest.rest)
 
     -- So what is read is what a write takes.
     pub is_trim : (l : Layout) (moment number : ℕ) (oldest : Option ℕ) (v : Vec ℕ Global) (from : ℕ)

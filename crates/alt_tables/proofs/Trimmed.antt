@@ -1,5 +1,5 @@
 -- A write by what it takes from the front of its table's stream, between a call that reads and a call that writes.
-use Rattle.std.proofs.Common.{◌≡◌, ◌<◌, ◌≤◌, ◌^◌, refl, sym, ap, subst, ◌∙◌, ℕ, Bool, true, false, T, List, [], ◌∷◌, ◌++◌, map as each, drop, Option, Some, None, Result, Ok, Err, IfOk, OnOk, All, arith, append_assoc}
+use Rattle.std.proofs.Common.{◌≡◌, ◌<◌, ◌≤◌, ◌^◌, refl, sym, ap, subst, ◌∙◌, ℕ, Bool, true, false, T, List, [], ◌∷◌, ◌++◌, map as each, drop, Option, Some, None, Result, Ok, Err, IfOk, OnOk, arith}
 use Rattle.std.specs.FinMap as map
 use Rattle.std.specs.Option.{option_map_or, option_to_list}
 use Rattle.std.specs.Prelude.{◌&&◌, ◌||◌, ◌==◌, if◌then◌else◌, option_map}
@@ -8,7 +8,7 @@ use Rattle.alt_cells.specs.Batches.{has_row, is_distinct}
 use Rattle.alt_cells.specs.Changes.{change_between}
 use Rattle.alt_cells.specs.declared.batch.RowChange.{RowChange}
 use Rattle.alt_changes.specs.ChangeRows.{row_change, row_changes, row_key}
-use Rattle.alt_disk.specs.Disk.{DiskState, IsTrusted}
+use Rattle.alt_disk.specs.Disk.{DiskState}
 use Rattle.alt_layout.specs.Layout.{Layout}
 use Rattle.alt_codec.specs.declared.writer.Writer.{Writer}
 use Rattle.alt_machine.specs.Changes.{change_left}
@@ -27,7 +27,7 @@ use Rattle.alt_tables.specs.declared.tables.Tables.{Tables}
 use Rattle.alt_tables.specs.declared.trimming.Trim.{Trim}
 use Rattle.alt_tables.specs.private.Trims.{CanTrim, IsTrim, IsWithin}
 use Rattle.alt_tables.proofs.Making.{item_leftovers}
-use Rattle.alt_tables.proofs.Standing.{known, rows_kept, there}
+use Rattle.alt_tables.proofs.Standing.{known, rows_kept}
 use Rattle.alt_tables.proofs.StreamShows.{change_new}
 use Rattle.alt_value.specs.Tree.{Pair}
 use Rattle.alt_views.specs.IndexRows.{index_changes}

@@ -1,5 +1,5 @@
 -- Work between requests leaves the state: each live family shows what it showed, and nothing else is looked at.
-use Rattle.std.proofs.Common.{◌≡◌, ◌≤◌, ◌+◌, ◌-◌, ◌^◌, ⊎_elim, inl, inr, sym, ap, subst, ◌∙◌, ℕ, List, length, Option, Some, None, Contains, option_map, arith}
+use Rattle.std.proofs.Common.{◌≡◌, ◌≤◌, ◌+◌, ⊎_elim, inl, inr, sym, ap, subst, ◌∙◌, ℕ, List, length, Option, Some, None, Contains, option_map, arith}
 use Rattle.std.specs.BTreeMap.{get}
 use Rattle.std.specs.FinMap.{entries}
 use Rattle.std.specs.Ordering.{nat_cmp}
@@ -15,6 +15,7 @@ use Rattle.alt_engine.specs.declared.work.Task.TheVariants.{Step, FlushAll, Merg
 use Rattle.alt_engine.proofs.Taking.{files_for-most, needed-most}
 use Rattle.alt_families.specs.Families.{rows_in}
 use Rattle.alt_hand.specs.Drafting.{IsSpentFor, files_for, files_needed}
+use Rattle.alt_hand.specs.InHand.{work_file_of}
 use Rattle.alt_hand.specs.Working.{AreLive, Works, WorksIn}
 use Rattle.alt_hand.proofs.NeedLaws.{spent_more}
 use Rattle.alt_hand.specs.declared.hand.EngineFault.{EngineFault}
@@ -28,7 +29,7 @@ use Rattle.alt_opening.specs.StateRows.{Shows, catalog_family}
 use Rattle.alt_opening.proofs.Families.{own_family}
 use Rattle.alt_hand.specs.Faults.{told_by_engine}
 use Rattle.alt_faults.specs.Faults.{OnlySpent}
-use Rattle.alt_tables.specs.Faults.{IsWorkFault, told_by_tables}
+use Rattle.alt_tables.specs.Faults.{IsLastFile, IsWorkFault, told_by_tables}
 use Rattle.alt_tables.specs.FilesLeft.{most_files}
 use Rattle.alt_tables.specs.declared.faults.TableFault.{TableFault}
 use Rattle.alt_tables.specs.Images.{StandAt}
@@ -145,7 +146,7 @@ merged_for old t s stands live same are files merged gs of v has family there =
 
 -- the families that are said to be live are those of 256 tables at most, and that of the catalog
 pub few_live : (old : DiskState) (t : Tables) (s : State) → Stands old t s → (live : List ℕ)
-    → live ≡ live_of t → AreLive live → most_for live ≤ most_files
+    → live ≡ live_of t → AreLive live → most_for live + 1 ≤ most_files
 few_live old t s stands live same are =
     let few = live_few s stands.valid live are (still_live t.catalog (descriptions s.tables) t.live
     live (sym stands.catalog) same stands.live) in omega (arith, few)
@@ -176,9 +177,9 @@ needed_reach MergeAll live e fault each = spent_more fault (e.hand.next_file + l
 -- a fault of the engine's work is one of work
 pub work_fault : (task : Task) (live : List ℕ) (e : Engine) (given : EngineFault)
     (fault : TableFault) → told_by_tables fault ≡ told_by_engine given
-    → IsNeeded task live e given → most_for live ≤ most_files
-    → IsWorkFault (next_file_of e + most_files) fault
+    → IsNeeded task live e given → most_for live + 1 ≤ most_files
+    → IsWorkFault (work_file_of e.hand + most_files) fault
 work_fault task live e given fault same needed few =
-    subst (OnlySpent (λ n. (n ≡ 2 ^ 32 - 1) × (2 ^ 32 ≤ next_file_of e + most_files))) (sym same)
-    (spent_more given (next_file_of e + most_for live) (next_file_of e + most_files)
+    subst (OnlySpent (IsLastFile (work_file_of e.hand + most_files))) (sym same)
+    (spent_more given (next_file_of e + most_for live) (work_file_of e.hand + most_files)
     (omega (arith, few)) (needed_reach task live e given needed))

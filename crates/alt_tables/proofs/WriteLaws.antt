@@ -25,7 +25,7 @@ use Rattle.alt_machine.specs.Changes.{change_left}
 use Rattle.alt_machine.specs.Same.{is_same}
 use Rattle.alt_machine.specs.Sources.{index_at}
 use Rattle.alt_machine.specs.State.{State, Table, Texts, Change, families_of}
-use Rattle.alt_machine.specs.Valid.{AreChanges, IsStored, IsTable, IsValid, IsHeldChange, IsHeldState}
+use Rattle.alt_machine.specs.Valid.{IsStored, IsTable, IsValid, IsHeldChange, IsHeldState}
 use Rattle.alt_machine.specs.Writes.{with_item, with_write_by as with_row, after_item_by}
 use Rattle.alt_machine.proofs.Families.{of_contained}
 use Rattle.alt_machine.proofs.Indexing.{index_apart}

@@ -1,5 +1,5 @@
 -- What is known of the fronts of streams while tables are in hand, so that a write reads nothing of a stream from which it takes nothing.
-use Rattle.std.specs.Prelude.{◌≡◌, ◌≤◌, ◌+◌, ℕ, List, [], ◌∷◌, Bool, false, not, Option, Some, None, All}
+use Rattle.std.specs.Prelude.{◌≡◌, ◌≤◌, ◌+◌, ℕ, List, [], ◌∷◌, false, not, Option, Some, None, All}
 use Rattle.std.specs.FinMap as map
 use Rattle.std.specs.List.{filter, find}
 use Rattle.std.specs.Str.{bytes_eq}

@@ -8,5 +8,6 @@ pub mod Leftovers
 pub mod Merged
 pub mod Reading
 pub mod RowChanges
+pub mod Several
 pub mod Stands
 pub mod private

@@ -48,7 +48,7 @@ live_of t = t.live
 abbrev pub limits_of : Tables → Limits
 limits_of t = engine_limits t.engine
 
--- what work goes by: these limits, and the number of the next file
+-- what work goes by: these limits, and the number of the first file that it makes
 abbrev pub bounds_of : Tables → Bounds
 bounds_of t = engine_bounds t.engine
 
@@ -59,7 +59,7 @@ pub record KeepsCatalog (old new : Tables) : Type 0 where
   pub family : family_of new ≡ family_of old
   pub limits : bounds_of new ≡ bounds_of old
 
--- It stayed but for the number of the next file.
+-- It stayed but for the number of the first file that work makes.
 pub record KeepsLimits (old new : Tables) : Type 0 where
   pub catalog : catalog_of new ≡ catalog_of old
   pub number : number_of new ≡ number_of old

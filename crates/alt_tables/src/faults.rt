@@ -10,7 +10,7 @@ use std::alloc::{AllocError, AllocFailed};
 /// What ends a run in the middle of a request. Only a recovery of the tables goes on from there.
 #[derive(Debug, Drop)]
 pub enum TableFault {
-    /// A write would need a number, or a new table a family, that is never given out: this number, or this family.
+    /// A write would need a number or a file, or a new table a family, that is never given out: this number, this file or this family.
     Spent { number: u64 },
     /// The disk gave bytes that it wasn't left with, in this file at this place.
     Damaged { file: u32, at: u64 },

@@ -1,6 +1,7 @@
 //! The tables with their items over the engine: what the machine's state stands for on a disk.
 #![tactic(auto)]
 
+mod by_keys;
 mod changes;
 mod faults;
 mod finding;
@@ -8,6 +9,7 @@ mod fronts;
 mod laws;
 mod recover;
 mod rows;
+mod several;
 mod tables;
 mod trimming;
 mod walk;
@@ -15,7 +17,9 @@ mod work;
 
 pub use alt_engine::{Limits, Task, Worked};
 pub use alt_opening::OpenFault;
+pub use by_keys::ItemWrite;
 pub use faults::TableFault;
 pub use finding::Found;
 pub use laws::tables_laws;
+pub use several::ItemChange;
 pub use tables::Tables;

@@ -1,6 +1,6 @@
 //! The items of tables: what stands at a place, and what is to stand there.
 
-ghost use Rattle.std.specs.Prelude.{◌≡◌, ◌↔◌, ◌<◌, ◌++◌, ◌∷◌, [], drop, ℕ, true, false, None, Some, IsSome, IfOk, IfErr, IfSome, OnOk, IsErrOf, Ok, Err, List, Option, option_map};
+ghost use Rattle.std.specs.Prelude.{◌^◌, ◌≡◌, ◌↔◌, ◌<◌, ◌++◌, ◌∷◌, [], drop, ℕ, true, false, None, Some, IsSome, IfOk, IfErr, IfSome, OnOk, IsErrOf, Ok, Err, List, Option, option_map};
 ghost use Rattle.std.specs.FinMap as map;
 ghost use Rattle.alt_base.specs.Counts.{Rose};
 ghost use Rattle.alt_cells.specs.Changes.{change_between};
@@ -103,7 +103,7 @@ impl Tables {
             → IfSome new (IsStored d found.place) }
         ensures writes { (s : State) (t : Table) → Stands (D.state disk.old) self.old s
             → map.get s.tables table.now ≡ Some t
-            → Writes (Stands (D.state disk.new) self.new) a_number s
+            → Writes (bounds_of self.old).file (Stands (D.state disk.new) self.new) a_number s
             (item_writes s moment table.now t found.place new) result }
         ensures number { (s : State) (t : Table) → Stands (D.state disk.old) self.old s
             → map.get s.tables table.now ≡ Some t
@@ -149,6 +149,9 @@ impl Tables {
         if number >= NUMBERS_END {
             return Err(TableFault::Spent { number });
         }
+        if let Some(number) = self.engine.wanting_file() {
+            return Err(TableFault::Spent { number });
+        }
         let trim = match self.trim(disk, table, moment) {
             Ok(trim) => trim,
             Err(fault) => return Err(fault),
@@ -175,6 +178,7 @@ impl Tables {
             → IfSome new (IsStored d found.place) }
         requires differ { is_same found.item new ≡ false }
         requires room { number_of self.old < NUMBERS_END }
+        requires file { (bounds_of self.old).file < 2 ^ 32 }
         requires trim { (s : State) (t : Table) (l : Layout) → Stands (D.state disk.old) self.old s
             → map.get s.tables table.now ≡ Some t → HasRows (D.state disk.old) self.old l
             → IsTrim l t moment trim }
@@ -183,7 +187,7 @@ impl Tables {
             → IsWithin (number_at table.now (trimmed_of self.old)) (number_of self.old) trim }
         ensures writes { (s : State) (t : Table) → Stands (D.state disk.old) self.old s
             → map.get s.tables table.now ≡ Some t
-            → Writes (Stands (D.state disk.new) self.new) a_number s
+            → Writes (bounds_of self.old).file (Stands (D.state disk.new) self.new) a_number s
             (after_item s moment table.now t found.place new ∷ []) result }
         ensures number { IfOk result (λ n. n ≡ Some (number_of self.old)) }
         ensures disk { (s : State) (t : Table) → Stands (D.state disk.old) self.old s
@@ -229,7 +233,7 @@ impl Tables {
     }
 
     /// Makes known what a write at a moment leaves of the front of a table's stream.
-    fn know(&mut self, table: &str, moment: u64, trim: &Trim) -> Result<(), NoMemory>
+    pub(crate) fn know(&mut self, table: &str, moment: u64, trim: &Trim) -> Result<(), NoMemory>
         requires there { map.contains_key (catalog_of self.old) table.now ≡ true }
         ensures trimmed { OnOk result (IsRenumbered table.now trim.now.number (trimmed_of self.old)
             (trimmed_of self.new)) }
@@ -313,7 +317,7 @@ impl Tables {
         ensures writes { (s : State) (t : Table) (place : List ℕ)
             → Stands (D.state disk.old) self.old s → map.get s.tables table.now ≡ Some t
             → place_of t.description key.now ≡ Some place
-            → Writes (Stands (D.state disk.new) self.new) a_number s
+            → Writes (bounds_of self.old).file (Stands (D.state disk.new) self.new) a_number s
             (item_writes s moment table.now t place (option_map (λ i. i.now) new.entry)) result }
         ensures number { (s : State) (t : Table) (place : List ℕ)
             → Stands (D.state disk.old) self.old s → map.get s.tables table.now ≡ Some t
@@ -364,7 +368,7 @@ impl Tables {
     }
 
     /// The place of a key in a table that is there.
-    fn place_in(&self, table: &str, key: &Item) -> Result<Bytes, TableFault>
+    pub(crate) fn place_in(&self, table: &str, key: &Item) -> Result<Bytes, TableFault>
         requires there { map.contains_key (catalog_of self.now) table.now ≡ true }
         requires key { (d : TableSchema) → map.get (catalog_of self.now) table.now ≡ Some d
             → IsSome (place_of d key.now) }
@@ -399,7 +403,7 @@ fn item_of(alloc: Global, row: &Option<ShownRow>) -> Result<Option<Item>, Unread
 
 /// The row changes of an item by the write of a number at a moment: in its table, in the indexes and in the stream, which tells who made
 /// the write. `row` is that of the old item.
-fn item_batch(
+pub(crate) fn item_batch(
     alloc: Global,
     schema: &TableSchema,
     number: u64,
@@ -431,7 +435,7 @@ fn item_batch(
 }
 
 /// Puts what a write does to the rows of the changes that the stream of a table trimmed behind the row changes of the item.
-fn put_trim(
+pub(crate) fn put_trim(
     alloc: Global,
     schema: &TableSchema,
     before: u64,
@@ -497,7 +501,7 @@ fn change_of(
 }
 
 /// The row of an item, where there is one.
-fn row_of(alloc: Global, item: &Option<Item>) -> Result<Option<ShownRow>, NoMemory>
+pub(crate) fn row_of(alloc: Global, item: &Option<Item>) -> Result<Option<ShownRow>, NoMemory>
     ensures row { IfOk result (λ row. row ≡ option_map item_columns item.now) }
     ensures held { IfSome item.now IsItemOfValues }
 {
@@ -511,7 +515,7 @@ fn row_of(alloc: Global, item: &Option<Item>) -> Result<Option<ShownRow>, NoMemo
 }
 
 /// An item of its own, where one is given.
-fn copy_of(item: Option<&Item>) -> Result<Option<Item>, NoMemory>
+pub(crate) fn copy_of(item: Option<&Item>) -> Result<Option<Item>, NoMemory>
     ensures { IfOk result (λ o. o ≡ option_map (λ i. i.now) item.entry) }
 {
     match item {

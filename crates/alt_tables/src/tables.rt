@@ -1,6 +1,6 @@
 //! All tables: what is known of them by their names, the numbers and families that are left, and the writes of the catalog.
 
-ghost use Rattle.std.specs.Prelude.{◌≡◌, ◌∷◌, [], ◌+◌, ◌<◌, ◌≤◌, length, true, None, Some, IsSome, IfOk, IfErr, OnOk, IsErrOf, option_map, slice_get, T};
+ghost use Rattle.std.specs.Prelude.{◌^◌, ◌≡◌, ◌∷◌, [], ◌+◌, ◌<◌, ◌≤◌, length, true, None, Some, IsSome, IfOk, IfErr, OnOk, IsErrOf, option_map, slice_get, T};
 ghost use Rattle.std.specs.FinMap as map;
 ghost use Rattle.alt_base.specs.Counts.{Rose};
 ghost use Rattle.alt_cells.specs.Batches.{is_distinct};
@@ -18,6 +18,7 @@ ghost use Rattle.alt_tables.specs.Faults.{IsFindFault, Writes};
 ghost use Rattle.alt_tables.specs.Images.{Leaves};
 ghost use Rattle.alt_opening.specs.Order.{first_after};
 ghost use Rattle.alt_tables.specs.RowChanges.{Turns, changed_rows, creation_changes, drop_changes};
+ghost use Rattle.alt_tables.specs.Several.{AreDistinct, TurnsAll, with_batches};
 ghost use Rattle.alt_tables.specs.Stands.{AreReady, HasRows, Stands, catalog_of, number_of, family_of, bounds_of, trimmed_of};
 ghost use Rattle.alt_opening.specs.Opened.{Holds};
 ghost use Rattle.alt_opening.specs.Trimmed.{number_at};
@@ -108,7 +109,7 @@ impl Tables {
         requires family { table_lack (number_of self.old) (family_of self.old) ≡ None
             → schema.family ≡ family_of self.old }
         ensures writes { (s : State) → Stands (D.state disk.old) self.old s
-            → Writes (Stands (D.state disk.new) self.new) a_table s
+            → Writes (bounds_of self.old).file (Stands (D.state disk.new) self.new) a_table s
             (with_table s schema ∷ []) result }
         ensures disk { (s : State) → Stands (D.state disk.old) self.old s
             → Leaves (D.state disk.old) (D.state disk.new) s (with_table s schema ∷ []) }
@@ -131,6 +132,9 @@ impl Tables {
                 number: u64::from(self.family),
             });
         }
+        if let Some(number) = self.engine.wanting_file() {
+            return Err(TableFault::Spent { number });
+        }
         held(&schema);
         let after = self.family + family_count(&schema) as u32;
         let batch = creation(self.alloc, self.family, after, &schema)?;
@@ -151,7 +155,7 @@ impl Tables {
         requires ready { AreReady (D.state disk.old) self.old }
         requires there { map.contains_key (catalog_of self.old) name.now ≡ true }
         ensures writes { (s : State) → Stands (D.state disk.old) self.old s
-            → Writes (Stands (D.state disk.new) self.new) a_number s
+            → Writes (bounds_of self.old).file (Stands (D.state disk.new) self.new) a_number s
             (without_table s name.now ∷ []) result }
         ensures disk { (s : State) → Stands (D.state disk.old) self.old s
             → Leaves (D.state disk.old) (D.state disk.new) s (without_table s name.now ∷ []) }
@@ -164,6 +168,9 @@ impl Tables {
     {
         let number = self.engine.next_number();
         if number >= NUMBERS_END {
+            return Err(TableFault::Spent { number });
+        }
+        if let Some(number) = self.engine.wanting_file() {
             return Err(TableFault::Spent { number });
         }
         let Some(schema) = self.catalog.get(name) else {
@@ -188,6 +195,7 @@ impl Tables {
         requires ready { IsTrusted (D.state disk.old)
             → (s : State) × Holds (D.state disk.old) self.old.engine s }
         requires room { number_of self.old < NUMBERS_END }
+        requires file { (bounds_of self.old).file < 2 ^ 32 }
         ensures ok { OnOk result ((s r : State) → Holds (D.state disk.old) self.old.engine s
             → Turns batch.now s r → Holds (D.state disk.new) self.new.engine r) }
         ensures rows { OnOk result (IsTrusted (D.state disk.old) → (l : Layout)
@@ -213,6 +221,46 @@ impl Tables {
         let _changes = batch.as_slice();
         match self.engine.apply(disk, batch) {
             Ok(number) => Ok(number),
+            Err(fault) => Err(TableFault::from(fault)),
+        }
+    }
+
+    /// Makes these batches of row changes one entry, in which each is a write with the next number. What is known without the disk
+    /// stays, but for the number. After an Err the engine is spent.
+    pub(crate) fn make_all<D: Disk>(
+        &mut self,
+        disk: &mut D,
+        batches: &[Batch],
+    ) -> Result<(), TableFault>
+        requires ready { IsTrusted (D.state disk.old)
+            → (s : State) × Holds (D.state disk.old) self.old.engine s }
+        requires some { 1 ≤ length batches.now }
+        requires room { number_of self.old + length batches.now ≤ NUMBERS_END }
+        requires file { (bounds_of self.old).file < 2 ^ 32 }
+        requires distinct { AreDistinct batches.now }
+        ensures ok { OnOk result ((s r : State) → Holds (D.state disk.old) self.old.engine s
+            → TurnsAll batches.now s r → Holds (D.state disk.new) self.new.engine r) }
+        ensures rows { OnOk result (IsTrusted (D.state disk.old) → (l : Layout)
+            → HasRows (D.state disk.old) self.old l
+            → HasRows (D.state disk.new) self.new (with_batches l batches.now)) }
+        ensures next { OnOk result (number_of self.new
+            ≡ number_of self.old + length batches.now) }
+        ensures kept { (self.new.catalog ≡ self.old.catalog) × (self.new.live ≡ self.old.live)
+            × (self.new.family ≡ self.old.family) × (self.new.trimmed ≡ self.old.trimmed)
+            × (self.new.fronts ≡ self.old.fronts) }
+        ensures limits { bounds_of self.new ≡ bounds_of self.old }
+        ensures fault { IfErr result IsFindFault }
+        ensures no_memory { IsErrOf result TableFault.NoMemory
+            → D.state disk.new ≡ D.state disk.old }
+        ensures disk { (s r : State) → Holds (D.state disk.old) self.old.engine s → IsValid s
+            → TurnsAll batches.now s r
+            → Leaves (D.state disk.old) (D.state disk.new) s (r ∷ []) }
+        ensures goes { Goes (D.state disk.old) (D.state disk.new) }
+        ensures cause { IsErrOf result TableFault.Failed
+            → Rose (D.state disk.old).faults (D.state disk.new).faults }
+    {
+        match self.engine.apply_all(disk, batches) {
+            Ok(_) => Ok(()),
             Err(fault) => Err(TableFault::from(fault)),
         }
     }

@@ -10,7 +10,7 @@ ghost use Rattle.alt_opening.specs.Trimmed.{number_at};
 ghost use Rattle.alt_schema.specs.declared.schema.TableSchema.{TableSchema};
 ghost use Rattle.alt_tables.specs.Faults.{IsFindFault, IsReadFault, IsUnspent};
 ghost use Rattle.alt_tables.specs.Leftovers.{leftovers};
-ghost use Rattle.alt_tables.specs.private.Trims.{AreNumbersOf, AreTwo, IsKeptFrom, IsLowest, IsTrim, IsWithin, IsYoung, behind, is_over, left_from};
+ghost use Rattle.alt_tables.specs.private.Trims.{AreNumbersOf, AreTwo, IsKeptFrom, IsLowest, IsLowestFrom, IsRest, IsTrim, IsWithin, IsYoung, behind, is_over, left_from};
 ghost use Rattle.alt_tables.specs.Stands.{AreReady, HasRows, Keeps, Stands, catalog_of, fronts_of, number_of as next_of, trimmed_of};
 
 use crate::faults::TableFault;
@@ -62,6 +62,9 @@ impl Tables {
         ensures trim { (s : State) (t : Table) (l : Layout) → Stands (D.state disk.old) self.old s
             → map.get s.tables table.now ≡ Some t → HasRows (D.state disk.old) self.old l
             → IfOk result (IsTrim l t moment) }
+        ensures rest { (s : State) (t : Table) (l : Layout) → Stands (D.state disk.old) self.old s
+            → map.get s.tables table.now ≡ Some t → HasRows (D.state disk.old) self.old l
+            → IfOk result (IsRest l l t) }
         ensures within { (d : TableSchema) → map.get (catalog_of self.old) table.now ≡ Some d
             → IsSome d.stream_family → IfOk result
             (IsWithin (number_at table.now (trimmed_of self.old)) (next_of self.old)) }
@@ -195,7 +198,7 @@ impl Tables {
 
     /// The lowest rows from a number on that are left over of changes up to another one in the family of a stream, so many as go with a
     /// write, and a number below which none is once these are hidden.
-    fn lowest<D: Disk>(
+    pub(crate) fn lowest<D: Disk>(
         &mut self,
         disk: &mut D,
         family: u32,
@@ -210,6 +213,10 @@ impl Tables {
             → t.description.stream_family ≡ Some family → HasRows (D.state disk.old) self.old l
             → 1 ≤ from → All (λ n. from ≤ n) (leftovers l family number)
             → IfOk result (IsLowest l family number) }
+        ensures lowest_from { (s : State) (name : List ℕ) (t : Table) (l : Layout)
+            → Stands (D.state disk.old) self.old s → map.get s.tables name ≡ Some t
+            → t.description.stream_family ≡ Some family → HasRows (D.state disk.old) self.old l
+            → 1 ≤ from → IfOk result (IsLowestFrom l family from number) }
         ensures two { IfOk result (λ r. AreTwo number r.0.items) }
         ensures keeps { Keeps (D.state disk.old) (D.state disk.new) self.old self.new }
         ensures unspent { IfErr result IsUnspent }

@@ -1,5 +1,6 @@
 -- What a write takes from the front of a table's stream, as it is read before the write.
-use Rattle.std.specs.Prelude.{◌≡◌, ◌≢◌, ◌≤◌, ◌<◌, ◌+◌, ◌^◌, ℕ, List, [], ◌∷◌, Bool, false, Option, Some, None, take, drop, nat_lt, All, AllPairs, T, Vec, is_some, unwrap_or, if◌then◌else◌}
+use Rattle.std.specs.Prelude.{◌≡◌, ◌≢◌, ◌≤◌, ◌<◌, ◌+◌, ◌-◌, ◌^◌, ℕ, List, [], ◌∷◌, Bool, false, Option, Some, None, take, drop, filter, nat_lt, All, AllPairs, T, Vec, is_some, unwrap_or, if◌then◌else◌}
+use Rattle.std.specs.List.{range_with_len}
 use Rattle.std.specs.Option.{option_map_or}
 use Rattle.std.specs.declared.alloc.Global.{Global}
 use Rattle.alt_cells.specs.Batches.{has_row, is_distinct}
@@ -8,7 +9,7 @@ use Rattle.alt_cells.specs.declared.batch.RowChange.{RowChange}
 use Rattle.alt_changes.specs.ChangeRows.{row_key}
 use Rattle.alt_changes.specs.TrimRows.{AreLeft}
 use Rattle.alt_disk.specs.Disk.{DiskState}
-use Rattle.alt_layout.specs.Layout.{Layout}
+use Rattle.alt_layout.specs.Layout.{Layout, shown}
 use Rattle.alt_machine.specs.State.{Change, Table}
 use Rattle.alt_machine.specs.Trimming.{a_day, kept, trimmed_at}
 use Rattle.alt_schema.specs.declared.schema.TableSchema.{TableSchema}
@@ -88,6 +89,22 @@ pub record IsLowest (l : Layout) (family number : ℕ) (r : Vec ℕ Global × �
   pub lowest : r.0.items ≡ take 2 (leftovers l family number)
   pub low : (1 ≤ r.1) × (r.1 ≤ number + 1)
   pub above : All (λ n. r.1 ≤ n) (drop 2 (leftovers l family number))
+
+-- the numbers from one on up to another at which a family shows a row
+abbrev pub leftovers_from : Layout → ℕ → ℕ → ℕ → List ℕ
+leftovers_from l family from number = filter (λ n. is_some (shown l family (row_key n)))
+    (range_with_len from (number + 1 - from))
+
+-- Of these the lowest two, and a number from which on the others are all there are.
+pub record IsLowestFrom (l : Layout) (family from number : ℕ) (r : Vec ℕ Global × ℕ) : Type 0 where
+  pub lowest : r.0.items ≡ take 2 (leftovers_from l family from number)
+  pub low : (1 ≤ r.1) × (r.1 ≤ number + 1)
+  pub rest : drop 2 (leftovers_from l family from number) ≡ leftovers_from l family r.1 number
+
+-- Once they are hidden in some rows, what is left over there is what others show from that number on.
+abbrev pub IsRest : Layout → Layout → Table → Trim → Type 0
+IsRest l m t r = (family : ℕ) → t.description.stream_family ≡ Some family
+    → drop 2 (leftovers m family r.number) ≡ leftovers_from l family r.from r.number
 
 -- the number from which on rows may be left over, as it is known of a table
 abbrev pub left_from : List ℕ → List Front → ℕ

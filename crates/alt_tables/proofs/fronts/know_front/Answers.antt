@@ -1,6 +1,6 @@
 -- The new front stands in front of those of other names.
-use Rattle.std.proofs.Common.{[], ◌∷◌, ◌∙◌, sym, ap, subst, List, ◌≡◌}
-use Rattle.alt_tables.specs.Fronts.{KnowsFront, without_front}
+use Rattle.std.proofs.Common.{◌∷◌, ◌∙◌, sym, subst, List}
+use Rattle.alt_tables.specs.Fronts.{KnowsFront}
 use Rattle.alt_tables.specs.declared.fronts.Front.{Front}
 use Rattle.alt_tables.proofs.FrontLaws.{front-known}
 use Rattle.alt_tables.proofs.fronts.know_front.Goals as goal

@@ -1,5 +1,5 @@
 -- What goes isn't changed yet.
-use Rattle.std.proofs.Common.{◌≡◌, refl, sym, subst, ℕ, List, Option, Some, None, All, Bool, true, false}
+use Rattle.std.proofs.Common.{◌≡◌, refl, sym, subst, ℕ, Option, Some, None, All, true, false}
 use Rattle.std.proofs.lemmas.Bool.{false≢true}
 use Rattle.std.specs.Prelude.{◌≢◌, AllPairs, is_some}
 use Rattle.alt_cells.specs.Batches.{has_row}

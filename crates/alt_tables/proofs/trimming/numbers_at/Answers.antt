@@ -1,9 +1,7 @@
 -- The number of a row more, and a row that is none of a number.
-use Rattle.std.proofs.Common.{◌≡◌, ◌<◌, ◌^◌, [], ◌∷◌, ◌++◌, sym, ap, subst, ◌∙◌, ℕ, suc, zero, List, Some, None, length, get_or, refl, rules, arith}
+use Rattle.std.proofs.Common.{◌≡◌, [], ◌∷◌, ◌++◌, sym, subst, ◌∙◌, Some, None, length, rules}
 use Rattle.std.proofs.lemmas.Iterator.Adapters.{YieldsList-from_vec}
 use Rattle.std.proofs.lemmas.Iterator.Consumers.{YieldsList-turn}
-use Rattle.alt_cells.specs.Changes.{Columns}
-use Rattle.alt_changes.specs.ChangeRows.{row_key}
 use Rattle.alt_tables.specs.private.Trims.{AreNumbersOf}
 use Rattle.alt_tables.proofs.LeftoverRows.{number_row_at, numbers_more}
 use Rattle.alt_tables.proofs.trimming.numbers_at.Goals as goal

@@ -1,5 +1,5 @@
 -- Rows of two numbers that may be left over are told to be so.
-use Rattle.std.proofs.Common.{◌≡◌, sym, ap, subst, ◌∙◌, Bool, true, false, IsTrue, List, ℕ}
+use Rattle.std.proofs.Common.{◌≡◌, sym, subst, ◌∙◌, Bool, false, IsTrue}
 use Rattle.std.proofs.lemmas.Bool.{false≢true}
 use Rattle.alt_tables.specs.private.Trims.{AreTwo}
 use Rattle.alt_tables.proofs.LeftoverRows.{one_numbers}

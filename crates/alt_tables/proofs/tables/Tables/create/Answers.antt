@@ -1,16 +1,16 @@
 -- A number or a family is lacked, or one write adds the table, whose description is known before it.
-use Rattle.std.proofs.Common.{◌+◌, [], ◌∷◌, sym, ap, ◌∙◌, subst, arith, ℕ}
+use Rattle.std.proofs.Common.{◌+◌, refl, [], ◌∷◌, sym, ap, ◌∙◌, subst, arith, ℕ}
 use Rattle.alt_disk.proofs.Runs.{quiet_start}
 use Rattle.alt_machine.specs.Ops.CreateTable.{with_table}
 use Rattle.alt_machine.specs.Outcomes.{a_table}
 use Rattle.alt_machine.proofs.Families.{families_differ}
-use Rattle.alt_machine.proofs.Lacks.{has_table, lacks_table_family}
+use Rattle.alt_machine.proofs.Lacks.{has_table, lacks_table_family, lacks_table_number}
 use Rattle.alt_machine.specs.Wanted.{table_lack}
 use Rattle.alt_tables.specs.Faults.{BreakOff}
-use Rattle.alt_tables.specs.Stands.{Stands}
+use Rattle.alt_tables.specs.Stands.{Stands, bounds_of}
 use Rattle.alt_tables.specs.declared.faults.TableFault.TheVariants.{Spent}
 use Rattle.alt_tables.proofs.Holding.{leaves_quiet}
-use Rattle.alt_tables.proofs.Making.{broke, not_lacking, one_made, spent, table_lacked, table_stands, table_turned, want_told}
+use Rattle.alt_tables.proofs.Making.{broke, not_lacking, one_made, spent, spent_file, table_lacked, table_stands, table_turned, want_told}
 use Rattle.alt_tables.proofs.tables.Tables.create.Goals as goal
 
 pub returns-then-number-ge-NUMBERS_END-clause-disk :
@@ -21,9 +21,20 @@ returns-then-number-ge-NUMBERS_END-clause-disk g c s stands =
     (with_table s c.args.schema ∷ []) stands.rows stands.valid
     (quiet_start (g.D.Disk.state c.args.disk.now))
 
+pub returns-then-number-ge-NUMBERS_END-clause-writes :
+    goal.returns-then-number-ge-NUMBERS_END-clause-writes
+returns-then-number-ge-NUMBERS_END-clause-writes g c s stands =
+    spent (Stands (g.D.Disk.state c.args.disk.now) c.args.self.now) a_table s
+    (with_table s c.args.schema) c.next_number-number.result
+    (sym (λ i. table_lack (stands.number i) (stands.family i))
+    ∙ ap (λ n. table_lack n c.args.self.now.family) (sym c.next_number-number.ensures.next)
+    ∙ lacks_table_number c.next_number-number.result c.args.self.now.family
+    (omega (arith, c.if-number-ge-NUMBERS_END.true))) stands
+
 pub returns-then-self-clause-writes : goal.returns-then-self-clause-writes
 returns-then-self-clause-writes g c s stands =
-    subst (λ (n : ℕ). BreakOff (Stands (g.D.Disk.state c.args.disk.now) c.args.self.now) a_table s
+    subst (λ (n : ℕ). BreakOff (bounds_of c.args.self.now).file
+    (Stands (g.D.Disk.state c.args.disk.now) c.args.self.now) a_table s
     (with_table s c.args.schema ∷ []) (Spent n))
     (sym c.from.ensures)
     (spent (Stands (g.D.Disk.state c.args.disk.now) c.args.self.now) a_table s
@@ -43,9 +54,27 @@ returns-then-self-clause-disk g c s stands =
     (with_table s c.args.schema ∷ []) stands.rows stands.valid
     (quiet_start (g.D.Disk.state c.args.disk.now))
 
+pub returns-in-Some-clause-writes : goal.returns-in-Some-clause-writes
+returns-in-Some-clause-writes g c s stands =
+    spent_file (Stands (g.D.Disk.state c.args.disk.now) c.args.self.now) a_table s
+    (with_table s c.args.schema) c.in-Some.number
+    (sym (λ i. table_lack (stands.number i) (stands.family i))
+    ∙ has_table c.args.self.now.engine.hand.next c.args.self.now.family
+    (omega (arith, c.next_number-number.ensures.next, c.if-number-ge-NUMBERS_END.false))
+    (omega (arith, c.if-self.false)))
+    c.in-Some.ensures.last stands
+
+pub returns-in-Some-clause-disk : goal.returns-in-Some-clause-disk
+returns-in-Some-clause-disk g c s stands =
+    leaves_quiet (g.D.Disk.state c.args.disk.now)
+    (g.D.Disk.state c.args.disk.now) c.args.self.now.engine s
+    (with_table s c.args.schema ∷ []) stands.rows stands.valid
+    (quiet_start (g.D.Disk.state c.args.disk.now))
+
 pub returns-in_err-batch-clause-writes : goal.returns-in_err-batch-clause-writes
 returns-in_err-batch-clause-writes g c s stands =
-    want_told (Stands (g.D.Disk.state c.args.disk.now) c.args.self.now) a_table s
+    want_told (bounds_of c.args.self.now).file
+    (Stands (g.D.Disk.state c.args.disk.now) c.args.self.now) a_table s
     (with_table s c.args.schema ∷ [])
     c.from_residual.result c.from_residual.ensures.1
 
@@ -58,7 +87,8 @@ returns-in_err-batch-clause-disk g c s stands =
 
 pub returns-in_err-live-clause-writes : goal.returns-in_err-live-clause-writes
 returns-in_err-live-clause-writes g c s stands =
-    want_told (Stands (g.D.Disk.state c.args.disk.now) c.args.self.now) a_table s
+    want_told (bounds_of c.args.self.now).file
+    (Stands (g.D.Disk.state c.args.disk.now) c.args.self.now) a_table s
     (with_table s c.args.schema ∷ [])
     c.from_residual-in_err-live.result c.from_residual-in_err-live.ensures.1
 
@@ -74,7 +104,7 @@ add-requires-clause-families g c = families_differ c.args.schema c.requires.new
 
 pub returns-in_err-add-clause-writes : goal.returns-in_err-add-clause-writes
 returns-in_err-add-clause-writes g c s stands =
-    want_told (Stands (g.D.Disk.state c.args.disk.now) _) a_table s
+    want_told (bounds_of c.args.self.now).file (Stands (g.D.Disk.state c.args.disk.now) _) a_table s
     (with_table s c.args.schema ∷ [])
     c.from_residual-in_err-add.result c.from_residual-in_err-add.ensures.1
 
@@ -84,6 +114,9 @@ returns-in_err-add-clause-disk g c s stands =
     (g.D.Disk.state c.args.disk.now) c.args.self.now.engine s
     (with_table s c.args.schema ∷ []) stands.rows stands.valid
     (quiet_start (g.D.Disk.state c.args.disk.now))
+
+pub make-requires-clause-file : goal.make-requires-clause-file
+make-requires-clause-file g c = c.in_default.ensures.none refl
 
 pub make-requires-clause-ready : goal.make-requires-clause-ready
 make-requires-clause-ready g c trusted =
@@ -130,7 +163,8 @@ returns-in-Ok-clause-disk g c s stands =
 
 pub returns-clause-writes : goal.returns-clause-writes
 returns-clause-writes g c s stands =
-    broke (Stands (g.D.Disk.state c.make.new.disk) _) a_table s (with_table s c.args.schema)
+    broke (bounds_of c.args.self.now).file
+    (Stands (g.D.Disk.state c.make.new.disk) _) a_table s (with_table s c.args.schema)
     c.in-Err.fault c.in-Err.ensures.fault
 
 pub returns-clause-disk : goal.returns-clause-disk

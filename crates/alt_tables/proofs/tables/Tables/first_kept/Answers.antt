@@ -1,11 +1,10 @@
 -- A page of changes more, until one of them is kept or there are no more.
-use Rattle.std.proofs.Common.{◌≡◌, ◌<◌, ◌≤◌, ◌+◌, ◌^◌, sym, ap, subst, ◌∙◌, ℕ, List, length, map, take, inl, inr, None, true, rules, arith}
+use Rattle.std.proofs.Common.{◌≡◌, ◌≤◌, ◌+◌, sym, ap, subst, ◌∙◌, ℕ, length, map, take, inl, inr, true, rules, arith}
 use Rattle.std.proofs.lemmas.Bool.{eqb-true}
 use Rattle.std.proofs.lemmas.List.{length-map}
 use Rattle.std.specs.Prelude.{◌==◌, ◌-◌}
 use Rattle.alt_changes.specs.ChangeRows.{change_in}
 use Rattle.alt_machine.specs.Ops.GetRecords.{changes_from}
-use Rattle.alt_machine.specs.State.{Change, State, Table}
 use Rattle.alt_tables.specs.private.Trims.{IsKeptFrom}
 use Rattle.alt_tables.proofs.Standing.{keeps_nothing, keeps_then, ready_kept, stands_kept}
 use Rattle.alt_tables.proofs.TrimSteps.{walk_begins, walk_ends, walk_further}

@@ -1,5 +1,5 @@
 -- What is trimmed and what is left over are read one after the other.
-use Rattle.std.proofs.Common.{◌≡◌, ◌≤◌, ◌<◌, sym, ap, subst, ◌∙◌, ℕ, List, Bool, true, false, Option, Some, None, All, arith}
+use Rattle.std.proofs.Common.{◌≡◌, ◌≤◌, ◌<◌, sym, ap, subst, ◌∙◌, ℕ, List, true, Some, None, All, arith}
 use Rattle.std.proofs.lemmas.Bool.{false≢true}
 use Rattle.std.proofs.lemmas.Bool.Decides.{nat_tests}
 use Rattle.std.specs.FinMap as map
@@ -8,12 +8,11 @@ use Rattle.alt_disk.specs.Disk.{DiskState}
 use Rattle.alt_machine.specs.State.{State, Table}
 use Rattle.alt_schema.specs.declared.schema.TableSchema.{TableSchema}
 use Rattle.alt_tables.specs.Leftovers.{leftovers}
-use Rattle.alt_tables.specs.Stands.{Stands, catalog_of, fronts_of, number_of}
+use Rattle.alt_tables.specs.Stands.{Stands, catalog_of}
 use Rattle.alt_tables.specs.declared.tables.Tables.{Tables}
 use Rattle.alt_tables.proofs.Pages.{same_table}
-use Rattle.alt_tables.proofs.Rising.{two_differ, two_left}
 use Rattle.alt_tables.proofs.Standing.{keeps_then, ready_kept, rows_kept, stands_kept, there}
-use Rattle.alt_tables.proofs.TrimSteps.{is_trim, left_above, no_trim, trimmed_known, trimmed_rises, trimmed_stays_below}
+use Rattle.alt_tables.proofs.TrimSteps.{is_rest, is_trim, left_above, no_trim, trimmed_known, trimmed_rises, trimmed_stays_below}
 use Rattle.alt_tables.proofs.tables.Tables.trim.Goals as goal
 
 -- a number between two passes the test
@@ -77,6 +76,38 @@ returns-in-Ok-lowest-clause-trim g c s t l stands at rows =
     (subst (λ n. 1 ≤ n) (sym c.left_from-from.ensures.known) above.0)
     (subst (λ n. All (λ k. n ≤ k) (leftovers l c.in-Some-stream_family.family number))
     (sym c.left_from-from.ensures.known) above.1))
+
+-- the rows that are left over behind those that are read
+pub returns-in_default-stream_family-clause-rest :
+    goal.returns-in_default-stream_family-clause-rest
+returns-in_default-stream_family-clause-rest g c s t l stands at rows family stream =
+    absurd (let none : None ≡ Some family = sym (ap (λ (x : TableSchema). x.stream_family)
+    (sym (same_table (g.D.Disk.state c.args.disk.now) c.args.self.now s c.args.table.now t
+    c.in-Some.schema.now stands at (sym c.in-Some.ensures.table)))
+    ∙ c.in_default-stream_family.is) ∙ stream in let e : ⊥ = cc none in e)
+
+pub returns-in-Ok-lowest-clause-rest : goal.returns-in-Ok-lowest-clause-rest
+returns-in-Ok-lowest-clause-rest g c s t l stands at rows =
+    let a : DiskState = g.D.Disk.state c.args.disk.now in
+    let m : DiskState = g.D.Disk.state c.kept_from.new.disk in
+    let old : Tables = c.args.self.now in
+    let mid : Tables = c.kept_from.new.self in
+    let name : List ℕ = c.args.table.now in
+    let stream = stream_of a old s name t c.in-Some.schema.now stands at
+    (sym c.in-Some.ensures.table) c.in-Some-stream_family.family c.in-Some-stream_family.is in
+    let there = stands_kept a m old mid c.kept_from.ensures.keeps s stands in
+    let rows_there = rows_kept a m old mid c.kept_from.ensures.keeps stands.rows.trusted l rows in
+    let told = c.in-Ok.ensures.kept s t stands at in
+    let number : ℕ = c.in-Ok.kept.0 in
+    let above = left_above m mid s name t there at c.in-Some-stream_family.family stream l
+    rows_there number (subst (λ n. t.trimmed ≤ n) (sym told.number)
+    (trimmed_rises a old s name t stands at c.args.moment)) in
+    let low = subst (λ n. 1 ≤ n) (sym c.left_from-from.ensures.known) above.0 in
+    is_rest a old s name t stands at c.in-Some-stream_family.family stream l number c.in-Ok.kept.1
+    c.in-Ok-lowest.leftovers c.left_from-from.result c.in-Ok-lowest.from low
+    (subst (λ n. All (λ k. n ≤ k) (leftovers l c.in-Some-stream_family.family number))
+    (sym c.left_from-from.ensures.known) above.1)
+    (c.in-Ok-lowest.ensures.lowest_from s name t l there at stream rows_there low)
 
 pub returns-in-Err-lowest-clause-fault : goal.returns-in-Err-lowest-clause-fault
 returns-in-Err-lowest-clause-fault g c s stands =

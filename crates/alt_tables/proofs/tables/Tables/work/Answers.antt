@@ -1,6 +1,8 @@
 -- The families of all tables are live, so the rows of the state stay.
 use Rattle.std.proofs.Common.{refl, subst, arith}
 use Rattle.alt_engine.specs.Working.{IsNeeded}
+use Rattle.alt_hand.specs.InHand.{last_form_of}
+use Rattle.alt_hand.proofs.SegmentFiles.{files_made-few}
 use Rattle.alt_tables.proofs.Working.{few_live, merged_for, work_fault, worked_left, worked_stands}
 use Rattle.alt_tables.proofs.tables.Tables.work.Goals as goal
 
@@ -47,7 +49,8 @@ returns-in-Ok-clause-files g c s stands =
     let taken = c.in-Ok.ensures.taken in
     let few = few_live (g.D.Disk.state c.args.disk.now) c.args.self.now s stands
     c.as_slice.result.now c.as_slice.ensures.same c.as_slice.ensures.live in
-    omega (arith, taken, few)
+    let more = files_made-few (last_form_of c.work.new.self.hand) in
+    omega (arith, taken, few, more)
 
 pub returns-in-Ok-clause-merge_all : goal.returns-in-Ok-clause-merge_all
 returns-in-Ok-clause-merge_all g c is trusted s stands =

@@ -1,18 +1,18 @@
 -- What the write takes from the front of the stream is read, and then one write is made where what is there differs.
-use Rattle.std.proofs.Common.{◌≡◌, refl, sym, ap, ◌∙◌, ℕ, List, [], ◌∷◌, Option, Some, subst, arith, rules, Ok, IfOk, OnOk, T}
+use Rattle.std.proofs.Common.{◌≡◌, ◌<◌, ◌^◌, refl, sym, ap, ◌∙◌, ℕ, List, [], ◌∷◌, Option, Some, subst, arith, IfOk}
 use Rattle.std.specs.FinMap as map
 use Rattle.std.specs.Prelude.{IsSome, drop}
 use Rattle.alt_cells.specs.declared.batch.RowChange.{RowChange}
 use Rattle.alt_codec.specs.declared.writer.Writer.TheVariants.{User}
 use Rattle.alt_disk.specs.Disk.{DiskState, IsTrusted}
-use Rattle.alt_disk.proofs.Calls.{goes_on}
 use Rattle.alt_disk.proofs.Runs.{quiet_start, trusted_on}
+use Rattle.alt_engine.specs.InHand.{Bounds}
 use Rattle.alt_layout.specs.Layout.{Layout}
 use Rattle.alt_machine.specs.Outcomes.{a_number}
-use Rattle.alt_machine.specs.State.{State, Table}
+use Rattle.alt_machine.specs.State.{State}
 use Rattle.alt_machine.specs.Wanted.{number_lack}
 use Rattle.alt_machine.specs.Writes.{after_item, item_writes}
-use Rattle.alt_machine.proofs.Lacks.{lacks_number}
+use Rattle.alt_machine.proofs.Lacks.{has_number, lacks_number}
 use Rattle.alt_opening.specs.Trimmed.{number_at}
 use Rattle.alt_schema.specs.declared.schema.TableSchema.{TableSchema}
 use Rattle.alt_tables.specs.Faults.{BreakOff, Writes}
@@ -20,14 +20,14 @@ use Rattle.alt_tables.specs.Found.{number_taken}
 use Rattle.alt_tables.specs.Images.{Leaves}
 use Rattle.alt_tables.specs.Leftovers.{leftovers, lowest_left}
 use Rattle.alt_tables.specs.RowChanges.{changed_rows, write_changes}
-use Rattle.alt_tables.specs.Stands.{HasRows, Reads, Stands, catalog_of, number_of, trimmed_of}
+use Rattle.alt_tables.specs.Stands.{HasRows, Reads, Stands, bounds_of, catalog_of, number_of, trimmed_of}
 use Rattle.alt_tables.specs.declared.faults.TableFault.TheVariants.{Spent}
 use Rattle.alt_tables.specs.declared.tables.Tables.{Tables}
 use Rattle.alt_tables.specs.declared.trimming.Trim.{Trim}
-use Rattle.alt_tables.specs.private.Trims.{IsTrim, IsWithin, IsWrittenAs}
+use Rattle.alt_tables.specs.private.Trims.{IsWithin, IsWrittenAs}
 use Rattle.alt_tables.proofs.Holding.{leaves_quiet}
-use Rattle.alt_tables.proofs.Left.{leaves_after, leaves_reads, reads_then}
-use Rattle.alt_tables.proofs.Making.{broke, item_differs, spent}
+use Rattle.alt_tables.proofs.Left.{leaves_after, leaves_reads}
+use Rattle.alt_tables.proofs.Making.{broke, item_differs, spent, spent_file}
 use Rattle.alt_tables.proofs.Standing.{ready_kept, rows_kept, stands_kept, stays_kept, there}
 use Rattle.alt_tables.proofs.Trimmed.{made_is, made_leftovers, ok_both, rows_back}
 use Rattle.alt_tables.proofs.tables.Tables.write.Goals as goal
@@ -43,7 +43,8 @@ returns-then-number-ge-NUMBERS_END-clause-disk g c s t stands at =
 pub returns-then-number-ge-NUMBERS_END-clause-writes :
     goal.returns-then-number-ge-NUMBERS_END-clause-writes
 returns-then-number-ge-NUMBERS_END-clause-writes g c s t stands at =
-    subst (λ (ts : List State). BreakOff (Stands (g.D.Disk.state c.args.disk.now) c.args.self.now)
+    subst (λ (ts : List State). BreakOff (bounds_of c.args.self.now).file
+    (Stands (g.D.Disk.state c.args.disk.now) c.args.self.now)
     a_number s ts (Spent c.next_number-number.result))
     (sym (item_differs (g.D.Disk.state c.args.disk.now) c.args.self.now s t stands
     c.args.moment User c.args.table.now c.args.found.place c.args.found.item c.args.new at
@@ -55,16 +56,45 @@ returns-then-number-ge-NUMBERS_END-clause-writes g c s t stands at =
     ∙ lacks_number c.next_number-number.result
     (omega (arith, c.if-number-ge-NUMBERS_END.true))) stands)
 
+-- ---- there is no file for its segment
+
+pub returns-in-Some-clause-writes : goal.returns-in-Some-clause-writes
+returns-in-Some-clause-writes g c s t stands at =
+    subst (λ (ts : List State). BreakOff (bounds_of c.args.self.now).file
+    (Stands (g.D.Disk.state c.args.disk.now) c.args.self.now) a_number s ts
+    (Spent c.in-Some.number))
+    (sym (item_differs (g.D.Disk.state c.args.disk.now) c.args.self.now s t stands
+    c.args.moment User c.args.table.now c.args.found.place c.args.found.item c.args.new at
+    (c.requires.found s stands t at) (sym c.if-same.ensures)))
+    (spent_file (Stands (g.D.Disk.state c.args.disk.now) c.args.self.now) a_number s
+    (after_item s c.args.moment c.args.table.now t c.args.found.place c.args.new)
+    c.in-Some.number (has_number s.next_number (omega (
+      arith,
+      stands.number,
+      c.next_number-number.ensures.next,
+      c.if-number-ge-NUMBERS_END.false,
+    )))
+    c.in-Some.ensures.last stands)
+
+pub returns-in-Some-clause-disk : goal.returns-in-Some-clause-disk
+returns-in-Some-clause-disk g c s t stands at =
+    leaves_quiet (g.D.Disk.state c.args.disk.now)
+    (g.D.Disk.state c.args.disk.now) c.args.self.now.engine s
+    (item_writes s c.args.moment c.args.table.now t c.args.found.place c.args.new)
+    stands.rows stands.valid (quiet_start (g.D.Disk.state c.args.disk.now))
+
 -- ---- the front couldn't be read
 
 pub returns-in-Err-clause-writes : goal.returns-in-Err-clause-writes
 returns-in-Err-clause-writes g c s t stands at =
-    subst (λ (ts : List State). BreakOff (Stands (g.D.Disk.state c.trim.new.disk) c.trim.new.self)
+    subst (λ (ts : List State). BreakOff (bounds_of c.args.self.now).file
+    (Stands (g.D.Disk.state c.trim.new.disk) c.trim.new.self)
     a_number s ts c.in-Err.fault)
     (sym (item_differs (g.D.Disk.state c.args.disk.now) c.args.self.now s t stands
     c.args.moment User c.args.table.now c.args.found.place c.args.found.item c.args.new at
     (c.requires.found s stands t at) (sym c.if-same.ensures)))
-    (broke (Stands (g.D.Disk.state c.trim.new.disk) c.trim.new.self) a_number s
+    (broke (bounds_of c.args.self.now).file
+    (Stands (g.D.Disk.state c.trim.new.disk) c.trim.new.self) a_number s
     (after_item s c.args.moment c.args.table.now t c.args.found.place c.args.new) c.in-Err.fault
     (c.in-Err.ensures.fault s stands))
 
@@ -105,6 +135,10 @@ write_trimmed-requires-clause-room g c = omega (
   c.if-number-ge-NUMBERS_END.false,
 )
 
+pub write_trimmed-requires-clause-file : goal.write_trimmed-requires-clause-file
+write_trimmed-requires-clause-file g c = subst (λ (b : Bounds). b.file < 2 ^ 32)
+    (sym c.trim.ensures.keeps.limits) (c.in_default.ensures.none refl)
+
 pub write_trimmed-requires-clause-trim : goal.write_trimmed-requires-clause-trim
 write_trimmed-requires-clause-trim g c s t l stands at rows =
     let before = (stays_kept (g.D.Disk.state c.args.disk.now) (g.D.Disk.state c.trim.new.disk)
@@ -126,14 +160,19 @@ write_trimmed-requires-clause-within g c d there has =
 
 pub returns-clause-writes : goal.returns-clause-writes
 returns-clause-writes g c s t stands at =
-    subst (λ (ts : List State). Writes (Stands (g.D.Disk.state c.write_trimmed.new.disk)
-    c.write_trimmed.new.self) a_number s ts c.write_trimmed.result)
+    subst (λ (ts : List State). Writes (bounds_of c.args.self.now).file
+    (Stands (g.D.Disk.state c.write_trimmed.new.disk) c.write_trimmed.new.self) a_number s ts
+    c.write_trimmed.result)
     (sym (item_differs (g.D.Disk.state c.args.disk.now) c.args.self.now s t stands
     c.args.moment User c.args.table.now c.args.found.place c.args.found.item c.args.new at
     (c.requires.found s stands t at) (sym c.if-same.ensures)))
+    (subst (λ (b : Bounds). Writes b.file
+    (Stands (g.D.Disk.state c.write_trimmed.new.disk) c.write_trimmed.new.self) a_number s
+    (after_item s c.args.moment c.args.table.now t c.args.found.place c.args.new ∷ [])
+    c.write_trimmed.result) c.trim.ensures.keeps.limits
     (c.write_trimmed.ensures.writes s t
     (stands_kept (g.D.Disk.state c.args.disk.now) (g.D.Disk.state c.trim.new.disk)
-    c.args.self.now c.trim.new.self c.trim.ensures.keeps s stands) at)
+    c.args.self.now c.trim.new.self c.trim.ensures.keeps s stands) at))
 
 pub returns-clause-number : goal.returns-clause-number
 returns-clause-number g c s t stands at =

@@ -19,7 +19,7 @@ use Rattle.alt_tables.specs.Found.{number_taken}
 use Rattle.alt_opening.specs.Trimmed.{number_at}
 use Rattle.alt_tables.specs.Images.{Leaves}
 use Rattle.alt_tables.specs.Leftovers.{lowest_left}
-use Rattle.alt_tables.specs.Stands.{HasRows, Stands, catalog_of, number_of, trimmed_of}
+use Rattle.alt_tables.specs.Stands.{HasRows, Stands, bounds_of, catalog_of, number_of, trimmed_of}
 use Rattle.alt_tables.proofs.Holding.{leaves_quiet}
 use Rattle.alt_tables.proofs.Standing.{known, one_place}
 use Rattle.alt_tables.proofs.tables.Tables.write_item.Goals as goal
@@ -37,8 +37,8 @@ returns-clause-writes g c s t place stands at here =
     stands at in
     let same = one_place (place_of t.description c.args.key.now) c.in-Ok.place place
     (c.in-Ok.ensures.place t.description described) here in
-    subst (λ (ts : List State). Writes (Stands (g.D.Disk.state c.write.new.disk) c.write.new.self)
-    a_number s ts c.write.result)
+    subst (λ (ts : List State). Writes (bounds_of c.args.self.now).file
+    (Stands (g.D.Disk.state c.write.new.disk) c.write.new.self) a_number s ts c.write.result)
     (λ i. item_writes s c.args.moment c.args.table.now t (same i) (c.in-Ok-copy_of-2.ensures i))
     (c.write.ensures.writes s t stands at)
 

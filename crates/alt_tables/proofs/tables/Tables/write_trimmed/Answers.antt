@@ -1,29 +1,20 @@
 -- One write is made, and what is known of the front of the stream is what it leaves.
-use Rattle.std.proofs.Common.{◌≡◌, ◌<◌, ◌+◌, ◌++◌, refl, sym, ap, ◌∙◌, ℕ, List, [], ◌∷◌, Option, Some, IsSome, subst, arith, rules, T}
-use Rattle.std.specs.FinMap as map
-use Rattle.std.specs.Str.{bytes_eq}
-use Rattle.std.specs.Prelude.{if◌then◌else◌, is_some}
+use Rattle.std.proofs.Common.{◌≡◌, ◌<◌, ◌^◌, ◌+◌, ◌++◌, refl, sym, ap, ◌∙◌, [], ◌∷◌, Some, IsSome, subst, arith, rules}
+use Rattle.std.specs.Prelude.{if◌then◌else◌}
 use Rattle.std.proofs.lemmas.Slice.Eq.{bytes_eq-Decides}
-use Rattle.alt_cells.specs.Batches.{is_distinct}
-use Rattle.alt_cells.specs.declared.batch.RowChange.{RowChange}
 use Rattle.alt_changes.specs.TrimRows.{trim_changes}
 use Rattle.alt_codec.specs.declared.writer.Writer.TheVariants.{User}
-use Rattle.alt_disk.specs.Disk.{DiskState}
 use Rattle.alt_disk.proofs.Runs.{quiet_start}
-use Rattle.alt_engine.specs.InHand.{Stands as EngineStands, next_of}
+use Rattle.alt_engine.specs.InHand.{Stands as EngineStands, bounds_of as engine_bounds, next_of}
 use Rattle.alt_engine.specs.declared.engine.Engine.{Engine}
 use Rattle.alt_machine.specs.Outcomes.{a_number}
-use Rattle.alt_machine.specs.State.{State, Table}
 use Rattle.alt_machine.specs.Writes.{after_item}
 use Rattle.alt_machine.proofs.Lacks.{has_number}
 use Rattle.alt_opening.specs.Opened.{Holds}
 use Rattle.alt_opening.specs.Trimmed.{IsRenumbered, number_at}
-use Rattle.alt_schema.specs.declared.schema.TableSchema.{TableSchema}
-use Rattle.alt_tables.specs.Images.{Leaves}
-use Rattle.alt_tables.specs.RowChanges.{Turns, changed_rows, item_changes, write_changes}
-use Rattle.alt_tables.specs.Stands.{HasRows, Stands, catalog_of, fronts_of, number_of, trimmed_of}
+use Rattle.alt_tables.specs.RowChanges.{write_changes}
+use Rattle.alt_tables.specs.Stands.{Stands, bounds_of, fronts_of, trimmed_of}
 use Rattle.alt_tables.specs.private.Trims.{IsNoted, IsWithin, IsWrittenAs}
-use Rattle.alt_tables.specs.declared.tables.Tables.{Tables}
 use Rattle.alt_tables.proofs.Holding.{leaves_quiet}
 use Rattle.alt_tables.proofs.Making.{broke, item_stands, item_turned, one_made, want_told}
 use Rattle.alt_tables.proofs.Trimmed.{can_trim}
@@ -34,7 +25,8 @@ same_Some x y e = cc
 
 pub returns-in_err-batch-clause-writes : goal.returns-in_err-batch-clause-writes
 returns-in_err-batch-clause-writes g c s t stands at =
-    want_told (Stands (g.D.Disk.state c.args.disk.now) c.args.self.now) a_number s
+    want_told (bounds_of c.args.self.now).file
+    (Stands (g.D.Disk.state c.args.disk.now) c.args.self.now) a_number s
     (after_item s c.args.moment c.args.table.now t c.args.found.place c.args.new ∷ [])
     c.from_residual.result c.from_residual.ensures.1
 
@@ -47,7 +39,8 @@ returns-in_err-batch-clause-disk g c s t stands at =
 
 pub returns-in_err-put_trim-clause-writes : goal.returns-in_err-put_trim-clause-writes
 returns-in_err-put_trim-clause-writes g c s t stands at =
-    want_told (Stands (g.D.Disk.state c.args.disk.now) c.args.self.now) a_number s
+    want_told (bounds_of c.args.self.now).file
+    (Stands (g.D.Disk.state c.args.disk.now) c.args.self.now) a_number s
     (after_item s c.args.moment c.args.table.now t c.args.found.place c.args.new ∷ [])
     c.from_residual-in_err-put_trim.result c.from_residual-in_err-put_trim.ensures.1
 
@@ -60,7 +53,8 @@ returns-in_err-put_trim-clause-disk g c s t stands at =
 
 pub returns-in_err-know-clause-writes : goal.returns-in_err-know-clause-writes
 returns-in_err-know-clause-writes g c s t stands at =
-    want_told (Stands (g.D.Disk.state c.args.disk.now) c.know.new.self) a_number s
+    want_told (bounds_of c.args.self.now).file
+    (Stands (g.D.Disk.state c.args.disk.now) c.know.new.self) a_number s
     (after_item s c.args.moment c.args.table.now t c.args.found.place c.args.new ∷ [])
     c.from_residual-in_err-know.result c.from_residual-in_err-know.ensures.1
 
@@ -85,6 +79,10 @@ put_trim-requires g c = record {
       (subst IsSome (sym stream) refl))))
       (omega (arith, c.next_number-number.ensures.next, c.requires.room)) family stream;
 }
+
+pub make-requires-clause-file : goal.make-requires-clause-file
+make-requires-clause-file g c = subst (λ (e : Engine). (engine_bounds e).file < 2 ^ 32)
+    (sym c.know.ensures.kept.0) c.requires.file
 
 pub make-requires-clause-ready : goal.make-requires-clause-ready
 make-requires-clause-ready g c trusted =
@@ -159,7 +157,8 @@ returns-in-Ok-clause-disk g c s t stands at =
 
 pub returns-clause-writes : goal.returns-clause-writes
 returns-clause-writes g c s t stands at =
-    broke (Stands (g.D.Disk.state c.make.new.disk) c.make.new.self) a_number s
+    broke (bounds_of c.args.self.now).file
+    (Stands (g.D.Disk.state c.make.new.disk) c.make.new.self) a_number s
     (after_item s c.args.moment c.args.table.now t c.args.found.place c.args.new) c.in-Err.fault
     c.in-Err.ensures.fault
 

@@ -21,11 +21,11 @@ module _ (op : Operation) (moment : ℕ) (body found : Option Members)
   same = λ i s. sym (enough.comes s moment) i
 
   -- it carries out what the body asks for
-  pub carries_on : (old now : State → Type 0) (r : Result Reply Stop)
-      → Carries (λ s. with_body s op moment found) old now r
-      → Carries (λ s. with_body s op moment body) old now r
-  carries_on old now r carried =
-      subst (λ (outcome : State → Outcome). Carries outcome old now r) same carried
+  pub carries_on : {file : ℕ} (old now : State → Type 0) (r : Result Reply Stop)
+      → Carries file (λ s. with_body s op moment found) old now r
+      → Carries file (λ s. with_body s op moment body) old now r
+  carries_on {file = file} old now r carried =
+      subst (λ (outcome : State → Outcome). Carries file outcome old now r) same carried
 
   -- and does to the disk what that does
   pub moves_on : (old : State → Type 0) (before after : DiskState) (r : Result Reply Stop)
@@ -35,9 +35,9 @@ module _ (op : Operation) (moment : ℕ) (body found : Option Members)
       subst (λ (outcome : State → Outcome). Moves outcome old before after r) same moves
 
 -- where nothing was found, the body can't be read
-pub unread : (op : Operation) (moment : ℕ) (body : Option Members) → Suffices op body None
+pub unread : {file : ℕ} (op : Operation) (moment : ℕ) (body : Option Members) → Suffices op body None
     → (stands : State → Type 0)
-    → Carries (λ s. with_body s op moment body) stands stands (Err (Refused unreadable))
+    → Carries file (λ s. with_body s op moment body) stands stands (Err (Refused unreadable))
 unread op moment body enough stands =
     carries_on op moment body None enough stands stands (Err (Refused unreadable))
     (refused_so (λ s. with_body s op moment None) stands stands unreadable tt (λ s h. refl)

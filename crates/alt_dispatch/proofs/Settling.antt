@@ -1,5 +1,5 @@
 -- What was carried out settles the request, once its refusal is told.
-use Rattle.std.proofs.Common.{◌≡◌, refl, sym, subst, ◌∙◌, Result, Ok, Err, OnOk}
+use Rattle.std.proofs.Common.{ℕ, ◌≡◌, refl, sym, subst, ◌∙◌, Result, Ok, Err, OnOk}
 use Rattle.std.specs.Prelude.{IfOk, IsErrOf}
 use Rattle.alt_disk.specs.Disk.{DiskState}
 use Rattle.alt_machine.specs.Outcomes.{Outcome, last_state}
@@ -19,26 +19,26 @@ use Rattle.alt_tables.specs.declared.tables.Tables.{Tables}
 use Rattle.alt_tables.specs.declared.faults.TableFault.{TableFault}
 use Rattle.alt_tables.specs.declared.faults.TableFault.TheVariants.{Failed, NoMemory}
 
-module _ (now : State → Type 0) (s : State) (outcome : Outcome) where
+module _ (file : ℕ) (now : State → Type 0) (s : State) (outcome : Outcome) where
   -- where the refusal isn't told for want of memory, nothing was written
-  untold : (r : Refusal) → IsRefused now s outcome r → Settles now s outcome (Err NoMemory)
+  untold : (r : Refusal) → IsRefused now s outcome r → Settles file now s outcome (Err NoMemory)
   untold r h = tt
 
   -- what was carried out settles the request: its answer as it is, its refusal as it is told
   pub settled : (carried : Result Reply Stop) (told : Result Reply TableFault)
-      → Does now s outcome carried → Tells carried told → Settles now s outcome told
-  settled (Ok reply) told h is = subst (Settles now s outcome) (sym is) h
+      → Does file now s outcome carried → Tells carried told → Settles file now s outcome told
+  settled (Ok reply) told h is = subst (Settles file now s outcome) (sym is) h
   settled (Err (Refused r)) (Ok reply) h is = subst (IsAnswered now s outcome) (sym is) h.answered
   settled (Err (Refused r)) (Err fault) h is =
-      subst (λ f. Settles now s outcome (Err f)) (sym is) (untold r h)
-  settled (Err (Fault f)) told h is = subst (Settles now s outcome) (sym is) h
+      subst (λ f. Settles file now s outcome (Err f)) (sym is) (untold r h)
+  settled (Err (Fault f)) told h is = subst (Settles file now s outcome) (sym is) h
 
 -- what the tables then stand for is valid
-pub settled_valid : (now : State → Type 0) (s : State) (outcome : Outcome)
+pub settled_valid : (file : ℕ) (now : State → Type 0) (s : State) (outcome : Outcome)
     (told : Result Reply TableFault) → ((r : State) → now r → IsValid r)
-    → Settles now s outcome told → OnOk told (IsValid (last_state s outcome.atoms))
-settled_valid now s outcome (Ok reply) valid h = valid (last_state s outcome.atoms) h.state
-settled_valid now s outcome (Err fault) valid h = tt
+    → Settles file now s outcome told → OnOk told (IsValid (last_state s outcome.atoms))
+settled_valid file now s outcome (Ok reply) valid h = valid (last_state s outcome.atoms) h.state
+settled_valid file now s outcome (Err fault) valid h = tt
 
 -- what holds of a refusal holds where it is told by a reply with the status 400
 pub told_refused : (P : Type 0) (carried : Result Reply Stop) (told : Result Reply TableFault)

@@ -1,5 +1,5 @@
 -- What a request comes to where its refusals are told.
-use Rattle.std.specs.Prelude.{◌≡◌, Result, Ok, Err}
+use Rattle.std.specs.Prelude.{◌≡◌, ℕ, Result, Ok, Err}
 use Rattle.alt_machine.specs.Outcomes.{Outcome}
 use Rattle.alt_machine.specs.State.{State}
 use Rattle.alt_request.specs.Carried.{IsAnswered}
@@ -12,9 +12,9 @@ use Rattle.alt_tables.specs.declared.faults.TableFault.{TableFault}
 use Rattle.alt_tables.specs.declared.faults.TableFault.TheVariants.{NoMemory}
 
 -- A reply is the outcome's answer, and the tables then stand for the state after its last write; after a fault its writes broke off.
-abbrev pub Settles : (State → Type 0) → State → Outcome → Result Reply TableFault → Type 0
-Settles now s outcome (Ok reply) = IsAnswered now s outcome (answer_of reply)
-Settles now s outcome (Err fault) = BreakOff now outcome.wants s outcome.atoms fault
+abbrev pub Settles : ℕ → (State → Type 0) → State → Outcome → Result Reply TableFault → Type 0
+Settles file now s outcome (Ok reply) = IsAnswered now s outcome (answer_of reply)
+Settles file now s outcome (Err fault) = BreakOff file now outcome.wants s outcome.atoms fault
 
 -- A reply is told as it is, a refusal by the reply that tells it, where there is memory for one, and a fault is passed on.
 abbrev pub Tells : Result Reply Stop → Result Reply TableFault → Type 0

@@ -92,7 +92,7 @@ pub fn answer<D: Disk>(
     // Ok has the answer and leaves the state after the last write, and none of the writes lacked a number or a family; an error has its
     // cause.
     ensures settles { (s : State) → Stands (D.state disk.old) tables.old s
-        → Settles (Stands (D.state disk.new) tables.new) s
+        → Settles (bounds_of tables.old).file (Stands (D.state disk.new) tables.new) s
         (step s operation body.now moment) result }
     // Where memory was wanting the disk stands for the state after some of the writes.
     ensures wanting { IsErrOf result TableFault.NoMemory → (s : State)
@@ -144,7 +144,7 @@ fn respond<D: Disk>(
     moment: u64,
 ) -> Result<Reply, Stop>
     requires ready { AreReady (D.state disk.old) tables.old }
-    ensures carried { Carries (λ s. step s operation body.now moment)
+    ensures carried { Carries (bounds_of tables.old).file (λ s. step s operation body.now moment)
         (Stands (D.state disk.old) tables.old) (Stands (D.state disk.new) tables.new) result }
     ensures limits { bounds_of tables.new ≡ bounds_of tables.old }
     ensures moves { Moves (λ s. step s operation body.now moment)
@@ -169,7 +169,7 @@ fn respond_to_put<D: Disk>(
     moment: u64,
 ) -> Result<Reply, Stop>
     requires ready { AreReady (D.state disk.old) tables.old }
-    ensures carried { Carries (λ s. with_body s Operation.PutItem moment (body_of body.now))
+    ensures carried { Carries (bounds_of tables.old).file (λ s. with_body s Operation.PutItem moment (body_of body.now))
         (Stands (D.state disk.old) tables.old) (Stands (D.state disk.new) tables.new) result }
     ensures limits { bounds_of tables.new ≡ bounds_of tables.old }
     ensures moves { Moves (λ s. with_body s Operation.PutItem moment (body_of body.now))
@@ -194,7 +194,7 @@ fn respond_to<D: Disk>(
     moment: u64,
 ) -> Result<Reply, Stop>
     requires ready { AreReady (D.state disk.old) tables.old }
-    ensures carried { Carries (λ s. with_body s operation moment (body_of body.now))
+    ensures carried { Carries (bounds_of tables.old).file (λ s. with_body s operation moment (body_of body.now))
         (Stands (D.state disk.old) tables.old) (Stands (D.state disk.new) tables.new) result }
     ensures limits { bounds_of tables.new ≡ bounds_of tables.old }
     ensures moves { Moves (λ s. with_body s operation moment (body_of body.now))
@@ -217,7 +217,7 @@ fn carry_out<D: Disk>(
     moment: u64,
 ) -> Result<Reply, Stop>
     requires ready { AreReady (D.state disk.old) tables.old }
-    ensures carried { Carries (λ s. operates s operation moment (members_view body.now.entries))
+    ensures carried { Carries (bounds_of tables.old).file (λ s. operates s operation moment (members_view body.now.entries))
         (Stands (D.state disk.old) tables.old) (Stands (D.state disk.new) tables.new) result }
     ensures limits { bounds_of tables.new ≡ bounds_of tables.old }
     ensures moves { Moves (λ s. operates s operation moment (members_view body.now.entries))

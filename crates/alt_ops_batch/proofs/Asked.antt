@@ -1,16 +1,16 @@
 -- What is known of the members of a BatchWriteItem that nothing refuses: what they leave may be written, and at different places.
-use Rattle.std.proofs.Common.{◌≡◌, refl, sym, ap, subst, ◌∙◌, ℕ, ◌&&◌, ◌||◌, Bool, true, false, List, [], ◌∷◌, map, Ok}
+use Rattle.std.proofs.Common.{◌≡◌, refl, ◌&&◌, ◌||◌, Bool, true, false, List, [], ◌∷◌, map, Ok}
 use Rattle.std.specs.List.{list_any}
 use Rattle.std.specs.FinMap as finite
 use Rattle.std.specs.Str.{bytes_eq}
 use Rattle.serde_json.specs.Data.{Members}
 use Rattle.alt_machine.specs.declared.PlacedMember.{PlacedMember}
 use Rattle.alt_machine.specs.Batches.{is_same_key, has_repeat}
-use Rattle.alt_machine.specs.Ops.BatchWriteItem.{Written, written_by, writes_asked}
+use Rattle.alt_machine.specs.Ops.BatchWriteItem.{written_by, writes_asked}
 use Rattle.alt_machine.specs.State.{Texts}
 use Rattle.alt_machine.proofs.Batches as machine
 use Rattle.alt_machine.proofs.Batches.{MayStand, asked_may, asked_named, asked_once, may_be_left}
-use Rattle.alt_ops_batch.specs.private.Changed.{Every, MayWrite, AreApart, AreAllApart}
+use Rattle.alt_tables.specs.Several.{Every, MayWrite, AreApart, AreAllApart}
 use Rattle.alt_schema.specs.declared.schema.TableSchema.{TableSchema}
 use Rattle.alt_opening.proofs.OneColumn.{bytes_differ}
 

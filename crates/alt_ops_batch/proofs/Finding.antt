@@ -1,17 +1,16 @@
 -- Members that are looked up, one after another.
-use Rattle.std.proofs.Common.{◌≡◌, refl, sym, ap, subst, ◌∙◌, List, [], ◌∷◌, ◌++◌, map, append_assoc, append-nil}
+use Rattle.std.proofs.Common.{◌≡◌, ap, ◌∙◌, List, [], ◌∷◌, ◌++◌, map, append_assoc}
 use Rattle.std.specs.Prelude.{◌↔◌}
 use Rattle.std.proofs.lemmas.List.{map-append}
 use Rattle.alt_disk.specs.Disk.{DiskState}
 use Rattle.alt_machine.specs.declared.PlacedMember.{PlacedMember}
 use Rattle.alt_machine.specs.Ops.BatchWriteItem.{Written, written_by}
-use Rattle.alt_machine.specs.State.{State, Texts}
-use Rattle.alt_ops_batch.specs.private.Changed.{Every, written_at, MayWrite, IsFound}
-use Rattle.alt_ops_batch.specs.declared.write.Change.{Change}
-use Rattle.alt_schema.specs.declared.schema.TableSchema.{TableSchema}
-use Rattle.alt_tables.specs.Stands.{AreReady, KeepsCatalog, Reads, Stands, catalog_of}
+use Rattle.alt_machine.specs.State.{State}
+use Rattle.alt_tables.specs.Several.{Every, written_at, MayWrite, IsFound}
+use Rattle.alt_tables.specs.declared.several.ItemChange.{ItemChange}
+use Rattle.alt_tables.specs.Stands.{KeepsCatalog, Reads, Stands, catalog_of}
 use Rattle.alt_tables.specs.declared.tables.Tables.{Tables}
-use Rattle.alt_tables.proofs.Left.{reads_then, ready_on}
+use Rattle.alt_tables.proofs.Left.{reads_then}
 
 -- what holds of a list holds of it with one more
 pub every_more : {A : Type 0} (P : A → Type 0) (xs : List A) (x : A) → Every P xs → P x
@@ -21,7 +20,7 @@ every_more P (y ∷ ys) x h p = (h.0, every_more P ys x h.1 p)
 
 -- The first of the members are looked up.
 pub record AreFound (before : DiskState) (old : Tables) (after : DiskState) (now : Tables)
-    (members rest : List PlacedMember) (changes : List Change) : Type 0 where
+    (members rest : List PlacedMember) (changes : List ItemChange) : Type 0 where
   pub reads : Reads before after
   pub stays : (s : State) → Stands before old s ↔ Stands after now s
   pub catalog : KeepsCatalog old now
@@ -31,7 +30,7 @@ pub record AreFound (before : DiskState) (old : Tables) (after : DiskState) (now
 
 -- so is one more
 pub found_one : (before mid after : DiskState) (old now new : Tables)
-    (members rest : List PlacedMember) (m : PlacedMember) (changes : List Change) (c : Change)
+    (members rest : List PlacedMember) (m : PlacedMember) (changes : List ItemChange) (c : ItemChange)
     → AreFound before old mid now members (m ∷ rest) changes → Reads mid after
     → ((s : State) → Stands mid now s ↔ Stands after new s) → KeepsCatalog now new
     → written_at c ≡ written_by m → ((s : State) → Stands mid now s → IsFound s c)

@@ -1,5 +1,5 @@
 -- A BatchGetItem behind the tests of its members, and how its reads stop.
-use Rattle.std.proofs.Common.{◌≡◌, refl, true, List, [], ◌∷◌, map, Ok, Err, Vec, Global}
+use Rattle.std.proofs.Common.{ℕ, ◌≡◌, refl, true, List, [], ◌∷◌, map, Ok, Err, Vec, Global}
 use Rattle.std.specs.Prelude.{fold}
 use Rattle.std.specs.FinMap as finite
 use Rattle.serde_json.specs.Data.{Members}
@@ -53,9 +53,9 @@ asked_known catalog ms asked e = all_known catalog asked
     (machine.reads_named catalog ms (map reads_of asked) e)
 
 -- a read that stopped
-pub read_stopped : (outcome : State → Outcome) (old now : State → Type 0) (P : Type 0) (stop : Stop)
+pub read_stopped : {file : ℕ} (outcome : State → Outcome) (old now : State → Type 0) (P : Type 0) (stop : Stop)
     → ((s : State) → old s → IsFault stop) → IfErrFailed {A = Unit {0}} (Err stop) P
-    → ((s : State) → old s → now s) → Carries outcome old now (Err stop)
+    → ((s : State) → old s → now s) → Carries file outcome old now (Err stop)
 read_stopped outcome old now P (Refused r) fault failed stays = absurd failed
 read_stopped outcome old now P (Fault f) fault failed stays = unfound outcome old now f fault stays
 

@@ -1,5 +1,5 @@
 -- A batch that is refused, and one whose members are known.
-use Rattle.std.proofs.Common.{◌≡◌, sym, ap, subst, ◌∙◌, Result, Ok, Err}
+use Rattle.std.proofs.Common.{ℕ, ◌≡◌, sym, ap, subst, ◌∙◌, Result, Ok, Err}
 use Rattle.std.specs.Result.{IsErr, IsErrAnd}
 use Rattle.alt_disk.specs.Disk.{DiskState}
 use Rattle.alt_machine.specs.Outcomes.{Outcome, with_found}
@@ -29,20 +29,20 @@ module _ {A X : Type 0} (disk : DiskState) (tables : Tables) (of : X → A)
     (go : State → A → Outcome)
     (is : (s : State) → outcome s ≡ with_found (asked (descriptions s.tables)) (go s)) where
   -- a batch whose members the tables refuse changes nothing, and is answered by that refusal
-  asked_stopped : (now : State → Type 0) (stop : Stop)
+  asked_stopped : {file : ℕ} (now : State → Type 0) (stop : Stop)
       → Comes of (asked (catalog_of tables)) (Err stop)
       → ((s : State) → Stands disk tables s → now s)
-      → Carries outcome (Stands disk tables) now (Err stop)
+      → Carries file outcome (Stands disk tables) now (Err stop)
   asked_stopped now (Refused r) h stays = refused_so outcome (Stands disk tables) now r h.1
       (λ s stands. is s ∙ missed (asked (descriptions s.tables)) (go s) (refused r)
       (ap asked (sym stands.catalog) ∙ h.0)) stays
   asked_stopped now (Fault f) h stays = faulted outcome (Stands disk tables) now f h stays
 
   -- the same, where the refusal comes through a result that was passed on
-  pub asked_passed : (now : State → Type 0) (r : Result Reply Stop) (stop : Stop)
+  pub asked_passed : {file : ℕ} (now : State → Type 0) (r : Result Reply Stop) (stop : Stop)
       → IsErr r × IsErrAnd r (λ e. e ≡ stop) → Comes of (asked (catalog_of tables)) (Err stop)
-      → ((s : State) → Stands disk tables s → now s) → Carries outcome (Stands disk tables) now r
-  asked_passed now r stop same h stays = subst (Carries outcome (Stands disk tables) now)
+      → ((s : State) → Stands disk tables s → now s) → Carries file outcome (Stands disk tables) now r
+  asked_passed {file = file} now r stop same h stays = subst (Carries file outcome (Stands disk tables) now)
       (sym (err_is r stop same)) (asked_stopped now stop h stays)
 
   -- a batch whose members are known comes to what its run makes of them

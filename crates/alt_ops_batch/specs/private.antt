@@ -1,5 +1,4 @@
 -- What private contracts alone cite: nobody who believes the promises of this crate has to read it.
 pub mod Batches
-pub mod Changed
 pub mod Names
 pub mod Readings

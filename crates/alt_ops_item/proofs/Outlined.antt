@@ -1,5 +1,5 @@
 -- An outline of an item has its depth, is no larger, and has the same keys, so what refuses it refuses the item.
-use Rattle.std.proofs.Common.{◌≡◌, refl, sym, ap, subst, ◌∙◌, ℕ, ◌<◌, ◌≤◌, nat_le, Bool, true, false, ◌&&◌, List, [], ◌∷◌, length, Option, Some, None, Result, Ok, Err, arith}
+use Rattle.std.proofs.Common.{◌≡◌, refl, sym, ap, subst, ◌∙◌, ℕ, ◌<◌, ◌≤◌, nat_le, Bool, true, false, ◌&&◌, List, [], ◌∷◌, length, Option, Some, None, Ok, Err, arith}
 use Rattle.std.specs.Prelude.{unwrap_or, nat_lt, if◌then◌else◌}
 use Rattle.std.specs.List.{list_all, list_any}
 use Rattle.std.specs.Option.{option_map_or}
@@ -29,7 +29,7 @@ use Rattle.alt_schema.specs.declared.schema.TableSchema.{TableSchema}
 use Rattle.alt_shape.specs.Refusals.{Answer, refused, bad_index_key, item_too_large, nested_too_deep}
 use Rattle.alt_updeval.specs.Changes.{changed_by}
 use Rattle.alt_updeval.specs.Sketched.{IsSketch}
-use Rattle.alt_updeval.specs.StandsIn.{EachOfTwo, StandsIn, StandsInAt, StandsInIf, as_key, longest_key}
+use Rattle.alt_updeval.specs.StandsIn.{EachOfTwo, StandsInAt, StandsInIf, as_key, longest_key}
 use Rattle.alt_updeval.specs.declared.sketch.Sketch.{Sketch}
 use Rattle.alt_updeval.proofs.StandIns.{itself, pairs_alike, put_in, put_name_in}
 use Rattle.alt_value.specs.Item.{IsItem, at_name}

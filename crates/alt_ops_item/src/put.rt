@@ -90,7 +90,8 @@ pub fn put_item<D: Disk>(
     moment: u64,
 ) -> Result<Reply, Stop>
     requires ready { AreReady (D.state disk.old) tables.old }
-    ensures carried { Carries (λ s. put_item s moment (members_view body.now.entries))
+    ensures carried { Carries (bounds_of tables.old).file
+        (λ s. put_item s moment (members_view body.now.entries))
         (Stands (D.state disk.old) tables.old) (Stands (D.state disk.new) tables.new) result }
     ensures limits { bounds_of tables.new ≡ bounds_of tables.old }
     ensures moves { Moves (λ s. put_item s moment (members_view body.now.entries))
@@ -111,7 +112,8 @@ pub fn put_item_ahead<D: Disk>(
     requires ready { AreReady (D.state disk.old) tables.old }
     requires read { (ms : Members) × IsReadAhead (heeded PutItem) ms (members_view body.now.entries) item }
     ensures carried { (ms : Members) → IsReadAhead (heeded PutItem) ms (members_view body.now.entries) item
-        → Carries (λ s. put_item s moment ms)
+        → Carries (bounds_of tables.old).file
+        (λ s. put_item s moment ms)
         (Stands (D.state disk.old) tables.old) (Stands (D.state disk.new) tables.new) result }
     ensures limits { bounds_of tables.new ≡ bounds_of tables.old }
     ensures moves { (ms : Members) → IsReadAhead (heeded PutItem) ms (members_view body.now.entries) item

@@ -109,37 +109,37 @@ module _ (d : TableSchema) (x : Option IndexSchema) (ms : Members) (ask : PageAs
 -- ---- what is done
 
 -- the page is answered, or memory was wanting for it
-pub page_does : (now : State → Type 0) (s : State) (d : TableSchema) (x : Option IndexSchema)
-    (ms : Members) (ask : PageAsk)
+pub page_does : (file : ℕ) (now : State → Type 0) (s : State) (d : TableSchema)
+    (x : Option IndexSchema) (ms : Members) (ask : PageAsk)
     (list : List (List Pair)) (filling : Filling) (r : Result Reply Stop) → now s
     → HasFilled filling ask list → ask.count_only ≡ selects (codes "COUNT") ms
     → IfOk r (λ reply. AnswersPage d x ms filling (answer_of reply))
     → IfOk r (λ reply. has_float (body_json reply.body) ≡ false) → IfErr r IsMemory
-    → Does now s (says (answer_with d x ms ask list)) r
-page_does now s d x ms ask list filling (Ok reply) stands filled counts told plain cause =
-    does_say now (answer_with d x ms ask list) s (Ok reply)
+    → Does file now s (says (answer_with d x ms ask list)) r
+page_does file now s d x ms ask list filling (Ok reply) stands filled counts told plain cause =
+    does_say file now (answer_with d x ms ask list) s (Ok reply)
     (told ask list filled counts, plain) stands
-page_does now s d x ms ask list filling (Err stop) stands filled counts told plain cause =
-    subst (λ e. Does now s (says (answer_with d x ms ask list)) (Err e)) (sym cause)
-    (does_say now (answer_with d x ms ask list) s (Err (Fault NoMemory)) refl stands)
+page_does file now s d x ms ask list filling (Err stop) stands filled counts told plain cause =
+    subst (λ e. Does file now s (says (answer_with d x ms ask list)) (Err e)) (sym cause)
+    (does_say file now (answer_with d x ms ask list) s (Err (Fault NoMemory)) refl stands)
 
 -- the walk stopped before it
-pub fault_does : (now : State → Type 0) (s : State) (outcome : Outcome) (stop : Stop) → IsFault stop
-    → now s → Does now s outcome (Err stop)
-fault_does now s outcome (Refused r) h stands = absurd h
-fault_does now s outcome (Fault (Spent n)) h stands = absurd h
-fault_does now s outcome (Fault (Damaged file at)) h stands = absurd h
-fault_does now s outcome (Fault (BadRow family key)) h stands = absurd h
-fault_does now s outcome (Fault Failed) h stands = tt
-fault_does now s outcome (Fault NoMemory) h stands = tt
+pub fault_does : (file : ℕ) (now : State → Type 0) (s : State) (outcome : Outcome) (stop : Stop)
+    → IsFault stop → now s → Does file now s outcome (Err stop)
+fault_does file now s outcome (Refused r) h stands = absurd h
+fault_does file now s outcome (Fault (Spent n)) h stands = absurd h
+fault_does _ now s outcome (Fault (Damaged file at)) h stands = absurd h
+fault_does file now s outcome (Fault (BadRow family key)) h stands = absurd h
+fault_does file now s outcome (Fault Failed) h stands = tt
+fault_does file now s outcome (Fault NoMemory) h stands = tt
 
 -- and that is what is handed on
-pub does_fault : (now : State → Type 0) (s : State) (outcome : Outcome) (r : Result Reply Stop)
-    (stop : Stop) → IsErr r × IsErrAnd r (λ e. e ≡ stop) → IsFault stop → now s
-    → Does now s outcome r
-does_fault now s outcome r stop same fault stands =
-    subst (Does now s outcome) (sym (err_is r stop same))
-    (fault_does now s outcome stop fault stands)
+pub does_fault : (file : ℕ) (now : State → Type 0) (s : State) (outcome : Outcome)
+    (r : Result Reply Stop) (stop : Stop) → IsErr r × IsErrAnd r (λ e. e ≡ stop) → IsFault stop → now s
+    → Does file now s outcome r
+does_fault file now s outcome r stop same fault stands =
+    subst (Does file now s outcome) (sym (err_is r stop same))
+    (fault_does file now s outcome stop fault stands)
 
 -- what is asked of the page is what the request asks
 pub asked_is : (ms : Members) (said : Expressions) (ask : PageAsk)

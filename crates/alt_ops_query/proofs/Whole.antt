@@ -88,12 +88,12 @@ module _ (disk : DiskState) (tables : Tables) (s : State) (stands : Stands disk 
     there = index_at t.description index
 
     -- the page of the range that is asked for is that of the Query
-    pub query_page : (start : Option (List Pair))
+    pub query_page : (file : ℕ) (start : Option (List Pair))
         → IsAsked d (index_at d index) said.key_condition start (goes_forward ms) range
-        → Does now s (pages t.description there ms said
+        → Does file now s (pages t.description there ms said
         (items_between t there range.from range.to (goes_forward ms))) r
-        → Does now s (queries ms said start t index) r
-    query_page start asked does = subst (λ o. Does now s o r)
+        → Does file now s (queries ms said start t index) r
+    query_page file start asked does = subst (λ o. Does file now s o r)
         (ap (pages t.description there ms said) (list_is (goes_forward ms) asked.place
         (passes said.key_condition) range asked.holds) ∙ sym found) does
       where
@@ -110,12 +110,12 @@ module _ (disk : DiskState) (tables : Tables) (s : State) (stands : Stands disk 
             ∙ asked.starts)
 
     -- and that of a segment's range is that of the Scan
-    pub scan_page : (start : Option (List Pair))
+    pub scan_page : (file : ℕ) (start : Option (List Pair))
         → IsOfSegment d (index_at d index) (segment_of ms) start range
-        → Does now s (pages t.description there ms said
+        → Does file now s (pages t.description there ms said
         (items_between t there range.from range.to true)) r
-        → Does now s (scans ms said start t index) r
-    scan_page start asked does = subst (λ o. Does now s o r)
+        → Does file now s (scans ms said start t index) r
+    scan_page file start asked does = subst (λ o. Does file now s o r)
         (ap (pages t.description there ms said) (list_is true asked.place
         (is_in (hash_of t.description there) (segment_of ms)) range
         (subst (λ x. HoldsListed true asked.place
@@ -132,7 +132,7 @@ module _ (disk : DiskState) (tables : Tables) (s : State) (stands : Stands disk 
 
 -- ---- what stops an operation behind the steps to its list
 
-module _ (disk : DiskState) (tables : Tables) (now : State → Type 0) (ms : Members)
+module _ (file : ℕ) (disk : DiskState) (tables : Tables) (now : State → Type 0) (ms : Members)
     (target : ListTarget) (stop : Stop) (stays : (s : State) → Stands disk tables s → now s) where
   -- the index that is read, in a description
   abbrev there_in : TableSchema → Option IndexSchema
@@ -145,7 +145,7 @@ module _ (disk : DiskState) (tables : Tables) (now : State → Type 0) (ms : Mem
       (catalog_of tables) ms target
       → Asks target.schema.now (there_in target.schema.now) target.said.key_condition target.start
       (goes_forward ms) (Err stop)
-      → Carries (λ s. query s ms) (Stands disk tables) now (Err stop)
+      → Carries file (λ s. query s ms) (Stands disk tables) now (Err stop)
   query_stopped broken mismatched e f is = by stop
     where
       reached : (s : State) → Stands disk tables s → (t : Table)
@@ -161,7 +161,7 @@ module _ (disk : DiskState) (tables : Tables) (now : State → Type 0) (ms : Mem
 
       by : (q : Stop) → Asks target.schema.now (there_in target.schema.now)
           target.said.key_condition target.start (goes_forward ms) (Err q)
-          → Carries (λ s. query s ms) (Stands disk tables) now (Err q)
+          → Carries file (λ s. query s ms) (Stands disk tables) now (Err q)
       by (Refused r) h = refused_so (λ s. query s ms) (Stands disk tables) now r h.0
           (λ s stands. let (t, at, same, is) = reached s stands in is
           ∙ ap (λ x. with_found (key_asked x (there_in x) target.said.key_condition) (λ ask.
@@ -176,7 +176,7 @@ module _ (disk : DiskState) (tables : Tables) (now : State → Type 0) (ms : Mem
       (catalog_of tables) ms target
       → Segments target.schema.now (there_in target.schema.now) (segment_of ms) target.start
       (Err stop)
-      → Carries (λ s. scan s ms) (Stands disk tables) now (Err stop)
+      → Carries file (λ s. scan s ms) (Stands disk tables) now (Err stop)
   scan_stopped broken mismatched e f is = by stop
     where
       reached : (s : State) → Stands disk tables s → (t : Table)
@@ -192,7 +192,7 @@ module _ (disk : DiskState) (tables : Tables) (now : State → Type 0) (ms : Mem
           t (there_in t.description))
 
       by : (q : Stop) → Segments target.schema.now (there_in target.schema.now) (segment_of ms)
-          target.start (Err q) → Carries (λ s. scan s ms) (Stands disk tables) now (Err q)
+          target.start (Err q) → Carries file (λ s. scan s ms) (Stands disk tables) now (Err q)
       by (Refused r) h = refused_so (λ s. scan s ms) (Stands disk tables) now r h.0
           (λ s stands. let (t, at, same, is) = reached s stands in is
           ∙ ap (λ x. with_found (walk_start x (there_in x) None target.start) (go t)) same
@@ -201,7 +201,7 @@ module _ (disk : DiskState) (tables : Tables) (now : State → Type 0) (ms : Mem
 
 -- ---- what answers it
 
-module _ (disk : DiskState) (tables : Tables) (now : State → Type 0) (ms : Members)
+module _ (file : ℕ) (disk : DiskState) (tables : Tables) (now : State → Type 0) (ms : Members)
     (target : ListTarget) (range : KeyRange) (r : Result Reply Stop) (plain : IsPlain r)
     (within : IfSome target.index (λ n. n < length (indexes target.schema.now))) where
   -- a Query is carried out by the page of the range that is asked for
@@ -212,20 +212,20 @@ module _ (disk : DiskState) (tables : Tables) (now : State → Type 0) (ms : Mem
       → IsAsked target.schema.now (index_at target.schema.now target.index)
       target.said.key_condition target.start (goes_forward ms) range
       → ((s : State) (t : Table) → Stands disk tables s → map.get s.tables (table_name ms) ≡ Some t
-      → Does now s (pages t.description (index_at t.description target.index) ms target.said
+      → Does file now s (pages t.description (index_at t.description target.index) ms target.said
       (items_between t (index_at t.description target.index) range.from range.to
       (goes_forward ms))) r)
-      → Carries (λ s. query s ms) (Stands disk tables) now r
+      → Carries file (λ s. query s ms) (Stands disk tables) now r
   query_done broken mismatched e f is asked does = record {
     does = λ s stands.
         let (t, at, same, so) = list_reached disk tables
         (paired_refusals broken mismatched querying_of.rules ms) ms (λ s. query s ms) querying
         (λ s. queries ms) (query_is ms broken mismatched e f) target is s stands in
-        subst (λ o. Does now s o r) (sym so) (query_page disk tables s stands (table_name ms) t at
-        target.schema.now same target.index
+        subst (λ o. Does file now s o r) (sym so)
+        (query_page disk tables s stands (table_name ms) t at target.schema.now same target.index
         (within_of (catalog_of tables) (table_name ms) target.index target.schema.now
         is.there within)
-        ms target.said now r range target.start asked (does s t stands at));
+        ms target.said now r range file target.start asked (does s t stands at));
     plain = plain;
   }
 
@@ -237,19 +237,19 @@ module _ (disk : DiskState) (tables : Tables) (now : State → Type 0) (ms : Mem
       → IsOfSegment target.schema.now (index_at target.schema.now target.index) (segment_of ms)
       target.start range
       → ((s : State) (t : Table) → Stands disk tables s → map.get s.tables (table_name ms) ≡ Some t
-      → Does now s (pages t.description (index_at t.description target.index) ms target.said
+      → Does file now s (pages t.description (index_at t.description target.index) ms target.said
       (items_between t (index_at t.description target.index) range.from range.to true)) r)
-      → Carries (λ s. scan s ms) (Stands disk tables) now r
+      → Carries file (λ s. scan s ms) (Stands disk tables) now r
   scan_done broken mismatched e f is asked does = record {
     does = λ s stands.
         let (t, at, same, so) = list_reached disk tables
         (paired_refusals broken mismatched scanning_of.rules ms) ms (λ s. scan s ms) scanning
         (λ s. scans ms) (scan_is ms broken mismatched e f) target is s stands in
-        subst (λ o. Does now s o r) (sym so) (scan_page disk tables s stands (table_name ms) t at
-        target.schema.now same target.index
+        subst (λ o. Does file now s o r) (sym so)
+        (scan_page disk tables s stands (table_name ms) t at target.schema.now same target.index
         (within_of (catalog_of tables) (table_name ms) target.index target.schema.now
         is.there within)
-        ms target.said now r range target.start asked (does s t stands at));
+        ms target.said now r range file target.start asked (does s t stands at));
     plain = plain;
   }
 

@@ -60,7 +60,8 @@ pub(crate) fn page_of_range<D: Disk>(
     requires limit { HasLimit (members_view body.now.entries) }
     ensures does { (s : State) (t : Table) → Stands (D.state disk.old) tables.old s
         → map.get s.tables (table_name (members_view body.now.entries)) ≡ Some t
-        → Does (Stands (D.state disk.new) tables.new) s (pages t.description
+        → Does (bounds_of tables.old).file
+        (Stands (D.state disk.new) tables.new) s (pages t.description
         (index_at t.description index) (members_view body.now.entries) said
         (items_between t (index_at t.description index) range.from range.to forward)) result }
     ensures reads { (s : State) (t : Table) (maps : List RowMap)
@@ -107,7 +108,8 @@ fn page_of_ask<D: Disk>(
     requires counts { ask.count_only ≡ selects (codes "COUNT") (members_view body.now.entries) }
     ensures does { (s : State) (t : Table) → Stands (D.state disk.old) tables.old s
         → map.get s.tables (table_name (members_view body.now.entries)) ≡ Some t
-        → Does (Stands (D.state disk.new) tables.new) s (says (answer_with t.description
+        → Does (bounds_of tables.old).file
+        (Stands (D.state disk.new) tables.new) s (says (answer_with t.description
         (index_at t.description index) (members_view body.now.entries) ask
         (items_between t (index_at t.description index) range.from range.to forward))) result }
     ensures reads { (s : State) (t : Table) (maps : List RowMap)

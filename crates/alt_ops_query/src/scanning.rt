@@ -57,7 +57,8 @@ pub fn scan<D: Disk>(
     moment: u64,
 ) -> Result<Reply, Stop>
     requires ready { AreReady (D.state disk.old) tables.old }
-    ensures carried { Carries (λ s. scan s (members_view body.now.entries))
+    ensures carried { Carries (bounds_of tables.old).file
+        (λ s. scan s (members_view body.now.entries))
         (Stands (D.state disk.old) tables.old) (Stands (D.state disk.new) tables.new) result }
     ensures limits { bounds_of tables.new ≡ bounds_of tables.old }
     ensures moves { Moves (λ s. scan s (members_view body.now.entries))

@@ -1,5 +1,5 @@
 -- The refusals of a CreateTable, step by step, and what it comes to.
-use Rattle.std.proofs.Common.{◌≡◌, refl, sym, ap, subst, ◌∙◌, ℕ, zero, suc, ◌+◌, ◌<◌, ◌≤◌, take, Err, Bool, true, false, cond, not, nat_le, [], ◌∷◌, Option, Some, None, option_map, is_some, arith}
+use Rattle.std.proofs.Common.{◌≡◌, inl, inr, refl, sym, ap, subst, ◌∙◌, ℕ, ◌+◌, ◌<◌, ◌≤◌, Err, Bool, true, false, cond, not, nat_le, [], ◌∷◌, Option, Some, None, option_map, is_some, arith}
 use Rattle.std.specs.Prelude.{IsSome}
 use Rattle.std.proofs.lemmas.Bool.{le-leb}
 use Rattle.std.specs.FinMap as map
@@ -25,7 +25,7 @@ use Rattle.alt_request.specs.Steps.{Tested}
 use Rattle.alt_request.specs.declared.stop.Stop.{Stop}
 use Rattle.alt_request.specs.declared.stop.Stop.TheVariants.{Refused, Fault}
 use Rattle.alt_ops_table.specs.private.Asked.{IsToBeMade, IsAsked}
-use Rattle.alt_tables.specs.Faults.{AreMade, BreakOff}
+use Rattle.alt_tables.specs.Faults.{AreLacking, AreMade, BreakOff}
 use Rattle.alt_tables.specs.Stands.{Stands, catalog_of, number_of, family_of}
 use Rattle.alt_tables.specs.declared.tables.Tables.{Tables}
 use Rattle.alt_tables.specs.declared.faults.TableFault.{TableFault}
@@ -168,10 +168,10 @@ unfit_asked tables moment ms (Refused r) h = (h.1, λ s same. create-unfit s mom
 unfit_asked tables moment ms (Fault f) h = h
 
 -- what is asked stops the request
-pub asked_stops : (tables : Tables) (disk : DiskState) (now : State → Type 0) (moment : ℕ)
-    (ms : Members) (stop : Stop) → IsAsked tables moment ms (Err stop)
+pub asked_stops : {file : ℕ} (tables : Tables) (disk : DiskState) (now : State → Type 0)
+    (moment : ℕ) (ms : Members) (stop : Stop) → IsAsked tables moment ms (Err stop)
     → ((s : State) → Stands disk tables s → now s)
-    → Carries (λ s. create_table s moment ms) (Stands disk tables) now (Err stop)
+    → Carries file (λ s. create_table s moment ms) (Stands disk tables) now (Err stop)
 asked_stops tables disk now moment ms (Refused r) h stays =
     refused_so (λ s. create_table s moment ms) (Stands disk tables) now r h.0
     (λ s stands. h.1 s (sym stands.catalog)) stays
@@ -256,20 +256,26 @@ module _ (s t u : State) (now : State → Type 0)
       before_of None = 0
       before_of (Some lack) = lack.before
 
+  -- and so it is with a file
+  nothing_before : (file n before : ℕ) → AreLacking file a_table s (t ∷ []) n before → before ≡ 0
+  nothing_before file n before (inl lack) =
+      at_first (table_lack s.next_number s.next_family) n before lack
+  nothing_before file n before (inr last) = last.0
+
   -- where tables are alike, making one breaks off as making the other does
-  pub broken_alike : (f : TableFault) → BreakOff now a_table s (t ∷ []) f
-      → BreakOff now a_table s (u ∷ []) f
-  broken_alike (Spent n) (before, lacks, h) =
-      let first : before ≡ 0 = at_first (table_lack s.next_number s.next_family) n before lacks in (
+  pub broken_alike : (file : ℕ) (f : TableFault) → BreakOff file now a_table s (t ∷ []) f
+      → BreakOff file now a_table s (u ∷ []) f
+  broken_alike file (Spent n) (before, lacks, h) =
+      let first : before ≡ 0 = nothing_before file n before lacks in (
         before,
         lacks,
         subst (λ k. now (state_after k s (u ∷ []))) (sym first)
             (subst (λ k. now (state_after k s (t ∷ []))) first h),
       )
-  broken_alike (Damaged file at) h = absurd h
-  broken_alike (BadRow family key) h = absurd h
-  broken_alike Failed h = tt
-  broken_alike NoMemory h = tt
+  broken_alike file (Damaged number at) h = absurd h
+  broken_alike file (BadRow family key) h = absurd h
+  broken_alike file Failed h = tt
+  broken_alike file NoMemory h = tt
 
 -- What is left is the same where both states are one unless something is lacked, and then no call of the disk was made.
 pub left_alike : (before later : DiskState) (tables : Tables) (s : State) → Stands before tables s

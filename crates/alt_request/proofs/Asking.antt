@@ -72,8 +72,8 @@ module _ (w : Writer) (moment : ℕ) (ms bs : Members) (ahead : Option (List Pai
 
   module _ (disk : DiskState) (tables : Tables) where
     -- the item isn't reached
-    pub unreached : (stop : Stop) → OnItem tests sought texts (catalog_of tables) ms (Err stop)
-        → Works (λ s. writes_item w s moment ms) (Stands disk tables) (Stands disk tables) disk disk
+    pub unreached : {file : ℕ} (stop : Stop) → OnItem tests sought texts (catalog_of tables) ms (Err stop)
+        → Works file (λ s. writes_item w s moment ms) (Stands disk tables) (Stands disk tables) disk disk
         (Err stop)
     unreached stop h = record {
       carries = item_stopped disk tables tests ms (λ s. writes_item w s moment ms) sought texts go
@@ -85,9 +85,9 @@ module _ (w : Writer) (moment : ℕ) (ms bs : Members) (ahead : Option (List Pai
     -- it is
     module _ (target : Target) (at : IsAt tests sought texts (catalog_of tables) ms target) where
       -- its table refuses it
-      pub untaken : (stop : Stop)
+      pub untaken : {file : ℕ} (stop : Stop)
           → Tested {X = Unit {0}} (w.takes target.schema.now target.item) (Err stop)
-          → Works (λ s. writes_item w s moment ms) (Stands disk tables) (Stands disk tables)
+          → Works file (λ s. writes_item w s moment ms) (Stands disk tables) (Stands disk tables)
           disk disk (Err stop)
       untaken stop h = record {
         carries = untested (λ s. writes_item w s moment ms) (Stands disk tables)
@@ -116,16 +116,16 @@ module _ (w : Writer) (moment : ℕ) (ms bs : Members) (ahead : Option (List Pai
         same_name = asked.at_hand.beside.table
 
         -- what was done at its place was done for the request
-        module _ (after : DiskState) (now : State → Type 0) (r : Result Reply Stop)
-            (works : (t : Table) → Works
+        module _ {file : ℕ} (after : DiskState) (now : State → Type 0) (r : Result Reply Stop)
+            (works : (t : Table) → Works file
             (λ s. changes w s moment bs target.said target.item t target.place)
             (λ s. Stands disk tables s × (map.get s.tables (table_name bs) ≡ Some t))
             now disk after r) where
-          pub done : Works (λ s. writes_item w s moment ms) (Stands disk tables) now disk after r
+          pub done : Works file (λ s. writes_item w s moment ms) (Stands disk tables) now disk after r
           done = record {
             carries = item_done disk tables tests ms (λ s. writes_item w s moment ms) sought texts
                 go whole_is now target at r (works (new_table target.schema.now)).carries.plain
-                (λ s t stands there same. subst (λ o. Does now s o r) (sym (goes_on s t same))
+                (λ s t stands there same. subst (λ o. Does file now s o r) (sym (goes_on s t same))
                 ((works t).carries.does s
                 (stands, ap (map.get s.tables) (sym same_name) ∙ there)));
             moves = item_moved disk after tables tests ms (λ s. writes_item w s moment ms) sought

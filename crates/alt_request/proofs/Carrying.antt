@@ -35,24 +35,24 @@ use Rattle.alt_tables.specs.declared.faults.TableFault.{TableFault}
 use Rattle.alt_tables.specs.declared.faults.TableFault.TheVariants.{Spent, Damaged, BadRow, Failed, NoMemory}
 
 -- an answer without a write that may be a refusal, or want of memory for it
-pub does_say : (now : State → Type 0) (answer : Answer) (s : State) (r : Result Reply Stop)
-    → Says answer r → now s → Does now s (says answer) r
-does_say now answer s (Ok reply) h stands = record { reply = h.0; state = stands; enough = refl }
-does_say now answer s (Err (Refused q)) h stands = record {
+pub does_say : (file : ℕ) (now : State → Type 0) (answer : Answer) (s : State) (r : Result Reply Stop)
+    → Says answer r → now s → Does file now s (says answer) r
+does_say file now answer s (Ok reply) h stands = record { reply = h.0; state = stands; enough = refl }
+does_say file now answer s (Err (Refused q)) h stands = record {
   answered = record { reply = h.0; state = stands; enough = refl };
   unwritten = refl;
 }
-does_say now answer s (Err (Fault f)) h stands =
-    subst (λ g. Does now s (says answer) (Err (Fault g))) (sym h) tt
+does_say file now answer s (Err (Fault f)) h stands =
+    subst (λ g. Does file now s (says answer) (Err (Fault g))) (sym h) tt
 
 -- a fault before anything was written
-pub unread : (now : State → Type 0) (s : State) (outcome : Outcome) (f : TableFault)
-    → IsFindFault f → now s → Does now s outcome (Err (Fault f))
-unread now s outcome (Spent n) known stands = absurd known
-unread now s outcome (Damaged file at) known stands = absurd known
-unread now s outcome (BadRow family key) known stands = absurd known
-unread now s outcome Failed known stands = tt
-unread now s outcome NoMemory known stands = tt
+pub unread : (file : ℕ) (now : State → Type 0) (s : State) (outcome : Outcome) (f : TableFault)
+    → IsFindFault f → now s → Does file now s outcome (Err (Fault f))
+unread file now s outcome (Spent n) known stands = absurd known
+unread file now s outcome (Damaged number at) known stands = absurd known
+unread file now s outcome (BadRow family key) known stands = absurd known
+unread file now s outcome Failed known stands = tt
+unread file now s outcome NoMemory known stands = tt
 
 -- a reply with an answer, or want of memory for it, says that answer
 pub says_so : (a : Answer) (r : Result Reply Stop) → IfOk r (λ reply. answer_of reply ≡ a)
@@ -66,12 +66,12 @@ pub plain_so : (r : Result Reply Stop) → IfOk r (λ reply. has_float (body_jso
 plain_so (Ok reply) plain cause = plain
 plain_so (Err stop) plain cause = subst (λ e. IsPlain (Err e)) (sym cause) tt
 
-module _ (outcome : State → Outcome) (old now : State → Type 0) where
+module _ {file : ℕ} (outcome : State → Outcome) (old now : State → Type 0) where
   -- a refusal, which leaves the state
   pub refused_so : (r : Refusal) → IsKnown r → ((s : State) → old s → outcome s ≡ refuses r)
-      → ((s : State) → old s → now s) → Carries outcome old now (Err (Refused r))
+      → ((s : State) → old s → now s) → Carries file outcome old now (Err (Refused r))
   refused_so r known is stays = record {
-    does = λ s stands. subst (λ o. Does now s o (Err (Refused r))) (sym (is s stands)) (record {
+    does = λ s stands. subst (λ o. Does file now s o (Err (Refused r))) (sym (is s stands)) (record {
       answered = record { reply = refl; state = stays s stands; enough = refl };
       unwritten = refl;
     });
@@ -80,7 +80,7 @@ module _ (outcome : State → Outcome) (old now : State → Type 0) where
 
   -- want of memory before a write
   pub faulted : (f : TableFault) → IsReadFault f → ((s : State) → old s → now s)
-      → Carries outcome old now (Err (Fault f))
+      → Carries file outcome old now (Err (Fault f))
   faulted (Spent n) known stays = absurd known
   faulted (Damaged file at) known stays = absurd known
   faulted (BadRow family key) known stays = absurd known
@@ -92,7 +92,7 @@ module _ (outcome : State → Outcome) (old now : State → Type 0) where
 
   -- a read of the tables that failed, or want of memory for it
   pub unfound : (f : TableFault) → ((s : State) → old s → IsFindFault f)
-      → ((s : State) → old s → now s) → Carries outcome old now (Err (Fault f))
+      → ((s : State) → old s → now s) → Carries file outcome old now (Err (Fault f))
   unfound (Spent n) known stays = record { does = λ s stands. absurd (known s stands); plain = tt }
   unfound (Damaged file at) known stays = record {
     does = λ s stands. absurd (known s stands);
@@ -111,9 +111,9 @@ module _ (outcome : State → Outcome) (old now : State → Type 0) where
   -- an answer without a write
   pub said : (reply : Reply) → has_float (body_json reply.body) ≡ false
       → ((s : State) → old s → outcome s ≡ says (answer_of reply)) → ((s : State) → old s → now s)
-      → Carries outcome old now (Ok reply)
+      → Carries file outcome old now (Ok reply)
   said reply plain is stays = record {
-    does = λ s stands. subst (λ o. Does now s o (Ok reply)) (sym (is s stands))
+    does = λ s stands. subst (λ o. Does file now s o (Ok reply)) (sym (is s stands))
         (record { reply = refl; state = stays s stands; enough = refl });
     plain = plain;
   }
@@ -123,24 +123,24 @@ module _ (outcome : State → Outcome) (old now : State → Type 0) where
       → Tested {X = Unit {0}} tests (Err stop)
       → ((s : State) → old s → (r : Refusal) → first_answer tests ≡ Some (refused r)
       → outcome s ≡ refuses r) → ((s : State) → old s → now s)
-      → Carries outcome old now (Err stop)
+      → Carries file outcome old now (Err stop)
   untested tests (Refused r) h is stays = refused_so r h.1 (λ s stands. is s stands r h.0) stays
   untested tests (Fault f) h is stays = faulted f h stays
 
   -- want of memory before anything was written
   pub faulted_as : (stop : Stop) → IsMemory stop → ((s : State) → old s → now s)
-      → Carries outcome old now (Err stop)
-  faulted_as stop cause stays = subst (λ e. Carries outcome old now (Err e)) (sym cause)
+      → Carries file outcome old now (Err stop)
+  faulted_as stop cause stays = subst (λ e. Carries file outcome old now (Err e)) (sym cause)
       (faulted NoMemory tt stays)
 
   -- writes broke off
   pub broke_off : (f : TableFault) (wants : Wants)
       → ((s : State) → old s → (atoms : List State) × (answer : Answer)
       × (outcome s ≡ record { answer = answer; atoms = atoms; wants = wants })
-      × BreakOff now wants s atoms f) → Carries outcome old now (Err (Fault f))
+      × BreakOff file now wants s atoms f) → Carries file outcome old now (Err (Fault f))
   broke_off f wants h = record {
     does = λ s stands. let (atoms, answer, is, broke) = h s stands in
-        subst (λ o. Does now s o (Err (Fault f))) (sym is) broke;
+        subst (λ o. Does file now s o (Err (Fault f))) (sym is) broke;
     plain = tt;
   }
 
@@ -148,10 +148,10 @@ module _ (outcome : State → Outcome) (old now : State → Type 0) where
   pub wrote : (reply : Reply) → has_float (body_json reply.body) ≡ false → (wants : Wants)
       → ((s : State) → old s → (atoms : List State)
       × (outcome s ≡ record { answer = answer_of reply; atoms = atoms; wants = wants })
-      × AreMade now wants s atoms) → Carries outcome old now (Ok reply)
+      × AreMade now wants s atoms) → Carries file outcome old now (Ok reply)
   wrote reply plain wants h = record {
     does = λ s stands. let (atoms, is, made) = h s stands in
-        subst (λ o. Does now s o (Ok reply)) (sym is)
+        subst (λ o. Does file now s o (Ok reply)) (sym is)
         (record { reply = refl; state = made.state; enough = made.enough });
     plain = plain;
   }
@@ -160,11 +160,11 @@ module _ (outcome : State → Outcome) (old now : State → Type 0) where
   pub said_or_not : (r : Result Reply Stop) (a : Answer) → IfOk r (λ reply. answer_of reply ≡ a)
       → IfOk r (λ reply. has_float (body_json reply.body) ≡ false)
       → IfErr r IsMemory → ((s : State) → old s → outcome s ≡ says a)
-      → ((s : State) → old s → now s) → Carries outcome old now r
+      → ((s : State) → old s → now s) → Carries file outcome old now r
   said_or_not (Ok reply) a told plain cause is stays =
       said reply plain (λ s stands. is s stands ∙ ap says (sym told)) stays
   said_or_not (Err stop) a told plain cause is stays =
-      subst (λ e. Carries outcome old now (Err e)) (sym cause) (faulted NoMemory tt stays)
+      subst (λ e. Carries file outcome old now (Err e)) (sym cause) (faulted NoMemory tt stays)
 
 -- ---- behind a table, or an item and its place
 
@@ -173,21 +173,21 @@ module _ (disk : DiskState) (tables : Tables) (tests : List (Option Answer)) (ms
   module _ (go : State → Table → Outcome) (is : (s : State)
       → outcome s ≡ on_table tests s ms (go s)) where
     -- it isn't reached
-    pub table_stopped : (now : State → Type 0) (stop : Stop)
+    pub table_stopped : {file : ℕ} (now : State → Type 0) (stop : Stop)
         → OnTable tests (catalog_of tables) ms (Err stop)
         → ((s : State) → Stands disk tables s → now s)
-        → Carries outcome (Stands disk tables) now (Err stop)
+        → Carries file outcome (Stands disk tables) now (Err stop)
     table_stopped now (Refused r) h stays = refused_so outcome (Stands disk tables) now r h.0
         (λ s stands. is s ∙ h.1 s (go s) (sym stands.catalog)) stays
     table_stopped now (Fault f) h stays = faulted outcome (Stands disk tables) now f h stays
 
     -- as it is passed on
-    pub table_passed : (now : State → Type 0) (r : Result Reply Stop) (stop : Stop)
+    pub table_passed : {file : ℕ} (now : State → Type 0) (r : Result Reply Stop) (stop : Stop)
         → IsErr r × IsErrAnd r (λ e. e ≡ stop)
         → OnTable tests (catalog_of tables) ms (Err stop)
         → ((s : State) → Stands disk tables s → now s)
-        → Carries outcome (Stands disk tables) now r
-    table_passed now r stop same h stays = subst (Carries outcome (Stands disk tables) now)
+        → Carries file outcome (Stands disk tables) now r
+    table_passed {file = file} now r stop same h stays = subst (Carries file outcome (Stands disk tables) now)
         (sym (err_is r stop same)) (table_stopped now stop h stays)
 
     -- it is, and the operation goes on
@@ -208,20 +208,20 @@ module _ (disk : DiskState) (tables : Tables) (tests : List (Option Answer)) (ms
   module _ (sought : Sought) (texts : machine.Texts)
       (go : State → Expressions → List Pair → Table → List ℕ → Outcome)
       (is : (s : State) → outcome s ≡ on_item tests sought texts s ms (go s)) where
-    pub item_stopped : (now : State → Type 0) (stop : Stop)
+    pub item_stopped : {file : ℕ} (now : State → Type 0) (stop : Stop)
         → OnItem tests sought texts (catalog_of tables) ms (Err stop)
         → ((s : State) → Stands disk tables s → now s)
-        → Carries outcome (Stands disk tables) now (Err stop)
+        → Carries file outcome (Stands disk tables) now (Err stop)
     item_stopped now (Refused r) h stays = refused_so outcome (Stands disk tables) now r h.0
         (λ s stands. is s ∙ h.1 s (go s) (sym stands.catalog)) stays
     item_stopped now (Fault f) h stays = faulted outcome (Stands disk tables) now f h stays
 
-    pub item_passed : (now : State → Type 0) (r : Result Reply Stop) (stop : Stop)
+    pub item_passed : {file : ℕ} (now : State → Type 0) (r : Result Reply Stop) (stop : Stop)
         → IsErr r × IsErrAnd r (λ e. e ≡ stop)
         → OnItem tests sought texts (catalog_of tables) ms (Err stop)
         → ((s : State) → Stands disk tables s → now s)
-        → Carries outcome (Stands disk tables) now r
-    item_passed now r stop same h stays = subst (Carries outcome (Stands disk tables) now)
+        → Carries file outcome (Stands disk tables) now r
+    item_passed {file = file} now r stop same h stays = subst (Carries file outcome (Stands disk tables) now)
         (sym (err_is r stop same)) (item_stopped now stop h stays)
 
     pub item_reached : (target : Target) → IsAt tests sought texts (catalog_of tables) ms target
@@ -243,15 +243,15 @@ module _ (disk : DiskState) (tables : Tables) (tests : List (Option Answer)) (ms
         )
 
     -- what is done there is done for the whole request
-    pub item_done : (now : State → Type 0) (target : Target)
+    pub item_done : {file : ℕ} (now : State → Type 0) (target : Target)
         → IsAt tests sought texts (catalog_of tables) ms target
         → (r : Result Reply Stop) → IsPlain r
         → ((s : State) (t : Table) → Stands disk tables s
         → map.get s.tables (table_name ms) ≡ Some t → t.description ≡ target.schema.now
-        → Does now s (go s target.said target.item t target.place) r)
-        → Carries outcome (Stands disk tables) now r
-    item_done now target h r plain does = record {
+        → Does file now s (go s target.said target.item t target.place) r)
+        → Carries file outcome (Stands disk tables) now r
+    item_done {file = file} now target h r plain does = record {
       does = λ s stands. let at = item_reached target h s stands in
-          subst (λ o. Does now s o r) (sym at.3) (does s at.0 stands at.1 at.2);
+          subst (λ o. Does file now s o r) (sym at.3) (does s at.0 stands at.1 at.2);
       plain = plain;
     }

@@ -124,21 +124,21 @@ module _ (disk : DiskState) (tables : Tables) (tests : List (Option Answer)) (ms
     (go : State → Expressions → Option (List Pair) → Table → Option ℕ → Outcome)
     (is : (s : State) → outcome s ≡ on_list tests texts s ms (go s)) where
   -- a list that isn't reached is carried out as that says, and nothing is written
-  list_stopped : (now : State → Type 0) (stop : Stop)
+  list_stopped : {file : ℕ} (now : State → Type 0) (stop : Stop)
       → OnList tests texts (catalog_of tables) ms (Err stop)
       → ((s : State) → Stands disk tables s → now s)
-      → Carries outcome (Stands disk tables) now (Err stop)
+      → Carries file outcome (Stands disk tables) now (Err stop)
   list_stopped now (Refused r) h stays = refused_so outcome (Stands disk tables) now r h.0
       (λ s stands. is s ∙ h.1 s (go s) (sym stands.catalog)) stays
   list_stopped now (Fault f) h stays = faulted outcome (Stands disk tables) now f h stays
 
   -- it isn't reached
-  pub list_passed : (now : State → Type 0) (r : Result Reply Stop) (stop : Stop)
+  pub list_passed : {file : ℕ} (now : State → Type 0) (r : Result Reply Stop) (stop : Stop)
       → IsErr r × IsErrAnd r (λ e. e ≡ stop)
       → OnList tests texts (catalog_of tables) ms (Err stop)
       → ((s : State) → Stands disk tables s → now s)
-      → Carries outcome (Stands disk tables) now r
-  list_passed now r stop same h stays = subst (Carries outcome (Stands disk tables) now)
+      → Carries file outcome (Stands disk tables) now r
+  list_passed {file = file} now r stop same h stays = subst (Carries file outcome (Stands disk tables) now)
       (sym (err_is r stop same)) (list_stopped now stop h stays)
 
   -- it is, and the operation goes on

@@ -28,10 +28,10 @@ module _ (outcome : State → Outcome) (old now : State → Type 0) (tables : Ta
     (before read : DiskState) (stood : (s : State) → old s → Stands before tables s)
     (reads : Reads before read) where
   -- what is there couldn't be read
-  pub works_unfound : {A : Type 0} (f : TableFault) → ((s : State) → old s → IsFindFault f)
+  pub works_unfound : {A : Type 0} {file : ℕ} (f : TableFault) → ((s : State) → old s → IsFindFault f)
       → ((s : State) → old s → now s)
       → (IsErrOf {T = A} (Err f) Failed → Rose before.faults read.faults)
-      → Works outcome old now before read (Err (Fault f))
+      → Works file outcome old now before read (Err (Fault f))
   works_unfound f known stays cause = record {
     carries = unfound outcome old now f known stays;
     moves = reads_move outcome old tables before stood read (Err (Fault f)) reads
@@ -42,8 +42,8 @@ module _ (outcome : State → Outcome) (old now : State → Type 0) (tables : Ta
   module _ (moment : ℕ) (name : List ℕ) (t : Table) (place : List ℕ) (d : Decision)
       (is : (s : State) → old s → outcome s ≡ comes_to s moment name t place d) where
     -- an answer without a write
-    pub works_told : ((s : State) → old s → now s) → (reply : Reply)
-        → Decides d (Ok (Told reply)) → Works outcome old now before read (Ok reply)
+    pub works_told : {file : ℕ} → ((s : State) → old s → now s) → (reply : Reply)
+        → Decides d (Ok (Told reply)) → Works file outcome old now before read (Ok reply)
     works_told stays reply h = record {
       carries = said outcome old now reply h.1
           (λ s o. is s o ∙ ap (comes_to s moment name t place) h.0) stays;
@@ -51,8 +51,8 @@ module _ (outcome : State → Outcome) (old now : State → Type 0) (tables : Ta
     }
 
     -- a refusal, or want of memory
-    pub works_stopped : ((s : State) → old s → now s) → (stop : Stop) → Decides d (Err stop)
-        → Works outcome old now before read (Err stop)
+    pub works_stopped : {file : ℕ} → ((s : State) → old s → now s) → (stop : Stop)
+        → Decides d (Err stop) → Works file outcome old now before read (Err stop)
     works_stopped stays (Refused r) h = record {
       carries = refused_so outcome old now r h.1
           (λ s o. is s o ∙ ap (comes_to s moment name t place) h.0) stays;
@@ -78,9 +78,9 @@ module _ (outcome : State → Outcome) (old now : State → Type 0) (tables : Ta
             (left s o)
 
         -- it was written
-        pub works_wrote : ((s : State) → old s
+        pub works_wrote : {file : ℕ} → ((s : State) → old s
             → AreMade now a_number s (item_writes s moment name t place new))
-            → reply.status ≡ 200 → Works outcome old now before after (Ok reply)
+            → reply.status ≡ 200 → Works file outcome old now before after (Ok reply)
         works_wrote made well = record {
           carries = wrote outcome old now reply h.1 a_number
               (λ s o. (item_writes s moment name t place new, comes s o, made s o));
@@ -89,11 +89,11 @@ module _ (outcome : State → Outcome) (old now : State → Type 0) (tables : Ta
         }
 
         -- the write broke off
-        pub works_broke : {A : Type 0} (f : TableFault) → ((s : State) → old s
-            → BreakOff now a_number s (item_writes s moment name t place new) f)
+        pub works_broke : {A : Type 0} {file : ℕ} (f : TableFault) → ((s : State) → old s
+            → BreakOff file now a_number s (item_writes s moment name t place new) f)
             → (IsErrOf {T = A} (Err f) Failed → Rose read.faults after.faults)
             → (IsErrOf {T = A} (Err f) NoMemory → Reads read after)
-            → Works outcome old now before after (Err (Fault f))
+            → Works file outcome old now before after (Err (Fault f))
         works_broke f broke cause unwritten = record {
           carries = broke_off outcome old now f a_number (λ s o. (
             item_writes s moment name t place new,

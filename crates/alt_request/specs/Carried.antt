@@ -1,5 +1,5 @@
 -- The contract of an operation.
-use Rattle.std.specs.Prelude.{◌≡◌, false, [], None, IsTrue, Result, Ok, Err}
+use Rattle.std.specs.Prelude.{◌≡◌, ℕ, false, [], None, IsTrue, Result, Ok, Err}
 use Rattle.alt_base.specs.Counts.{Rose}
 use Rattle.alt_disk.specs.Disk.{DiskState, Goes}
 use Rattle.alt_disk.specs.Runs.{Quiet}
@@ -19,7 +19,8 @@ use Rattle.alt_tables.specs.Faults.{BreakOff, WantsMemory, told_by_tables}
 use Rattle.alt_tables.specs.declared.faults.TableFault.{TableFault}
 use Rattle.alt_tables.specs.declared.faults.TableFault.TheVariants.{NoMemory}
 
--- Below, `old` and `now` say for which states the tables stand before and after a call.
+-- Below, `old` and `now` say for which states the tables stand before and after a call, and `file` is the number of the first file that work
+-- made before it.
 
 -- The answer is that of the outcome, the tables stand for the state after its last write, and no write lacked a number or a family.
 pub record IsAnswered (now : State → Type 0) (s : State) (outcome : Outcome)
@@ -35,10 +36,10 @@ pub record IsRefused (now : State → Type 0) (s : State) (outcome : Outcome)
   pub unwritten : outcome.atoms ≡ []
 
 -- A reply and a refusal are the outcome's answer; after a fault the writes broke off.
-abbrev pub Does : (State → Type 0) → State → Outcome → Result Reply Stop → Type 0
-Does now s outcome (Ok reply) = IsAnswered now s outcome (answer_of reply)
-Does now s outcome (Err (Refused r)) = IsRefused now s outcome r
-Does now s outcome (Err (Fault fault)) = BreakOff now outcome.wants s outcome.atoms fault
+abbrev pub Does : ℕ → (State → Type 0) → State → Outcome → Result Reply Stop → Type 0
+Does file now s outcome (Ok reply) = IsAnswered now s outcome (answer_of reply)
+Does file now s outcome (Err (Refused r)) = IsRefused now s outcome r
+Does file now s outcome (Err (Fault fault)) = BreakOff file now outcome.wants s outcome.atoms fault
 
 -- No float stands in a reply, so its text is the compact one, and a refusal has a message.
 abbrev pub IsPlain : Result Reply Stop → Type 0
@@ -53,9 +54,9 @@ Says answer (Err (Refused r)) = (refused r ≡ answer) × IsKnown r
 Says answer (Err (Fault fault)) = fault ≡ NoMemory
 
 -- A call carries a request out, which has this outcome in each state for which the tables stood.
-pub record Carries (outcome : State → Outcome) (old now : State → Type 0)
+pub record Carries (file : ℕ) (outcome : State → Outcome) (old now : State → Type 0)
     (result : Result Reply Stop) : Type 0 where
-  pub does : (s : State) → old s → Does now s (outcome s) result
+  pub does : (s : State) → old s → Does file now s (outcome s) result
   pub plain : IsPlain result
 
 -- ---- the disk

@@ -73,7 +73,7 @@ pub fn read_table<R: TableRead, D: Disk>(
     disk: &mut D,
     body: &Map<String, Value>,
 ) -> Result<Reply, Stop>
-    ensures carried { Carries (λ s. on_table
+    ensures carried { Carries (bounds_of tables.old).file (λ s. on_table
         (machine.body_refusals (R.shape (members_view body.now.entries)) R.rules
         (members_view body.now.entries)) s
         (members_view body.now.entries) (λ t. says (R.answer t.description)))
@@ -134,7 +134,7 @@ pub fn read_item<R: ItemRead, D: Disk>(
     body: &Map<String, Value>,
 ) -> Result<Reply, Stop>
     requires ready { AreReady (D.state disk.old) tables.old }
-    ensures carried { Carries (λ s. on_item
+    ensures carried { Carries (bounds_of tables.old).file (λ s. on_item
         (machine.body_refusals (R.shape (members_view body.now.entries)) R.rules
         (members_view body.now.entries)) Key R.texts s
         (members_view body.now.entries) (λ said key t place. finds R.answer said t place))
@@ -177,7 +177,7 @@ fn found_reply<R: ItemRead, D: Disk>(
         (table_name (members_view body.now.entries)) ≡ true }
     ensures does { (s : State) (t : Table) → Stands (D.state disk.old) tables.old s
         → map.get s.tables (table_name (members_view body.now.entries)) ≡ Some t
-        → Does (Stands (D.state disk.new) tables.new) s (finds R.answer said.now t place) result }
+        → Does (bounds_of tables.old).file (Stands (D.state disk.new) tables.new) s (finds R.answer said.now t place) result }
     ensures plain { IsPlain result }
     ensures limits { bounds_of tables.new ≡ bounds_of tables.old }
     ensures moves { (t : Table) → Moves (λ s. finds R.answer said.now t place)

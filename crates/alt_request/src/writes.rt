@@ -102,7 +102,7 @@ pub fn write_item<W: ItemWrite, D: Disk>(
     requires asked { (ms : Members) × IsAsked W.says ms (members_view body.now.entries) ahead }
     requires stored { LeavesStored W.says }
     ensures carried { (ms : Members) → IsAsked W.says ms (members_view body.now.entries) ahead
-        → Carries (λ s. writes_item W.says s moment ms)
+        → Carries (bounds_of tables.old).file (λ s. writes_item W.says s moment ms)
         (Stands (D.state disk.old) tables.old) (Stands (D.state disk.new) tables.new) result }
     ensures limits { bounds_of tables.new ≡ bounds_of tables.old }
     ensures moves { (ms : Members) → IsAsked W.says ms (members_view body.now.entries) ahead
@@ -156,7 +156,7 @@ fn write_at<W: ItemWrite, D: Disk>(
         → (new : Option (List Pair))
         → W.says.leaves t.description said.now item (map.get t.items place) ≡ Ok new
         → IfSome new (IsStored t.description place) }
-    ensures works { (t : Table) → Works
+    ensures works { (t : Table) → Works (bounds_of tables.old).file
         (λ s. changes W.says s moment (members_view body.now.entries) said.now item t place)
         (λ s. Stands (D.state disk.old) tables.old s
         × (map.get s.tables (table_name (members_view body.now.entries)) ≡ Some t))

@@ -118,10 +118,10 @@ list-refused s ms r e = stopped (refusals s ms) _ (refused r) e
 -- ---- the request stops
 
 -- one that stops for what is asked changes nothing, and is answered so
-pub asked_stops : (tables : Tables) (disk : DiskState) (now : State → Type 0) (ms : Members)
+pub asked_stops : {file : ℕ} (tables : Tables) (disk : DiskState) (now : State → Type 0) (ms : Members)
     (stop : Stop) → IsAsked (catalog_of tables) ms (Err stop)
     → ((s : State) → Stands disk tables s → now s)
-    → Carries (λ s. list_streams s ms) (Stands disk tables) now (Err stop)
+    → Carries file (λ s. list_streams s ms) (Stands disk tables) now (Err stop)
 asked_stops tables disk now ms (Refused r) h stays =
     refused_so (λ s. list_streams s ms) (Stands disk tables) now r h.0
     (λ s stands. list-refused s ms r (h.1 s stands.valid (sym stands.catalog))) stays

@@ -99,8 +99,8 @@ module _ (catalog : Texts TableSchema) (known : List Trimmed) (ms : Members) whe
 -- ---- the request stops
 
 module _ (disk : DiskState) (tables : Tables) (ms : Members) where
-  place_stops : (stop : Stop) → OnPlace (catalog_of tables) (trimmed_of tables) ms (Err stop)
-      → Carries (λ s. get_records s ms) (Stands disk tables) (Stands disk tables) (Err stop)
+  place_stops : {file : ℕ} (stop : Stop) → OnPlace (catalog_of tables) (trimmed_of tables) ms (Err stop)
+      → Carries file (λ s. get_records s ms) (Stands disk tables) (Stands disk tables) (Err stop)
   place_stops (Refused r) h = refused_so (λ s. get_records s ms) (Stands disk tables)
       (Stands disk tables) r h.0 (λ s stands. h.1 s stands.valid (sym stands.catalog) stands.trimmed)
       (λ s stands. stands)
@@ -108,11 +108,11 @@ module _ (disk : DiskState) (tables : Tables) (ms : Members) where
       (Stands disk tables) f h (λ s stands. stands)
 
   -- where no place is reached, a GetRecords changes nothing and passes that on
-  pub place_passed : (r : Result Reply Stop) (stop : Stop) → IsErr r × IsErrAnd r (λ e. e ≡ stop)
+  pub place_passed : {file : ℕ} (r : Result Reply Stop) (stop : Stop) → IsErr r × IsErrAnd r (λ e. e ≡ stop)
       → OnPlace (catalog_of tables) (trimmed_of tables) ms (Err stop)
-      → Carries (λ s. get_records s ms) (Stands disk tables) (Stands disk tables) r
-  place_passed r stop same h = subst
-      (Carries (λ s. get_records s ms) (Stands disk tables) (Stands disk tables))
+      → Carries file (λ s. get_records s ms) (Stands disk tables) (Stands disk tables) r
+  place_passed {file = file} r stop same h = subst
+      (Carries file (λ s. get_records s ms) (Stands disk tables) (Stands disk tables))
       (sym (err_is r stop same)) (place_stops stop h)
 
   -- nor did the device fail then

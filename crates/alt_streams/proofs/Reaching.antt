@@ -35,10 +35,10 @@ module _ (disk : DiskState) (tables : Tables) (arn : List ℕ) (outcome : State 
     (go : State → Table → Outcome)
     (is : (s : State) → outcome s ≡ with_found (stream_at s arn) (go s)) where
   -- it isn't reached
-  stream_stopped : (now : State → Type 0) (stop : Stop)
+  stream_stopped : {file : ℕ} (now : State → Type 0) (stop : Stop)
       → OnStream (catalog_of tables) arn (Err stop)
       → ((s : State) → Stands disk tables s → now s)
-      → Carries outcome (Stands disk tables) now (Err stop)
+      → Carries file outcome (Stands disk tables) now (Err stop)
   stream_stopped now (Refused r) h stays = refused_so outcome (Stands disk tables) now r
       (subst IsKnown (sym h.0) tt)
       (λ s stands. is s ∙ found_none not_found (table_of_stream s arn) (go s)
@@ -47,11 +47,12 @@ module _ (disk : DiskState) (tables : Tables) (arn : List ℕ) (outcome : State 
   stream_stopped now (Fault f) h stays = faulted outcome (Stands disk tables) now f h stays
 
   -- as it is passed on
-  pub stream_passed : (now : State → Type 0) (r : Result Reply Stop) (stop : Stop)
+  pub stream_passed : {file : ℕ} (now : State → Type 0) (r : Result Reply Stop) (stop : Stop)
       → IsErr r × IsErrAnd r (λ e. e ≡ stop) → OnStream (catalog_of tables) arn (Err stop)
       → ((s : State) → Stands disk tables s → now s)
-      → Carries outcome (Stands disk tables) now r
-  stream_passed now r stop same h stays = subst (Carries outcome (Stands disk tables) now)
+      → Carries file outcome (Stands disk tables) now r
+  stream_passed {file = file} now r stop same h stays = subst
+      (Carries file outcome (Stands disk tables) now)
       (sym (err_is r stop same)) (stream_stopped now stop h stays)
 
   -- it is, and the operation goes on

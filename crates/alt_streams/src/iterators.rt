@@ -35,7 +35,7 @@ pub fn get_shard_iterator<D: Disk>(
     body: &Map<String, Value>,
     moment: u64,
 ) -> Result<Reply, Stop>
-    ensures carried { Carries (λ s. get_shard_iterator s (members_view body.now.entries))
+    ensures carried { Carries (bounds_of tables.old).file (λ s. get_shard_iterator s (members_view body.now.entries))
         (Stands (D.state disk.old) tables.old) (Stands (D.state disk.new) tables.new) result }
     ensures limits { bounds_of tables.new ≡ bounds_of tables.old }
     ensures moves { Moves (λ s. get_shard_iterator s (members_view body.now.entries))

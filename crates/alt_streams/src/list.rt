@@ -42,7 +42,7 @@ pub fn list_streams<D: Disk>(
     body: &Map<String, Value>,
     moment: u64,
 ) -> Result<Reply, Stop>
-    ensures carried { Carries (λ s. list_streams s (members_view body.now.entries))
+    ensures carried { Carries (bounds_of tables.old).file (λ s. list_streams s (members_view body.now.entries))
         (Stands (D.state disk.old) tables.old) (Stands (D.state disk.new) tables.new) result }
     ensures limits { bounds_of tables.new ≡ bounds_of tables.old }
     ensures moves { Moves (λ s. list_streams s (members_view body.now.entries))

@@ -13,7 +13,7 @@ use Rattle.alt_machine.specs.Ops.BatchGetItem as machine
 use Rattle.alt_machine.specs.Ops.BatchGetItem.{Shown, found_at, keys_object, size_at, read_of}
 use Rattle.alt_machine.specs.Ops.GetItem.{parts}
 use Rattle.alt_machine.specs.State.{State, Texts}
-use Rattle.alt_ops_batch.specs.private.Changed.{Every}
+use Rattle.alt_tables.specs.Several.{Every}
 use Rattle.alt_ops_batch.specs.declared.reading.Read.{Read}
 use Rattle.alt_ops_batch.specs.declared.reading.Taken.{Taken}
 use Rattle.alt_request.specs.Carried.{WhereFailed}

@@ -59,7 +59,7 @@ Decides d (Err (Refused r)) = (d ≡ tells (refused r)) × IsKnown r
 Decides d (Err (Fault f)) = IsReadFault f
 
 -- A call carries a request out and moves the disk, by this outcome in each state for which the tables stood.
-pub record Works (outcome : State → Outcome) (old now : State → Type 0) (before after : DiskState)
+pub record Works (file : ℕ) (outcome : State → Outcome) (old now : State → Type 0) (before after : DiskState)
     (result : Result Reply Stop) : Type 0 where
-  pub carries : Carries outcome old now result
+  pub carries : Carries file outcome old now result
   pub moves : Moves outcome old before after result

@@ -16,12 +16,12 @@ use Rattle.alt_tables.specs.Stands.{Reads, Stands}
 use Rattle.alt_dispatch.proofs.answers.carry_out.Goals as goal
 
 -- what is carried out of the operation at hand
-carried_as : (o built : Operation) → o ≡ built
+carried_as : {file : ℕ} (o built : Operation) → o ≡ built
     → (moment : ℕ) (ms : Members) (old now : State → Type 0)
-    (r : Result Reply Stop) → Carries (λ s. operates s built moment ms) old now r
-    → Carries (λ s. operates s o moment ms) old now r
-carried_as o built is moment ms old now r carried =
-    subst (λ x. Carries (λ s. operates s x moment ms) old now r) (sym is) carried
+    (r : Result Reply Stop) → Carries file (λ s. operates s built moment ms) old now r
+    → Carries file (λ s. operates s o moment ms) old now r
+carried_as {file = file} o built is moment ms old now r carried =
+    subst (λ x. Carries file (λ s. operates s x moment ms) old now r) (sym is) carried
 
 pub returns-in-CreateTable-clause-carried : goal.returns-in-CreateTable-clause-carried
 returns-in-CreateTable-clause-carried g c =

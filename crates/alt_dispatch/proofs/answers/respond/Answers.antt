@@ -4,14 +4,14 @@ use Rattle.std.proofs.lemmas.Bool.{false≢true}
 use Rattle.alt_machine.specs.declared.Operation.{Operation}
 use Rattle.alt_machine.specs.Step.{step}
 use Rattle.alt_request.specs.Carried.{Carries, Moves}
-use Rattle.alt_tables.specs.Stands.{Stands}
+use Rattle.alt_tables.specs.Stands.{Stands, bounds_of}
 use Rattle.alt_dispatch.specs.Reading.{OnlyReads, is_read}
 use Rattle.alt_tables.proofs.Left.{reads_nothing}
 use Rattle.alt_dispatch.proofs.answers.respond.Goals as goal
 
 pub returns-in-PutItem-clause-carried : goal.returns-in-PutItem-clause-carried
 returns-in-PutItem-clause-carried g c =
-    subst (λ (o : Option Operation). Carries (λ s. step s o c.args.body.now c.args.moment)
+    subst (λ (o : Option Operation). Carries (bounds_of c.args.tables.now).file (λ s. step s o c.args.body.now c.args.moment)
     (Stands (g.D.Disk.state c.args.disk.now) c.args.tables.now)
     (Stands (g.D.Disk.state c.respond_to_put.new.disk) c.respond_to_put.new.tables)
     c.respond_to_put.result)
@@ -27,7 +27,7 @@ returns-in-PutItem-clause-moves g c =
 
 pub returns-in_default-operation-clause-carried : goal.returns-in_default-operation-clause-carried
 returns-in_default-operation-clause-carried g c =
-    subst (λ (o : Option Operation). Carries (λ s. step s o c.args.body.now c.args.moment)
+    subst (λ (o : Option Operation). Carries (bounds_of c.args.tables.now).file (λ s. step s o c.args.body.now c.args.moment)
     (Stands (g.D.Disk.state c.args.disk.now) c.args.tables.now)
     (Stands (g.D.Disk.state c.respond_to.new.disk) c.respond_to.new.tables)
     c.respond_to.result) (sym c.in-Some.is) c.respond_to.ensures.carried

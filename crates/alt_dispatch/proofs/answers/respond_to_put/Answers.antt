@@ -6,7 +6,7 @@ use Rattle.alt_machine.specs.declared.Operation.TheVariants.{PutItem}
 use Rattle.alt_machine.specs.Step.{with_body}
 use Rattle.alt_request.specs.Carried.{Carries, Moves}
 use Rattle.alt_request.proofs.Moving.{moves_nothing}
-use Rattle.alt_tables.specs.Stands.{Stands}
+use Rattle.alt_tables.specs.Stands.{Stands, bounds_of}
 use Rattle.alt_dispatch.proofs.Reading.{body_of_read}
 use Rattle.alt_dispatch.proofs.answers.respond_to_put.Goals as goal
 
@@ -16,7 +16,7 @@ returns-in-Ok-Some-clause-carried g c =
     rw (c.heeded.ensures.names, c.in-Ok-Some.field-0-is) at c.in-Ok-Some.ensures.body in
     let is : body_of c.args.body.now ≡ Some ms =
     body_of_read c.args.body.now (object ms) says.0 says.1 in
-    subst (λ (b : Option Members). Carries (λ s. with_body s PutItem c.args.moment b)
+    subst (λ (b : Option Members). Carries (bounds_of c.args.tables.now).file (λ s. with_body s PutItem c.args.moment b)
     (Stands (g.D.Disk.state c.args.disk.now) c.args.tables.now)
     (Stands (g.D.Disk.state c.put_item_ahead.new.disk) c.put_item_ahead.new.tables)
     c.put_item_ahead.result) (sym is) (c.put_item_ahead.ensures.carried ms ahead)

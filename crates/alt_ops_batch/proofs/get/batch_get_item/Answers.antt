@@ -14,7 +14,7 @@ use Rattle.alt_request.proofs.Carrying.{said_or_not}
 use Rattle.alt_request.proofs.Moving.{moves_reads, moves_stopped, reply_unfailed}
 use Rattle.alt_request.proofs.Reaching.{err_is}
 use Rattle.alt_tables.proofs.Left.{reads_nothing}
-use Rattle.alt_tables.specs.Stands.{Stands, catalog_of}
+use Rattle.alt_tables.specs.Stands.{Stands, catalog_of, bounds_of}
 use Rattle.alt_ops_batch.proofs.get.batch_get_item.Goals as goal
 
 pub returns-in_err-asked-clause-carried : goal.returns-in_err-asked-clause-carried
@@ -42,7 +42,7 @@ pub returns-in_err-read-clause-carried : goal.returns-in_err-read-clause-carried
 returns-in_err-read-clause-carried g c =
     let ms : Members = members_view c.args.body.now.entries in
     let now : State → Type 0 = Stands (g.D.Disk.state c.read_all.new.disk) c.read_all.new.tables in
-    subst (Carries (λ s. batch_get_item s ms)
+    subst (Carries (bounds_of c.args.tables.now).file (λ s. batch_get_item s ms)
     (Stands (g.D.Disk.state c.args.disk.now) c.args.tables.now) now)
     (sym (err_is c.from_residual-in_err-read.result c.in_err-read.field-0.0
     c.from_residual-in_err-read.ensures))

@@ -1,5 +1,6 @@
--- One more table is read.
-use Rattle.std.proofs.Common.{List, ◌∷◌, subst}
+-- One more table is read, and at the end all are.
+use Rattle.std.proofs.Common.{List, ◌∷◌, sym, subst, arith}
+use Rattle.std.proofs.lemmas.List.{nil_from_length}
 use Rattle.std.specs.Vec.Iter.{into_iter_items}
 use Rattle.alt_disk.specs.Disk.{DiskState}
 use Rattle.alt_ops_batch.proofs.Taking.{AreRead, read_more}
@@ -32,3 +33,17 @@ loop-reads-preserved g c =
     })
     c.in_ok-read_table.ensures.bounded c.in_ok-read_table.ensures.plain
     c.in_ok-read_table.ensures.read
+
+pub returns-in_err-read_table-clause-stays : goal.returns-in_err-read_table-clause-stays
+returns-in_err-read_table-clause-stays g c s =
+    let before = c.loop-reads.invariant.kept.stays s in
+    let behind = c.in_err-read_table.ensures.stays s in
+    (λ stands. behind.0 (before.0 stands), λ stands. before.1 (behind.1 stands))
+
+pub returns-clause-read : goal.returns-clause-read
+returns-clause-read g c s stands =
+    sym ((subst (AreRead (g.D.Disk.state c.args.disk.now) c.args.tables.now
+    (g.D.Disk.state c.loop-reads.disk) c.loop-reads.tables c.args.asked.items c.loop-reads.read)
+    (nil_from_length (into_iter_items c.loop-reads.reads-iterator)
+    (omega (arith, c.loop-reads.reads-iterator.rest.ok, c.in-None.ensures.steps.0)))
+    c.loop-reads.invariant).so s stands)

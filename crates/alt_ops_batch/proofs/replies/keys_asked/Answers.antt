@@ -1,7 +1,7 @@
 -- Member by member.
 use Rattle.std.proofs.Common.{ap, ◌∙◌}
 use Rattle.serde_json.specs.Data.{array, put}
-use Rattle.serde_json.specs.View.{view, items_view, members_view}
+use Rattle.serde_json.specs.View.{items_view, members_view}
 use Rattle.serde_json.specs.Written.{has_float}
 use Rattle.serde_json.proofs.Views.{view-Array, view-Object}
 use Rattle.std.specs.Prelude.{codes}

@@ -1,27 +1,30 @@
 -- The members are refused, or they are looked up, and what they leave is written.
-use Rattle.std.proofs.Common.{sym, ap, subst, ◌∙◌, List, map, Ok, Err, Vec, Global}
+use Rattle.std.proofs.Common.{◌≡◌, sym, ap, subst, ◌∙◌, ℕ, List, map, Ok, Err, Vec, Global}
 use Rattle.serde_json.specs.Data.{Members}
 use Rattle.serde_json.specs.View.{members_view}
 use Rattle.alt_disk.specs.Disk.{DiskState}
 use Rattle.alt_machine.specs.declared.PlacedMember.{PlacedMember}
 use Rattle.alt_machine.specs.Ops.BatchWriteItem.{all_processed, batch_write_item, written_by, writes_asked, writes_of_all}
-use Rattle.alt_machine.specs.Outcomes.{Outcome, a_number, writes}
+use Rattle.alt_machine.specs.Outcomes.{Outcome, together, writes_together}
 use Rattle.alt_machine.specs.State.{State, Texts}
-use Rattle.alt_ops_batch.specs.private.Changed.{AreAllApart, Every, MayWrite, written_at}
+use Rattle.alt_tables.proofs.Standing.{file_stays}
+use Rattle.alt_tables.specs.Several.{AreAllApart, Every, MayWrite, written_at}
 use Rattle.alt_ops_batch.proofs.Asked.{asked_may_write, all_apart}
 use Rattle.alt_machine.proofs.Batches.{asked_once}
 use Rattle.alt_ops_batch.proofs.Stopping.{asked_is, asked_passed, asked_unfailed}
 use Rattle.alt_ops_batch.proofs.Writes.{write_is, go}
-use Rattle.alt_request.specs.Carried.{Carries, Moves, IfWanting}
+use Rattle.alt_ops_batch.proofs.Writing.{batch_broke, batch_wrote}
+use Rattle.alt_request.specs.Carried.{Carries, Moves}
 use Rattle.alt_request.specs.declared.stop.Stop.TheVariants.{Fault}
-use Rattle.alt_request.proofs.Carrying.{broke_off, faulted_as, unfound, wrote}
-use Rattle.alt_request.proofs.Moving.{failed_fault, memory_unfailed, moves_reads, moves_stopped, writes_move, wanting_fault, unrefused}
+use Rattle.alt_request.proofs.Carrying.{faulted_as, unfound}
+use Rattle.alt_request.proofs.Moving.{failed_fault, memory_unfailed, moves_reads, moves_stopped, read_wants, writes_move, wanting_fault, unrefused}
 use Rattle.alt_request.proofs.Reaching.{err_is}
 use Rattle.alt_schema.specs.declared.schema.TableSchema.{TableSchema}
 use Rattle.alt_shape.specs.Refusals.{Answer}
-use Rattle.alt_tables.specs.Faults.{AreMade, BreakOff, WantsMemory}
+use Rattle.alt_tables.specs.Faults.{AreAllMade, BreakOffAll}
 use Rattle.alt_tables.specs.Images.{Leaves}
-use Rattle.alt_tables.specs.Stands.{Stands, catalog_of}
+use Rattle.alt_tables.specs.Stands.{Stands, catalog_of, bounds_of}
+use Rattle.alt_tables.specs.declared.several.ItemChange.{ItemChange}
 use Rattle.alt_tables.proofs.Left.{ready_on}
 use Rattle.alt_ops_batch.proofs.write.batch_write_item.Goals as goal
 
@@ -57,7 +60,7 @@ pub returns-in_err-changes-clause-carried : goal.returns-in_err-changes-clause-c
 returns-in_err-changes-clause-carried g c =
     let ms : Members = members_view c.args.body.now.entries in
     let now : State → Type 0 = Stands (g.D.Disk.state c.find_all.new.disk) c.find_all.new.tables in
-    subst (Carries (λ s. batch_write_item s c.args.moment ms)
+    subst (Carries (bounds_of c.args.tables.now).file (λ s. batch_write_item s c.args.moment ms)
     (Stands (g.D.Disk.state c.args.disk.now) c.args.tables.now) now)
     (sym (err_is c.from_residual-in_err-changes.result (Fault c.in_err-changes.field-0.0)
     c.from_residual-in_err-changes.ensures))
@@ -80,7 +83,7 @@ pub returns-in_err-reply-clause-carried : goal.returns-in_err-reply-clause-carri
 returns-in_err-reply-clause-carried g c =
     let ms : Members = members_view c.args.body.now.entries in
     let now : State → Type 0 = Stands (g.D.Disk.state c.find_all.new.disk) c.find_all.new.tables in
-    subst (Carries (λ s. batch_write_item s c.args.moment ms)
+    subst (Carries (bounds_of c.args.tables.now).file (λ s. batch_write_item s c.args.moment ms)
     (Stands (g.D.Disk.state c.args.disk.now) c.args.tables.now) now)
     (sym (err_is c.from_residual-in_err-reply.result c.in_err-reply.field-0.0
     c.from_residual-in_err-reply.ensures))
@@ -122,44 +125,59 @@ pub returns-in_err-write_all-clause-carried : goal.returns-in_err-write_all-clau
 returns-in_err-write_all-clause-carried g c =
     let ms : Members = members_view c.args.body.now.entries in
     let now : State → Type 0 =
-    Stands (g.D.Disk.state c.write_all.new.disk) c.write_all.new.tables in
-    subst (Carries (λ s. batch_write_item s c.args.moment ms)
+    Stands (g.D.Disk.state c.write_all.new.disk) c.write_all.new.self in
+    subst (Carries (bounds_of c.args.tables.now).file (λ s. batch_write_item s c.args.moment ms)
     (Stands (g.D.Disk.state c.args.disk.now) c.args.tables.now) now)
     (sym (err_is c.from_residual-in_err-write_all.result (Fault c.in_err-write_all.field-0.0)
     c.from_residual-in_err-write_all.ensures))
-    (broke_off (λ s. batch_write_item s c.args.moment ms)
+    (batch_broke (λ s. batch_write_item s c.args.moment ms)
     (Stands (g.D.Disk.state c.args.disk.now) c.args.tables.now) now c.in_err-write_all.field-0.0
-    a_number (λ s stands. (
+    (λ s stands. (
       writes_of_all s c.args.moment (map written_by c.in_ok-members.members.items),
       all_processed,
       asked_is (g.D.Disk.state c.args.disk.now) c.args.tables.now listed
           (λ catalog. writes_asked catalog ms) (λ s. batch_write_item s c.args.moment ms)
           (go c.args.moment) (write_is c.args.moment ms) c.in_ok-members.members
           c.in_ok-members.ensures.asked s stands,
-      subst (λ ws. BreakOff now a_number s (writes_of_all s c.args.moment ws)
+      stands.valid.next_number.1,
+      subst (λ ws. BreakOffAll (bounds_of c.args.tables.now).file now s (writes_of_all s c.args.moment ws)
           c.in_err-write_all.field-0.0) c.in_ok-changes.ensures.written
-          (c.in_err-write_all.ensures.writes s ((c.in_ok-changes.ensures.stays s).0 stands)),
+          (subst (λ (n : ℕ). BreakOffAll n now s
+          (writes_of_all s c.args.moment (map written_at c.in_ok-changes.changes.items))
+          c.in_err-write_all.field-0.0)
+          (file_stays c.args.tables.now c.find_all.new.tables c.in_ok-changes.ensures.catalog.limits)
+          (c.in_err-write_all.ensures.writes s ((c.in_ok-changes.ensures.stays s).0 stands))),
     )))
 
 pub returns-clause-carried : goal.returns-clause-carried
 returns-clause-carried g c =
     let ms : Members = members_view c.args.body.now.entries in
     let now : State → Type 0 =
-    Stands (g.D.Disk.state c.write_all.new.disk) c.write_all.new.tables in
-    wrote (λ s. batch_write_item s c.args.moment ms)
+    Stands (g.D.Disk.state c.write_all.new.disk) c.write_all.new.self in
+    batch_wrote (λ s. batch_write_item s c.args.moment ms)
     (Stands (g.D.Disk.state c.args.disk.now) c.args.tables.now) now c.in_ok-reply.reply
-    c.in_ok-reply.ensures.plain a_number (λ s stands. (
+    c.in_ok-reply.ensures.plain (λ s stands. (
       writes_of_all s c.args.moment (map written_by c.in_ok-members.members.items),
       asked_is (g.D.Disk.state c.args.disk.now) c.args.tables.now listed
           (λ catalog. writes_asked catalog ms) (λ s. batch_write_item s c.args.moment ms)
           (go c.args.moment) (write_is c.args.moment ms) c.in_ok-members.members
           c.in_ok-members.ensures.asked s stands
-          ∙ ap (writes (writes_of_all s c.args.moment
+          ∙ ap (writes_together s (writes_of_all s c.args.moment
           (map written_by c.in_ok-members.members.items))) (sym c.in_ok-reply.ensures.reply),
-      subst (λ ws. AreMade now a_number s (writes_of_all s c.args.moment ws))
+      subst (λ ws. AreAllMade now s (writes_of_all s c.args.moment ws))
           c.in_ok-changes.ensures.written
           (c.in_ok-write_all.ensures.writes s ((c.in_ok-changes.ensures.stays s).0 stands)),
     ))
+
+-- what the writes leave is what the one write of the outcome leaves
+leaves_by : (read after : DiskState) (s : State) (moment : ℕ) (there : List PlacedMember)
+    (cs : List ItemChange) → map written_at cs ≡ map written_by there → (outcome : Outcome)
+    → outcome ≡ go moment s there
+    → Leaves read after s (together s (writes_of_all s moment (map written_at cs)))
+    → Leaves read after s outcome.atoms
+leaves_by read after s moment there cs written outcome is leaves =
+    subst (λ (o : Outcome). Leaves read after s o.atoms) (sym is)
+    (subst (λ ws. Leaves read after s (together s (writes_of_all s moment ws))) written leaves)
 
 pub returns-in_err-write_all-clause-moves : goal.returns-in_err-write_all-clause-moves
 returns-in_err-write_all-clause-moves g c =
@@ -172,23 +190,18 @@ returns-in_err-write_all-clause-moves g c =
     (writes_move _ _ c.args.tables.now before (λ s stands. stands) read after
     (Err (Fault c.in_err-write_all.field-0.0)) c.in_ok-changes.ensures.disk
     c.in_err-write_all.ensures.goes
-    (λ s stands. subst (λ (o : Outcome). Leaves read after s o.atoms)
-    (sym (asked_is before c.args.tables.now listed (λ catalog. writes_asked catalog ms)
+    (λ s stands. leaves_by read after s c.args.moment c.in_ok-members.members.items
+    c.in_ok-changes.changes.items c.in_ok-changes.ensures.written
+    (batch_write_item s c.args.moment ms)
+    (asked_is before c.args.tables.now listed (λ catalog. writes_asked catalog ms)
     (λ s. batch_write_item s c.args.moment ms) (go c.args.moment) (write_is c.args.moment ms)
-    c.in_ok-members.members c.in_ok-members.ensures.asked s stands))
-    (subst (λ ws. Leaves read after s (writes_of_all s c.args.moment ws))
-    c.in_ok-changes.ensures.written
-    (c.in_err-write_all.ensures.leaves s ((c.in_ok-changes.ensures.stays s).0 stands))))
+    c.in_ok-members.members c.in_ok-members.ensures.asked s stands)
+    (c.in_err-write_all.ensures.disk s ((c.in_ok-changes.ensures.stays s).0 stands)))
     tt (failed_fault c.in_err-write_all.field-0.0 _ c.in_err-write_all.ensures.cause)
-    (λ s stands. subst (λ (o : Outcome). IfWanting (Err (Fault c.in_err-write_all.field-0.0))
-    (WantsMemory after o.wants s o.atoms))
-    (sym (asked_is before c.args.tables.now listed (λ catalog. writes_asked catalog ms)
-    (λ s. batch_write_item s c.args.moment ms) (go c.args.moment) (write_is c.args.moment ms)
-    c.in_ok-members.members c.in_ok-members.ensures.asked s stands))
-    (wanting_fault c.in_err-write_all.field-0.0 _ (λ none.
-    subst (λ ws. WantsMemory after a_number s (writes_of_all s c.args.moment ws))
-    c.in_ok-changes.ensures.written
-    (c.in_err-write_all.ensures.wanting none s ((c.in_ok-changes.ensures.stays s).0 stands))))))
+    (λ s stands. wanting_fault c.in_err-write_all.field-0.0 _ (λ none.
+    read_wants read after c.find_all.new.tables s (batch_write_item s c.args.moment ms).wants
+    (batch_write_item s c.args.moment ms).atoms (c.in_err-write_all.ensures.no_memory none)
+    ((c.in_ok-changes.ensures.stays s).0 stands))))
 
 pub returns-clause-moves : goal.returns-clause-moves
 returns-clause-moves g c =
@@ -198,12 +211,12 @@ returns-clause-moves g c =
     let after : DiskState = g.D.Disk.state c.write_all.new.disk in
     writes_move _ _ c.args.tables.now before (λ s stands. stands) read after
     (Ok c.in_ok-reply.reply) c.in_ok-changes.ensures.disk c.in_ok-write_all.ensures.goes
-    (λ s stands. subst (λ (o : Outcome). Leaves read after s o.atoms)
-    (sym (asked_is before c.args.tables.now listed (λ catalog. writes_asked catalog ms)
+    (λ s stands. leaves_by read after s c.args.moment c.in_ok-members.members.items
+    c.in_ok-changes.changes.items c.in_ok-changes.ensures.written
+    (batch_write_item s c.args.moment ms)
+    (asked_is before c.args.tables.now listed (λ catalog. writes_asked catalog ms)
     (λ s. batch_write_item s c.args.moment ms) (go c.args.moment) (write_is c.args.moment ms)
-    c.in_ok-members.members c.in_ok-members.ensures.asked s stands))
-    (subst (λ ws. Leaves read after s (writes_of_all s c.args.moment ws))
-    c.in_ok-changes.ensures.written
-    (c.in_ok-write_all.ensures.leaves s ((c.in_ok-changes.ensures.stays s).0 stands))))
+    c.in_ok-members.members c.in_ok-members.ensures.asked s stands)
+    (c.in_ok-write_all.ensures.disk s ((c.in_ok-changes.ensures.stays s).0 stands)))
     (unrefused c.in_ok-reply.reply _ (ap (λ (a : Answer). a.status) c.in_ok-reply.ensures.reply)) tt
     (λ s stands. tt)

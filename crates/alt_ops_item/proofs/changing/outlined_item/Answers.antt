@@ -1,5 +1,5 @@
 -- A sketch of the changes makes an outline of the item.
-use Rattle.std.proofs.Common.{◌≡◌, sym, ap, subst, ◌∙◌, List}
+use Rattle.std.proofs.Common.{◌≡◌, sym, subst, List}
 use Rattle.alt_machine.specs.Ops.UpdateItem.{item_after}
 use Rattle.alt_ops_item.specs.private.Outlines.{IsOutline}
 use Rattle.alt_ops_item.specs.private.Updates.{with_changes}

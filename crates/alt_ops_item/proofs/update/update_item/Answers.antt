@@ -10,7 +10,7 @@ use Rattle.alt_ops_item.proofs.Updating.{update_is, update_stored}
 use Rattle.alt_request.specs.Carried.{Carries, Moves}
 use Rattle.alt_request.specs.ItemWrites.{writes_item}
 use Rattle.alt_request.proofs.Asking.{all_asked}
-use Rattle.alt_tables.specs.Stands.{Stands}
+use Rattle.alt_tables.specs.Stands.{Stands, bounds_of}
 use Rattle.alt_ops_item.proofs.update.update_item.Goals as goal
 
 -- what the write comes to in each state
@@ -31,7 +31,7 @@ write_item-requires-clause-stored g c = update_stored
 pub returns-clause-carried : goal.returns-clause-carried
 returns-clause-carried g c =
     let ms : Members = members_view c.args.body.now.entries in
-    subst (λ (o : State → Outcome). Carries o
+    subst (λ (o : State → Outcome). Carries (bounds_of c.args.tables.now).file o
     (Stands (g.D.Disk.state c.args.disk.now) c.args.tables.now)
     (Stands (g.D.Disk.state c.write_item.new.disk) c.write_item.new.tables) c.write_item.result)
     (same c.args.moment ms) (c.write_item.ensures.carried ms (all_asked updating ms))

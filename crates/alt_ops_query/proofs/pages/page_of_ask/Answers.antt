@@ -11,7 +11,7 @@ use Rattle.alt_machine.specs.Walks.{items_between}
 use Rattle.alt_machine.proofs.Descriptions.{get-descriptions}
 use Rattle.alt_ops_query.proofs.Answering.{page_does, does_fault, on_ok, told_at}
 use Rattle.alt_ops_query.specs.private.Paged.{answer_with}
-use Rattle.alt_tables.specs.Stands.{Stands, catalog_of}
+use Rattle.alt_tables.specs.Stands.{Stands, catalog_of, bounds_of}
 use Rattle.alt_value.specs.Tree.{Pair}
 use Rattle.alt_ops_query.proofs.pages.page_of_ask.Goals as goal
 
@@ -25,7 +25,8 @@ returns-clause-does g c s t stands at =
     let filled = c.in_ok-fill.ensures.filled s t c.args.ask stands
     (ap (map.get s.tables) c.table_name-name.ensures.name ∙ at)
     (record { offered = c.new.ensures.offered; last = refl }) in
-    page_does (Stands (g.D.Disk.state c.fill.new.disk) c.fill.new.tables) s t.description i ms
+    page_does (bounds_of c.args.tables.now).file
+    (Stands (g.D.Disk.state c.fill.new.disk) c.fill.new.tables) s t.description i ms
     c.args.ask list c.fill.new.filling c.answered.result then filled c.requires.counts
     (told_at (catalog_of c.fill.new.tables) (table_name ms) c.args.index ms c.fill.new.filling
     c.answered.result
@@ -38,7 +39,8 @@ pub returns-in_err-fill-clause-does : goal.returns-in_err-fill-clause-does
 returns-in_err-fill-clause-does g c s t stands at =
     let ms : Members = members_view c.args.body.now.entries in
     let i = index_at t.description c.args.index in
-    does_fault (Stands (g.D.Disk.state c.fill.new.disk) c.fill.new.tables) s
+    does_fault (bounds_of c.args.tables.now).file
+    (Stands (g.D.Disk.state c.fill.new.disk) c.fill.new.tables) s
     (says (answer_with t.description i ms c.args.ask
     (items_between t i c.args.range.from c.args.range.to c.args.forward)))
     c.from_residual.result c.in_err-fill.field-0.0 c.from_residual.ensures

@@ -10,7 +10,7 @@ use Rattle.alt_machine.specs.Walks.{items_between}
 use Rattle.alt_ops_query.proofs.Answering.{asked_is, page_asks}
 use Rattle.alt_ops_query.specs.PageReads.{most_reads}
 use Rattle.alt_request.specs.Carried.{Does}
-use Rattle.alt_tables.specs.Stands.{Stands}
+use Rattle.alt_tables.specs.Stands.{Stands, bounds_of}
 use Rattle.alt_value.specs.Tree.{Pair}
 use Rattle.alt_ops_query.proofs.pages.page_of_range.Goals as goal
 
@@ -20,7 +20,8 @@ returns-clause-does g c s t stands at =
     let i = index_at t.description c.args.index in
     let list : List (List Pair) =
     items_between t i c.args.range.from c.args.range.to c.args.forward in
-    subst (λ o. Does (Stands (g.D.Disk.state c.page_of_ask.new.disk) c.page_of_ask.new.tables) s
+    subst (λ o. Does (bounds_of c.args.tables.now).file
+    (Stands (g.D.Disk.state c.page_of_ask.new.disk) c.page_of_ask.new.tables) s
     (says o) c.page_of_ask.result)
     (page_asks t.description i ms c.args.said list c.page_ask-ask.result c.page_ask-ask.ensures.asks
     c.requires.limit) (c.page_of_ask.ensures.does s t stands at)

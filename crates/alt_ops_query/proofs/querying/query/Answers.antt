@@ -20,7 +20,7 @@ use Rattle.alt_request.proofs.Moving.{moves_stopped, moves_nothing, moves_reads}
 use Rattle.alt_request.specs.Carried.{Does}
 use Rattle.alt_tables.proofs.Left.{reads_nothing}
 use Rattle.alt_tables.specs.Reading.{HasRowFiles, family_read}
-use Rattle.alt_tables.specs.Stands.{Stands, catalog_of}
+use Rattle.alt_tables.specs.Stands.{Stands, catalog_of, bounds_of}
 use Rattle.alt_ops_query.proofs.querying.query.Goals as goal
 
 pub returns-in_err-target-clause-carried : goal.returns-in_err-target-clause-carried
@@ -61,7 +61,7 @@ page_of_range-requires-clause-index g c = within_of (catalog_of c.args.tables.no
 pub returns-in-Ok-clause-carried : goal.returns-in-Ok-clause-carried
 returns-in-Ok-clause-carried g c =
     let ms : Members = members_view c.args.body.now.entries in
-    query_done (g.D.Disk.state c.args.disk.now) c.args.tables.now
+    query_done (bounds_of c.args.tables.now).file (g.D.Disk.state c.args.disk.now) c.args.tables.now
     (Stands (g.D.Disk.state c.page_of_range.new.disk) c.page_of_range.new.tables) ms
     c.in_ok-target.target c.in-Ok.range c.page_of_range.result c.page_of_range.ensures.plain
     c.in_ok-target.ensures.index
@@ -72,7 +72,7 @@ returns-in-Ok-clause-carried g c =
     c.in_ok-target.target.said.key_condition c.in_ok-target.target.start b (Ok c.in-Ok.range))
     c.goes_forward-forward.ensures
     c.in-Ok.ensures.asks)
-    (λ s t stands at. subst (λ b. Does
+    (λ s t stands at. subst (λ b. Does (bounds_of c.args.tables.now).file
     (Stands (g.D.Disk.state c.page_of_range.new.disk) c.page_of_range.new.tables) s
     (pages t.description (index_at t.description c.in_ok-target.target.index) ms
     c.in_ok-target.target.said (items_between t (index_at t.description c.in_ok-target.target.index)
@@ -88,7 +88,7 @@ returns-in-Ok-clause-moves g c =
 pub returns-clause-carried : goal.returns-clause-carried
 returns-clause-carried g c =
     let ms : Members = members_view c.args.body.now.entries in
-    query_stopped (g.D.Disk.state c.args.disk.now) c.args.tables.now
+    query_stopped (bounds_of c.args.tables.now).file (g.D.Disk.state c.args.disk.now) c.args.tables.now
     (Stands (g.D.Disk.state c.args.disk.now) c.args.tables.now) ms
     c.in_ok-target.target c.in-Err.stop (λ s stands. stands)
     c.query-broken.result c.is_mismatched-mismatched.result c.query-broken.ensures

@@ -17,7 +17,7 @@ use Rattle.alt_ops_query.proofs.Whole.{scan_is, scan_done, scan_stopped, segment
 use Rattle.alt_request.proofs.Listing.{list_passed, list_unfailed}
 use Rattle.alt_request.proofs.Moving.{moves_stopped, moves_nothing, moves_reads}
 use Rattle.alt_tables.proofs.Left.{reads_nothing}
-use Rattle.alt_tables.specs.Stands.{Stands, catalog_of}
+use Rattle.alt_tables.specs.Stands.{Stands, catalog_of, bounds_of}
 use Rattle.alt_ops_query.proofs.scanning.scan.Goals as goal
 
 pub returns-in_err-target-clause-carried : goal.returns-in_err-target-clause-carried
@@ -63,7 +63,7 @@ returns-in-Ok-clause-carried g c =
     second_false (is_mismatched ms) (is_segment_odd ms) (sym c.are_odd-mismatched.ensures.odd
     ∙ none_mismatched c.scan-broken.result c.are_odd-mismatched.result rules ms
     c.in_ok-target.ensures.target.listed.body) in
-    scan_done (g.D.Disk.state c.args.disk.now) c.args.tables.now
+    scan_done (bounds_of c.args.tables.now).file (g.D.Disk.state c.args.disk.now) c.args.tables.now
     (Stands (g.D.Disk.state c.page_of_range.new.disk) c.page_of_range.new.tables) ms
     c.in_ok-target.target c.in-Ok.range c.page_of_range.result c.page_of_range.ensures.plain
     c.in_ok-target.ensures.index
@@ -88,7 +88,7 @@ returns-clause-carried g c =
     (sym c.are_odd-mismatched.ensures.odd
     ∙ none_mismatched c.scan-broken.result c.are_odd-mismatched.result rules ms
     c.in_ok-target.ensures.target.listed.body) in
-    scan_stopped (g.D.Disk.state c.args.disk.now) c.args.tables.now
+    scan_stopped (bounds_of c.args.tables.now).file (g.D.Disk.state c.args.disk.now) c.args.tables.now
     (Stands (g.D.Disk.state c.args.disk.now) c.args.tables.now) ms
     c.in_ok-target.target c.in-Err.stop (λ s stands. stands)
     c.scan-broken.result c.are_odd-mismatched.result c.scan-broken.ensures

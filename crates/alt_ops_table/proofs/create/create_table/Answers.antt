@@ -16,12 +16,13 @@ use Rattle.alt_schema.specs.declared.schema.TableSchema.{TableSchema}
 use Rattle.alt_shape.specs.Refusals.{Answer}
 use Rattle.alt_tables.specs.Images.{Leaves}
 use Rattle.alt_tables.proofs.Left.{reads_nothing}
-use Rattle.alt_tables.specs.Stands.{Stands}
+use Rattle.alt_tables.specs.Stands.{Stands, bounds_of}
 use Rattle.alt_ops_table.proofs.create.create_table.Goals as goal
 
 pub returns-in_err-schema-clause-carried : goal.returns-in_err-schema-clause-carried
 returns-in_err-schema-clause-carried g c =
-    subst (Carries (λ s. create_table s c.args.moment (members_view c.args.body.now.entries))
+    subst (Carries (bounds_of c.args.tables.now).file
+    (λ s. create_table s c.args.moment (members_view c.args.body.now.entries))
     (Stands (g.D.Disk.state c.args.disk.now) c.args.tables.now)
     (Stands (g.D.Disk.state c.args.disk.now) c.args.tables.now))
     (sym (err_is c.from_residual.result c.in_err-schema.field-0.0 c.from_residual.ensures))
@@ -32,7 +33,8 @@ returns-in_err-schema-clause-carried g c =
 
 pub returns-in_err-reply-clause-carried : goal.returns-in_err-reply-clause-carried
 returns-in_err-reply-clause-carried g c =
-    subst (Carries (λ s. create_table s c.args.moment (members_view c.args.body.now.entries))
+    subst (Carries (bounds_of c.args.tables.now).file
+    (λ s. create_table s c.args.moment (members_view c.args.body.now.entries))
     (Stands (g.D.Disk.state c.args.disk.now) c.args.tables.now)
     (Stands (g.D.Disk.state c.args.disk.now) c.args.tables.now))
     (sym (err_is c.from_residual-in_err-reply.result c.in_err-reply.field-0.0
@@ -58,7 +60,7 @@ pub returns-in_err-create-clause-carried : goal.returns-in_err-create-clause-car
 returns-in_err-create-clause-carried g c =
     let ms : Members = members_view c.args.body.now.entries in
     let now : State → Type 0 = Stands (g.D.Disk.state c.create.new.disk) c.create.new.self in
-    subst (Carries (λ s. create_table s c.args.moment ms)
+    subst (Carries (bounds_of c.args.tables.now).file (λ s. create_table s c.args.moment ms)
     (Stands (g.D.Disk.state c.args.disk.now) c.args.tables.now) now)
     (sym (err_is c.from_residual-in_err-create.result
     (Fault c.in_err-create.field-0.0) c.from_residual-in_err-create.ensures))
@@ -72,7 +74,8 @@ returns-in_err-create-clause-carried g c =
       created d,
       made.0,
       broken_alike s (with_table s c.in_ok-schema.schema) (with_table s d) now
-          (λ free. ap (λ (x : TableSchema). with_table s x) (made.1 free)) c.in_err-create.field-0.0
+          (λ free. ap (λ (x : TableSchema). with_table s x) (made.1 free))
+          (bounds_of c.args.tables.now).file c.in_err-create.field-0.0
           (c.in_err-create.ensures.writes s stands),
     )))
 

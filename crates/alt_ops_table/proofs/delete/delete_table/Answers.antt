@@ -20,7 +20,7 @@ use Rattle.alt_shape.specs.Refusals.{Answer}
 use Rattle.alt_tables.specs.Images.{Leaves}
 use Rattle.alt_tables.specs.Faults.{AreMade, BreakOff}
 use Rattle.alt_tables.proofs.Left.{reads_nothing}
-use Rattle.alt_tables.specs.Stands.{Stands, catalog_of}
+use Rattle.alt_tables.specs.Stands.{Stands, catalog_of, bounds_of}
 use Rattle.alt_ops_table.proofs.delete.delete_table.Goals as goal
 
 is : (ms : Members) (broken : Option Broken) → broken ≡ bodies.delete_table ms → (s : State)
@@ -45,7 +45,7 @@ pub returns-in_err-reply-clause-carried : goal.returns-in_err-reply-clause-carri
 returns-in_err-reply-clause-carried g c =
     let ms : Members = members_view c.args.body.now.entries in
     let stands : State → Type 0 = Stands (g.D.Disk.state c.args.disk.now) c.args.tables.now in
-    subst (Carries (λ s. delete_table s ms) stands stands)
+    subst (Carries (bounds_of c.args.tables.now).file (λ s. delete_table s ms) stands stands)
     (sym (err_is c.from_residual-in_err-reply.result c.in_err-reply.field-0.0
     c.from_residual-in_err-reply.ensures))
     (faulted_as (λ s. delete_table s ms) stands stands c.in_err-reply.field-0.0
@@ -56,7 +56,7 @@ returns-in_err-drop_table-clause-carried g c =
     let ms : Members = members_view c.args.body.now.entries in
     let now : State → Type 0 = Stands (g.D.Disk.state c.drop_table.new.disk) c.drop_table.new.self
     in
-    subst (Carries (λ s. delete_table s ms) (Stands
+    subst (Carries (bounds_of c.args.tables.now).file (λ s. delete_table s ms) (Stands
     (g.D.Disk.state c.args.disk.now) c.args.tables.now) now)
     (sym (err_is c.from_residual-in_err-drop_table.result
     (Fault c.in_err-drop_table.field-0.0) c.from_residual-in_err-drop_table.ensures))
@@ -70,7 +70,7 @@ returns-in_err-drop_table-clause-carried g c =
       without_table s (table_name ms) ∷ [],
       deleted at.0.description,
       at.3,
-      subst (λ (name : List ℕ). BreakOff now a_number s
+      subst (λ (name : List ℕ). BreakOff (bounds_of c.args.tables.now).file now a_number s
           (without_table s name ∷ []) c.in_err-drop_table.field-0.0) c.table_name.ensures.name
           (c.in_err-drop_table.ensures.writes s stands),
     )))

@@ -8,14 +8,14 @@ use Rattle.alt_request.specs.Carried.{Carries}
 use Rattle.alt_request.proofs.Carrying.{said, untested}
 use Rattle.alt_request.proofs.Moving.{moves_stopped, moves_nothing, tested_unfailed}
 use Rattle.alt_request.proofs.Reaching.{err_is}
-use Rattle.alt_tables.specs.Stands.{Stands, catalog_of}
+use Rattle.alt_tables.specs.Stands.{Stands, catalog_of, bounds_of}
 use Rattle.alt_ops_table.proofs.Listing.{list-refused, list-page}
 use Rattle.alt_ops_table.proofs.list.list_tables.Goals as goal
 
 pub returns-in_err-unfit-clause-carried : goal.returns-in_err-unfit-clause-carried
 returns-in_err-unfit-clause-carried g c =
     let ms : Members = members_view c.args.body.now.entries in
-    subst (Carries (λ s. list_tables s ms) (Stands
+    subst (Carries (bounds_of c.args.tables.now).file (λ s. list_tables s ms) (Stands
     (g.D.Disk.state c.args.disk.now) c.args.tables.now)
     (Stands (g.D.Disk.state c.args.disk.now) c.args.tables.now))
     (sym (err_is c.from_residual.result c.in_err-unfit.field-0.0 c.from_residual.ensures))

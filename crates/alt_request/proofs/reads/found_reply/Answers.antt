@@ -1,5 +1,5 @@
 -- The reply of what was found is made, or it wasn't read.
-use Rattle.std.proofs.Common.{◌≡◌, sym, ap, subst, ◌∙◌, List, Option, Err}
+use Rattle.std.proofs.Common.{◌≡◌, sym, ap, subst, ◌∙◌, ℕ, List, Option, Err}
 use Rattle.std.specs.FinMap as map
 use Rattle.alt_disk.specs.Disk.{DiskState}
 use Rattle.alt_machine.specs.Outcomes.{says}
@@ -11,7 +11,7 @@ use Rattle.alt_request.proofs.Carrying.{does_say, unread, says_so, plain_so}
 use Rattle.alt_request.proofs.Moving.{reads_move, reply_unfailed, failed_fault}
 use Rattle.alt_request.proofs.Reaching.{err_is}
 use Rattle.alt_shape.specs.Refusals.{Answer}
-use Rattle.alt_tables.specs.Stands.{Stands, catalog_of}
+use Rattle.alt_tables.specs.Stands.{Stands, catalog_of, bounds_of}
 use Rattle.alt_value.specs.Tree.{Pair}
 use Rattle.alt_request.proofs.reads.found_reply.Goals as goal
 
@@ -24,10 +24,11 @@ find-requires g c = record {
 
 pub returns-in_err-found-clause-does : goal.returns-in_err-found-clause-does
 returns-in_err-found-clause-does g c s t stands there =
+    let file : ℕ = (bounds_of c.args.tables.now).file in
     let now : State → Type 0 = Stands (g.D.Disk.state c.find.new.disk) c.find.new.self in
-    subst (Does now s (finds g.R.ItemRead.answer c.args.said.now t c.args.place))
+    subst (Does file now s (finds g.R.ItemRead.answer c.args.said.now t c.args.place))
     (sym (err_is c.from_residual.result (Fault c.in_err-found.field-0.0) c.from_residual.ensures))
-    (unread now s (finds g.R.ItemRead.answer c.args.said.now t c.args.place) c.in_err-found.field-0.0
+    (unread file now s (finds g.R.ItemRead.answer c.args.said.now t c.args.place) c.in_err-found.field-0.0
     (c.in_err-found.ensures.fault s stands) ((c.in_err-found.ensures.stays s).0 stands))
 
 pub returns-in_err-found-clause-plain : goal.returns-in_err-found-clause-plain
@@ -37,14 +38,15 @@ returns-in_err-found-clause-plain g c = subst IsPlain
 
 pub returns-clause-does : goal.returns-clause-does
 returns-clause-does g c s t stands there =
+    let file : ℕ = (bounds_of c.args.tables.now).file in
     let now : State → Type 0 = Stands (g.D.Disk.state c.find.new.disk) c.find.new.self in
     let answer : Option (List Pair) → Answer = g.R.ItemRead.answer c.args.said.now in
     let at : c.in_ok-found.found.item ≡ map.get t.items c.args.place =
     c.in_ok-found.ensures.item s stands t
     (ap (map.get s.tables) c.table_name.ensures.name ∙ there)
     ∙ ap (map.get t.items) c.in_ok-found.ensures.place in
-    subst (λ o. Does now s (says (answer o)) c.reply.result) at
-    (does_say now (answer c.in_ok-found.found.item) s c.reply.result
+    subst (λ o. Does file now s (says (answer o)) c.reply.result) at
+    (does_say file now (answer c.in_ok-found.found.item) s c.reply.result
     (says_so (answer c.in_ok-found.found.item) c.reply.result c.reply.ensures.reply
     c.reply.ensures.plain c.reply.ensures.cause)
     ((c.in_ok-found.ensures.stays s).0 stands))

@@ -6,8 +6,10 @@ use Rattle.serde_json.specs.Data.{Members}
 use Rattle.serde_json.specs.View.{members_view}
 use Rattle.alt_disk.specs.Disk.{DiskState}
 use Rattle.alt_machine.specs.Members.{table_name}
+use Rattle.alt_machine.specs.Outcomes.{a_number}
 use Rattle.alt_machine.specs.State.{State}
 use Rattle.alt_machine.specs.Valid.{IsStored}
+use Rattle.alt_machine.specs.Writes.{item_writes}
 use Rattle.alt_request.specs.private.Decided.{decision, Decides}
 use Rattle.alt_request.specs.ItemWrites.{Writer, changes}
 use Rattle.alt_request.specs.declared.deciding.Decided.TheVariants.{Left}
@@ -17,6 +19,8 @@ use Rattle.alt_request.proofs.Working.{works_unfound, works_told, works_stopped,
 use Rattle.alt_schema.specs.declared.schema.TableSchema.{TableSchema}
 use Rattle.alt_shape.specs.Refusals.{answer_of}
 use Rattle.alt_tables.proofs.Left.{ready_on}
+use Rattle.alt_tables.proofs.Standing.{file_stays}
+use Rattle.alt_tables.specs.Faults.{BreakOff}
 use Rattle.alt_tables.specs.Stands.{Stands, catalog_of}
 use Rattle.alt_value.specs.Tree.{Pair}
 use Rattle.alt_request.proofs.writes.write_at.Goals as goal
@@ -153,7 +157,10 @@ returns-in-Err-write g c = record {
       c.in-Err-write.ensures.goes
       (λ s h. c.in-Err-write.ensures.disk s t ((c.in-Ok.ensures.stays s).0 h.0) (there s h))
       c.in-Err-write.fault
-      (λ s h. c.in-Err-write.ensures.writes s t ((c.in-Ok.ensures.stays s).0 h.0) (there s h))
+      (λ s h. subst (λ (n : ℕ). BreakOff n (Stands after c.write.new.self) a_number s
+      (item_writes s c.args.moment name t c.in-Ok.found.place c.in-Ok-Left.new) c.in-Err-write.fault)
+      (file_stays c.args.tables.now c.find.new.self c.in-Ok.ensures.catalog.limits)
+      (c.in-Err-write.ensures.writes s t ((c.in-Ok.ensures.stays s).0 h.0) (there s h)))
       c.in-Err-write.ensures.cause c.in-Err-write.ensures.no_memory;
   limits = c.in-Err-write.ensures.limits ∙ c.in-Ok.ensures.catalog.limits;
 }

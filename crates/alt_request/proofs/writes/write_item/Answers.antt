@@ -3,7 +3,7 @@ use Rattle.serde_json.specs.View.{members_view}
 use Rattle.alt_request.specs.Steps.{rules_of}
 use Rattle.alt_request.specs.Words.{texts_of}
 use Rattle.alt_request.proofs.Asking.{at_hand_so, unreached, untaken, done, may_be_stored}
-use Rattle.alt_tables.specs.Stands.{Stands}
+use Rattle.alt_tables.specs.Stands.{Stands, bounds_of}
 use Rattle.alt_request.proofs.writes.write_item.Goals as goal
 
 pub returns-in-Err-clause-carried : goal.returns-in-Err-clause-carried
@@ -24,7 +24,8 @@ returns-in-Err-clause-moves g c ms asked =
     c.args.ahead asked c.broken-broken.result c.broken-broken.ensures
     (rules_of c.rules-rules.result.now) c.rules-rules.ensures c.sought-sought.result
     c.sought-sought.ensures (texts_of c.texts-texts.result) c.texts-texts.ensures
-    (g.D.Disk.state c.args.disk.now) c.args.tables.now c.in-Err.stop
+    (g.D.Disk.state c.args.disk.now) c.args.tables.now
+    {file = (bounds_of c.args.tables.now).file} c.in-Err.stop
     (c.in-Err.ensures.target ms (at_hand_so g.W.ItemWrite.says c.args.moment ms (members_view c.args.body.now.entries)
     c.args.ahead asked c.broken-broken.result c.broken-broken.ensures
     (rules_of c.rules-rules.result.now) c.rules-rules.ensures c.sought-sought.result
@@ -54,7 +55,8 @@ returns-in-Err-refusal-clause-moves g c ms asked =
     c.args.ahead asked c.broken-broken.result c.broken-broken.ensures
     (rules_of c.rules-rules.result.now) c.rules-rules.ensures c.sought-sought.result
     c.sought-sought.ensures (texts_of c.texts-texts.result) c.texts-texts.ensures))
-    c.in-Err-refusal.stop c.in-Err-refusal.ensures.tested).moves
+    {file = (bounds_of c.args.tables.now).file} c.in-Err-refusal.stop
+    c.in-Err-refusal.ensures.tested).moves
 
 pub write_at-written-requires-clause-stored : goal.write_at-written-requires-clause-stored
 write_at-written-requires-clause-stored g c =

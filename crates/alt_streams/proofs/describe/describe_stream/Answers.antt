@@ -13,13 +13,13 @@ use Rattle.alt_schema.specs.declared.schema.TableSchema.{TableSchema}
 use Rattle.alt_streams.proofs.Describing.{describe-refused, describe-on}
 use Rattle.alt_streams.proofs.Reaching.{stream_passed, stream_reached, stream_unfailed}
 use Rattle.alt_streams.proofs.describe.describe_stream.Goals as goal
-use Rattle.alt_tables.specs.Stands.{Stands}
+use Rattle.alt_tables.specs.Stands.{Stands, bounds_of}
 
 pub returns-in_err-unfit-clause-carried : goal.returns-in_err-unfit-clause-carried
 returns-in_err-unfit-clause-carried g c =
     let ms : Members = members_view c.args.body.now.entries in
     let stands : State → Type 0 = Stands (g.D.Disk.state c.args.disk.now) c.args.tables.now in
-    subst (Carries (λ s. describe_stream s ms) stands stands)
+    subst (Carries (bounds_of c.args.tables.now).file (λ s. describe_stream s ms) stands stands)
     (sym (err_is c.from_residual.result c.in_err-unfit.field-0.0 c.from_residual.ensures))
     (untested (λ s. describe_stream s ms) stands stands
     (of_body ms) c.in_err-unfit.field-0.0 c.in_err-unfit.ensures.tested

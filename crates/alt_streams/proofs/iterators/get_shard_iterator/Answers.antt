@@ -13,13 +13,13 @@ use Rattle.alt_streams.proofs.Iterating.{ends, iterator-refused, iterator-on, it
 use Rattle.alt_streams.proofs.Reaching.{stream_passed, stream_unfailed}
 use Rattle.alt_streams.proofs.iterators.get_shard_iterator.Goals as goal
 use Rattle.alt_shape.specs.Refusals.{trimmed}
-use Rattle.alt_tables.specs.Stands.{Stands}
+use Rattle.alt_tables.specs.Stands.{Stands, bounds_of}
 
 pub returns-in_err-unfit-clause-carried : goal.returns-in_err-unfit-clause-carried
 returns-in_err-unfit-clause-carried g c =
     let ms : Members = members_view c.args.body.now.entries in
     let stands : State → Type 0 = Stands (g.D.Disk.state c.args.disk.now) c.args.tables.now in
-    subst (Carries (λ s. get_shard_iterator s ms) stands stands)
+    subst (Carries (bounds_of c.args.tables.now).file (λ s. get_shard_iterator s ms) stands stands)
     (sym (err_is c.from_residual.result c.in_err-unfit.field-0.0 c.from_residual.ensures))
     (untested (λ s. get_shard_iterator s ms) stands stands
     (of_body ms) c.in_err-unfit.field-0.0 c.in_err-unfit.ensures.tested

@@ -11,13 +11,13 @@ use Rattle.alt_request.proofs.Moving.{moves_stopped, moves_nothing}
 use Rattle.alt_request.proofs.Reaching.{err_is}
 use Rattle.alt_streams.proofs.Answering.{are_named, asked_stops, asked_unfailed, list-page}
 use Rattle.alt_streams.proofs.list.list_streams.Goals as goal
-use Rattle.alt_tables.specs.Stands.{Stands, catalog_of}
+use Rattle.alt_tables.specs.Stands.{Stands, catalog_of, bounds_of}
 
 pub returns-in_err-start-clause-carried : goal.returns-in_err-start-clause-carried
 returns-in_err-start-clause-carried g c =
     let ms : Members = members_view c.args.body.now.entries in
     let stands : State → Type 0 = Stands (g.D.Disk.state c.args.disk.now) c.args.tables.now in
-    subst (Carries (λ s. list_streams s ms) stands stands)
+    subst (Carries (bounds_of c.args.tables.now).file (λ s. list_streams s ms) stands stands)
     (sym (err_is c.from_residual.result c.in_err-start.field-0.0 c.from_residual.ensures))
     (asked_stops c.args.tables.now (g.D.Disk.state c.args.disk.now) stands ms
     c.in_err-start.field-0.0 c.in_err-start.ensures.asked (λ s h. h))

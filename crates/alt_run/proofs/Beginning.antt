@@ -1,11 +1,11 @@
 -- A request up to its reply: its moment was asked for, and it was carried out.
-use Rattle.std.proofs.Common.{ℕ, List, [], ◌∷◌, refl, sym, ap, subst, arith}
+use Rattle.std.proofs.Common.{inl, ℕ, List, [], ◌∷◌, refl, sym, ap, subst, arith}
 use Rattle.alt_disk.specs.Disk.{DiskState, Goes}
 use Rattle.alt_disk.proofs.Runs.{trusted_on}
 use Rattle.alt_machine.specs.State.{State}
 use Rattle.alt_shell.specs.Calls.{Aside}
 use Rattle.alt_shell.specs.Log.{Log, Grows, Tells, moments_of}
-use Rattle.alt_talks.specs.Stops.{IsAmong, AtEach}
+use Rattle.alt_talks.specs.Stops.{IsUncut, AtEach}
 use Rattle.alt_shell.proofs.Telling.{Grows-nil, Tells-nil}
 use Rattle.alt_tables.specs.Stands.{Stands}
 use Rattle.alt_tables.specs.declared.tables.Tables.{Tables}
@@ -21,7 +21,7 @@ pub begins : (old mid new : DiskState) (s : State) (name body : List ℕ) (m : �
     → Aside old mid → Grows old.beside mid.beside []
     → Tells (moments_of old.beside) (moments_of mid.beside) (m ∷ [])
     → Goes mid new
-    → AtEach mid new (λ _ image. IsAmong image s (carried_out s name body m).atoms)
+    → AtEach mid new (λ _ image. IsUncut image s (carried_out s name body m).atoms)
     → Begins old new s (request name body) (carried_out s name body m) (m ∷ [])
 begins old mid new s name body m aside silent told goes leaves = record {
   one = refl;
@@ -32,7 +32,7 @@ begins old mid new s name body m aside silent told goes leaves = record {
   later = let k = aside.keeps.later in omega (arith, k, goes.later);
   trusts = λ trusted. trusted_on mid new goes (trusts-kept old mid aside.keeps trusted);
   leaves = leaves-behind-aside old mid new
-      (λ _ image. IsAmong image s (carried_out s name body m).atoms) aside leaves;
+      (λ _ image. IsUncut image s (carried_out s name body m).atoms) aside leaves;
 }
 
 -- a line that is turned away asks for no moment and writes nothing
@@ -45,9 +45,9 @@ begins_away old tables s stands = record {
   told = Tells-nil (moments_of old.beside) (moments_of old.beside) refl;
   later = omega arith;
   trusts = λ trusted. trusted;
-  leaves = leaves-here old (λ _ image. IsAmong image s [])
+  leaves = leaves-here old (λ _ image. IsUncut image s [])
       (λ trusted t image is_image.
-      (0, stands_left old tables s stands image is_image));
+      inl (stands_left old tables s stands image is_image));
 }
 
 -- what a word of control asks for was done, and the state stayed
@@ -62,6 +62,6 @@ begins_control old mid word s works = record {
       (ap moments_of works.goes.beside);
   later = works.goes.later;
   trusts = trusted_on old mid works.goes;
-  leaves = leaves-weaker old mid (λ _ image. StandsFor image s) (λ _ image. IsAmong image s [])
-      (λ t image stands. (0, stands)) works.leaves;
+  leaves = leaves-weaker old mid (λ _ image. StandsFor image s) (λ _ image. IsUncut image s [])
+      (λ t image stands. inl stands) works.leaves;
 }

@@ -1,31 +1,27 @@
 -- What a stop leaves of a run, whatever it was to do and however it ended, and of runs one after another.
-use Rattle.std.proofs.Common.{◌≡◌, ◌≤◌, ◌<◌, ◌⊎◌, inl, inr, ⊎_elim, ℕ, List, [], ◌∷◌, ◌++◌, IsTrue, Bool, false, refl, sym, subst, ◌∙◌, arith, append-nil, Option, None}
-use Rattle.std.specs.Prelude.{⊤, suc}
+use Rattle.std.proofs.Common.{◌≤◌, ◌<◌, ◌⊎◌, inl, inr, ⊎_elim, ℕ, List, [], ◌∷◌, ◌++◌, refl, sym, subst, ◌∙◌, arith, append-nil, Option, None}
+use Rattle.std.specs.Prelude.{suc}
 use Rattle.std.proofs.lemmas.Grind.{flat_map-append}
 use Rattle.alt_disk.specs.Fates.{Fates, Fits}
 use Rattle.alt_disk.specs.Disk.{DiskState, IsImage, IsTrusted}
 use Rattle.alt_disk.proofs.Runs.{tells_of}
 use Rattle.alt_machine.specs.State.{State}
-use Rattle.alt_opening.specs.Recovery.{WasLeft}
 use Rattle.alt_shell.specs.Log.{Log, Grows, Tells, moments_of, entry, accepted}
 use Rattle.alt_shell.proofs.Telling.{Grows-then}
-use Rattle.alt_tables.specs.Images.{StandsFor}
-use Rattle.alt_talks.specs.Connections.{Connection, entries_of, told_of}
+use Rattle.alt_talks.specs.Connections.{Connection, entries_of}
 use Rattle.alt_talks.specs.Own.{last_told}
-use Rattle.alt_talks.specs.Runs.{Stretch}
 use Rattle.alt_talks.specs.Stops.{Image, AtEach, AreWithin}
 use Rattle.alt_talks.specs.TalkRules.{rules}
-use Rattle.alt_talks.specs.TalkStops.{LeftAmong, ServedOn, ServedSomeOn, LeavesNow}
+use Rattle.alt_talks.specs.TalkStops.{LeftAmong}
 use Rattle.alt_talks.specs.Talks.{Rules}
 use Rattle.alt_talks.proofs.Stopping.{leaves-weaker, until-before}
 use Rattle.alt_talks.specs.declared.fault.RunFault.{RunFault}
 use Rattle.alt_talks.specs.declared.fault.RunFault.TheVariants as why
 use Rattle.alt_run.proofs.EndingLaws.{honest_of}
-use Rattle.alt_run.specs.Chains.{Step, IsStep, behind, IsChain, LeftOf, LeftEarly, LeftLater, MayLeave, Holds}
+use Rattle.alt_run.specs.Chains.{Step, behind, IsChain, LeftOf, LeftEarly, LeftLater, Holds}
 use Rattle.alt_run.specs.Endings.{BrokenFrom, HasRun, Done, Broken, BreaksOff, WasDamaged, IsReadable}
-use Rattle.alt_run.specs.Runs.{Answers, AnswersSome, LeftThen, IsOpening, Opened}
-use Rattle.alt_run.specs.Trials.{Tries, TriesSome, LeftOfTrial, as_turn}
-use Rattle.alt_run.specs.Wholes.{IsWhole, IsFoundBehind}
+use Rattle.alt_run.specs.Runs.{IsOpening, Opened}
+use Rattle.alt_run.specs.Wholes.{IsWhole}
 use Rattle.alt_run.specs.declared.ending.Ending.{Ending}
 use Rattle.alt_run.specs.declared.ending.Ending.TheVariants.{Whole, Words, NotEmpty, Damaged, DigestDiffers, BadRow, Device, Memory, Spent}
 use Rattle.alt_run.specs.declared.words.Job.{Job}
@@ -36,17 +32,17 @@ use Rattle.alt_run.specs.declared.words.Job.TheVariants.{Replay, Serve, Trial}
 among_stands : (r : Rules) (per n : ℕ) (m : Option ℕ) (ks : List Connection) (s : State) (t : ℕ)
     (image : Image) → LeftAmong r per n m s ks t image → IsReadable image
 among_stands r per n m [] s t image left = (s, left)
-among_stands r per n m (k ∷ ks) s t image (inl x) = (_, x.0.stands)
+among_stands r per n m (k ∷ ks) s t image (inl x) = (_, x.0.behind.stands)
 among_stands r per n m (k ∷ ks) s t image (inr (inl x)) = (_, x.2.1)
 among_stands r per n m (k ∷ ks) s t image (inr (inr x)) =
     among_stands r per (suc n) (last_told m k.told) ks _ t image x.1
 
 left_stands : (job : Job) (s : State) (t : ℕ) (es : Log) (ms : List ℕ) (image : Image)
     → LeftOf job s t es ms image → IsReadable image
-left_stands Replay s t es ms image left = (_, left.stands)
+left_stands Replay s t es ms image left = (_, left.behind.stands)
 left_stands (Serve per count) s t es ms image left =
     among_stands rules per 1 None left.0 s t image left.4
-left_stands (Trial seed count) s t es ms image left = (_, left.stands)
+left_stands (Trial seed count) s t es ms image left = (_, left.behind.stands)
 
 -- ---- what a job leaves behind an opening, done or broken off
 

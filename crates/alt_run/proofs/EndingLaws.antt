@@ -15,7 +15,7 @@ use Rattle.alt_talks.specs.Stretches.{DoesSome}
 use Rattle.alt_talks.specs.TalkRules.{rules}
 use Rattle.alt_talks.specs.TalkStops.{LeftAmong, ServedOn, ServedSomeOn, LeavesNow}
 use Rattle.alt_talks.specs.Talks.{Rules, Turn}
-use Rattle.alt_run.specs.Trials.{Tries, TriesSome, LeftOfTrial, as_turn}
+use Rattle.alt_run.specs.Trials.{Tries, TriesSome, LeftOfTrial, all_turns}
 use Rattle.alt_opening.specs.Recovery.{WasLeft}
 use Rattle.alt_talks.specs.declared.fault.RunFault.{RunFault}
 use Rattle.alt_talks.specs.declared.fault.RunFault.TheVariants as why
@@ -30,7 +30,6 @@ use Rattle.alt_run.proofs.Initing.{quiet_behind}
 use Rattle.alt_talks.proofs.Stopping.{leaves-before-aside}
 use Rattle.alt_talks.specs.Turns.{after}
 use Rattle.alt_run.specs.Turns.{turns, asks}
-use Rattle.alt_machine.specs.Outcomes.{last_state}
 
 -- ---- what was done, whatever the cause was
 
@@ -246,8 +245,8 @@ module _ (b c : DiskState) (g : Grows b.beside c.beside [])
     rests = x.rests;
     unasked = x.unasked;
     enough = x.enough;
-    leaves = leaves-before-aside a b c (LeftOfTrial s (as_turn s seed count) es) aside x.leaves;
-    last = last_behind (last_state s (as_turn s seed count).atoms) x.last;
+    leaves = leaves-before-aside a b c (LeftOfTrial s seed count es) aside x.leaves;
+    last = last_behind (after s (all_turns s seed count)) x.last;
   }
 
   tries_some_behind : (a : DiskState) (fault : RunFault) (next : ℕ) (s : State) (seed count : ℕ)
@@ -261,7 +260,7 @@ module _ (b c : DiskState) (g : Grows b.beside c.beside [])
     rest = x.rest;
     lines = x.lines;
     wants = x.wants;
-    leaves = leaves-before-aside a b c (LeftOfTrial s (as_turn s seed count) es) aside x.leaves;
+    leaves = leaves-before-aside a b c (LeftOfTrial s seed count es) aside x.leaves;
   }
 
   makes_behind : (a : DiskState) (es : Log) (ms : List ℕ) → Makes a b es ms → Makes a c es ms

@@ -13,7 +13,7 @@ use Rattle.alt_opening.specs.Faults.{told_by_opening}
 use Rattle.alt_talks.specs.Faults.{IsCausedBy, IsFileFault, told_by_run}
 use Rattle.alt_run.specs.Faults.{IsUnreadable}
 use Rattle.alt_talks.specs.declared.fault.RunFault.{RunFault}
-use Rattle.alt_talks.specs.declared.fault.RunFault.TheVariants.{Failed, NoMemory, Spent, Damaged, DigestDiffers, BadRow}
+use Rattle.alt_talks.specs.declared.fault.RunFault.TheVariants.{Spent}
 use Rattle.alt_run.specs.Endings.{HasRun, Done, Broken, BrokenFrom, BreaksOff, WasDamaged, IsReadable}
 use Rattle.alt_run.specs.declared.ending.Ending.TheVariants as ending
 use Rattle.alt_run.specs.Runs.{IsOpening, Opened}

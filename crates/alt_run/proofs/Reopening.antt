@@ -50,27 +50,30 @@ there_below file most f fresh there = ⊎_elim (λ (low : f < most). low)
     lt_or_ge : (a b : ℕ) → (a < b) ⊎ (b ≤ a)
     lt_or_ge a b = grind arith
 
--- the next file that an opening of these files has is none behind this one, where none is there from this one on
+-- the next file that an opening of these files has is none behind this one, where none is there from this one on; a segment that the first write
+-- makes comes before the first file of work
 version_again : (a : DiskState) (m : Manifest) (most n : ℕ) → Reads a m
     → file_of m ≡ versions_file → (version_of m).next_file ≤ most
-    → ((f : ℕ) → most ≤ f → a.file f ≡ None) → IsFirstGiven a.file n → n ≤ most
+    → ((f : ℕ) → most ≤ f → a.file f ≡ None) → IsFirstGiven a.file n → n ≤ most + 1
 version_again a m most n reads first low fresh given =
     let found = given (version_of m)
     (subst (λ (f : ℕ). HasVersion (version_of m) (a.file f)) first (has_version a m reads)) in
-    subst (λ (k : ℕ). k ≤ most) (sym found.is)
-    (next_past-most (version_of m).next_file found.names most low
-    (λ f listed. there_below a.file most f fresh (sym listed ∙ found.named.exact f)))
+    let next : found.next ≤ most = subst (λ (k : ℕ). k ≤ most) (sym found.is.is)
+    (next_past-most (version_of m).next_file found.is.names most low
+    (λ f listed. there_below a.file most f fresh (sym listed ∙ found.is.named.exact f))) in
+    let near = found.most in omega (arith, next, near)
 
 -- so it is where the tables stand
 pub files_again : (a : DiskState) (t : Tables) (s : State) → Stands a t s → (n : ℕ)
-    → IsFirstGiven a.file n → n ≤ (bounds_of t).file
+    → IsFirstGiven a.file n → n ≤ (bounds_of t).file + 1
 files_again a t s stands n given =
     let reads = stands.rows.is.hand.reads in
-    version_again a _ _ n reads.versions reads.first reads.free reads.fresh given
+    let again = version_again a t.engine.hand.manifest t.engine.hand.next_file n reads.versions
+    reads.first reads.free reads.fresh given in omega (arith, again)
 
--- an opening takes no number, and a task may take some
+-- an opening takes none but that of the first write, and a task may take some
 pub fewer_files : {T E : Type 0} (result : Result T E) (new old : ℕ) (P : State → Type 0)
-    → ((s : State) → P s → OnOk result (new ≤ old))
+    → ((s : State) → P s → OnOk result (new ≤ old + 1))
     → (s : State) → P s → OnOk result (new ≤ old + most_files)
 fewer_files (Ok x) new old P law s p = let le = law s p in omega (arith, le)
 fewer_files (Err e) new old P law s p = tt

@@ -10,12 +10,12 @@ use Rattle.alt_machine.specs.Wanted.{Lack}
 use Rattle.alt_shell.specs.Calls.{Adds, ShellCall, Untold}
 use Rattle.alt_shell.specs.Log.{Log, Grows, Tells, moments_of, until, entry, told_count, said, say_failed, says_failed, says_missed, taken, said_in, ended, crosses}
 use Rattle.alt_talks.specs.Runs.{Stretch, Leads}
-use Rattle.alt_run.specs.Runs.{Serves, Breaks, BreaksFor, IsAtWork, Rests, ServesAtHand, BreaksAtHand, LeftAtHand}
-use Rattle.alt_talks.specs.Stops.{IsLeft, IsAmong, AtEach, AreWithin}
+use Rattle.alt_run.specs.Runs.{Serves, Breaks, BreaksFor, IsAtWork, Rests, ServesAtHand, BreaksAtHand, LeftAtHand, IsWorking, IsWriting}
+use Rattle.alt_talks.specs.Stops.{IsLeft, IsUncut, AtEach, AreWithin}
 use Rattle.alt_tables.specs.Stands.{Stands}
 use Rattle.alt_tables.specs.declared.tables.Tables.{Tables}
 use Rattle.alt_tables.specs.FilesLeft.{most_files}
-use Rattle.alt_talks.specs.Faults.{IsCausedBy, IsFileFault}
+use Rattle.alt_talks.specs.Faults.{IsAnswerFault, IsCausedBy, IsFileFault}
 use Rattle.alt_talks.specs.declared.fault.RunFault.{RunFault}
 use Rattle.alt_talks.specs.declared.fault.RunFault.TheVariants.{Failed, NoMemory}
 use Rattle.alt_run.specs.Faults.{IsControlFault}
@@ -94,17 +94,22 @@ breaks_for fault next now s t ls done begun es fs ms ns low p why =
           (next + tasks ((ls ++ done) ++ begun) * most_files)
           (let e = ap tasks (append_assoc ls done begun) in
           let l = tasks-append ls (done ++ begun) in omega (arith, e, l, low)) work.0,
-      record {
-        line = work.1.line;
-        last = work.1.last;
-        enough = same ∙ work.1.enough;
-        at = at_work work.1.line (said_in fs ≡ text_of (turns t (done ++ begun) ns))
+      ⊎_elim (λ (w : IsWriting t done begun ns). inl (record {
+        line = w.line;
+        last = w.last;
+        asks = w.asks;
+        enough = same ∙ w.enough;
+      })) (λ (w : IsWorking t done begun fs ns). inr (record {
+        line = w.line;
+        last = w.last;
+        enough = same ∙ w.enough;
+        at = at_work w.line (said_in fs ≡ text_of (turns t (done ++ begun) ns))
             (said_in (es ++ fs) ≡ text_of (turns s ((ls ++ done) ++ begun) (ms ++ ns)))
             (λ e. said_in-append es fs ∙ ap (λ bs. said_in es ++ bs) e
             ∙ sym (text_both s t t ls (done ++ begun) es fs ms ns p)
             ∙ ap (λ xs. text_of (turns s xs (ms ++ ns))) (sym (append_assoc ls done begun)))
-            work.1.at;
-      },
+            w.at;
+      })) work.1,
     ))
     why
 
@@ -115,13 +120,13 @@ pub breaks_same : (fault : RunFault) (next : ℕ) (s : State) (done begun : List
 breaks_same fault next s done begun es fs ms same why = ⊎_elim (λ cause. inl cause)
     (λ work. inr (
       work.0,
-      record {
-        line = work.1.line;
-        last = work.1.last;
-        enough = work.1.enough;
-        at = at_work work.1.line (said_in es ≡ text_of (turns s (done ++ begun) ms))
-            (said_in fs ≡ text_of (turns s (done ++ begun) ms)) (λ e. same ∙ e) work.1.at;
-      },
+      ⊎_elim (λ (w : IsWriting s done begun ms). inl w) (λ (w : IsWorking s done begun es ms). inr (record {
+        line = w.line;
+        last = w.last;
+        enough = w.enough;
+        at = at_work w.line (said_in es ≡ text_of (turns s (done ++ begun) ms))
+            (said_in fs ≡ text_of (turns s (done ++ begun) ms)) (λ e. same ∙ e) w.at;
+      })) work.1,
     ))
     why
 
@@ -304,7 +309,7 @@ hand_none a tables s stands = record {
 
 -- ---- single calls
 
--- the front of a turn: its moment was asked for, and its writes were made or broken off
+-- the front of a turn: its moment was asked for, and it was carried out or broke off
 pub record Begins (old mid : DiskState) (s : State) (l : Asked) (t : Turn)
     (ms : List ℕ) : Type 0 where
   pub one : turns s (l ∷ []) ms ≡ t ∷ []
@@ -313,7 +318,7 @@ pub record Begins (old mid : DiskState) (s : State) (l : Asked) (t : Turn)
   pub told : Tells (moments_of old.beside) (moments_of mid.beside) ms
   pub later : old.moment ≤ mid.moment
   pub trusts : IsTrusted old → IsTrusted mid
-  pub leaves : AtEach old mid (λ _ image. IsAmong image s t.atoms)
+  pub leaves : AtEach old mid (λ _ image. IsUncut image s t.atoms)
 
 -- what a turn lacks is what its line lacks
 lacked : (next : ℕ) (s : State) (l : Asked) (t : Turn) (ms : List ℕ) (fault : RunFault) (es : Log)
@@ -451,12 +456,12 @@ module _ (old mid done new : DiskState) (tables : Tables) (s : State) (l : Asked
       → Stretch old new (BreaksAtHand fault next s (l ∷ []))
   work_broke fault next enough why at = turn_broke fault next (inr (
     why,
-    record {
+    inr (record {
       line = l;
       last = refl;
       enough = ap wanted b.one ∙ ap (λ w. or_next w None) enough;
       at = at;
-    },
+    }),
   ))
 
   -- all of its text was said
@@ -536,11 +541,21 @@ unsaid old new s l t ms fault next b why =
 
 -- since it lacks what it wants or there is no memory
 pub turn_unsaid : (old new : DiskState) (s : State) (l : Asked) (t : Turn) (ms : List ℕ)
-    (fault : RunFault) (next : ℕ)
-    → Begins old new s l t ms → IsCausedBy t.lacks fault
+    (fault : RunFault) (next : ℕ) → requests (l ∷ []) ≡ 1 → tasks (l ∷ []) ≡ 1
+    → Begins old new s l t ms → IsAnswerFault next t.lacks fault
     → Stretch old new (BreaksAtHand fault next s (l ∷ []))
-turn_unsaid old new s l t ms fault next b cause =
-    unsaid old new s l t ms fault next b (lacked next s l t ms fault [] b.one cause)
+turn_unsaid old new s l t ms fault next asks task b cause =
+    unsaid old new s l t ms fault next b (⊎_elim
+    (λ (lack : IsCausedBy t.lacks fault). lacked next s l t ms fault [] b.one lack)
+    (λ (last : (t.lacks ≡ None) × IsFileFault next fault). inr (
+      file_more fault next (next + tasks (l ∷ []) * most_files) (omega (arith, task)) last.1,
+      inl (record {
+        line = l;
+        last = refl;
+        asks = asks;
+        enough = ap wanted b.one ∙ ap (λ w. or_next w None) last.0;
+      }),
+    )) cause)
 
 -- or since what a word of control asks for isn't done
 pub control_unsaid : (old new : DiskState) (s : State) (word : Control) (fault : RunFault) (next : ℕ)
@@ -554,7 +569,7 @@ control_unsaid old new s word fault next b cause =
 
     because : (word : Control) → IsControlFault next word fault
         → BreaksFor fault next s [] (control word ∷ []) [] []
-    because Flush h = inr (one h, record { line = control Flush; last = refl; enough = refl; at = tt })
-    because Merge h = inr (one h, record { line = control Merge; last = refl; enough = refl; at = tt })
-    because Step h = inr (one h, record { line = control Step; last = refl; enough = refl; at = tt })
+    because Flush h = inr (one h, inr (record { line = control Flush; last = refl; enough = refl; at = tt }))
+    because Merge h = inr (one h, inr (record { line = control Merge; last = refl; enough = refl; at = tt }))
+    because Step h = inr (one h, inr (record { line = control Step; last = refl; enough = refl; at = tt }))
     because Reopen h = inl h

@@ -1,7 +1,7 @@
 -- A disk that was whole as a run began is whole at each of its moments.
-use Rattle.std.proofs.Common.{◌≡◌, ◌≢◌, ◌≤◌, ℕ, List, IsTrue, Bool, ◌&&◌, Option, Some, None, refl, sym, ap, subst, ◌∙◌, arith}
+use Rattle.std.proofs.Common.{◌≡◌, ◌≢◌, ◌≤◌, ℕ, IsTrue, Bool, ◌&&◌, Option, Some, None, refl, sym, ap, subst, ◌∙◌, arith}
 use Rattle.alt_disk.specs.Fates.{Fates, Fits}
-use Rattle.alt_disk.specs.Disk.{DiskState, IsImage, IsTrusted, now}
+use Rattle.alt_disk.specs.Disk.{DiskState, IsImage, IsTrusted}
 use Rattle.alt_disk.specs.Runs.{Quiet}
 use Rattle.alt_disk.proofs.Runs.{tells_of}
 use Rattle.alt_layout.specs.Fresh.{versions_file}
@@ -12,7 +12,7 @@ use Rattle.alt_talks.specs.Runs.{Passes}
 use Rattle.alt_talks.specs.Stops.{Image}
 use Rattle.alt_run.specs.Chains.{Step}
 use Rattle.alt_run.specs.Endings.{HasDone, HasRefused, HasRun, IsReadable}
-use Rattle.alt_run.specs.Wholes.{IsWhole, IsFoundBehind, StaysWhole}
+use Rattle.alt_run.specs.Wholes.{IsWhole, StaysWhole}
 use Rattle.alt_run.specs.declared.ending.Ending.{Ending}
 use Rattle.alt_run.specs.declared.ending.Ending.TheVariants.{Whole, Words, NotEmpty, Damaged, DigestDiffers, BadRow, Device, Memory, Spent}
 use Rattle.alt_run.specs.declared.words.Command.{Command}

@@ -1,18 +1,15 @@
 -- A trial: its requests, one after the other, and then its four lines.
-use Rattle.std.proofs.Common.{◌≡◌, ◌≤◌, ◌<◌, ◌+◌, ◌*◌, ◌-◌, ◌⊎◌, ⊎_elim, ℕ, suc, inl, inr, List, [], ◌∷◌, ◌++◌, map, length, min, take, drop, replicate, cond, Bool, true, false, Option, Some, None, option_map, refl, sym, ap, subst, ◌∙◌, append_assoc, append-nil, arith, length-append, take-append-drop}
+use Rattle.std.proofs.Common.{◌≡◌, ◌≤◌, ◌<◌, ◌+◌, ◌*◌, ◌-◌, ◌⊎◌, ⊎_elim, ℕ, suc, inl, inr, List, [], ◌∷◌, ◌++◌, map, length, take, drop, replicate, cond, Bool, true, false, Option, Some, None, refl, sym, ap, subst, ◌∙◌, append_assoc, append-nil, arith, length-append, take-append-drop}
 use Rattle.std.specs.Prelude.{nat_le, nat_eq, ◌==◌, codes, filter}
-use Rattle.std.specs.Str.{bytes_eq}
 use Rattle.std.specs.List.{starts_with, before_first, after_first}
-use Rattle.std.proofs.lemmas.List.{length-map, map-append, take-append-le, length-replicate, replicate-append-replicate}
+use Rattle.std.proofs.lemmas.List.{length-map, map-append, length-replicate, replicate-append-replicate}
 use Rattle.std.proofs.lemmas.List.Elements.{filter-append}
-use Rattle.std.proofs.Math.Seq.{take-append-add, take-length}
 use Rattle.alt_base.specs.Prefix.{IsPrefix}
 use Rattle.alt_disk.specs.Disk.{DiskState, Goes, IsImage, IsTrusted}
 use Rattle.alt_disk.proofs.Calls.{goes_refl, goes_on}
 use Rattle.alt_disk.proofs.Runs.{trusted_on}
 use Rattle.alt_lines.specs.Trial.{Generator, next_line, next_lines, after_line, draws}
 use Rattle.alt_lines.specs.TrialTexts.{Draws, line_of_kind, put_item_line, keyed_line, update_item_line, query_line, query_index_line}
-use Rattle.alt_machine.specs.Outcomes.{last_state}
 use Rattle.alt_machine.specs.State.{State}
 use Rattle.alt_machine.specs.Wanted.{Lack, wanted as wanted_by}
 use Rattle.alt_shell.specs.Calls.{Adds, Keeps, ShellCall, Untold}
@@ -23,21 +20,21 @@ use Rattle.alt_tables.specs.Images.{StandsFor}
 use Rattle.alt_tables.specs.Stands.{Stands, bounds_of}
 use Rattle.alt_tables.specs.declared.tables.Tables.{Tables}
 use Rattle.alt_tables.proofs.Left.{stands_left}
-use Rattle.alt_talks.specs.Faults.{IsCausedBy, IsFileFault}
+use Rattle.alt_talks.specs.Faults.{IsAnswerFault, IsCausedBy, IsFileFault}
 use Rattle.alt_talks.specs.Own.{FollowsNot, after_behind, own_behind}
 use Rattle.alt_talks.specs.Works.{Follows}
 use Rattle.alt_talks.specs.Runs.{Stretch}
 use Rattle.alt_run.specs.Runs.{Rests}
-use Rattle.alt_talks.specs.Stops.{Image, atoms_of, AtEach, IsAmong, AreWithin}
-use Rattle.alt_run.specs.Trials.{trial_asks, trial_moment, trial_turns, beginning, as_turn, IsTried, LeftOfTrial, Tries, TriesFor, TriesSome, IsTally, Counted, CountedSome}
+use Rattle.alt_talks.specs.Stops.{Image, StandsBehind, AtEach, IsAmong, IsUncut, AreWithin}
+use Rattle.alt_run.specs.Trials.{trial_asks, trial_moment, trial_turns, beginning, all_turns, trial_text, IsTried, LeftOfTrial, Tries, TriesFor, TriesSome, IsTally, Counted, CountedSome}
 use Rattle.alt_run.specs.Turns.{Asked, request, control_of, asked_as, asked_by, is_space, carried_out, left_by, outcome_of, turns, requests}
-use Rattle.alt_talks.specs.Turns.{Turn, all_of, after, wanted, or_next}
+use Rattle.alt_talks.specs.Turns.{Turn, after, wanted, or_next}
 use Rattle.alt_talks.specs.declared.fault.RunFault.{RunFault}
 use Rattle.alt_talks.specs.declared.fault.RunFault.TheVariants.{Failed, NoMemory}
 use Rattle.alt_run.specs.declared.tally.Tally.{Tally}
-use Rattle.alt_talks.proofs.Stopping.{atoms_of-append, last_state-append, after-atoms, one-by, until-before, take-within, trusts-kept, leaves-weaker, leaves-here, spans_two, keeps-spans, within-wider, stands_kept}
+use Rattle.alt_talks.proofs.Stopping.{one-by, until-before, stands-behind, stands-more, stands-fewer, stands-none, stands-all, stands-one, stands-uncut, trusts-kept, leaves-weaker, leaves-here, spans_two, keeps-spans, within-wider, stands_kept}
 use Rattle.alt_talks.proofs.FileFaults.{file_more}
-use Rattle.alt_talks.proofs.Owning.{cause_behind, enough_both}
+use Rattle.alt_talks.proofs.Owning.{answer_first, cause_behind, enough_both, none_lacked}
 use Rattle.alt_run.proofs.TurnLaws.{requests-append, turns-append}
 use Rattle.alt_talks.proofs.TurnLaws.{after-append, wanted-append}
 
@@ -101,25 +98,10 @@ turns_then s ls ks =
     ∙ turns-append s ls ks (replicate (requests ls) trial_moment) (replicate (requests ks) trial_moment)
     (length-replicate (requests ls) trial_moment)
 
--- some of these writes are some of these and more
-among_more : (image : Image) (s : State) (xs ys : List State) → IsAmong image s xs
-    → IsAmong image s (xs ++ ys)
-among_more image s xs ys p =
-    let few : min p.0 (length xs) ≤ length xs = grind arith in (
-      min p.0 (length xs),
-      subst (λ zs. StandsFor image (last_state s zs))
-          (sym (take-append-le (min p.0 (length xs)) xs ys few ∙ take-within p.0 xs)) p.1,
-    )
-
--- and behind these
-among_behind : (image : Image) (s : State) (xs ys : List State) → IsAmong image (last_state s xs) ys
-    → IsAmong image s (xs ++ ys)
-among_behind image s xs ys p = (
-  length xs + p.0,
-  subst (StandsFor image)
-      (sym (ap (last_state s) (take-append-add xs ys p.0) ∙ last_state-append s xs (take p.0 ys)))
-      p.1,
-)
+-- none of the turns needs to be done
+stands-any : (image : Image) (s : State) (ts least : List Turn) → StandsBehind image s ts least
+    → StandsBehind image s ts []
+stands-any image s ts least x = stands-fewer image s ts [] least (least, refl) x
 
 -- ---- requests, and then more of them
 
@@ -129,28 +111,21 @@ reached_by s ls = after s (trial_turns s ls)
 
 module _ (a b c : DiskState) (t1 : Tables) (s : State) (ls ks : List Asked) (x y : Tally)
     (goes : Goes a b) (p : Counted s ls x y a b t1) where
-  atoms_both : atoms_of (trial_turns s (ls ++ ks))
-      ≡ atoms_of (trial_turns s ls) ++ atoms_of (trial_turns (reached_by s ls) ks)
-  atoms_both = ap atoms_of (turns_then s ls ks)
-      ∙ atoms_of-append (trial_turns s ls) (trial_turns (reached_by s ls) ks)
-
   wanted_both : wanted (trial_turns s (ls ++ ks)) ≡ wanted (trial_turns (reached_by s ls) ks)
   wanted_both = ap wanted (turns_then s ls ks)
       ∙ wanted-append (trial_turns s ls) (trial_turns (reached_by s ls) ks) p.enough
 
-  leaves_both : AtEach b c (λ _ image. IsAmong image (reached_by s ls) (atoms_of (trial_turns (reached_by s ls) ks)))
-      → AtEach a c (λ _ image. IsAmong image s (atoms_of (trial_turns s (ls ++ ks))))
-  leaves_both q trusted = spans_two a b c
-      (λ _ image. IsAmong image s (atoms_of (trial_turns s ls)))
-      (λ _ image. IsAmong image (reached_by s ls) (atoms_of (trial_turns (reached_by s ls) ks)))
-      (λ _ image. IsAmong image s (atoms_of (trial_turns s (ls ++ ks))))
+  leaves_both : AtEach b c (λ _ image. StandsBehind image (reached_by s ls) (trial_turns (reached_by s ls) ks) [])
+      → AtEach a c (λ _ image. StandsBehind image s (trial_turns s (ls ++ ks)) [])
+  leaves_both q trusted = spans_two a b c (λ _ image. StandsBehind image s (trial_turns s ls) [])
+      (λ _ image. StandsBehind image (reached_by s ls) (trial_turns (reached_by s ls) ks) [])
+      (λ _ image. StandsBehind image s (trial_turns s (ls ++ ks)) [])
       (p.leaves trusted) (q (trusted_on a b goes trusted))
-      (λ n image before h. subst (λ (xs : List State). IsAmong image s xs) (sym atoms_both)
-      (among_more image s (atoms_of (trial_turns s ls)) (atoms_of (trial_turns (reached_by s ls) ks)) h))
-      (λ n image from h. subst (λ (xs : List State). IsAmong image s xs) (sym atoms_both)
-      (among_behind image s (atoms_of (trial_turns s ls)) (atoms_of (trial_turns (reached_by s ls) ks))
-      (subst (λ (r : State). IsAmong image r (atoms_of (trial_turns (reached_by s ls) ks)))
-      (after-atoms s (trial_turns s ls)) h)))
+      (λ n image before h. subst (λ (ts : List Turn). StandsBehind image s ts []) (sym (turns_then s ls ks))
+      (stands-more image s (trial_turns s ls) (trial_turns (reached_by s ls) ks) [] h))
+      (λ n image from h. subst (λ (ts : List Turn). StandsBehind image s ts []) (sym (turns_then s ls ks))
+      (stands-any image s (trial_turns s ls ++ trial_turns (reached_by s ls) ks) (trial_turns s ls ++ [])
+      (stands-behind image s (trial_turns s ls) (trial_turns (reached_by s ls) ks) [] h)))
 
   pub counted_then : (t2 : Tables) (z : Tally) → Counted (reached_by s ls) ks y z b c t2
       → Counted s (ls ++ ks) x z a c t2
@@ -203,59 +178,54 @@ lacked_alone : (fault : RunFault) (lack : Option Lack) → IsCausedBy lack fault
 lacked_alone fault None h = h
 lacked_alone fault (Some x) h = h
 
--- its writes, and those of what follows it
-module _ (s : State) (name body : List ℕ) where
-  abbrev one_turn : Turn
-  one_turn = carried_out s name body trial_moment
-
-  abbrev one_atoms : List State
-  one_atoms = atoms_of (trial_turns s (request name body ∷ []))
-
-  all_one : one_atoms ≡ one_turn.atoms ++ one_turn.own
-  all_one = append-nil (all_of one_turn)
-
-  before_one : (image : Image) → IsAmong image s one_turn.atoms → IsAmong image s one_atoms
-  before_one image h = subst (λ (xs : List State). IsAmong image s xs) (sym all_one)
-      (among_more image s one_turn.atoms one_turn.own h)
-
-  behind_one : (image : Image) → IsAmong image (last_state s one_turn.atoms) one_turn.own
-      → IsAmong image s one_atoms
-  behind_one image h = subst (λ (xs : List State). IsAmong image s xs) (sym all_one)
-      (among_behind image s one_turn.atoms one_turn.own h)
+-- its turn
+abbrev pub one_turn : State → List ℕ → List ℕ → List Turn
+one_turn s name body = carried_out s name body trial_moment ∷ []
 
 module _ (a b : DiskState) (s : State) (name body : List ℕ)
-    (leaves : AtEach a b (λ _ image. IsAmong image s (carried_out s name body trial_moment).atoms)) where
+    (leaves : AtEach a b (λ _ image. IsUncut image s (carried_out s name body trial_moment).atoms)) where
   -- it broke off
   pub one_broke : (fault : RunFault) (next : ℕ)
-      → IsCausedBy (carried_out s name body trial_moment).lacks fault
+      → IsAnswerFault next (wanted_by s (outcome_of s name body trial_moment)) fault
       → CountedSome fault next s (request name body ∷ []) a b
   one_broke fault next cause = record {
     begun = request name body ∷ [];
     rest = [];
     lines = refl;
-    wants = inl (lacked_alone fault (carried_out s name body trial_moment).lacks cause);
+    wants = ⊎_elim
+        (λ (lack : IsCausedBy lacks fault). inl (lacked_alone fault lacks lack))
+        (λ (last : (lacks ≡ None) × IsFileFault next fault). inr (
+          file_more fault next (next + 1 * most_files) (omega arith) last.1,
+          ap (λ w. or_next w None) last.0,
+          omega arith,
+        ))
+        (answer_first next _ _ fault (none_lacked (left_by s name body trial_moment)) cause);
     leaves = leaves-weaker a b
-        (λ _ image. IsAmong image s (carried_out s name body trial_moment).atoms)
-        (λ _ image. IsAmong image s (one_atoms s name body))
-        (λ u image h. before_one s name body image h) leaves;
+        (λ _ image. IsUncut image s (carried_out s name body trial_moment).atoms)
+        (λ _ image. StandsBehind image s (one_turn s name body) [])
+        (λ u image h. stands-uncut image s (carried_out s name body trial_moment) h) leaves;
   }
+    where
+      lacks : Option Lack
+      lacks = (carried_out s name body trial_moment).lacks
 
 -- it was carried out, and its reply counted
 module _ (a b c : DiskState) (s : State) (name body : List ℕ)
-    (leaves : AtEach a b (λ _ image. IsAmong image s (carried_out s name body trial_moment).atoms))
+    (leaves : AtEach a b (λ _ image. IsUncut image s (carried_out s name body trial_moment).atoms))
     (trusts : IsTrusted a → IsTrusted b)
     (follows : Follows b c (left_by s name body trial_moment)
     (own_behind (left_by s name body trial_moment)).atoms)
     (enough : wanted_by s (outcome_of s name body trial_moment) ≡ None) where
-  leaves_followed : AtEach a c (λ _ image. IsAmong image s (one_atoms s name body))
+  leaves_followed : AtEach a c (λ _ image. StandsBehind image s (one_turn s name body) [])
   leaves_followed trusted =
-      spans_two a b c (λ _ image. IsAmong image s (carried_out s name body trial_moment).atoms)
+      spans_two a b c (λ _ image. IsUncut image s (carried_out s name body trial_moment).atoms)
       (λ _ image. IsAmong image (left_by s name body trial_moment)
       (own_behind (left_by s name body trial_moment)).atoms)
-      (λ _ image. IsAmong image s (one_atoms s name body))
+      (λ _ image. StandsBehind image s (one_turn s name body) [])
       (leaves trusted) (follows.leaves (trusts trusted))
-      (λ u image before h. before_one s name body image h)
-      (λ u image from h. behind_one s name body image h)
+      (λ u image before h. stands-uncut image s (carried_out s name body trial_moment) h)
+      (λ u image from h. stands-any image s (one_turn s name body) (one_turn s name body)
+      (stands-one image s (carried_out s name body trial_moment) h))
 
   -- what follows it was done
   pub one_done : (tables : Tables) (x y : Tally)
@@ -298,8 +268,9 @@ none_begun a tables next s ls stands = record {
   rest = ls;
   lines = refl;
   wants = inl tt;
-  leaves = leaves-here a (λ _ image. IsAmong image s (atoms_of (trial_turns s ls)))
-      (λ trusted t image is_image. (0, stands_left a tables s stands image is_image));
+  leaves = leaves-here a (λ _ image. StandsBehind image s (trial_turns s ls) [])
+      (λ trusted t image is_image.
+      stands-none image s (trial_turns s ls) (stands_left a tables s stands image is_image));
 }
 
 -- what a line of the generator asks for, by its parts
@@ -319,11 +290,10 @@ counted_some_more a b fault next s ls ks q =
       rest = q.rest ++ ks;
       lines = ap (λ xs. xs ++ ks) q.lines ∙ append_assoc q.begun q.rest ks;
       wants = q.wants;
-      leaves = leaves-weaker a b (λ _ image. IsAmong image s (atoms_of (trial_turns s ls)))
-          (λ _ image. IsAmong image s (atoms_of (trial_turns s (ls ++ ks))))
-          (λ t image h. subst (λ (xs : List State). IsAmong image s xs)
-          (sym (ap atoms_of (turns_then s ls ks) ∙ atoms_of-append (trial_turns s ls) us))
-          (among_more image s (atoms_of (trial_turns s ls)) (atoms_of us) h)) q.leaves;
+      leaves = leaves-weaker a b (λ _ image. StandsBehind image s (trial_turns s ls) [])
+          (λ _ image. StandsBehind image s (trial_turns s (ls ++ ks)) [])
+          (λ t image h. subst (λ (ts : List Turn). StandsBehind image s ts []) (sym (turns_then s ls ks))
+          (stands-more image s (trial_turns s ls) us [] h)) q.leaves;
     }
 
 -- ---- the loop
@@ -353,8 +323,9 @@ trying_none a t0 tally all empty = record {
     stands = stands;
     enough = refl;
     counts = λ ts h. subst (λ (us : List Turn). IsTally tally us) (sym (append-nil ts)) h;
-    leaves = leaves-here a (λ _ image. IsAmong image s [])
-        (λ trusted t image is_image. (0, stands_left a t0 s stands image is_image));
+    leaves = leaves-here a (λ _ image. StandsBehind image s [] [])
+        (λ trusted t image is_image.
+        stands-none image s [] (stands_left a t0 s stands image is_image));
   };
   files = λ s stands. omega arith;
 }
@@ -425,50 +396,49 @@ trying_all a t0 b t1 y all rest p end s stands = (
 -- ---- the four lines
 
 -- nothing was said yet
-tried_unsaid : (s : State) (t : Turn) (bytes : List ℕ) (image : Image) → bytes ≡ []
-    → IsAmong image s t.atoms → IsTried s t bytes image
-tried_unsaid s t bytes image none p = record {
-  writes = min p.0 (length t.atoms);
-  most = let few : min p.0 (length t.atoms) ≤ length t.atoms = grind arith in few;
+tried_unsaid : (s : State) (seed count : ℕ) (bytes : List ℕ) (image : Image) → bytes ≡ []
+    → StandsBehind image s (all_turns s seed count) [] → IsTried s seed count bytes image
+tried_unsaid s seed count bytes image none p = record {
+  behind = p;
   all = λ some. absurd (let e = ap length none in omega (arith, e, some));
-  stands = subst (λ xs. StandsFor image (last_state s xs)) (sym (take-within p.0 t.atoms)) p.1;
-  front = subst (λ (bs : List ℕ). IsPrefix bs t.text) (sym none) (t.text, refl);
+  front = subst (λ (bs : List ℕ). IsPrefix bs (trial_text s seed count)) (sym none)
+      (trial_text s seed count, refl);
 }
 
--- all writes were made
-tried_whole : (s : State) (t : Turn) (bytes : List ℕ) (image : Image) → IsPrefix bytes t.text
-    → StandsFor image (last_state s t.atoms) → IsTried s t bytes image
-tried_whole s t bytes image front p = record {
-  writes = length t.atoms;
-  most = omega arith;
-  all = λ some. refl;
-  stands = subst (λ xs. StandsFor image (last_state s xs)) (sym (take-length t.atoms)) p;
+-- all requests were carried out
+tried_whole : (s : State) (seed count : ℕ) (bytes : List ℕ) (image : Image)
+    → IsPrefix bytes (trial_text s seed count) → StandsFor image (after s (all_turns s seed count))
+    → IsTried s seed count bytes image
+tried_whole s seed count bytes image front p = record {
+  behind = stands-any image s (all_turns s seed count) (all_turns s seed count)
+      (stands-all image s (all_turns s seed count) p);
+  all = λ some. p;
   front = front;
 }
 
-module _ (old mid new : DiskState) (s : State) (t : Turn) (goes : Goes old mid)
-    (leaves : AtEach old mid (λ _ image. IsAmong image s t.atoms)) where
+module _ (old mid new : DiskState) (s : State) (seed count : ℕ) (goes : Goes old mid)
+    (leaves : AtEach old mid (λ _ image. StandsBehind image s (all_turns s seed count) [])) where
   -- the requests alone
-  leaves_untold : AtEach old mid (LeftOfTrial s t [])
-  leaves_untold = leaves-weaker old mid (λ _ image. IsAmong image s t.atoms) (LeftOfTrial s t [])
-      (λ u image h. tried_unsaid s t [] image refl h) leaves
+  leaves_untold : AtEach old mid (LeftOfTrial s seed count [])
+  leaves_untold = leaves-weaker old mid (λ _ image. StandsBehind image s (all_turns s seed count) [])
+      (LeftOfTrial s seed count []) (λ u image h. tried_unsaid s seed count [] image refl h) leaves
 
   -- and then some of the text was said
   leaves_told : (es : Log) → AreWithin mid.moment new.moment es
-      → ((u : ℕ) → IsPrefix (said_in (until u es)) t.text)
+      → ((u : ℕ) → IsPrefix (said_in (until u es)) (trial_text s seed count))
       → (IsTrusted mid → (image : Image) → IsImage mid mid.moment image
-      → StandsFor image (last_state s t.atoms))
-      → Keeps mid new → AtEach old new (LeftOfTrial s t es)
+      → StandsFor image (after s (all_turns s seed count)))
+      → Keeps mid new → AtEach old new (LeftOfTrial s seed count es)
   leaves_told es within front stands keeps trusted =
-      spans_two old mid new (λ _ image. IsAmong image s t.atoms)
-      (λ _ image. StandsFor image (last_state s t.atoms))
-      (LeftOfTrial s t es)
+      spans_two old mid new (λ _ image. StandsBehind image s (all_turns s seed count) [])
+      (λ _ image. StandsFor image (after s (all_turns s seed count)))
+      (LeftOfTrial s seed count es)
       (leaves trusted)
-      (keeps-spans mid new (λ _ image. StandsFor image (last_state s t.atoms)) keeps
+      (keeps-spans mid new (λ _ image. StandsFor image (after s (all_turns s seed count))) keeps
       (λ u image low is_image. stands (trusted_on old mid goes trusted) image is_image))
-      (λ u image before p. tried_unsaid s t (said_in (until u es)) image
+      (λ u image before p. tried_unsaid s seed count (said_in (until u es)) image
       (ap said_in (until-before mid.moment new.moment u es within before)) p)
-      (λ u image from p. tried_whole s t (said_in (until u es)) image (front u) p)
+      (λ u image from p. tried_whole s seed count (said_in (until u es)) image (front u) p)
 
 -- The requests of a trial broke off: nothing was said.
 pub trial_unsaid : (old mid : DiskState) (s : State) (seed count : ℕ) (fault : RunFault) (next : ℕ)
@@ -483,14 +453,14 @@ trial_unsaid old mid s seed count fault next goes p = record {
   later = goes.later;
   trusts = trusted_on old mid goes;
   holds = record {
-    said = ((as_turn s seed count).text, refl);
+    said = ((trial_text s seed count), refl);
     rests = record { silent = refl; goes_on = refl; inside = refl };
     unasked = refl;
     begun = p.begun;
     rest = p.rest;
     lines = p.lines;
     wants = p.wants;
-    leaves = leaves_untold old mid mid s (as_turn s seed count) goes p.leaves;
+    leaves = leaves_untold old mid mid s seed count goes p.leaves;
   };
 }
 
@@ -508,22 +478,21 @@ module _ (old mid new : DiskState) (tables : Tables) (s : State) (seed count : �
       })
 
   left_by_then : (es : Log) → AreWithin mid.moment new.moment es
-      → ((u : ℕ) → IsPrefix (said_in (until u es)) (as_turn s seed count).text) → Keeps mid new
-      → AtEach old new (LeftOfTrial s (as_turn s seed count) es)
+      → ((u : ℕ) → IsPrefix (said_in (until u es)) (trial_text s seed count)) → Keeps mid new
+      → AtEach old new (LeftOfTrial s seed count es)
   left_by_then es within front keeps =
-      leaves_told old mid new s (as_turn s seed count) goes p.leaves es within front
+      leaves_told old mid new s seed count goes p.leaves es within front
       (λ trusted image is_image.
-      subst (StandsFor image) (after-atoms s (trial_turns s (trial_asks seed count)))
-      (stands_left mid tables (after s (trial_turns s (trial_asks seed count))) p.stands image is_image))
+      stands_left mid tables (after s (all_turns s seed count)) p.stands image is_image)
       keeps
 
   -- they were said
-  pub trial_said : (bytes : List ℕ) → bytes ≡ (as_turn s seed count).text → ShellCall mid new true
+  pub trial_said : (bytes : List ℕ) → bytes ≡ (trial_text s seed count) → ShellCall mid new true
       → Adds mid new (said bytes) → moments_of new.beside ≡ moments_of mid.beside
       → Stretch old new (Tries s seed count)
   trial_said bytes e call added m =
       let one : ℕ × List ℕ = entry new.moment (told_count mid.beside) (said bytes) in
-      let text : said_in (one ∷ []) ≡ (as_turn s seed count).text = append-nil bytes ∙ e in
+      let text : said_in (one ∷ []) ≡ (trial_text s seed count) = append-nil bytes ∙ e in
       let within : AreWithin mid.moment new.moment (one ∷ []) =
       (call.keeps.later, omega arith, tt) in
       record {
@@ -544,19 +513,17 @@ module _ (old mid new : DiskState) (tables : Tables) (s : State) (seed count : �
           unasked = refl;
           enough = p.enough;
           leaves = left_by_then (one ∷ []) within
-              (one-by one (as_turn s seed count).text (subst (λ (bs : List ℕ). IsPrefix bs (as_turn s seed count).text) (sym text)
-              ([], sym (append-nil (as_turn s seed count).text)))) call.keeps;
-          last = λ trusted image is_image.
-              subst (StandsFor image) (after-atoms s (trial_turns s (trial_asks seed count)))
-              (stands_left new tables (after s (trial_turns s (trial_asks seed count)))
-              (stands_kept mid new call.keeps tables (after s (trial_turns s (trial_asks seed count)))
-              p.stands) image is_image);
+              (one-by one (trial_text s seed count) (subst (λ (bs : List ℕ). IsPrefix bs (trial_text s seed count)) (sym text)
+              ([], sym (append-nil (trial_text s seed count))))) call.keeps;
+          last = λ trusted image is_image. stands_left new tables (after s (all_turns s seed count))
+              (stands_kept mid new call.keeps tables (after s (all_turns s seed count)) p.stands)
+              image is_image;
         };
       }
 
   -- some of them were said
-  cut : (es : Log) → Rests es → ((u : ℕ) → IsPrefix (said_in (until u es)) (as_turn s seed count).text)
-      → IsPrefix (said_in es) (as_turn s seed count).text → Grows mid.beside new.beside es
+  cut : (es : Log) → Rests es → ((u : ℕ) → IsPrefix (said_in (until u es)) (trial_text s seed count))
+      → IsPrefix (said_in es) (trial_text s seed count) → Grows mid.beside new.beside es
       → AreWithin mid.moment new.moment es → ShellCall mid new false
       → moments_of new.beside ≡ moments_of mid.beside
       → (next : ℕ) → Stretch old new (TriesSome Failed next s seed count)
@@ -582,7 +549,7 @@ module _ (old mid new : DiskState) (tables : Tables) (s : State) (seed count : �
     };
   }
 
-  pub trial_cut : (bytes : List ℕ) → bytes ≡ (as_turn s seed count).text → ShellCall mid new false
+  pub trial_cut : (bytes : List ℕ) → bytes ≡ (trial_text s seed count) → ShellCall mid new false
       → moments_of new.beside ≡ moments_of mid.beside
       → (((n : ℕ) × Adds mid new (say_failed (take n bytes)))
       ⊎ Untold mid new says_failed says_missed)
@@ -590,13 +557,13 @@ module _ (old mid new : DiskState) (tables : Tables) (s : State) (seed count : �
   trial_cut bytes e call m (inl part) next =
       let one : ℕ × List ℕ =
       entry new.moment (told_count mid.beside) (say_failed (take part.0 bytes)) in
-      let some : IsPrefix (said_in (one ∷ [])) (as_turn s seed count).text = (
+      let some : IsPrefix (said_in (one ∷ [])) (trial_text s seed count) = (
         drop part.0 bytes,
         sym e ∙ sym (take-append-drop part.0 bytes)
             ∙ ap (λ (bs : List ℕ). bs ++ drop part.0 bytes) (sym (append-nil (take part.0 bytes))),
       ) in
-      cut (one ∷ []) (record { silent = refl; goes_on = refl; inside = refl }) (one-by one (as_turn s seed count).text some) some
+      cut (one ∷ []) (record { silent = refl; goes_on = refl; inside = refl }) (one-by one (trial_text s seed count) some) some
       part.1 (call.keeps.later, omega arith, tt) call m next
   trial_cut bytes e call m (inr untold) next =
-      cut [] (record { silent = refl; goes_on = refl; inside = refl }) (λ u. ((as_turn s seed count).text, refl)) ((as_turn s seed count).text, refl)
+      cut [] (record { silent = refl; goes_on = refl; inside = refl }) (λ u. ((trial_text s seed count), refl)) ((trial_text s seed count), refl)
       untold.log tt call m next

@@ -1,5 +1,5 @@
 -- A request that was answered, and what follows it.
-use Rattle.std.proofs.Common.{◌≡◌, ◌+◌, ◌*◌, ⊎_elim, ℕ, List, [], ◌∷◌, None, true, subst, arith}
+use Rattle.std.proofs.Common.{◌≡◌, ◌+◌, ◌*◌, ⊎_elim, ℕ, List, [], ◌∷◌, None, true, arith}
 use Rattle.alt_disk.specs.Disk.{DiskState}
 use Rattle.alt_machine.specs.State.{State}
 use Rattle.alt_machine.specs.Wanted.{wanted}

@@ -10,7 +10,7 @@ use Rattle.alt_talks.specs.TalkRules.{rules}
 use Rattle.alt_talks.specs.TalkStops.{LeftAmong}
 use Rattle.alt_run.specs.Endings.{HasRun}
 use Rattle.alt_run.specs.Runs.{LeftThen}
-use Rattle.alt_run.specs.Trials.{LeftOfTrial, as_turn}
+use Rattle.alt_run.specs.Trials.{LeftOfTrial}
 use Rattle.alt_run.specs.Wholes.{IsWhole, IsFoundBehind}
 use Rattle.alt_run.specs.declared.ending.Ending.{Ending}
 use Rattle.alt_run.specs.declared.words.Job.{Job}
@@ -42,14 +42,14 @@ abbrev pub IsChain : DiskState → List Step → Type 0
 IsChain first [] = ⊤
 IsChain first (step ∷ steps) = IsChain first steps × IsStep (behind first steps) step
 
--- What a stop at a moment behind the opening leaves of a job, from a state: it stands for the state after some of the writes of what was
--- whole in the bytes taken by then, and of what the server does behind that, among them all those of what was answered by then.
+-- What a stop at a moment behind the opening leaves of a job, from a state: it stands for the state behind a prefix of the requests that were
+-- whole in the bytes taken by then, with what the server does behind them, and the prefix contains every one that was answered by then.
 abbrev pub LeftOf : Job → State → ℕ → Log → List ℕ → Image → Type 0
 LeftOf Replay s t entries told image = LeftThen s entries told t image
 LeftOf (Serve per connections) s t entries told image = (ks : List Connection) × (more : Log)
     × (entries ≡ entries_of ks ++ more) × (told ≡ told_of ks) × LeftAmong rules per 1 None s ks t image
 LeftOf (Trial seed count) s t entries told image =
-    LeftOfTrial s (as_turn s seed count) entries t image
+    LeftOfTrial s seed count entries t image
 
 -- The stop came before anything was said or taken, and left what stands for each state for which these files stood.
 pub record LeftEarly (old : DiskState) (step : Step) (files image : Image) : Type 0 where

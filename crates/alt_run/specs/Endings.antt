@@ -136,8 +136,8 @@ Done (Serve per connections) s opened new = Stretch opened new
 Done (Trial seed count) s opened new = Stretch opened new (Tries s seed count)
 
 -- What a job has done that was broken off behind the opening: what it said is a prefix of what there was to say, on each connection by
--- itself. For a number: the first that a request wanted and is never given out, or that of a file that work wanted, where this is the number of
--- the next file once the store was opened.
+-- itself. For a number: the first that a request wanted and is never given out, or that of a file that work or a first write wanted, where this is
+-- the number of the first file that work makes once the store was opened.
 abbrev pub BrokenFrom : ℕ → RunFault → Job → State → DiskState → DiskState → Type 0
 BrokenFrom next why Replay s opened new = Stretch opened new (AnswersSome why next s)
 BrokenFrom next why (Serve per connections) s opened new = Stretch opened new

@@ -10,8 +10,8 @@ use Rattle.alt_talks.specs.declared.fault.RunFault.{RunFault}
 use Rattle.alt_run.specs.declared.lines.Control.{Control}
 use Rattle.alt_run.specs.declared.lines.Control.TheVariants.{Flush, Merge, Step, Reopen}
 
--- Why a word of control isn't done: what work breaks off for, where this is the number of the next file, and an opening of a store that stands for a
--- state as a request that lacks nothing.
+-- Why a word of control isn't done: what work breaks off for, where this is the number of the first file that it makes, and an opening of a store
+-- that stands for a state as a request that lacks nothing.
 abbrev pub IsControlFault : ℕ → Control → RunFault → Type 0
 IsControlFault next Flush fault = IsFileFault (next + most_files) fault
 IsControlFault next Merge fault = IsFileFault (next + most_files) fault

@@ -50,13 +50,21 @@ pub record IsWorking (s : State) (done begun : List Asked) (entries : Log)
   pub enough : wanted (turns s (done ++ begun) told) ≡ None
   pub at : IsAtWork line (said_in entries ≡ text_of (turns s (done ++ begun) told))
 
--- Why serving broke off: a request has no answer, for want of a number that is the first that one wanted, or work broke off. A file was wanted
--- then only where as many numbers as the tasks of the lines that were begun take at most, from the next file on before them, reach the last.
+-- A request was under way, the line that was begun behind these. None of the requests lacked anything.
+pub record IsWriting (s : State) (done begun : List Asked) (told : List ℕ) : Type 0 where
+  pub line : Asked
+  pub last : begun ≡ line ∷ []
+  pub asks : requests begun ≡ 1
+  pub enough : wanted (turns s (done ++ begun) told) ≡ None
+
+-- Why serving broke off: a request has no answer, for want of a number that is the first that one wanted, or of the file of a first write, or
+-- work broke off. A file was wanted then only where none of them lacked anything, and as many numbers as the tasks of the lines that were begun
+-- take at most, from the first file that work made before them on, reach the last.
 abbrev pub BreaksFor : RunFault → ℕ → State → List Asked → List Asked → Log → List ℕ → Type 0
 BreaksFor fault next s done begun entries told =
     IsCausedBy (wanted (turns s (done ++ begun) told)) fault
     ⊎ (IsFileFault (next + tasks (done ++ begun) * most_files) fault
-    × IsWorking s done begun entries told)
+    × (IsWriting s done begun told ⊎ IsWorking s done begun entries told))
 
 -- Serving these lines broke off. Those that were done were answered, at most one more was begun, and just these had a moment
 -- each. The fault has its cause.
@@ -152,16 +160,16 @@ GoesOrEnds false next s u now t v = Ends s u t
 
 -- ---- a run over all of its input
 
--- What a stop at a moment of a run leaves: the state after some of the writes of the requests that were whole in the input taken by
--- then, among them all those of the requests that were answered by then.
+-- What a stop at a moment of a run leaves: the state behind a prefix of the requests that were whole in the input taken by then, which contains
+-- every one that was answered by then.
 abbrev pub LeftThen : State → Log → List ℕ → ℕ → Image → Type 0
 LeftThen s entries told t image =
     IsLeft s (turns s (asks (ended_by t entries) (taken_by t entries)) told)
     (said_by t entries) image
 
 -- The whole input was taken, and each line of it was answered, each request at a moment of its own, no more and no fewer. What was
--- said is all of its Out, on standard output, since no connection came or went. A stop at any moment leaves every write that was answered by
--- then, and one at the end the state after all of them.
+-- said is all of its Out, on standard output, since no connection came or went. A stop at any moment leaves every request that was answered by
+-- then, and one at the end all of them.
 pub record Answers (s : State) (old new : DiskState) (entries : Log)
     (told : List ℕ) : Type 0 where
   pub at_end : ended entries ≡ true

@@ -1,5 +1,5 @@
 -- What a trial says and leaves: the requests that a seed makes, carried out one after another as lines of an input are, each at one moment.
-use Rattle.std.specs.Prelude.{◌≡◌, ◌≤◌, ◌<◌, ◌+◌, ◌*◌, ◌⊎◌, ℕ, List, [], ◌∷◌, ◌++◌, map, length, filter, replicate, nat_eq, codes, decimal, None}
+use Rattle.std.specs.Prelude.{◌≡◌, ◌<◌, ◌+◌, ◌*◌, ◌⊎◌, ℕ, List, [], ◌∷◌, ◌++◌, map, length, filter, replicate, nat_eq, codes, decimal, None}
 use Rattle.std.specs.List.{starts_with}
 use Rattle.hex.specs.Hex.{encode_lower}
 use Rattle.sha2.specs.Hashers.{Holds256}
@@ -7,7 +7,6 @@ use Rattle.sha2.specs.Sha256.{sha256}
 use Rattle.alt_base.specs.Prefix.{IsPrefix}
 use Rattle.alt_disk.specs.Disk.{DiskState}
 use Rattle.alt_lines.specs.Trial.{trial_lines}
-use Rattle.alt_machine.specs.Outcomes.{state_after, last_state}
 use Rattle.alt_machine.specs.State.{State}
 use Rattle.alt_shell.specs.Log.{Log, until, said_in}
 use Rattle.alt_tables.specs.FilesLeft.{most_files}
@@ -16,7 +15,7 @@ use Rattle.alt_tables.specs.Stands.{Stands}
 use Rattle.alt_tables.specs.declared.tables.Tables.{Tables}
 use Rattle.alt_talks.specs.Faults.{IsCausedBy, IsFileFault}
 use Rattle.alt_run.specs.Runs.{Rests}
-use Rattle.alt_talks.specs.Stops.{Image, atoms_of, AtEach, IsAmong}
+use Rattle.alt_talks.specs.Stops.{Image, StandsBehind, AtEach}
 use Rattle.alt_run.specs.Turns.{Asked, asked_by, turns, requests}
 use Rattle.alt_talks.specs.Turns.{Turn, text_of, after, wanted}
 use Rattle.alt_talks.specs.declared.fault.RunFault.{RunFault}
@@ -62,49 +61,45 @@ pub record IsSummary (count : ℕ) (text : List ℕ) : Type 0 where
   pub digest : List ℕ
   pub is : text ≡ four_lines count good bad digest
 
--- Why a trial broke off among these requests, which were begun: one has no answer, for want of the first number that one wanted, or
--- work behind one broke off, and none lacked anything. A file was wanted then only where as many numbers as work behind each of these takes at
--- most, from the next one on before them, reach the last.
+-- Why a trial broke off among these requests, which were begun: one has no answer, for want of the first number that one wanted, or of the file
+-- of a first write, or work behind one broke off, and in these two cases none lacked a number or a family. A file was wanted then only where as
+-- many numbers as work behind each of these takes at most, from the first file that work made before them on, reach the last.
 abbrev pub TriesFor : RunFault → ℕ → State → List Asked → Type 0
 TriesFor fault next s begun = IsCausedBy (wanted (trial_turns s begun)) fault
     ⊎ (IsFileFault (next + length begun * most_files) fault
     × (wanted (trial_turns s begun) ≡ None) × (0 < length begun))
 
--- A trial as one turn from a state: it is told its four lines, its writes are those of its requests and of what follows each, one after
--- the other, and it lacks what the first of them lacks that lacks something. Nothing more follows it.
-abbrev pub as_turn : State → ℕ → ℕ → Turn
-as_turn s seed count = record {
-  text = summary count (trial_turns s (trial_asks seed count));
-  atoms = atoms_of (trial_turns s (trial_asks seed count));
-  own = [];
-  lacks = wanted (trial_turns s (trial_asks seed count));
-}
+-- the turns of all requests of a seed, one after the other
+abbrev pub all_turns : State → ℕ → ℕ → List Turn
+all_turns s seed count = trial_turns s (trial_asks seed count)
+
+-- the four lines of all of them
+abbrev pub trial_text : State → ℕ → ℕ → List ℕ
+trial_text s seed count = summary count (all_turns s seed count)
 
 -- ---- a trial
 
--- What a stop leaves of a trial of which so much was said: the state after some of its writes, after all of them once something was said,
--- and what was said is the front of its four lines.
-pub record IsTried (s : State) (t : Turn) (said : List ℕ) (image : Image) : Type 0 where
-  pub writes : ℕ
-  pub most : writes ≤ length t.atoms
-  pub all : 0 < length said → writes ≡ length t.atoms
-  pub stands : StandsFor image (state_after writes s t.atoms)
-  pub front : IsPrefix said t.text
+-- What a stop leaves of a trial of which so much was said: the state behind a prefix of its requests, which is that after all of them once
+-- something was said, and what was said is the front of its four lines.
+pub record IsTried (s : State) (seed count : ℕ) (said : List ℕ) (image : Image) : Type 0 where
+  pub behind : StandsBehind image s (all_turns s seed count) []
+  pub all : 0 < length said → StandsFor image (after s (all_turns s seed count))
+  pub front : IsPrefix said (trial_text s seed count)
 
 -- what a stop at a moment of a trial leaves
-abbrev pub LeftOfTrial : State → Turn → Log → ℕ → Image → Type 0
-LeftOfTrial s turn entries t image = IsTried s turn (said_in (until t entries)) image
+abbrev pub LeftOfTrial : State → ℕ → ℕ → Log → ℕ → Image → Type 0
+LeftOfTrial s seed count entries t image = IsTried s seed count (said_in (until t entries)) image
 
 -- All requests were carried out, and then the four lines were said, and nothing else. Nothing was taken, and no moment was asked. A stop at the
 -- end leaves the state after all of them.
 pub record Tries (s : State) (seed count : ℕ) (old new : DiskState) (entries : Log)
     (told : List ℕ) : Type 0 where
-  pub said : said_in entries ≡ (as_turn s seed count).text
+  pub said : said_in entries ≡ trial_text s seed count
   pub rests : Rests entries
   pub unasked : told ≡ []
-  pub enough : (as_turn s seed count).lacks ≡ None
-  pub leaves : AtEach old new (LeftOfTrial s (as_turn s seed count) entries)
-  pub last : LeavesNow new (last_state s (as_turn s seed count).atoms)
+  pub enough : wanted (all_turns s seed count) ≡ None
+  pub leaves : AtEach old new (LeftOfTrial s seed count entries)
+  pub last : LeavesNow new (after s (all_turns s seed count))
 
 -- That broke off: what was said is the front of the four lines, and so many requests were begun.
 pub record TriesSome (fault : RunFault) (next : ℕ) (s : State) (seed count : ℕ)
@@ -112,11 +107,11 @@ pub record TriesSome (fault : RunFault) (next : ℕ) (s : State) (seed count : �
   pub begun : List Asked
   pub rest : List Asked
   pub lines : trial_asks seed count ≡ begun ++ rest
-  pub said : IsPrefix (said_in entries) (as_turn s seed count).text
+  pub said : IsPrefix (said_in entries) (trial_text s seed count)
   pub rests : Rests entries
   pub unasked : told ≡ []
   pub wants : TriesFor fault next s begun
-  pub leaves : AtEach old new (LeftOfTrial s (as_turn s seed count) entries)
+  pub leaves : AtEach old new (LeftOfTrial s seed count entries)
 
 -- ---- its requests alone
 
@@ -132,7 +127,7 @@ pub record Counted (s : State) (ls : List Asked) (before behind : Tally) (old ne
   pub stands : Stands new tables (after s (trial_turns s ls))
   pub enough : wanted (trial_turns s ls) ≡ None
   pub counts : (ts : List Turn) → IsTally before ts → IsTally behind (ts ++ trial_turns s ls)
-  pub leaves : AtEach old new (λ _ image. IsAmong image s (atoms_of (trial_turns s ls)))
+  pub leaves : AtEach old new (λ _ image. StandsBehind image s (trial_turns s ls) [])
 
 -- that broke off
 pub record CountedSome (fault : RunFault) (next : ℕ) (s : State) (ls : List Asked)
@@ -141,4 +136,4 @@ pub record CountedSome (fault : RunFault) (next : ℕ) (s : State) (ls : List As
   pub rest : List Asked
   pub lines : ls ≡ begun ++ rest
   pub wants : TriesFor fault next s begun
-  pub leaves : AtEach old new (λ _ image. IsAmong image s (atoms_of (trial_turns s ls)))
+  pub leaves : AtEach old new (λ _ image. StandsBehind image s (trial_turns s ls) [])

@@ -42,7 +42,8 @@ pub(crate) enum Ending {
     Device,
     /// Memory was refused.
     Memory,
-    /// A write would need this number, a new table this family, or work this file, and it is never given out.
+    /// A write would need this number, a new table this family, or work or a first write this file, and it is
+    /// never given out.
     Spent {
         number: u64,
     },

@@ -249,10 +249,10 @@ fn ended<S: Shell>(alloc: Global, words: &[String], shell: &mut S) -> Ending
 pub fn run<S: Shell>(alloc: Global, words: &[String], shell: &mut S) -> u8
     requires quiet { talks (S.state shell.old).beside ≡ false }
     // It ends in one of nine ways, each with its status, its note, and what it has done by then. With 0 a replay read its input to
-    // its end and said all of its Out, each request at a moment of its own, and whatever a stop at any moment left holds every write that
-    // was answered by then; and a serve has served as many connections as it was to, or none came any more; and a trial has carried out
-    // all its requests, of which a stop leaves some until it says something, and then all, and has said its four lines. FLUSH and MERGE
-    // change nothing of that.
+    // its end and said all of its Out, each request at a moment of its own, and whatever a stop at any moment left stands for the state
+    // behind a prefix of its requests that contains every one that was answered by then; and a serve has served as many connections as it
+    // was to, or none came any more; and a trial has carried out all its requests, of which a stop leaves a prefix until it says something,
+    // and then all, and has said its four lines. FLUSH and MERGE change nothing of that.
     ensures ended { (ending : RunEnding) × Ended (command_of (bytes_of words.now)) ending result
         (S.state shell.old) (S.state shell.new) }
 

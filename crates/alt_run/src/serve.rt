@@ -107,8 +107,9 @@ fn reopen<D: Disk>(
         → Works (D.state disk.old) (D.state disk.new) s }
     ensures fault { (s : State) → Stands (D.state disk.old) tables.old s
         → IfErr result (IsCausedBy None) }
+    // A segment that the first write makes may come before the first file of work.
     ensures files { (s : State) → Stands (D.state disk.old) tables.old s → OnOk result
-        ((bounds_of tables.new).file ≤ (bounds_of tables.old).file) }
+        ((bounds_of tables.new).file ≤ (bounds_of tables.old).file + 1) }
     ensures known { OnOk result (limits_of tables.new ≡ limits) }
     ensures goes { Goes (D.state disk.old) (D.state disk.new) }
     ensures cause { IsErrOf result RunFault.Failed

@@ -1,6 +1,6 @@
 -- A connection that was served, and what the server does behind it.
 use Rattle.std.proofs.Common.{◌≡◌, ◌<◌, ◌≤◌, ◌+◌, ◌++◌, ℕ, suc, List, true, Option, None, sym, ap, subst, ◌∙◌, arith}
-use Rattle.alt_disk.specs.Disk.{DiskState, IsTrusted}
+use Rattle.alt_disk.specs.Disk.{DiskState}
 use Rattle.alt_machine.specs.Outcomes.{last_state}
 use Rattle.alt_machine.specs.State.{State}
 use Rattle.alt_shell.specs.Log.{Log}

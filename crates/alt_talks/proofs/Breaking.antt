@@ -1,14 +1,14 @@
 -- Why turns broke off, with more entries and behind more turns.
-use Rattle.std.proofs.Common.{◌≡◌, ◌≤◌, ◌⊎◌, inl, inr, ℕ, List, [], ◌∷◌, ◌++◌, length, Bool, true, false, Option, None, refl, sym, ap, subst, ◌∙◌, append_assoc, append-nil, arith, length-append}
+use Rattle.std.proofs.Common.{◌≡◌, ◌≤◌, ⊎_elim, inl, inr, ℕ, List, [], ◌∷◌, ◌++◌, length, Bool, true, false, Option, None, refl, sym, ap, subst, ◌∙◌, append_assoc, append-nil, arith, length-append}
 use Rattle.std.specs.Prelude.{◌||◌}
 use Rattle.std.proofs.lemmas.Bool.{true≢false}
 use Rattle.alt_machine.specs.State.{State}
 use Rattle.alt_machine.specs.Wanted.{Lack}
 use Rattle.alt_shell.specs.Log.{Log, said_in, says_failed}
 use Rattle.alt_talks.specs.Faults.{IsCausedBy, IsFileFault, reach}
-use Rattle.alt_talks.specs.Stretches.{SaidOf, Does, DoesSome, IsWorking, BreaksFor}
+use Rattle.alt_talks.specs.Stretches.{SaidOf, Does, DoesSome, IsWorking, IsWriting, BreaksFor}
 use Rattle.alt_talks.specs.Talks.{Turn, asked, Request, Rules, has_refused}
-use Rattle.alt_talks.specs.TalkTexts.{text, after, asks, wanted}
+use Rattle.alt_talks.specs.TalkTexts.{text, asks, wanted}
 use Rattle.alt_talks.specs.declared.fault.RunFault.{RunFault}
 use Rattle.alt_talks.proofs.FileFaults.{file_more, reach_then, reach_wider}
 use Rattle.alt_talks.proofs.Stretching.{said_in-append}
@@ -23,16 +23,16 @@ pub breaks_same : (r : Rules) (fault : RunFault) (next : ℕ) (s : State) (m : B
 breaks_same r fault next s m ts es fs ms said failed (inl cause) = inl cause
 breaks_same r fault next s m ts es fs ms said failed (inr work) = inr (
   work.0,
-  record {
-    before = work.1.before;
-    request = work.1.request;
-    rest = work.1.rest;
-    parts = work.1.parts;
-    count = work.1.count;
-    enough = work.1.enough;
-    heard = ap (λ (b : Bool). m || b) failed ∙ work.1.heard;
-    said = said ∙ work.1.said;
-  },
+  ⊎_elim (λ (w : IsWriting r s ts ms). inl w) (λ (w : IsWorking r s m ts es ms). inr (record {
+    before = w.before;
+    request = w.request;
+    rest = w.rest;
+    parts = w.parts;
+    count = w.count;
+    enough = w.enough;
+    heard = ap (λ (b : Bool). m || b) failed ∙ w.heard;
+    said = said ∙ w.said;
+  })) work.1,
 )
 
 -- with the next file behind that one
@@ -97,13 +97,27 @@ module _ (r : Rules) (fault : RunFault) (next : ℕ) (s t : State) (m n : Bool) 
             ∙ ap (λ (ks : List Turn). text r s ks (ms ++ ns)) (sym (append_assoc ts w.before last));
       }
 
+  writing : IsWriting r t us ns → IsWriting r s (ts ++ us) (ms ++ ns)
+  writing w =
+      let last : List Turn = asked w.request ∷ [] in record {
+        before = ts ++ w.before;
+        request = w.request;
+        rest = w.rest;
+        parts = ap (λ l. ts ++ l) w.parts ∙ sym (append_assoc ts w.before (asked w.request ∷ w.rest));
+        count = let same = ap asks (append_assoc ts w.before last) in
+            let x = length-append ms ns in let y = asks-append ts (w.before ++ last) in
+            let z = told in let k = w.count in omega (arith, same, x, y, z, k);
+        enough = sym same_wanted ∙ w.enough;
+      }
+
   pub breaks_behind : BreaksFor r fault (reach next ms) t n us fs ns
       → BreaksFor r fault next s m (ts ++ us) (es ++ fs) (ms ++ ns)
   breaks_behind (inl cause) =
       inl (subst (λ (l : Option Lack). IsCausedBy l fault) same_wanted cause)
   breaks_behind (inr work) = inr (
     file_more fault (reach (reach next ms) ns) (reach next (ms ++ ns)) (reach_then next ms ns) work.0,
-    working work.1,
+    ⊎_elim (λ (w : IsWriting r t us ns). inl (writing w))
+        (λ (w : IsWorking r t n us fs ns). inr (working w)) work.1,
   )
 
 -- a request was carried out and its reply said, and then work broke off
@@ -118,7 +132,7 @@ broke_behind r fault next s t m n q es ms why none a =
       most = omega (arith, one);
       wants = inr (
         why,
-        record {
+        inr (record {
           before = [];
           request = q;
           rest = [];
@@ -127,7 +141,7 @@ broke_behind r fault next s t m n q es ms why none a =
           enough = a.enough;
           heard = sym a.broke ∙ none;
           said = said;
-        },
+        }),
       );
       silent = λ e. (a.silent e).0;
       hush = a.hush;

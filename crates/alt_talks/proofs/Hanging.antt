@@ -6,8 +6,8 @@ use Rattle.std.specs.Prelude.{◌||◌}
 use Rattle.alt_disk.specs.Disk.{DiskState}
 use Rattle.alt_machine.specs.State.{State}
 use Rattle.alt_shell.specs.Calls.{Adds, Keeps}
-use Rattle.alt_shell.specs.Log.{Log, Grows, moments_of, notes_of, told_count, talks, entry, none_came, hung_up, taken, said_in, says_failed}
-use Rattle.alt_talks.specs.Runs.{Passes, Stretch, Timed}
+use Rattle.alt_shell.specs.Log.{Log, Grows, moments_of, told_count, entry, none_came, hung_up, taken, said_in, says_failed}
+use Rattle.alt_talks.specs.Runs.{Stretch, Timed}
 use Rattle.alt_talks.specs.Talks.{Turn, Rules, Lawful, Place, at, turns, closes}
 use Rattle.alt_talks.specs.TalkStops.{ComesOn, ComesSomeOn, LeavesNow}
 use Rattle.alt_talks.specs.TalkTexts.{text}

@@ -1,5 +1,5 @@
 -- What the server does by itself today: nothing but work.
-use Rattle.std.proofs.Common.{◌≡◌, ℕ, List, [], Option, Some, None, option_map, refl}
+use Rattle.std.proofs.Common.{◌≡◌, inl, inr, ℕ, [], Option, Some, None, option_map, refl, ap}
 use Rattle.alt_disk.specs.Disk.{DiskState}
 use Rattle.alt_disk.proofs.Calls.{goes_refl}
 use Rattle.alt_machine.specs.State.{State}
@@ -9,9 +9,9 @@ use Rattle.alt_tables.specs.Images.{StandsFor}
 use Rattle.alt_tables.specs.Stands.{Stands}
 use Rattle.alt_tables.specs.declared.tables.Tables.{Tables}
 use Rattle.alt_tables.proofs.Left.{stands_left}
-use Rattle.alt_talks.specs.Faults.{IsCausedBy, told_by_run}
+use Rattle.alt_talks.specs.Faults.{IsAnswerFault, IsCausedBy, told_by_run}
 use Rattle.alt_talks.specs.Own.{Own, none_own, own_behind, own_between}
-use Rattle.alt_talks.specs.Stops.{AtEach, IsAmong}
+use Rattle.alt_talks.specs.Stops.{IsAmong}
 use Rattle.alt_talks.specs.Turns.{or_next}
 use Rattle.alt_talks.specs.Works.{Follows, Works}
 use Rattle.alt_talks.specs.declared.fault.RunFault.{RunFault}
@@ -20,6 +20,10 @@ use Rattle.alt_talks.proofs.Stopping.{leaves-here, leaves-weaker}
 pub none_behind : (s : State) → own_behind s ≡ none_own
 unfolding own_behind
 none_behind s = refl
+
+-- so it lacks nothing
+pub none_lacked : (s : State) → (own_behind s).lacks ≡ None
+none_lacked s = ap (λ (o : Own). o.lacks) (none_behind s)
 
 pub none_between : (number : ℕ) (moment : Option ℕ) (s : State)
     → own_between number moment s ≡ none_own
@@ -59,6 +63,12 @@ cause_first None b fault h =
     tells-more (λ n. option_map (λ (l : Lack). l.number) None ≡ Some n)
     (λ n. option_map (λ (l : Lack). l.number) b ≡ Some n) (λ d. ⊥) (λ d. ⊥) (λ n no. absurd (let f : ⊥ = cc in f))
     (λ d no. no) (told_by_run fault) h
+
+-- and it has no answer for what is lacked, where the server lacks nothing behind it
+pub answer_first : (file : ℕ) (a b : Option Lack) (fault : RunFault) → b ≡ None
+    → IsAnswerFault file a fault → IsAnswerFault file (or_next a b) fault
+answer_first file a b fault none (inl h) = inl (cause_first a b fault h)
+answer_first file a b fault none (inr h) = inr (enough_both a b h.0 none, h.1)
 
 -- and so is what the server lacks behind one that lacks nothing
 pub cause_behind : (a b : Option Lack) (fault : RunFault) → a ≡ None → IsCausedBy b fault

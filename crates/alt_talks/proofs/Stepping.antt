@@ -1,6 +1,6 @@
 -- One turn at the front.
 use Rattle.alt_talks.specs.declared.fault.RunFault.{RunFault}
-use Rattle.std.proofs.Common.{◌≡◌, ◌≤◌, inl, inr, ◌<◌, ◌+◌, ◌-◌, ◌==◌, take, ℕ, zero, suc, List, [], ◌∷◌, ◌++◌, length, drop, Bool, true, false, cond, None, refl, sym, ap, subst, ◌∙◌, append_assoc, arith}
+use Rattle.std.proofs.Common.{◌≡◌, ◌≤◌, ⊎_elim, inl, inr, ◌<◌, ◌+◌, ◌-◌, ◌==◌, take, ℕ, zero, suc, List, [], ◌∷◌, ◌++◌, length, drop, Bool, true, false, cond, None, refl, sym, ap, subst, ◌∙◌, append_assoc, arith}
 use Rattle.std.specs.Prelude.{◌||◌}
 use Rattle.alt_machine.specs.State.{State}
 use Rattle.alt_shell.specs.Log.{Log, said_in}
@@ -9,7 +9,7 @@ use Rattle.alt_talks.specs.Turns.{or_next}
 use Rattle.alt_talks.specs.TalkViews.{asking}
 use Rattle.alt_talks.specs.Talks.{Turn, onward, asked, refused, Rules, Head, unread, bad, good, Place, at, turns, final, greets, is_whole, size_of, request_of, has_refused}
 use Rattle.alt_talks.specs.TalkTexts.{asks, wanted}
-use Rattle.alt_talks.specs.Stretches.{Utters, Answers, AnswersSome, Begins, BreaksFor, Moves, MovesSome, Steps}
+use Rattle.alt_talks.specs.Stretches.{Utters, Answers, AnswersSome, Begins, BreaksFor, IsWorking, IsWriting, Moves, MovesSome, Steps}
 use Rattle.alt_talks.proofs.TalkCuts.{at_unread, at_bad, at_hello, at_whole, at_short}
 use Rattle.alt_talks.proofs.TalkFolds.{text-more, asks-append}
 use Rattle.alt_talks.proofs.Uttering.{does_none, does_onward, quiet_none, moves_none}
@@ -52,17 +52,23 @@ breaks_more r fault next s m ts us es ms few (inl cause) =
     inl (subst (λ w. IsCausedBy w fault) (sym (wanted-more r s ts us ms few)) cause)
 breaks_more r fault next s m ts us es ms few (inr work) = inr (
   work.0,
-  record {
-    before = work.1.before;
-    request = work.1.request;
-    rest = work.1.rest ++ us;
-    parts = ap (λ l. l ++ us) work.1.parts
-        ∙ append_assoc work.1.before (asked work.1.request ∷ work.1.rest) us;
-    count = work.1.count;
-    enough = wanted-more r s ts us ms few ∙ work.1.enough;
-    heard = work.1.heard;
-    said = work.1.said;
-  },
+  ⊎_elim (λ (w : IsWriting r s ts ms). inl (record {
+    before = w.before;
+    request = w.request;
+    rest = w.rest ++ us;
+    parts = ap (λ l. l ++ us) w.parts ∙ append_assoc w.before (asked w.request ∷ w.rest) us;
+    count = w.count;
+    enough = wanted-more r s ts us ms few ∙ w.enough;
+  })) (λ (w : IsWorking r s m ts es ms). inr (record {
+    before = w.before;
+    request = w.request;
+    rest = w.rest ++ us;
+    parts = ap (λ l. l ++ us) w.parts ∙ append_assoc w.before (asked w.request ∷ w.rest) us;
+    count = w.count;
+    enough = wanted-more r s ts us ms few ∙ w.enough;
+    heard = w.heard;
+    said = w.said;
+  })) work.1,
 )
 
 begins_more : (r : Rules) (s : State) (ts us : List Turn) (ms : List ℕ) → Begins r s ts ms

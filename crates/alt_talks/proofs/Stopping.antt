@@ -1,11 +1,9 @@
 -- What a stop leaves while turns are done, one list of turns after another.
-use Rattle.std.proofs.Common.{◌≡◌, ◌≤◌, ◌<◌, ◌+◌, ◌⊎◌, ⊎_elim, ℕ, List, [], ◌∷◌, ◌++◌, cond, length, min, take, drop, Bool, true, false, ◌&&◌, IsTrue, refl, sym, ap, subst, ◌∙◌, arith, length-append, length-drop, append_assoc, append-nil}
+use Rattle.std.proofs.Common.{◌≡◌, ◌≤◌, ◌<◌, ◌⊎◌, ⊎_elim, inl, inr, ℕ, List, [], ◌∷◌, ◌++◌, cond, length, drop, Bool, true, false, ◌&&◌, IsTrue, refl, sym, ap, subst, ◌∙◌, arith, length-append, length-drop, append_assoc, append-nil}
 use Rattle.std.specs.Prelude.{nat_le, ◌||◌, ⊤}
 use Rattle.std.proofs.lemmas.Bool.{le-leb, true≢false}
-use Rattle.std.proofs.lemmas.Grind.{flat_map-append}
 use Rattle.std.proofs.lemmas.List.Elements.{filter-append}
-use Rattle.std.proofs.lemmas.List.{take-append-le, take_all}
-use Rattle.std.proofs.Math.Seq.{take-append-add, take-length, drop-append_seam}
+use Rattle.std.proofs.Math.Seq.{take-length, drop-append_seam}
 use Rattle.alt_disk.specs.Fates.{Fates, Fits}
 use Rattle.alt_disk.specs.Disk.{DiskState, IsTrusted, IsImage}
 use Rattle.alt_disk.specs.Runs.{Spans}
@@ -15,8 +13,8 @@ use Rattle.alt_base.specs.Prefix.{IsPrefix}
 use Rattle.alt_shell.specs.Calls.{Aside, Keeps}
 use Rattle.alt_shell.proofs.Keeping.{keeps-none}
 use Rattle.alt_shell.specs.Log.{Log, until, said_in, taken, ended, event_of, bytes_said, bytes_taken, is_end}
-use Rattle.alt_talks.specs.Turns.{all_of, answered, Turn, text_of, after, after_turn}
-use Rattle.alt_talks.specs.Stops.{Image, atoms_of, sure, IsLeft, IsAmong, AtEach, AreWithin}
+use Rattle.alt_talks.specs.Turns.{answered, Turn, text_of, after, after_turn}
+use Rattle.alt_talks.specs.Stops.{Image, state_behind, StandsBehind, IsLeft, IsAmong, IsUncut, AtEach, AreWithin}
 use Rattle.alt_tables.specs.Images.{StandsFor}
 use Rattle.alt_tables.specs.Stands.{AreReady, Stands}
 use Rattle.alt_tables.proofs.Left.{stands_quiet}
@@ -34,6 +32,11 @@ IsPrefix-behind front xs ys p = (p.0, ap (λ zs. front ++ zs) p.1 ∙ sym (appen
 
 pub IsPrefix-longer : {A : Type 0} (xs ys zs : List A) → IsPrefix xs ys → IsPrefix xs (ys ++ zs)
 IsPrefix-longer xs ys zs p = (p.0 ++ zs, ap (λ ws. ws ++ zs) p.1 ∙ append_assoc xs p.0 zs)
+
+pub IsPrefix-then : {A : Type 0} (xs ys zs : List A) → IsPrefix xs ys → IsPrefix ys zs
+    → IsPrefix xs zs
+IsPrefix-then xs ys zs p q =
+    (p.0 ++ q.0, q.1 ∙ ap (λ ws. ws ++ q.0) p.1 ∙ append_assoc xs p.0 q.0)
 
 -- a front isn't longer
 pub prefix-within : {A : Type 0} (xs ys : List A) → IsPrefix xs ys → length xs ≤ length ys
@@ -185,108 +188,156 @@ answered-behind (t ∷ ts) us said =
     ∙ ap (λ (bytes : List ℕ). t ∷ answered (ts ++ us) bytes) (drop-append_seam t.text rest)
     ∙ ap (λ vs. t ∷ vs) (answered-behind ts us said)
 
--- ---- the writes of turns
+-- those that were answered are the first
+pub answered-prefix : (ts : List Turn) (said : List ℕ) → IsPrefix (answered ts said) ts
+answered-prefix [] said = ([], refl)
+answered-prefix (t ∷ ts) said = by_test (answered-prefix ts rest) (nat_le (length t.text) (length said))
+  where
+    rest : List ℕ
+    rest = drop (length t.text) said
 
-pub atoms_of-append : (ts us : List Turn) → atoms_of (ts ++ us) ≡ atoms_of ts ++ atoms_of us
-atoms_of-append ts us = flat_map-append all_of ts us
+    by_test : IsPrefix (answered ts rest) ts → (b : Bool)
+        → IsPrefix (cond b (t ∷ answered ts rest) []) (t ∷ ts)
+    by_test p true = (p.0, ap (λ us. t ∷ us) p.1)
+    by_test p false = (t ∷ ts, refl)
 
--- no more is sure than there is
-pub sure-few : (ts : List Turn) → sure ts ≤ length (atoms_of ts)
-sure-few [] = omega arith
-sure-few (t ∷ []) =
-    let l = length-append t.atoms t.own in
-    let r = length-append (all_of t) [] in
-    omega (arith, l, r)
-sure-few (t ∷ (u ∷ ts)) =
-    let h = sure-few (u ∷ ts) in
-    let r = length-append (all_of t) (atoms_of (u ∷ ts)) in
-    omega (arith, h, r)
-
--- behind turns no more is sure than all of theirs and what is sure of the others
-pub sure-behind : (ts us : List Turn) → sure (ts ++ us) ≤ length (atoms_of ts) + sure us
-sure-behind [] us = omega arith
-sure-behind (t ∷ []) [] =
-    let l = length-append t.atoms t.own in
-    let r = length-append (all_of t) [] in
-    omega (arith, l, r)
-sure-behind (t ∷ []) (u ∷ us) = let r = length-append (all_of t) [] in omega (arith, r)
-sure-behind (t ∷ (v ∷ ts)) us =
-    let h = sure-behind (v ∷ ts) us in
-    let r = length-append (all_of t) (atoms_of (v ∷ ts)) in
-    omega (arith, h, r)
+-- ---- the states behind turns
 
 pub last_state-append : (s : State) (xs ys : List State) → last_state s (xs ++ ys)
     ≡ last_state (last_state s xs) ys
 last_state-append s [] ys = refl
 last_state-append s (x ∷ xs) ys = last_state-append x xs ys
 
--- the state after turns is that after the last of their writes
-pub after-atoms : (s : State) (ts : List Turn) → after s ts ≡ last_state s (atoms_of ts)
-after-atoms s [] = refl
-after-atoms s (t ∷ ts) = after-atoms (after_turn s t) ts
-    ∙ ap (λ (u : State). last_state u (atoms_of ts)) (sym (last_state-append s t.atoms t.own))
-    ∙ sym (last_state-append s (all_of t) (atoms_of ts))
+-- with all that the server does behind the last it is the state after them
+behind-whole : (s : State) (ts : List Turn) → (own : ℕ) × (state_behind own s ts ≡ after s ts)
+behind-whole s [] = (0, refl)
+behind-whole s (t ∷ []) = (length t.own, ap (last_state (last_state s t.atoms)) (take-length t.own))
+behind-whole s (t ∷ (u ∷ ts)) = behind-whole (after_turn s t) (u ∷ ts)
+
+-- behind turns the others go on from the state after them
+behind-more : (own : ℕ) (s : State) (ts : List Turn) (u : Turn) (us : List Turn)
+    → state_behind own s (ts ++ (u ∷ us)) ≡ state_behind own (after s ts) (u ∷ us)
+behind-more own s [] u us = refl
+behind-more own s (t ∷ []) u us = refl
+behind-more own s (t ∷ (v ∷ ts)) u us = behind-more own (after_turn s t) (v ∷ ts) u us
+
+-- none of them or some
+behind-some : (own : ℕ) (s : State) (ts us : List Turn)
+    → (n : ℕ) × (state_behind n s (ts ++ us) ≡ state_behind own (after s ts) us)
+behind-some own s ts [] =
+    let whole = behind-whole s ts in
+    (whole.0, ap (state_behind whole.0 s) (append-nil ts) ∙ whole.1)
+behind-some own s ts (u ∷ us) = (own, behind-more own s ts u us)
+
+-- ---- files behind a prefix of turns
+
+-- no turn was done
+pub stands-none : (image : Image) (s : State) (ts : List Turn) → StandsFor image s
+    → StandsBehind image s ts []
+stands-none image s ts stands = record {
+  done = [];
+  prefix = (ts, refl);
+  contains = ([], refl);
+  own = 0;
+  stands = stands;
+}
+
+-- all were
+pub stands-all : (image : Image) (s : State) (ts : List Turn) → StandsFor image (after s ts)
+    → StandsBehind image s ts ts
+stands-all image s ts stands =
+    let whole = behind-whole s ts in
+    record {
+      done = ts;
+      prefix = IsPrefix-self ts;
+      contains = IsPrefix-self ts;
+      own = whole.0;
+      stands = subst (StandsFor image) (sym whole.1) stands;
+    }
+
+-- fewer of them are known to be done
+pub stands-fewer : (image : Image) (s : State) (ts fewer least : List Turn) → IsPrefix fewer least
+    → StandsBehind image s ts least → StandsBehind image s ts fewer
+stands-fewer image s ts fewer least p x = record {
+  done = x.done;
+  prefix = x.prefix;
+  contains = IsPrefix-then fewer least x.done p x.contains;
+  own = x.own;
+  stands = x.stands;
+}
+
+-- of more turns
+pub stands-more : (image : Image) (s : State) (ts us least : List Turn)
+    → StandsBehind image s ts least → StandsBehind image s (ts ++ us) least
+stands-more image s ts us least x = record {
+  done = x.done;
+  prefix = IsPrefix-longer x.done ts us x.prefix;
+  contains = x.contains;
+  own = x.own;
+  stands = x.stands;
+}
+
+-- behind turns that were done
+pub stands-behind : (image : Image) (s : State) (ts us least : List Turn)
+    → StandsBehind image (after s ts) us least → StandsBehind image s (ts ++ us) (ts ++ least)
+stands-behind image s ts us least x =
+    let some = behind-some x.own s ts x.done in
+    record {
+      done = ts ++ x.done;
+      prefix = IsPrefix-behind ts x.done us x.prefix;
+      contains = IsPrefix-behind ts least x.done x.contains;
+      own = some.0;
+      stands = subst (StandsFor image) (sym some.1) x.stands;
+    }
+
+-- one turn was done, and of what the server does behind it a first part
+pub stands-one : (image : Image) (s : State) (t : Turn) → IsAmong image (last_state s t.atoms) t.own
+    → StandsBehind image s (t ∷ []) (t ∷ [])
+stands-one image s t among = record {
+  done = t ∷ [];
+  prefix = ([], refl);
+  contains = ([], refl);
+  own = among.0;
+  stands = among.1;
+}
+
+-- it was under way, and it is there whole or not at all
+pub stands-uncut : (image : Image) (s : State) (t : Turn) → IsUncut image s t.atoms
+    → StandsBehind image s (t ∷ []) []
+stands-uncut image s t (inl before) = stands-none image s (t ∷ []) before
+stands-uncut image s t (inr done) =
+    stands-fewer image s (t ∷ []) [] (t ∷ []) (t ∷ [], refl) (stands-one image s t (0, done))
 
 -- ---- what is left
 
 -- with more turns to come
 pub left-more : (s : State) (ts us : List Turn) (said : List ℕ) (image : Image) → AllSay us
     → IsLeft s ts said image → IsLeft s (ts ++ us) said image
-left-more s ts us said image say p =
-    let atoms = atoms_of-append ts us in
-    let long = ap length atoms in
-    let sum = length-append (atoms_of ts) (atoms_of us) in
-    record {
-      writes = p.writes;
-      answered = subst (λ vs. sure vs ≤ p.writes)
-          (sym (answered-front ts us said say (prefix-within said (text_of ts) p.front)))
-          p.answered;
-      most = omega (arith, p.most, long, sum);
-      stands = subst (λ xs. StandsFor image (last_state s xs))
-          (sym (ap (take p.writes) atoms
-          ∙ take-append-le p.writes (atoms_of ts) (atoms_of us) p.most)) p.stands;
-      front = subst (IsPrefix said) (sym (text_of-append ts us))
-          (IsPrefix-longer said (text_of ts) (text_of us) p.front);
-    }
+left-more s ts us said image say p = record {
+  behind = subst (StandsBehind image s (ts ++ us))
+      (sym (answered-front ts us said say (prefix-within said (text_of ts) p.front)))
+      (stands-more image s ts us (answered ts said) p.behind);
+  front = subst (IsPrefix said) (sym (text_of-append ts us))
+      (IsPrefix-longer said (text_of ts) (text_of us) p.front);
+}
 
 -- behind turns that were done
 pub left-behind : (s : State) (ts us : List Turn) (said : List ℕ) (image : Image)
     → IsLeft (after s ts) us said image → IsLeft s (ts ++ us) (text_of ts ++ said) image
-left-behind s ts us said image p =
-    let n = length (atoms_of ts) in
-    let atoms = atoms_of-append ts us in
-    let long = ap length atoms in
-    let sum = length-append (atoms_of ts) (atoms_of us) in
-    let front : answered (ts ++ us) (text_of ts ++ said) ≡ ts ++ answered us said =
-    answered-behind ts us said in
-    let done = ap sure front in
-    let few = sure-behind ts (answered us said) in
-    record {
-      writes = n + p.writes;
-      answered = omega (arith, p.answered, done, few);
-      most = omega (arith, p.most, long, sum);
-      stands = subst (StandsFor image)
-          (ap (λ r. last_state r (take p.writes (atoms_of us))) (after-atoms s ts)
-          ∙ sym (last_state-append s (atoms_of ts) (take p.writes (atoms_of us)))
-          ∙ ap (last_state s) (sym (ap (take (n + p.writes)) atoms
-          ∙ take-append-add (atoms_of ts) (atoms_of us) p.writes)))
-          p.stands;
-      front = subst (IsPrefix (text_of ts ++ said)) (sym (text_of-append ts us))
-          (IsPrefix-behind (text_of ts) said (text_of us) p.front);
-    }
+left-behind s ts us said image p = record {
+  behind = subst (StandsBehind image s (ts ++ us)) (sym (answered-behind ts us said))
+      (stands-behind image s ts us (answered us said) p.behind);
+  front = subst (IsPrefix (text_of ts ++ said)) (sym (text_of-append ts us))
+      (IsPrefix-behind (text_of ts) said (text_of us) p.front);
+}
 
--- where nothing was said yet nothing needs to have been written
+-- where nothing was said yet nothing needs to have been done
 pub left-nothing-of : (s : State) (ts : List Turn) (image : Image) → AllSay ts
     → StandsFor image s → IsLeft s ts [] image
-left-nothing-of s ts image say stands =
-    let unanswered = ap sure (answered-none ts say) in
-    record {
-      writes = 0;
-      answered = omega (arith, unanswered);
-      most = omega arith;
-      stands = stands;
-      front = (text_of ts, refl);
-    }
+left-nothing-of s ts image say stands = record {
+  behind = subst (StandsBehind image s ts) (sym (answered-none ts say)) (stands-none image s ts stands);
+  front = (text_of ts, refl);
+}
 
 -- ---- tables and what a stop leaves
 
@@ -408,101 +459,34 @@ pub leaves-here : (a : DiskState) (P : ℕ → Image → Type 0)
 leaves-here a P here trusted = keeps-spans a a P (keeps-none a)
     (λ t image low is_image. here trusted t image is_image)
 
--- the first of some writes are no more than there are
-pub take-within : (k : ℕ) (xs : List State) → take (min k (length xs)) xs ≡ take k xs
-take-within k xs = ⊎_elim
-    (λ (few : k ≤ length xs). ap (λ n. take n xs) (min-few k (length xs) few))
-    (λ (many : length xs ≤ k). ap (λ n. take n xs) (min-many k (length xs) many)
-    ∙ take-length xs ∙ sym (take_all k xs many))
-    (before_or_from k (length xs))
-  where
-    min-few : (k n : ℕ) → k ≤ n → min k n ≡ k
-    min-few k n le = grind arith
-
-    min-many : (k n : ℕ) → n ≤ k → min k n ≡ n
-    min-many k n le = grind arith
-
 -- ---- one turn
 
--- no more writes are answered than there are
-pub answered-few : (ts : List Turn) (said : List ℕ)
-    → length (atoms_of (answered ts said)) ≤ length (atoms_of ts)
-answered-few [] said = omega arith
-answered-few (t ∷ ts) said =
-    by_test (answered-few ts rest) (nat_le (length t.text) (length said))
-  where
-    rest : List ℕ
-    rest = drop (length t.text) said
-
-    by_test : length (atoms_of (answered ts rest)) ≤ length (atoms_of ts) → (b : Bool)
-        → length (atoms_of (cond b (t ∷ answered ts rest) [])) ≤ length (all_of t ++ atoms_of ts)
-    by_test h true =
-        let l = length-append (all_of t) (atoms_of (answered ts rest)) in
-        let r = length-append (all_of t) (atoms_of ts) in
-        omega (arith, h, l, r)
-    by_test h false = omega arith
-
 module _ (s : State) (vs : List Turn) (t : Turn) (one : vs ≡ t ∷ []) (say : AllSay vs) where
-  only : atoms_of (t ∷ []) ≡ all_of t
-  only = append-nil (all_of t)
-
-  -- of one turn no more is sure than its own writes
-  sure-one : (said : List ℕ) → sure (answered vs said) ≤ length t.atoms
-  sure-one said = subst (λ ts. sure (answered ts said) ≤ length t.atoms) (sym one)
-      (by_test (nat_le (length t.text) (length said)))
-    where
-      by_test : (b : Bool) → sure (cond b (t ∷ []) []) ≤ length t.atoms
-      by_test true = omega arith
-      by_test false = omega arith
-
-  whole : length (atoms_of vs) ≡ length t.atoms + length t.own
-  whole = ap length (ap atoms_of one ∙ only) ∙ length-append t.atoms t.own
-
   -- nothing was said of it
-  pub left-unsaid : (said : List ℕ) (image : Image) → said ≡ [] → IsAmong image s t.atoms
+  pub left-unsaid : (said : List ℕ) (image : Image) → said ≡ [] → IsUncut image s t.atoms
       → IsLeft s vs said image
-  left-unsaid said image none p =
-      let unanswered = ap sure (ap (answered vs) none ∙ answered-none vs say) in
-      let few : min p.0 (length t.atoms) ≤ length t.atoms = grind arith in
-      record {
-        writes = min p.0 (length t.atoms);
-        answered = omega (arith, unanswered);
-        most = let w = whole in omega (arith, few, w);
-        stands = subst (λ xs. StandsFor image (last_state s xs))
-            (sym (take-within p.0 t.atoms)
-            ∙ sym (ap (take (min p.0 (length t.atoms))) (ap atoms_of one ∙ only)
-            ∙ take-append-le (min p.0 (length t.atoms)) t.atoms t.own few))
-            p.1;
-        front = subst (λ (bs : List ℕ). IsPrefix bs (text_of vs)) (sym none)
-            (text_of vs, refl);
-      }
+  left-unsaid said image none p = record {
+    behind = subst (StandsBehind image s vs) (sym (ap (answered vs) none ∙ answered-none vs say))
+        (subst (λ us. StandsBehind image s us []) (sym one) (stands-uncut image s t p));
+    front = subst (λ (bs : List ℕ). IsPrefix bs (text_of vs)) (sym none) (text_of vs, refl);
+  }
 
-  -- all of its writes were made, and some of those that the server makes by itself behind it
+  -- it is there, and some of what the server does by itself behind it
   pub left-followed : (said : List ℕ) (image : Image) → IsPrefix said t.text
       → IsAmong image (last_state s t.atoms) t.own → IsLeft s vs said image
-  left-followed said image front p =
-      let few : min p.0 (length t.own) ≤ length t.own = grind arith in
-      record {
-        writes = length t.atoms + min p.0 (length t.own);
-        answered = let h = sure-one said in omega (arith, h);
-        most = let w = whole in omega (arith, few, w);
-        stands = subst (StandsFor image)
-            (sym (last_state-append s t.atoms (take p.0 t.own))
-            ∙ ap (λ xs. last_state s (t.atoms ++ xs)) (sym (take-within p.0 t.own))
-            ∙ ap (last_state s) (sym (ap (take (length t.atoms + min p.0 (length t.own)))
-            (ap atoms_of one ∙ only)
-            ∙ take-append-add t.atoms t.own (min p.0 (length t.own)))))
-            p.1;
-        front = subst (IsPrefix said) (sym (ap text_of one ∙ append-nil t.text)) front;
-      }
+  left-followed said image front p = record {
+    behind = stands-fewer image s vs (answered vs said) vs (answered-prefix vs said)
+        (subst (λ us. StandsBehind image s us us) (sym one) (stands-one image s t p));
+    front = subst (IsPrefix said) (sym (ap text_of one ∙ append-nil t.text)) front;
+  }
 
   -- none of those yet
   pub left-whole : (said : List ℕ) (image : Image) → IsPrefix said t.text
       → StandsFor image (last_state s t.atoms) → IsLeft s vs said image
   left-whole said image front p = left-followed said image front (0, p)
 
-  -- its writes were made or broken off, and nothing was said
-  pub leaves-unsaid : (old new : DiskState) → AtEach old new (λ _ image. IsAmong image s t.atoms)
+  -- it was carried out or broken off, and nothing was said
+  pub leaves-unsaid : (old new : DiskState) → AtEach old new (λ _ image. IsUncut image s t.atoms)
       → AtEach old new (λ u image. IsLeft s vs [] image)
   leaves-unsaid old new leaves trusted =
       let first = leaves trusted in
@@ -515,18 +499,18 @@ module _ (s : State) (vs : List Turn) (t : Turn) (one : vs ≡ t ∷ []) (say : 
             (first.each u image low high is_image);
       }
 
-  -- its writes were made, and then some of its text was said
+  -- it was carried out, and then some of its text was said
   pub leaves-said : (old mid new : DiskState) (es : Log)
       → AreWithin mid.moment new.moment es
       → ((u : ℕ) → IsPrefix (said_in (until u es)) t.text)
       → (IsTrusted old → IsTrusted mid)
-      → AtEach old mid (λ _ image. IsAmong image s t.atoms)
+      → AtEach old mid (λ _ image. IsUncut image s t.atoms)
       → (IsTrusted mid → (image : Image) → IsImage mid mid.moment image
       → StandsFor image (last_state s t.atoms))
       → Keeps mid new
       → AtEach old new (λ u image. IsLeft s vs (said_in (until u es)) image)
   leaves-said old mid new es within front trusts leaves stands keeps trusted =
-      spans_two old mid new (λ _ image. IsAmong image s t.atoms)
+      spans_two old mid new (λ _ image. IsUncut image s t.atoms)
       (λ _ image. StandsFor image (last_state s t.atoms))
       (λ u image. IsLeft s vs (said_in (until u es)) image)
       (leaves trusted)
@@ -541,7 +525,7 @@ module _ (s : State) (vs : List Turn) (t : Turn) (one : vs ≡ t ∷ []) (say : 
       → AreWithin mid.moment done.moment es
       → ((u : ℕ) → IsPrefix (said_in (until u es)) t.text)
       → (IsTrusted old → IsTrusted mid)
-      → AtEach old mid (λ _ image. IsAmong image s t.atoms)
+      → AtEach old mid (λ _ image. IsUncut image s t.atoms)
       → (IsTrusted mid → (image : Image) → IsImage mid mid.moment image
       → StandsFor image (last_state s t.atoms))
       → Keeps mid done

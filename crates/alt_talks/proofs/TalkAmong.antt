@@ -1,7 +1,7 @@
 -- What a stop leaves while connections are served, one after another.
-use Rattle.std.proofs.Common.{◌≡◌, ◌<◌, ◌≤◌, ◌+◌, inl, inr, ℕ, suc, List, [], ◌∷◌, ◌++◌, true, false, Option, None, refl, sym, ap, subst, ◌∙◌, append-nil, arith}
+use Rattle.std.proofs.Common.{◌≡◌, ◌<◌, ◌≤◌, ◌+◌, inl, inr, ℕ, suc, List, [], ◌∷◌, ◌++◌, length, true, false, Option, None, refl, sym, ap, subst, ◌∙◌, append-nil, arith}
+use Rattle.alt_base.specs.Prefix.{IsPrefix}
 use Rattle.alt_disk.specs.Disk.{DiskState, IsTrusted}
-use Rattle.alt_machine.specs.Outcomes.{state_after}
 use Rattle.alt_machine.specs.State.{State}
 use Rattle.alt_shell.specs.Log.{Log, entry, accepted, until, taken, said_in}
 use Rattle.alt_tables.specs.Images.{StandsFor}
@@ -9,10 +9,11 @@ use Rattle.alt_talks.specs.Connections.{Connection, entries_of, turns_of, after_
 use Rattle.alt_talks.specs.Faults.{IsCausedBy, reach}
 use Rattle.alt_talks.specs.Own.{last_told}
 use Rattle.alt_talks.specs.Runs.{OfStretch}
-use Rattle.alt_talks.specs.Stops.{Image, IsLeft, AtEach, AreWithin}
+use Rattle.alt_talks.specs.Stops.{Image, state_behind, IsLeft, AtEach, AreWithin}
 use Rattle.alt_talks.specs.Talks.{Turn, Rules, Lawful, turns_at}
 use Rattle.alt_talks.specs.TalkStops.{LeavesNow, LeftOn, LeftTaken, ComesOn, ComesSomeOn, LeftAmong, LeftBetween, ServedOn, ServedSomeOn}
 use Rattle.alt_talks.specs.TalkTexts.{after}
+use Rattle.alt_talks.specs.Turns.{Turn as Deed}
 use Rattle.alt_talks.specs.declared.fault.RunFault.{RunFault}
 use Rattle.alt_talks.specs.declared.fault.RunFault.TheVariants.{NoMemory}
 use Rattle.alt_talks.proofs.Stopping.{Meet, leaves-here, spans_two, taken-until, until-append, until-before, until-behind}
@@ -185,9 +186,12 @@ module _ (r : Rules) (w : Lawful r) (per : ℕ) (a b c : DiskState) (s t : State
           ∙ (at_unread r per false [] w.nothing).0
 
       none_left : {said : List ℕ} {image : Image} → IsLeft t [] said image → StandsFor image t
-      none_left {said} {image} x =
-          let none : x.writes ≡ 0 = omega (arith, x.most) in
-          subst (λ (n : ℕ). StandsFor image (state_after n t [])) none x.stands
+      none_left {said} {image} x = by_done x.behind.done x.behind.prefix x.behind.stands
+        where
+          by_done : (done : List Deed) → IsPrefix done []
+              → StandsFor image (state_behind x.behind.own t done) → StandsFor image t
+          by_done [] p stands = stands
+          by_done (d ∷ ds) p stands = absurd (let e = ap length p.1 in omega (arith, e))
 
 -- so many connections were served, and nothing else was done
 abbrev pub SofarOn : Rules → ℕ → ℕ → State → State → OfStretch

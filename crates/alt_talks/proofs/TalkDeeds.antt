@@ -1,20 +1,17 @@
 -- What turns come to, one list of turns after another, and what a stop leaves of them.
-use Rattle.std.proofs.Common.{◌≡◌, ◌≤◌, ◌+◌, inl, inr, ℕ, List, [], ◌∷◌, ◌++◌, length, take, Bool, true, false, refl, sym, ap, subst, ◌∙◌, append-nil, length-append, arith}
-use Rattle.std.proofs.Math.Seq.{take-append-add}
+use Rattle.std.proofs.Common.{◌≡◌, ◌≤◌, inl, inr, ℕ, List, [], ◌∷◌, ◌++◌, length, Bool, true, false, refl, sym, ap, subst, ◌∙◌, append-nil, arith}
 use Rattle.alt_base.specs.Prefix.{IsPrefix}
 use Rattle.alt_disk.specs.Disk.{DiskState}
-use Rattle.alt_machine.specs.Outcomes.{last_state}
 use Rattle.alt_machine.specs.State.{State}
 use Rattle.alt_shell.specs.Log.{Log, until, said_in}
-use Rattle.alt_tables.specs.Images.{StandsFor}
-use Rattle.alt_talks.specs.Stops.{Image, atoms_of, sure, IsLeft, AtEach}
+use Rattle.alt_talks.specs.Stops.{Image, StandsBehind, IsLeft, AtEach}
 use Rattle.alt_talks.specs.Stretches.{SaidOf, Does}
 use Rattle.alt_talks.specs.Talks.{Turn, onward, asked, refused, Rules, Lawful, has_refused}
 use Rattle.alt_talks.specs.TalkStops.{deeds, saying, carrying, LeftOn}
 use Rattle.alt_talks.specs.TalkTexts.{text, after, asks}
 use Rattle.alt_talks.specs.Turns.{answered, Turn as Deed, text_of, after as deed_after}
 use Rattle.alt_talks.proofs.Stretching.{said_in-append}
-use Rattle.alt_talks.proofs.Stopping.{AllSay, Meet, answered-few, answered-front, prefix-within, atoms_of-append, after-atoms, last_state-append, left-more, left-behind, none-shorter, said-by, spans_two, sure-few, until-append, until-before, until-behind, IsPrefix-longer}
+use Rattle.alt_talks.proofs.Stopping.{AllSay, Meet, answered-front, answered-prefix, prefix-within, left-more, left-behind, none-shorter, said-by, spans_two, stands-behind, stands-fewer, until-append, until-before, until-behind, IsPrefix-longer}
 use Rattle.alt_talks.proofs.TalkFolds.{suc-same, asks-requests}
 use Rattle.alt_talks.proofs.TurnLaws.{text_of-append}
 
@@ -114,28 +111,15 @@ module _ (r : Rules) (w : Lawful r) where
 pub left-muted : (s : State) (ts us : List Deed) (said : List ℕ) (image : Image) → AllSay us
     → IsPrefix said (text_of ts) → IsLeft (deed_after s ts) us [] image
     → IsLeft s (ts ++ us) said image
-left-muted s ts us said image say front p =
-    let n = length (atoms_of ts) in
-    let atoms = atoms_of-append ts us in
-    let long = ap length atoms in
-    let sum = length-append (atoms_of ts) (atoms_of us) in
-    let few = answered-few ts said in
-    let less = sure-few (answered ts said) in
-    record {
-      writes = n + p.writes;
-      answered = subst (λ (vs : List Deed). sure vs ≤ n + p.writes)
-          (sym (answered-front ts us said say (prefix-within said (text_of ts) front)))
-          (omega (arith, few, less));
-      most = omega (arith, p.most, long, sum);
-      stands = subst (StandsFor image)
-          (ap (λ r. last_state r (take p.writes (atoms_of us))) (after-atoms s ts)
-          ∙ sym (last_state-append s (atoms_of ts) (take p.writes (atoms_of us)))
-          ∙ ap (last_state s) (sym (ap (take (n + p.writes)) atoms
-          ∙ take-append-add (atoms_of ts) (atoms_of us) p.writes)))
-          p.stands;
-      front = subst (IsPrefix said) (sym (text_of-append ts us))
-          (IsPrefix-longer said (text_of ts) (text_of us) front);
-    }
+left-muted s ts us said image say front p = record {
+  behind = subst (StandsBehind image s (ts ++ us))
+      (sym (answered-front ts us said say (prefix-within said (text_of ts) front)))
+      (stands-fewer image s (ts ++ us) (answered ts said) (ts ++ answered us [])
+      (IsPrefix-longer (answered ts said) ts (answered us []) (answered-prefix ts said))
+      (stands-behind image s ts us (answered us []) p.behind));
+  front = subst (IsPrefix said) (sym (text_of-append ts us))
+      (IsPrefix-longer said (text_of ts) (text_of us) front);
+}
 
 -- turns, and then more of them
 module _ (r : Rules) (w : Lawful r) (a b c : DiskState) (s t : State) (m n : Bool)

@@ -12,9 +12,9 @@ use Rattle.alt_shell.specs.Calls.{Adds, Aside, Keeps, Untold, IsUntoldBy}
 use Rattle.alt_shell.specs.Log.{Log, Grows, Tells, moments_of, until, entry, told_count, took, take_failed, takes_failed, takes_missed, talks, accepted, hung_up, said_in, taken, bytes_said, bytes_taken, event_of}
 use Rattle.alt_shell.proofs.Telling.{Grows-then, Tells-then}
 use Rattle.alt_tables.specs.Images.{StandsFor}
-use Rattle.alt_talks.specs.Faults.{IsCausedBy, IsFileFault, reach}
+use Rattle.alt_talks.specs.Faults.{IsAnswerFault, IsCausedBy, IsFileFault, reach}
 use Rattle.alt_talks.specs.Runs.{OfStretch, Stretch, Timed}
-use Rattle.alt_talks.specs.Stops.{Image, IsLeft, IsAmong, AtEach, AreWithin}
+use Rattle.alt_talks.specs.Stops.{Image, IsLeft, IsAmong, IsUncut, AtEach, AreWithin}
 use Rattle.alt_talks.specs.Stretches.{Utters, AtRest, Idle, Goes, Does, DoesSome}
 use Rattle.alt_talks.specs.Talks.{Turn, onward, asked, refused, Rules, Lawful, Request, Head, Place, at, unread, bad, good, greets, is_whole, size_of, request_of, turns, final, turns_at}
 use Rattle.alt_talks.specs.TalkStops.{deeds, carrying, saying, LeavesNow, LeftOn, LeftTaken, AnswersOn, AnswersSomeOn, CarriesOn, CarriesSomeOn, MovesOn, StepsOn, MovesAllOn, MovesSomeOn, GoesOn, GoesSomeOn}
@@ -100,24 +100,24 @@ pub left_saying : (a b : DiskState) (s : State) (vs : List Deed) (t : Deed) → 
     → AtEach a b (λ u image. IsLeft s vs (said_in (until u es)) image)
 left_saying a b s vs t one say none es within by here keeps =
     leaves-said s vs t one say a a b es within by (λ trusted. trusted)
-    (leaves-here a (λ _ image. IsAmong image s t.atoms)
-    (λ trusted u image is. (0, here trusted image is)))
+    (leaves-here a (λ _ image. IsUncut image s t.atoms)
+    (λ trusted u image is. inl (here trusted image is)))
     (λ trusted image is. subst (StandsFor image) (sym (ap (last_state s) none))
     (here trusted image is))
     keeps
 
--- The front of a request: its moment was asked for, and its writes were made or broken off.
+-- The front of a request: its moment was asked for, and it was carried out or broke off.
 pub record Asked (r : Rules) (old done : DiskState) (s : State) (q : Request) (moment : ℕ) : Type 0 where
   pub silent : Grows old.beside done.beside []
   pub told : Tells (moments_of old.beside) (moments_of done.beside) (moment ∷ [])
   pub later : old.moment ≤ done.moment
   pub trusts : IsTrusted old → IsTrusted done
-  pub leaves : AtEach old done (λ _ image. IsAmong image s (r.atoms s q moment))
+  pub leaves : AtEach old done (λ _ image. IsUncut image s (r.atoms s q moment))
 
 pub asked_of : (r : Rules) (old mid done : DiskState) (s : State) (q : Request) (moment : ℕ)
     → Aside old mid → Grows old.beside mid.beside []
     → Tells (moments_of old.beside) (moments_of mid.beside) (moment ∷ []) → DiskGoes mid done
-    → AtEach mid done (λ _ image. IsAmong image s (r.atoms s q moment))
+    → AtEach mid done (λ _ image. IsUncut image s (r.atoms s q moment))
     → Asked r old done s q moment
 asked_of r old mid done s q moment aside silent told goes leaves = record {
   silent = subst (λ (log : Log). Grows old.beside log []) (sym goes.beside) silent;
@@ -125,7 +125,7 @@ asked_of r old mid done s q moment aside silent told goes leaves = record {
       (sym goes.beside) told;
   later = let k = aside.keeps in omega (arith, k, goes.later);
   trusts = λ trusted. trusted_on mid done goes (trusts-kept old mid aside.keeps trusted);
-  leaves = leaves-behind-aside old mid done (λ _ image. IsAmong image s (r.atoms s q moment)) aside
+  leaves = leaves-behind-aside old mid done (λ _ image. IsUncut image s (r.atoms s q moment)) aside
       leaves;
 }
 
@@ -181,7 +181,8 @@ module _ (r : Rules) (w : Lawful r) (a b c d : DiskState) (s : State) (m n : Boo
 -- or it broke off
 pub asked_some_on : (r : Rules) (w : Lawful r) (a b : DiskState) (s : State) (m : Bool) (q : Request)
     (moment : ℕ) (fault : RunFault) (next : ℕ) → Asked r a b s q moment
-    → IsCausedBy (r.wants s q moment) fault → Stretch a b (AnswersSomeOn r fault next s m (asked q ∷ []))
+    → IsAnswerFault next (r.wants s q moment) fault
+    → Stretch a b (AnswersSomeOn r fault next s m (asked q ∷ []))
 asked_some_on r w a b s m q moment fault next front cause =
     told_alone a b {R = AnswersSomeOn r fault next s m (asked q ∷ [])} moment front.silent front.told
     front.later front.trusts (

@@ -9,14 +9,15 @@ use Rattle.std.proofs.lemmas.Bool.{true≢false}
 use Rattle.alt_disk.specs.Disk.{DiskState}
 use Rattle.alt_shell.specs.Calls.{Adds, Keeps, Untold, IsUntoldBy}
 use Rattle.alt_talks.specs.Runs.{Stretch}
-use Rattle.alt_talks.specs.Faults.{IsCausedBy, reach}
+use Rattle.alt_talks.specs.Faults.{IsAnswerFault, IsCausedBy, reach}
 use Rattle.alt_talks.specs.declared.fault.RunFault.{RunFault}
 use Rattle.alt_talks.specs.declared.fault.RunFault.TheVariants.{NoMemory}
 use Rattle.alt_talks.specs.Turns.{or_next}
 use Rattle.alt_talks.specs.Talks.{Turn, onward, asked, refused, Rules, Request, Place, at, turns, final, has_refused}
 use Rattle.alt_talks.specs.TalkTexts.{text, after, requests, asks, wanted}
-use Rattle.alt_talks.specs.Stretches.{SaidOf, Quiet, Utters, Does, DoesSome, AnswersSome, Moves, MovesAll, MovesSome, AtRest, over, says, Counted, Begins}
+use Rattle.alt_talks.specs.Stretches.{SaidOf, Quiet, Utters, Does, DoesSome, AnswersSome, BreaksFor, Moves, MovesAll, MovesSome, AtRest, over, says, Counted, Begins}
 use Rattle.alt_talks.proofs.Breaking.{breaks_behind}
+use Rattle.alt_talks.proofs.FileFaults.{file_more}
 use Rattle.alt_talks.proofs.Stretching.{said_in-append, taken-append}
 use Rattle.alt_talks.proofs.Stopping.{IsPrefix-self, one-by}
 use Rattle.alt_talks.proofs.TalkLogs.{Clocked, stretch_one, over-append, broken-append, crosses-append, says-append, hushes-append, or-assoc, or_right}
@@ -231,8 +232,25 @@ begins_one r s t at e =
 pub answers_some_none : (r : Rules) (next : ℕ) (s : State) (m : Bool) (ts : List Turn) → AnswersSome r NoMemory next s m ts [] []
 answers_some_none r next s m ts = record { some = record { said = (text r s ts [], refl); most = omega arith; wants = inl tt; silent = λ _. refl; hush = tt; still = λ _. refl; begins = begins_none r s ts }; quiet = quiet_none }
 
+-- why a request has no answer is why it broke off
+asked_breaks : (r : Rules) (fault : RunFault) (next : ℕ) (s : State) (m : Bool) (q : Request) (at : ℕ)
+    → IsAnswerFault next (r.wants s q at) fault → BreaksFor r fault next s m (asked q ∷ []) [] (at ∷ [])
+asked_breaks r fault next s m q at (inl w) =
+    inl (subst (λ v. IsCausedBy v fault) (alone (r.wants s q at)) w)
+asked_breaks r fault next s m q at (inr last) = inr (
+  file_more fault next (reach next (at ∷ [])) (omega arith) last.1,
+  inl (record {
+    before = [];
+    request = q;
+    rest = [];
+    parts = refl;
+    count = refl;
+    enough = sym (alone (r.wants s q at)) ∙ last.0;
+  }),
+)
+
 pub some_asked : (r : Rules) (fault : RunFault) (next : ℕ) (s : State) (m : Bool) (q : Request) (at : ℕ) (es : Log) (ms : List ℕ)
-    → Clocked at es ms → IsCausedBy (r.wants s q at) fault → AnswersSome r fault next s m (asked q ∷ []) es ms
+    → Clocked at es ms → IsAnswerFault next (r.wants s q at) fault → AnswersSome r fault next s m (asked q ∷ []) es ms
 some_asked r fault next s m q at es ms t w =
     let none = t.nothing in let one = t.one in
     subst (λ (fs : Log). AnswersSome r fault next s m (asked q ∷ []) fs ms) (sym none)
@@ -240,7 +258,7 @@ some_asked r fault next s m q at es ms t w =
       some = record {
         said = (text r s (asked q ∷ []) (at ∷ []), refl);
         most = omega arith;
-        wants = inl (subst (λ v. IsCausedBy v fault) (alone (r.wants s q at)) w);
+        wants = asked_breaks r fault next s m q at w;
         silent = λ _. refl;
         hush = tt;
         still = λ _. refl;

@@ -1,5 +1,5 @@
 -- Why requests have no answer, and why work between them breaks off.
-use Rattle.std.specs.Prelude.{◌≡◌, ◌≤◌, ◌+◌, ◌-◌, ◌*◌, ◌^◌, ℕ, List, length, Option, Some, option_map}
+use Rattle.std.specs.Prelude.{◌≡◌, ◌⊎◌, ◌≤◌, ◌+◌, ◌-◌, ◌*◌, ◌^◌, ℕ, List, length, Option, Some, None, option_map}
 use Rattle.alt_faults.specs.Faults.{Fault, failed, no_memory, spent, damaged, bad_bytes, bad_digest, bad_row, OnlySpent}
 use Rattle.alt_machine.specs.Wanted.{Lack}
 use Rattle.alt_tables.specs.FilesLeft.{most_files}
@@ -27,6 +27,13 @@ abbrev pub IsFileFault : ℕ → RunFault → Type 0
 IsFileFault reach fault = OnlySpent (λ number. (number ≡ 2 ^ 32 - 1) × (2 ^ 32 ≤ reach))
     (told_by_run fault)
 
--- How far the numbers of files reach from this one on where a task takes as many as it does at most at each of these moments.
+-- Why a request has no answer, where this is the first file that work makes before it: so, or else, where it lacks neither a number nor a family,
+-- the segment that its write makes wants file 2^32 - 1.
+abbrev pub IsAnswerFault : ℕ → Option Lack → RunFault → Type 0
+IsAnswerFault file lack fault =
+    IsCausedBy lack fault ⊎ ((lack ≡ None) × IsFileFault file fault)
+
+-- How far the numbers of files reach from this one on where a task, with a write before it, takes as many as it does at most at each of these
+-- moments.
 abbrev pub reach : ℕ → List ℕ → ℕ
 reach next told = next + length told * most_files

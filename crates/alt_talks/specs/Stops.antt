@@ -1,43 +1,48 @@
 -- What a stop leaves at each moment of a run.
-use Rattle.std.specs.Prelude.{◌≤◌, ◌+◌, ℕ, List, [], ◌∷◌, length, Option, ⊤}
-use Rattle.std.specs.List.{flat_map}
+use Rattle.std.specs.Prelude.{◌≤◌, ◌⊎◌, ℕ, List, [], ◌∷◌, Option, ⊤}
 use Rattle.alt_base.specs.Prefix.{IsPrefix}
 use Rattle.alt_disk.specs.Disk.{DiskState, IsTrusted}
 use Rattle.alt_disk.specs.Runs.{Spans}
-use Rattle.alt_machine.specs.Outcomes.{state_after}
+use Rattle.alt_machine.specs.Outcomes.{last_state, state_after}
 use Rattle.alt_machine.specs.State.{State}
 use Rattle.alt_shell.specs.Log.{Log}
-use Rattle.alt_talks.specs.Turns.{all_of, answered, Turn, text_of}
+use Rattle.alt_talks.specs.Turns.{after_turn, answered, Turn, text_of}
 use Rattle.alt_tables.specs.Images.{StandsFor}
 
 -- files as a stop leaves them
 abbrev pub Image : Type 0
 Image = ℕ → Option (List ℕ)
 
--- the writes of turns, each by the state after it
-abbrev pub atoms_of : List Turn → List State
-atoms_of ts = flat_map all_of ts
+-- The state behind turns, each with all that the server does by itself behind it, but for the last, behind which so many of those writes were made.
+abbrev pub state_behind : ℕ → State → List Turn → State
+state_behind own s [] = s
+state_behind own s (t ∷ []) = state_after own (last_state s t.atoms) t.own
+state_behind own s (t ∷ (u ∷ ts)) = state_behind own (after_turn s t) (u ∷ ts)
 
--- How many writes are sure once these turns were answered: all of theirs, but those that the server makes by itself behind the last.
-abbrev pub sure : List Turn → ℕ
-sure [] = 0
-sure (t ∷ []) = length t.atoms
-sure (t ∷ (u ∷ ts)) = length (all_of t) + sure (u ∷ ts)
+-- Files stand for the state behind a prefix of these turns that contains these. So each request among the turns is there whole or not at all, and
+-- none without all before it; of what the server does by itself behind the last that is there, a first part may be.
+pub record StandsBehind (image : Image) (s : State) (ts least : List Turn) : Type 0 where
+  pub done : List Turn
+  pub prefix : IsPrefix done ts
+  pub contains : IsPrefix least done
+  pub own : ℕ
+  pub stands : StandsFor image (state_behind own s done)
 
--- A stop leaves this while turns are done from a state and so much was said of their text: it stands for the state after some of
--- their writes, among them those that are sure by the turns whose whole texts were said, and what was said is the front of their text.
+-- A stop leaves this while turns are done from a state and so much was said of their text: it stands for the state behind a prefix of them that
+-- contains every one whose whole text was said, and what was said is the front of their text.
 pub record IsLeft (s : State) (ts : List Turn) (said : List ℕ) (image : Image) : Type 0 where
-  pub writes : ℕ
-  pub answered : sure (answered ts said) ≤ writes
-  pub most : writes ≤ length (atoms_of ts)
-  pub stands : StandsFor image (state_after writes s (atoms_of ts))
+  pub behind : StandsBehind image s ts (answered ts said)
   pub front : IsPrefix said (text_of ts)
 
 -- On a disk that can be relied on, whatever a stop at a moment of this stretch leaves has P of that moment.
 abbrev pub AtEach : DiskState → DiskState → (ℕ → Image → Type 0) → Type 0
 AtEach old new P = IsTrusted old → Spans old new (λ _. ⊤) P
 
--- it stands for the state after some of these writes, none or all of them
+-- It stands for the state before a request that makes this lasting, or for that after it, since it makes one state lasting at most.
+abbrev pub IsUncut : Image → State → List State → Type 0
+IsUncut image s atoms = StandsFor image s ⊎ StandsFor image (last_state s atoms)
+
+-- it stands for the state after some of the server's own writes, none or all of them
 abbrev pub IsAmong : Image → State → List State → Type 0
 IsAmong image s atoms = (k : ℕ) × StandsFor image (state_after k s atoms)
 

@@ -22,7 +22,7 @@ outcome_of s q moment = step s (option_and_then operation_at q.target) q.body mo
 abbrev pub status_said : ℕ → ℕ
 status_said status = if status == 200 then 200 else 400
 
--- the state that its own writes leave
+-- the state that it leaves by itself
 abbrev pub left_by : State → Request → ℕ → State
 left_by s q moment = last_state s (outcome_of s q moment).atoms
 

@@ -36,13 +36,13 @@ deeds r s (asked q ∷ ts) (m ∷ ms) = carrying r s q m ∷ deeds r (r.next s q
 deeds r s (refused k ∷ ts) [] = []
 deeds r s (refused k ∷ ts) (m ∷ ms) = saying (r.refusal k m) ∷ deeds r s ts ms
 
--- What a stop at a moment leaves while turns are done from a state: it stands for the state after some of their writes, among them all
--- those of the turns whose whole texts were said by then.
+-- What a stop at a moment leaves while turns are done from a state: it stands for the state behind a prefix of them, which contains every one
+-- whose whole text was said by then.
 abbrev pub LeftOn : Rules → State → List Turn → Log → List ℕ → ℕ → Image → Type 0
 LeftOn r s ts entries told t image = IsLeft s (deeds r s ts told) (said_in (until t entries)) image
 
 -- What a stop at a moment leaves while bytes are taken at a place and their turns are done from a state: the turns are those of the bytes
--- taken by then. So no write is left of a request that wasn't whole by then, and what was said by then is the front of their text.
+-- taken by then. So nothing is left of a request that wasn't whole by then, and what was said by then is the front of their text.
 abbrev pub LeftTaken : Rules → Place → State → Log → List ℕ → ℕ → Image → Type 0
 LeftTaken r p s entries told t image =
     LeftOn r s (turns_at r p (taken (until t entries))) entries told t image
@@ -143,8 +143,8 @@ LeftAmong r per number moment s (k ∷ ks) t image =
     × LeftAmong r per (suc number) (last_told moment k.told)
     (after_own r number (last_told moment k.told) (after r s (turns_of r per k) k.told)) ks t image))
 
--- Status 0: so many connections were served, or none came any more. A stop at any moment leaves every write that was answered by then, and
--- none of a request that wasn't whole by then.
+-- Status 0: so many connections were served, or none came any more. A stop at any moment leaves every request that was answered by then, and
+-- nothing of one that wasn't whole by then.
 abbrev pub ServedOn : Rules → ℕ → ℕ → State → State → OfStretch
 ServedOn r per connections s t old new entries told =
     (x : Served r per connections s t entries told)

@@ -51,8 +51,8 @@ pub record Rules : Type 0 where
   pub refusal : ℕ → ℕ → List ℕ
   pub greeting : List ℕ
 
--- A head is found or refused however the bytes are cut; the state after a request is that after its last write and the last of those that
--- follow it; and each text has a byte or more.
+-- A head is found or refused however the bytes are cut; the state after a request is that which it makes lasting, if any, and then that after the
+-- last of the writes that follow it; and each text has a byte or more.
 pub record Lawful (r : Rules) : Type 0 where
   pub nothing : r.scan [] ≡ unread
   pub stays_bad : (a b : List ℕ) (k : ℕ) → r.scan a ≡ bad k → r.scan (a ++ b) ≡ bad k

@@ -7,8 +7,8 @@ use Rattle.alt_machine.specs.Wanted.{Lack}
 
 -- ---- what they come to
 
--- What a line comes to: the text that is said to it, the single writes that it makes, each by the state after it, those that the server
--- makes by itself behind it, and the number or family that one of them wants and can't have.
+-- What a line comes to: the text that is said to it, what it makes lasting, by the state after it, which is one at most, the single writes that the
+-- server makes by itself behind it, each by the state after it, and the number or family that one of them wants and can't have.
 pub record Turn : Type 0 where
   pub text : List ℕ
   pub atoms : List State

@@ -8,7 +8,7 @@ use alt_tables::{OpenFault, TableFault};
 /// Why a run over a store ends before all was done.
 #[derive(Debug, Drop)]
 pub enum RunFault {
-    /// A write would need a number, a new table a family, or work a file, that is never given out: this one.
+    /// A write would need a number, a new table a family, or work or a first write a file, that is never given out: this one.
     Spent {
         number: u64,
     },

@@ -12,8 +12,8 @@ ghost use Rattle.alt_machine.specs.Wanted.{wanted};
 ghost use Rattle.alt_shape.specs.Body.{body_json};
 ghost use Rattle.alt_shape.specs.Refusals.{answer_of};
 ghost use Rattle.alt_tables.specs.Stands.{AreReady, Stands, bounds_of};
-ghost use Rattle.alt_talks.specs.Faults.{IsCausedBy};
-ghost use Rattle.alt_talks.specs.Stops.{AtEach, IsAmong};
+ghost use Rattle.alt_talks.specs.Faults.{IsAnswerFault};
+ghost use Rattle.alt_talks.specs.Stops.{AtEach, IsUncut};
 ghost use Rattle.alt_talks.specs.TalkRules.{outcome_of, http_text, status_said};
 ghost use Rattle.alt_talks.specs.TalkViews.{asking};
 ghost use Rattle.alt_talks.specs.declared.fault.RunFault.TheVariants.{Failed};
@@ -104,13 +104,13 @@ pub(crate) fn response<D: Disk>(
     ensures enough { (s : State) → Stands (D.state disk.old) tables.old s → OnOk result
         (wanted s (outcome_of s (asking target.now body.now close) moment) ≡ None) }
     ensures cause { (s : State) → Stands (D.state disk.old) tables.old s → IfErr result
-        (IsCausedBy (wanted s (outcome_of s (asking target.now body.now close) moment))) }
+        (IsAnswerFault (bounds_of tables.old).file (wanted s (outcome_of s (asking target.now body.now close) moment))) }
     ensures device { IsErrOf result Failed
         → Rose (D.state disk.old).faults (D.state disk.new).faults }
     ensures limits { bounds_of tables.new ≡ bounds_of tables.old }
     ensures goes { Goes (D.state disk.old) (D.state disk.new) }
     ensures leaves { (s : State) → Stands (D.state disk.old) tables.old s
-        → AtEach (D.state disk.old) (D.state disk.new) (λ _ image. IsAmong image s
+        → AtEach (D.state disk.old) (D.state disk.new) (λ _ image. IsUncut image s
         (outcome_of s (asking target.now body.now close) moment).atoms) }
 {
     match answer(alloc, tables, disk, operation_in(target), body, moment) {

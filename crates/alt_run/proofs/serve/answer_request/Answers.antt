@@ -1,7 +1,6 @@
 use Rattle.std.proofs.Common.{◌∷◌, [], ◌∙◌, ◌≤◌, ◌+◌, true, ap, refl, subst}
 use Rattle.alt_disk.proofs.Runs.{trusted_back}
 use Rattle.alt_disk.specs.Disk.{DiskState}
-use Rattle.alt_machine.specs.State.{State}
 use Rattle.alt_engine.specs.InHand.{Bounds}
 use Rattle.alt_tables.specs.FilesLeft.{most_files}
 use Rattle.alt_tables.specs.Stands.{bounds_of}
@@ -10,7 +9,7 @@ use Rattle.alt_talks.specs.Works.{HasFewEntries}
 use Rattle.alt_run.specs.Turns.{request, carried_out, left_by}
 use Rattle.alt_run.proofs.Serving.{turn_cut, turn_unsaid}
 use Rattle.alt_run.proofs.Working.{request_broke, request_served}
-use Rattle.alt_talks.proofs.Owning.{cause_first}
+use Rattle.alt_talks.proofs.Owning.{answer_first, none_lacked}
 use Rattle.alt_talks.proofs.Stopping.{ready_kept, stands_kept}
 use Rattle.alt_run.proofs.Beginning.{begins}
 use Rattle.alt_run.proofs.Bringing.{at_hand_worked, silent_then}
@@ -34,11 +33,12 @@ returns-in-Err-clause-served g c = λ s stands.
     let here = stands_kept old mid c.now-moment.ensures.call.keeps c.args.tables.now s stands in
     turn_unsaid old new s (request c.args.name.now c.args.body.now)
     (carried_out s c.args.name.now c.args.body.now m) (m ∷ []) c.in-Err.fault
-    (bounds_of c.args.tables.now).file
+    (bounds_of c.args.tables.now).file refl refl
     (begins old mid new s c.args.name.now c.args.body.now m c.now-moment.ensures.call
     c.now-moment.ensures.log c.now-moment.ensures.told c.in-Err.ensures.goes
     (c.in-Err.ensures.leaves s here))
-    (cause_first _ _ c.in-Err.fault (c.in-Err.ensures.cause s here))
+    (answer_first _ _ _ c.in-Err.fault
+    (none_lacked (left_by s c.args.name.now c.args.body.now m)) (c.in-Err.ensures.cause s here))
 
 pub returns-in-Err-say-clause-served : goal.returns-in-Err-say-clause-served
 returns-in-Err-say-clause-served g c = λ s stands.

@@ -5,7 +5,6 @@ use Rattle.alt_engine.specs.InHand.{Bounds}
 use Rattle.alt_tables.specs.Stands.{bounds_of}
 use Rattle.alt_talks.specs.Own.{FollowsNot, own_behind}
 use Rattle.alt_talks.specs.Works.{HasFewEntries}
-use Rattle.alt_talks.proofs.Owning.{cause_first}
 use Rattle.alt_run.specs.Trials.{trial_moment}
 use Rattle.alt_run.specs.Turns.{carried_out, left_by}
 use Rattle.alt_run.proofs.Trying.{one_done, one_broke, one_followed_some}
@@ -16,7 +15,7 @@ returns-in-Err-clause-counted g c = λ s stands.
     let state = g.D.Disk.state in
     one_broke (state c.args.disk.now) (state c.reply_text.new.disk) s c.args.name.now c.args.body.now
     (c.in-Err.ensures.leaves s stands) c.in-Err.fault (bounds_of c.args.tables.now).file
-    (cause_first _ _ c.in-Err.fault (c.in-Err.ensures.cause s stands))
+    (c.in-Err.ensures.cause s stands)
 
 pub follow-requires : goal.follow-requires
 follow-requires g c =

@@ -1,4 +1,4 @@
-use Rattle.std.proofs.Common.{◌∙◌, ◌≤◌, ◌+◌, List, ℕ, [], ◌∷◌, not, Option, Some, sym, subst}
+use Rattle.std.proofs.Common.{◌∙◌, ◌≤◌, ◌+◌, List, [], ◌∷◌, not, Option, Some, sym, subst}
 use Rattle.alt_disk.proofs.Runs.{trusted_back}
 use Rattle.alt_machine.specs.Outcomes.{last_state}
 use Rattle.alt_machine.specs.State.{State}
@@ -8,15 +8,15 @@ use Rattle.alt_engine.specs.InHand.{Bounds}
 use Rattle.alt_tables.specs.Images.{StandsFor}
 use Rattle.alt_tables.specs.FilesLeft.{most_files}
 use Rattle.alt_tables.specs.Stands.{Stands, bounds_of}
-use Rattle.alt_talks.specs.Faults.{IsCausedBy}
+use Rattle.alt_talks.specs.Faults.{IsAnswerFault}
 use Rattle.alt_talks.specs.Own.{FollowsNot, own_behind}
 use Rattle.alt_talks.specs.Runs.{Counting, Timed}
-use Rattle.alt_talks.specs.Stops.{AtEach, IsAmong}
+use Rattle.alt_talks.specs.Stops.{AtEach, IsUncut}
 use Rattle.alt_talks.specs.TalkRules.{rules, left_by, outcome_of}
 use Rattle.alt_talks.specs.TalkStops.{AnswersOn}
 use Rattle.alt_talks.specs.TalkViews.{asking}
 use Rattle.alt_talks.specs.Talks.{asked}
-use Rattle.alt_talks.proofs.Owning.{cause_first, enough_both}
+use Rattle.alt_talks.proofs.Owning.{answer_first, enough_both, none_lacked}
 use Rattle.alt_talks.proofs.Responding.{asked_reach, follow_made, follow_broke, own_follows}
 use Rattle.alt_talks.proofs.Stopping.{ready_kept, stands_kept}
 use Rattle.alt_talks.proofs.Stretching.{stretch_as}
@@ -84,7 +84,7 @@ returns-in-Ok-follow-clause-answered g c = λ s stands.
           c.deref.result.now
           (asked_of rules old mid done s q at c.now-moment.ensures.call c.now-moment.ensures.log
           c.now-moment.ensures.told c.in-Ok.ensures.goes
-          (subst (λ (atoms : List State). AtEach mid done (λ _ image. IsAmong image s atoms))
+          (subst (λ (atoms : List State). AtEach mid done (λ _ image. IsUncut image s atoms))
           (sym (rules-atoms s q at)) (c.in-Ok.ensures.leaves s here)))
           (λ trusted image is. subst (StandsFor image) (sym (rules-left s q at))
           (stands_left done c.response.new.tables left after image is))
@@ -114,7 +114,7 @@ returns-clause-answered g c = λ s stands.
     c.deref.result.now
     (asked_of rules old mid done s q at c.now-moment.ensures.call c.now-moment.ensures.log
     c.now-moment.ensures.told c.in-Ok.ensures.goes
-    (subst (λ (atoms : List State). AtEach mid done (λ _ image. IsAmong image s atoms))
+    (subst (λ (atoms : List State). AtEach mid done (λ _ image. IsUncut image s atoms))
     (sym (rules-atoms s q at)) (c.in-Ok.ensures.leaves s here)))
     (λ trusted image is. subst (StandsFor image) (sym (rules-left s q at))
     (stands_left done c.response.new.tables left after image is))
@@ -139,12 +139,13 @@ returns-in-Err-clause-answered g c = λ s stands.
     let here = stands_kept old mid aside.keeps c.args.tables.now s stands in
     let front : Asked rules old done s q at = asked_of rules old mid done s q at
     aside c.now-moment.ensures.log c.now-moment.ensures.told c.in-Err.ensures.goes
-    (subst (λ (atoms : List State). AtEach mid done (λ _ image. IsAmong image s atoms))
+    (subst (λ (atoms : List State). AtEach mid done (λ _ image. IsUncut image s atoms))
     (sym (rules-atoms s q at)) (c.in-Err.ensures.leaves s here)) in
     asked_some_on rules lawful old done s m q at c.in-Err.fault
     (bounds_of c.args.tables.now).file front
-    (subst (λ (l : Option Lack). IsCausedBy l c.in-Err.fault) (sym (rules-wants s q at))
-    (cause_first _ _ c.in-Err.fault (c.in-Err.ensures.cause s here)))
+    (subst (λ (l : Option Lack). IsAnswerFault (bounds_of c.args.tables.now).file l c.in-Err.fault)
+    (sym (rules-wants s q at))
+    (answer_first _ _ _ c.in-Err.fault (none_lacked (left_by s q at)) (c.in-Err.ensures.cause s here)))
 
 pub returns-in-Ok-follow-clause-none : goal.returns-in-Ok-follow-clause-none
 returns-in-Ok-follow-clause-none g c =

@@ -3,16 +3,16 @@ use Rattle.alt_machine.specs.Step.{step}
 use Rattle.alt_machine.specs.declared.Operation.{Operation}
 use Rattle.alt_tables.specs.Images.{Leaves}
 use Rattle.alt_machine.specs.Wanted.{wanted}
-use Rattle.alt_tables.specs.Stands.{Stands}
-use Rattle.alt_talks.specs.Faults.{IsCausedBy}
-use Rattle.alt_talks.proofs.Answering.{among_leaves, caused}
+use Rattle.alt_tables.specs.Stands.{Stands, bounds_of}
+use Rattle.alt_talks.specs.Faults.{IsAnswerFault}
+use Rattle.alt_talks.proofs.Answering.{caused, uncut_leaves}
 use Rattle.alt_talks.proofs.response.response.Goals as goal
 
 pub returns-in-Ok-text_of-clause-leaves : goal.returns-in-Ok-text_of-clause-leaves
 returns-in-Ok-text_of-clause-leaves g c = λ s stands.
     let a = g.D.Disk.state c.args.disk.now in
     let b = g.D.Disk.state c.answer.new.disk in
-    among_leaves a b c.args.tables.now s _ stands
+    uncut_leaves a b c.args.tables.now s _ c.args.body.now c.args.moment stands
     (subst (λ (o : Option Operation). Leaves a b s (step s o c.args.body.now c.args.moment).atoms)
     c.operation_in.ensures (c.answer.ensures.leaves s stands))
 
@@ -20,7 +20,7 @@ pub returns-in-Ok-clause-leaves : goal.returns-in-Ok-clause-leaves
 returns-in-Ok-clause-leaves g c = λ s stands.
     let a = g.D.Disk.state c.args.disk.now in
     let b = g.D.Disk.state c.answer.new.disk in
-    among_leaves a b c.args.tables.now s _ stands
+    uncut_leaves a b c.args.tables.now s _ c.args.body.now c.args.moment stands
     (subst (λ (o : Option Operation). Leaves a b s (step s o c.args.body.now c.args.moment).atoms)
     c.operation_in.ensures (c.answer.ensures.leaves s stands))
 
@@ -28,15 +28,16 @@ pub returns-clause-leaves : goal.returns-clause-leaves
 returns-clause-leaves g c = λ s stands.
     let a = g.D.Disk.state c.args.disk.now in
     let b = g.D.Disk.state c.answer.new.disk in
-    among_leaves a b c.args.tables.now s _ stands
+    uncut_leaves a b c.args.tables.now s _ c.args.body.now c.args.moment stands
     (subst (λ (o : Option Operation). Leaves a b s (step s o c.args.body.now c.args.moment).atoms)
     c.operation_in.ensures (c.answer.ensures.leaves s stands))
 
 pub returns-clause-cause : goal.returns-clause-cause
 returns-clause-cause g c = λ s stands.
     let fault = c.from.result in
-    subst (λ (o : Option Operation). IsCausedBy (wanted s (step s o c.args.body.now c.args.moment)) fault)
+    subst (λ (o : Option Operation). IsAnswerFault (bounds_of c.args.tables.now).file
+    (wanted s (step s o c.args.body.now c.args.moment)) fault)
     c.operation_in.ensures
-    (caused (Stands (g.D.Disk.state c.answer.new.disk) c.answer.new.tables) s
+    (caused (bounds_of c.args.tables.now).file (Stands (g.D.Disk.state c.answer.new.disk) c.answer.new.tables) s
     (step s c.operation_in.result c.args.body.now c.args.moment) c.in-Err.fault fault
     c.from.ensures (c.in-Err.ensures.settles s stands))

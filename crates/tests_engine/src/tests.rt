@@ -1,5 +1,7 @@
 mod flushed;
 mod fresh;
+mod kept;
 mod merged;
 mod opened;
+mod several;
 mod written;

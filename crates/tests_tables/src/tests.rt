@@ -4,6 +4,7 @@ mod conditions;
 mod failures;
 mod indexes;
 mod leftovers;
+mod numbers;
 mod reads;
 mod stops;
 mod streams;

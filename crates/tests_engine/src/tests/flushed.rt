@@ -10,7 +10,7 @@ use alt_engine::{Engine, Task};
 use std::alloc::Global;
 
 // Puts the rows of family 7 into a file, under a new and empty log.
-fn flush(engine: &mut Engine, disk: &mut MemoryDisk) -> Option<()>
+pub(super) fn flush(engine: &mut Engine, disk: &mut MemoryDisk) -> Option<()>
     requires { IsReady (state_of disk.old) engine.old }
     ensures { IfSome result (λ _. IsReady (state_of disk.new) engine.new) }
 {
@@ -58,7 +58,7 @@ fn rows_in_a_file_are_shown(rt: HostRuntime) {
 }
 
 // Writes behind a flush, which leave what the others left: a row that lies in the file goes and comes again, and one is new and goes.
-static MORE: [Write; 4] = [(b"a", b""), (b"d", b"five"), (b"a", b"two"), (b"d", b"")];
+pub(super) static MORE: [Write; 4] = [(b"a", b""), (b"d", b"five"), (b"a", b"two"), (b"d", b"")];
 
 // Whether memory and files show together what was written, or two files do, and so does a store that is opened again.
 fn joined(alloc: Global, twice: bool) -> Option<bool> {

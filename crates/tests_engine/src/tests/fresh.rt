@@ -11,7 +11,7 @@ static FRESH: [(u32, &[u8]); 2] = [
         1,
         b"ALTLOG01\x01\0\0\0\0\0\0\0\x20\0\0\0\x03\0\0\0\0\0\0\0\x01\0\0\0\0\0\0\0\x01\0\0\0\x02\0\0\0\0\0\0\0\0\0",
     ),
-    (2, b"ALTLOG01\0"),
+    (2, b"ALTLOG02\0"),
 ];
 
 // Whether the file has these bytes, of at most 63.

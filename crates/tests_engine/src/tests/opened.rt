@@ -10,12 +10,13 @@ const VERSIONS: &[u8] =
     b"ALTLOG01\x01\0\0\0\0\0\0\0\x20\0\0\0\x03\0\0\0\0\0\0\0\x01\0\0\0\0\0\0\0\x01\0\0\0\x02\0\0\0\0\0\0\0\0\0";
 
 // Files 1 and 2, of which an empty one isn't made; and the place that is damaged.
-static BAD: [(&[u8], &[u8], u32, u64); 13] = [
+static BAD: [(&[u8], &[u8], u32, u64); 17] = [
     // No files, or no entries.
     (b"", b"", 1, 0),
     (VERSIONS, b"", 2, 0),
-    // Versions without a header, without an entry, and with one that is none.
+    // Versions of the second form, without a header, without an entry, and with one that is none.
     (b"ALTLOG02\0", b"ALTLOG01\0", 1, 0),
+    (b"ALTLOG03\0", b"ALTLOG01\0", 1, 0),
     (b"ALTLOG01\0", b"ALTLOG01\0", 1, 8),
     (b"ALTLOG01\x01\0\0\0\0\0\0\0\x01\0\0", b"ALTLOG01\0", 1, 8),
     // Entries without a whole header, without a gate, and cut.
@@ -49,14 +50,39 @@ static BAD: [(&[u8], &[u8], u32, u64); 13] = [
         2,
         33,
     ),
+    // Groups: of no write, with one write less than is told, and of two writes of one number.
+    (
+        VERSIONS,
+        b"ALTLOG02\x01\0\0\0\0\0\0\0\x08\0\0\0\0\0\0\0\0\0",
+        2,
+        8,
+    ),
+    (
+        VERSIONS,
+        b"ALTLOG02\x01\0\0\0\0\0\0\0\x18\0\0\0\0\0\0\0\x02\0\0\0\0\0\0\0\x01\0\0\0\0\0\0\0\0\0",
+        2,
+        8,
+    ),
+    (
+        VERSIONS,
+        b"ALTLOG02\x01\0\0\0\0\0\0\0\x28\0\0\0\0\0\0\0\x02\0\0\0\0\0\0\0\x01\0\0\0\0\0\0\0\0\0\0\0\0\0\0\0\x01\0\0\0\0\0\0\0\0\0",
+        2,
+        8,
+    ),
 ];
 
 // Entries that are writes, and the number behind them.
-static GOOD: [(&[u8], u64); 3] = [
+static GOOD: [(&[u8], u64); 5] = [
     (b"ALTLOG01\0", 1),
     (
         b"ALTLOG01\x01\0\0\0\0\0\0\0\x10\0\0\0\0\0\0\0\x05\0\0\0\0\0\0\0\0\0",
         6,
+    ),
+    // A group of the writes 5 and 7.
+    (b"ALTLOG02\0", 1),
+    (
+        b"ALTLOG02\x01\0\0\0\0\0\0\0\x28\0\0\0\0\0\0\0\x02\0\0\0\0\0\0\0\x05\0\0\0\0\0\0\0\0\0\0\0\0\0\0\0\x07\0\0\0\0\0\0\0\0\0",
+        8,
     ),
     // The last number that a write may have.
     (

@@ -4,14 +4,14 @@ ghost use Rattle.std.specs.Prelude.{◌≡◌, None, IfSome};
 ghost use Rattle.alt_disk.specs.MemoryState.{state_of};
 
 use alt_disk::{Disk, MemoryDisk};
-use alt_gatelog::{GateLog, LogFault};
+use alt_gatelog::{Form, GateLog, LogFault};
 use std::alloc::{AllocError, Global};
 
 // A log of file 2 with two entries, none where a call failed.
 fn log_with(alloc: Global, disk: &mut MemoryDisk, first: &[u8], second: &[u8]) -> Option<GateLog>
     requires { (state_of disk.old).file 2 ≡ None }
 {
-    let Ok(mut log) = GateLog::make(alloc, disk, 2) else {
+    let Ok(mut log) = GateLog::make(alloc, disk, 2, Form::Two) else {
         return None;
     };
     let Ok(()) = log.append(disk, first) else {
@@ -185,12 +185,14 @@ fn an_append_whose_call_fails_leaves_the_list_or_the_entry_too(rt: HostRuntime) 
 }
 
 // The bytes of a file, and how many entries it has, or else the place where it is damaged.
-static DAMAGE: [(&[u8], Result<usize, u64>); 10] = [
+static DAMAGE: [(&[u8], Result<usize, u64>); 12] = [
     (b"", Err(0)),
     (b"ALTLOG0", Err(0)),
-    (b"ALTLOG02\x00", Err(0)),
+    (b"ALTLOG00\x00", Err(0)),
+    (b"ALTLOG03\x00", Err(0)),
     (b"ALTLOG01", Err(8)),
     (b"ALTLOG01\x00", Ok(0)),
+    (b"ALTLOG02\x00", Ok(0)),
     (b"ALTLOG01\x07\x01\x01", Ok(0)),
     (b"ALTLOG01\x01\0\0\0\0\0\0\0", Err(8)),
     (b"ALTLOG01\x01\0\0\0\0\0\0\0\x02x", Err(8)),
@@ -209,6 +211,22 @@ fn read_so(alloc: Global, bytes: &[u8], want: Result<usize, u64>) -> bool {
         (Err(fault), Err(at)) => fault == LogFault::Damaged { file: 2, at },
         _ => false,
     }
+}
+
+// The form that the log of a file of these bytes has.
+fn form_of(alloc: Global, bytes: &[u8]) -> Option<Form> {
+    let mut disk = MemoryDisk::new(alloc);
+    disk.write_at(2, 0, bytes).ok()?;
+    match GateLog::recover(alloc, &mut disk, 2) {
+        Ok(log) => Some(log.form()),
+        Err(_) => None,
+    }
+}
+
+#[test]
+fn the_header_names_the_form(rt: HostRuntime) {
+    assert!(rt; form_of(rt.alloc(), b"ALTLOG01\0") == Some(Form::One));
+    assert!(rt; form_of(rt.alloc(), b"ALTLOG02\x01\0\0\0\0\0\0\0\x01x\0") == Some(Form::Two));
 }
 
 #[test]

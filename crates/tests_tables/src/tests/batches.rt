@@ -41,7 +41,7 @@ pub(super) static BATCHES: [Request; 9] = [
     ),
 ];
 
-/// Three of them by their numbers, as the single writes that they make, in order: a stop leaves the first of these.
+/// Three of them by their numbers, as the single writes that they make, in order: a stop leaves all of these or none.
 pub(super) static MEMBERS: [(usize, &[Request]); 3] = [
     (
         2,

@@ -161,12 +161,18 @@ fn rows_of_trimmed_changes_count_for_nothing(rt: HostRuntime) {
 /// A further put, of their moment and of another key.
 static FURTHER: Request = ("PutItem", r#"{"TableName":"Tab","Item":{"k":{"S":"z"}}}"#);
 
-// By how many bytes the log grows with it, where a stop left what was written by the first so many.
-fn growth(alloc: Global, number: usize, choice: &[u8]) -> Option<u64> {
+/// Two further ones as a batch.
+static BATCH: Request = (
+    "BatchWriteItem",
+    r#"{"RequestItems":{"Tab":[{"PutRequest":{"Item":{"k":{"S":"y"}}}},{"PutRequest":{"Item":{"k":{"S":"z"}}}}]}}"#,
+);
+
+// By how many bytes the log grows with a request, where a stop left what was written by the first so many.
+fn growth(alloc: Global, number: usize, choice: &[u8], request: &Request) -> Option<u64> {
     let mut left = stopped(alloc, number, choice)?;
     let before = left.size(2).ok()?;
     let mut tables = opened(alloc, &mut left)?;
-    let (operation, body) = FURTHER;
+    let (operation, body) = *request;
     let _ = told_at(
         alloc,
         &mut tables,
@@ -181,23 +187,33 @@ fn growth(alloc: Global, number: usize, choice: &[u8]) -> Option<u64> {
 /// The bytes in an entry that clear a row of a stream: its family, its key of 8 bytes as a field, that it is cleared, and that no columns follow.
 const CLEARED: u64 = 4 + 16 + 1 + 8;
 
-/// Behind how many of the puts a further one clears how many rows.
-static CLEARS: [(usize, u64); 3] = [(6, 2), (7, 1), (8, 0)];
+/// Behind how many of the puts a further one clears how many rows, and two as a batch do, of which each clears two as long as there are some.
+static CLEARS: [(usize, u64, u64); 3] = [(6, 2, 3), (7, 1, 1), (8, 0, 0)];
 
-// Whether the further one writes so much more than where no row is left over.
-fn clears(alloc: Global, number: usize, rows: u64, choice: &[u8]) -> Option<bool> {
-    let none = growth(alloc, PUTS.len(), choice)?;
-    let some = growth(alloc, number, choice)?;
+// Whether the request writes so much more than where no row is left over.
+fn clears(
+    alloc: Global,
+    number: usize,
+    rows: u64,
+    choice: &[u8],
+    request: &Request,
+) -> Option<bool> {
+    let none = growth(alloc, PUTS.len(), choice, request)?;
+    let some = growth(alloc, number, choice, request)?;
     Some(some.checked_sub(none)? == rows.checked_mul(CLEARED)?)
 }
 
 #[test]
 fn rows_of_trimmed_changes_go_with_the_next_writes(rt: HostRuntime) {
-    for (number, rows) in &CLEARS {
+    for (number, rows, of_batch) in &CLEARS {
         for choice in &CHOICES {
             assert!(rt;
-                clears(rt.alloc(), *number, *rows, choice) == Some(true),
+                clears(rt.alloc(), *number, *rows, choice, &FURTHER) == Some(true),
                 "behind {number} puts"
+            );
+            assert!(rt;
+                clears(rt.alloc(), *number, *of_batch, choice, &BATCH) == Some(true),
+                "a batch behind {number} puts"
             );
         }
     }

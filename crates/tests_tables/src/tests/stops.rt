@@ -146,41 +146,7 @@ fn states_of(alloc: Global, number: usize, members: &[Request]) -> Option<Vec<Ve
     Some(states)
 }
 
-// Whether a stop at this moment leaves one of these states, whatever it picks.
-fn leaves_some(
-    alloc: Global,
-    disk: &MemoryDisk,
-    moment: u64,
-    states: &[Vec<String>],
-) -> Option<bool> {
-    for choice in &CHOICES {
-        let state = left(alloc, disk, moment, choice)?;
-        if !states.iter().any(|one| one.as_slice() == state.as_slice()) {
-            return Some(false);
-        }
-    }
-    Some(true)
-}
-
-// Whether stops at the moments of a batch leave one of these states, and at its end the last of them.
-fn stops_among(
-    alloc: Global,
-    disk: &MemoryDisk,
-    from: u64,
-    to: u64,
-    states: &[Vec<String>],
-) -> Option<bool> {
-    for moment in from..to {
-        if !leaves_some(alloc, disk, moment, states)? {
-            return Some(false);
-        }
-    }
-    let last = states.last()?;
-    leaves_either(alloc, disk, to, last, last)
-}
-
-// Whether a stop at each moment of the batch with that number leaves the first of its members that change something: none, some or all
-// of them, and all at its end.
+// Whether a stop at each moment of the batch with that number leaves none or all of its members that change something, and all at its end.
 fn batch_stops(alloc: Global, number: usize, members: &[Request]) -> Option<bool> {
     let states = states_of(alloc, number, members)?;
     let mut disk = empty(alloc)?;
@@ -189,11 +155,11 @@ fn batch_stops(alloc: Global, number: usize, members: &[Request]) -> Option<bool
     let (from, _) = disk.counts();
     let _ = asked(alloc, &mut tables, &mut disk, BATCHES.get(number)?)?;
     let (to, _) = disk.counts();
-    stops_among(alloc, &disk, from, to, &states)
+    stops_between(alloc, &disk, from, to, states.first()?, states.last()?)
 }
 
 #[test]
-fn a_stop_leaves_the_first_members_of_a_batch(rt: HostRuntime) {
+fn a_stop_leaves_a_batch_whole_or_not_at_all(rt: HostRuntime) {
     for (number, members) in &MEMBERS {
         assert!(rt;
             batch_stops(rt.alloc(), *number, members) == Some(true),

@@ -3,7 +3,8 @@
 A byte of a file is changed, in so many places at most, from the first of each file to the last in even steps: of the versions, of the log and
 of files of rows. What an opening has to say of it is read from the formats' pages (docs/formats) by a reader of its own: that a file is
 damaged, and where, or has another digest than that of its bytes, and which two. Where the files are those of a store all the same, it shows
-what it showed, or, without its last entries, what it showed before these; or a row is wrong, and named. And five stores that are none.
+what it showed, or, without its last entries, what it showed before these; or a row is wrong, and named. One of the stores has segments of
+both forms. And five stores that are none.
 """
 
 import concurrent.futures
@@ -14,9 +15,10 @@ import sys
 import tempfile
 
 from disks import lay
-from stores import MADE, SHOW, Script, at_once, batch, delete, ends, init, put, replay, seen, short, word
+from stores import KEPT, MADE, SHOW, Script, at_once, batch, delete, ends, init, kept_files, put, replay, seen, short, word
 
 PROGRAM, TRIES = sys.argv[1], int(sys.argv[2])
+FORMS = [b"ALTLOG01", b"ALTLOG02"]
 ROW = re.compile(r"alternator: row: family \d+ key [0-9a-f]*\n")
 
 
@@ -58,8 +60,8 @@ class Fields:
 
 
 def log_of(number, data):
-    """The entries of a gated log, each with the place of its gate."""
-    if data[:8] != b"ALTLOG01":
+    """The form of a gated log, and its entries, each with the place of its gate."""
+    if data[:8] not in FORMS:
         raise damaged(number, 0)
     entries, at = [], 8
     while at < len(data) and data[at] == 1:
@@ -70,7 +72,7 @@ def log_of(number, data):
         at += 9 + size
     if at >= len(data):
         raise damaged(number, at)
-    return entries
+    return FORMS.index(data[:8]) + 1, entries
 
 
 def rising(numbers):
@@ -103,9 +105,8 @@ def counted(fields):
     return count
 
 
-def write_of(data):
+def number_of(fields):
     """The number of a write, whose changes are read to their end."""
-    fields = Fields(data)
     number = fields.number()
     for _ in range(counted(fields)):
         fields.number(4), fields.field(), fields.flag()
@@ -113,10 +114,20 @@ def write_of(data):
             fields.field()
             if fields.flag():
                 fields.field()
-    fields.end()
     if not 1 <= number < 2**62 - 1:
         raise IndexError
     return number
+
+
+def numbers_of(form, data):
+    """The numbers of the writes of an entry: of one in the first form, of a group in the second."""
+    fields = Fields(data)
+    count = 1 if form == 1 else counted(fields)
+    numbers = [number_of(fields) for _ in range(count)]
+    fields.end()
+    if not numbers or not rising(numbers):
+        raise IndexError
+    return numbers
 
 
 def test_rows(number, data, greatest):
@@ -144,12 +155,14 @@ def test_rows(number, data, greatest):
 
 
 def store_of(files):
-    """What files hold: the last version and the writes of its segments, each by its bytes."""
+    """What files hold: the last version and the entries of its segments, each by how many writes it has and its bytes."""
 
     def file(number):
         return files.get("%08x.alt" % number, b"")
 
-    versions = log_of(1, file(1))
+    form, versions = log_of(1, file(1))
+    if form != 1:
+        raise damaged(1, 0)
     if not versions:
         raise damaged(1, 8)
     at, last = versions[-1]
@@ -160,27 +173,31 @@ def store_of(files):
     for _, greatest, numbers in families:
         for number in numbers:
             test_rows(number, file(number), greatest)
-    writes, before = [], 0
+    held, before = [], 0
     for number in segments:
-        for at, data in log_of(number, file(number)):
+        form, entries = log_of(number, file(number))
+        for at, data in entries:
             try:
-                found = write_of(data)
+                found = numbers_of(form, data)
             except IndexError:
-                found = 0
-            if found <= before:
+                found = [0]
+            if found[0] <= before:
                 raise damaged(number, at)
-            before = found
-            writes.append(data)
-    return segments, families, writes
+            before = found[-1]
+            held.append((len(found), data))
+    return segments, families, held
 
 
 class Store:
-    """A store of some lines, its files and what it holds."""
+    """A store of some lines, its files and what it holds: a fresh one, or the one of the first form that is kept."""
 
-    def __init__(self, lines):
-        self.script = Script(lines)
+    def __init__(self, lines, before=None):
+        self.script = Script(lines, before, len(before.writes) if before else 0)
         with tempfile.TemporaryDirectory() as folder:
-            init(PROGRAM, folder)
+            if before:
+                lay(kept_files(), folder)
+            else:
+                init(PROGRAM, folder)
             replay(PROGRAM, folder, self.script.text(), check=True)
             self.files = {name: open(os.path.join(folder, name), "rb").read() for name in sorted(os.listdir(folder))}
         self.held = store_of(self.files)
@@ -191,10 +208,10 @@ class Store:
             held = store_of(files)
         except Bad as bad:
             return str(bad)
-        writes = len(held[2])
-        if held[:2] != self.held[:2] or held[2] != self.held[2][:writes]:
+        entries = len(held[2])
+        if held[:2] != self.held[:2] or held[2] != self.held[2][:entries]:
             return None
-        return len(self.script.writes) - (len(self.held[2]) - writes)
+        return len(self.script.writes) - sum(writes for writes, _ in self.held[2][entries:])
 
     def fault(self, change):
         """Why the store with a byte of a file changed isn't as it has to be, None where it is."""
@@ -228,7 +245,8 @@ def five(faults):
     versions, log = "00000001.alt", "00000002.alt"
     field = lambda data: len(data).to_bytes(8, "big") + data
     change = bytes(4) + field(b"Tab") + b"\0" + (1).to_bytes(8, "big") + field(b"t") + b"\1" + field(b"\0")
-    entry = b"\1" + field((1).to_bytes(8, "big") + (1).to_bytes(8, "big") + change)
+    one = (1).to_bytes(8, "big")
+    entry = b"\1" + field(one + one + one + change)
     stores = [
         ({**fresh, versions: b"\0" + fresh[versions][1:]}, "damaged: file 1 at 0"),
         ({**fresh, versions: fresh[versions][:8] + b"\0" + fresh[versions][9:]}, "damaged: file 1 at 8"),
@@ -252,13 +270,14 @@ def main():
     flushed = [MADE, put(1, "x", "first"), put(2, "y", "two"), word("@flush")]
     both = Store(flushed + [put(1, "y", "second"), batch(put(3, "x", "three"), delete(2))])
     alone = Store([MADE] + [put(n, "x", "%d %s" % (n, "f" * 30_000)) for n in range(4)])
+    forms = Store([batch(put(1, "x", "again"), delete(2)), put(3, "y", "third")], Script(KEPT))
     with concurrent.futures.ThreadPoolExecutor(at_once()) as pool:
-        for store in both, alone:
+        for store in both, alone, forms:
             places = [(name, at) for name, data in store.files.items() for at in range(len(data))]
             # of a long file the beginning and the end, and some places between
             places = [one for one in places if near(one[1], len(store.files[one[0]]))]
             tries = [(name, at, byte) for name, at in places for byte in (1, 255)]
-            tries = tries[:: max(1, -(-len(tries) // (TRIES // 2)))]
+            tries = tries[:: max(1, -(-len(tries) // (TRIES // 3)))]
             for why in pool.map(store.fault, tries):
                 if why:
                     faults.append(why)

@@ -1,10 +1,11 @@
-"""Calls that fail, one at a time: python3 checks/failing.py PROGRAM CALLS.
+"""Calls that fail, or at which the program is killed, one at a time: python3 checks/failing.py PROGRAM CALLS.
 
 A run is recorded by strace, and then repeated over the same store with its first call failing, then its second, and so on to the CALLSth:
 each call on the store's files and its folder (a write, a sync, a removal, an opening, a read, a size, a list of names) and each write to
 standard output. Each run has to end with status 4 and its note, to have said a front of what it had to say, and to leave a store that
-shows each write that was answered, at most those of one line more, and none half. So it is where the disk is full: a small file system in
-memory, where it may be mounted, and a limit on the size of files.
+shows each write that was answered, at most those of one line more, and none half: no batch is cut. So it is where the program is killed as
+it writes, syncs, removes or says, and where the disk is full: a small file system in memory, where it may be mounted, and a limit on the
+size of files. All calls are tried over two stores, the second of which was left by a build before the second form of segments.
 """
 
 import concurrent.futures
@@ -17,7 +18,9 @@ import subprocess
 import sys
 import tempfile
 
-from stores import DEVICE, LIMITS, MADE, NO_FLUSH, Script, answered, at_once, batch, delete, ends, init, put, replay, seen, short, word
+from disks import lay
+from stores import DEVICE, KEPT, LIMITS, MADE, NO_FLUSH, OVER_KEPT, Script, answered, at_once, batch, delete, ends, init, kept_files
+from stores import put, replay, seen, short, word
 
 PROGRAM, CALLS = sys.argv[1], int(sys.argv[2])
 # What is tried of a call, besides that it fails as a device does.
@@ -37,6 +40,7 @@ LINES = [
     put(4, "z", "four"),
 ]
 STRAY = "00001000.alt"
+KILL = "signal=KILL"
 
 
 def begun(folder):
@@ -46,7 +50,15 @@ def begun(folder):
     replay(PROGRAM, folder, script.text(), check=True)
     with open(os.path.join(folder, STRAY), "wb") as file:
         file.write(b"ALTLOG01\0")
-    return Script(LINES, script.writes)
+    return Script(LINES, script, len(script.writes))
+
+
+def kept(folder):
+    """The store of the first form, and its script."""
+    os.mkdir(folder)
+    lay(kept_files(), folder)
+    before = Script(KEPT)
+    return Script(OVER_KEPT, before, len(before.writes))
 
 
 def calls_of(store, script, where):
@@ -88,28 +100,31 @@ def failing(begun_on, script, call, number, error):
     with tempfile.TemporaryDirectory() as where:
         store = os.path.join(where, "store")
         shutil.copytree(begun_on, store)
-        inject = "inject=%s:error=%s:when=%d" % (call, error, number)
+        inject = "inject=%s:%s:when=%d" % (call, error, number)
         wrap = ["strace", "-o", os.path.join(where, "trace"), "-e", "trace=" + call, "-e", inject]
         run = replay(PROGRAM, store, script.text(), wrap)
         name = "%s %d failing by %s" % (call, number, error)
+        if error == KILL:
+            run = signalled(run, signal.SIGKILL)
         return ended(store, script, run, name)
 
 
-def each_call(faults):
-    """Each call in turn, which fails for the device, and a write also for want of room."""
+def each_call(begins, faults):
+    """Each call in turn, which fails for the device, a write also for want of room; or the program is killed at what changes or says something."""
     with tempfile.TemporaryDirectory() as where:
         store, again = os.path.join(where, "store"), os.path.join(where, "again")
-        script = begun(store)
+        script = begins(store)
         shutil.copytree(store, again)
         calls = calls_of(again, script, where)
-        tries = [(call, number, "EIO") for call, number in calls[:CALLS]]
-        tries += [(call, number, "ENOSPC") for call, number in calls[:CALLS] if call == "pwrite64"]
+        tries = [(call, number, "error=EIO") for call, number in calls[:CALLS]]
+        tries += [(call, number, "error=ENOSPC") for call, number in calls[:CALLS] if call == "pwrite64"]
+        tries += [(call, number, KILL) for call, number in calls[:CALLS] if call in WRITES]
         with concurrent.futures.ThreadPoolExecutor(at_once()) as pool:
             for why in pool.map(lambda one: failing(store, script, *one), tries):
                 if why:
                     faults.append(why)
     kinds = sorted({call for call, _, _ in tries})
-    print("stops: %d calls of %d fail in turn (%s)" % (len(calls[:CALLS]), len(calls), ", ".join(kinds)))
+    print("stops: %d calls of %d fail in turn, over a store that is %s (%s)" % (len(calls[:CALLS]), len(calls), begins.__name__, ", ".join(kinds)))
     return len(tries)
 
 
@@ -169,7 +184,7 @@ def limited(faults):
                 run = replay(PROGRAM, store, script.text(), preexec_fn=limit, restore_signals=False)
                 name = "files of at most %d bytes" % size
                 if not ignored:
-                    run = signalled(run)
+                    run = signalled(run, signal.SIGXFSZ)
                 why = ended(store, script, run, name)
                 if why:
                     faults.append(why)
@@ -177,9 +192,9 @@ def limited(faults):
     return 2 * len(sizes)
 
 
-def signalled(run):
+def signalled(run, by):
     """A run that was ended by that signal, as one that failed."""
-    if run.returncode == -signal.SIGXFSZ:
+    if run.returncode == -by:
         run.returncode, run.stderr = 4, DEVICE
         run.stdout = run.stdout[: run.stdout.rfind("\n") + 1]
     return run
@@ -189,7 +204,7 @@ def main():
     faults = []
     count = full(faults) + limited(faults)
     if shutil.which("strace"):
-        count += each_call(faults)
+        count += each_call(begun, faults) + each_call(kept, faults)
     else:
         print("stops: strace is not installed, and calls that fail were skipped")
     ends("failures", count - len(faults), faults)

@@ -34,7 +34,7 @@ entries() {
   local file sum=0
   for file in "$work/$1"/*.alt; do
     [ "${file##*/}" != 00000001.alt ] || continue
-    [ "$(head -c 8 "$file")" = ALTLOG01 ] || continue
+    case "$(head -c 8 "$file")" in ALTLOG0[12]) ;; *) continue ;; esac
     sum=$((sum + $(wc -c <"$file") - 9))
   done
   echo $sum
@@ -162,6 +162,23 @@ status 0 '
   same "and what is left of $next" "$(lines last $least "$(get a)")" '200 {"Item":{"k":{"S":"a"},"v":{"S":"here"}}}
 status 0 '
 done
+# a store whose log is of the first form: its first write, which makes one of the second, wants a file
+older() {
+  numbered older "$1"
+  printf 'ALTLOG01\0' >"$work/older/00000002.alt"
+}
+older ffffffff
+cp -r "$work/older" "$work/before"
+same 'a first write that wants a file' "$(lines older $least 'ListTables {}' "$table" 'ListTables {}')" "200 {\"TableNames\":[]}
+status 6 $spent"
+same 'leaves every file' "$(diff -rq "$work/before" "$work/older")" ''
+same 'and refused requests and reads want none' "$(lines older $least 'DeleteTable {"TableName":"Tab"}' 'ListTables {}' | tail -n 2)" '200 {"TableNames":[]}
+status 0 '
+older fffffffe
+same 'a first write that has the last file' "$(lines older $least "$table" "$(put a here)" @reopen "$(get a)" | tail -n 3)" 'ok
+200 {"Item":{"k":{"S":"a"},"v":{"S":"here"}}}
+status 0 '
+same 'has it' "$(head -c 8 "$work/older/fffffffe.alt")" ALTLOG02
 # a step behind a request: the reply was said
 numbered last ffffffff
 lines last $most "$table" "$(put a "$(filler a)")" >/dev/null

@@ -11,7 +11,7 @@ import sys
 import tempfile
 
 from disks import Disk, lay, traced
-from stores import LIMITS, MADE, Script, answered, at_once, batch, delete, ends, init, put, seen, short, word
+from stores import KEPT, LIMITS, MADE, OVER_KEPT, Script, answered, at_once, batch, delete, ends, init, kept_files, put, seen, short, word
 
 PROGRAM, IMAGES = sys.argv[1], int(sys.argv[2])
 FILL = "f" * 3000
@@ -125,7 +125,7 @@ def tried(cuts, faults, pool):
 
 def next_life(cut, count):
     """A further run over what a cut or a kill has left, which shows so many writes."""
-    script = Script(([] if count else [MADE]) + going_on(cut.depth), cut.script.writes[:count])
+    script = Script(([] if count else [MADE]) + going_on(cut.depth), cut.script, count)
     if cut.disk:
         return Life(cut.disk, script, cut.least, cut.depth + 1, cut.name + "; then")
     with tempfile.TemporaryDirectory() as folder:
@@ -139,17 +139,28 @@ def begun_on(good):
     return [one for part in parts for one in evenly(part, BEGUN // 2)]
 
 
+def first_lives():
+    for name, lines in ("each", EACH), ("many", MANY):
+        with tempfile.TemporaryDirectory() as folder:
+            init(PROGRAM, folder)
+            yield Life(Disk(folder), Script(lines), 0, 0, name)
+    # A store of segments of the first form, whose first write makes one of the second.
+    with tempfile.TemporaryDirectory() as folder:
+        lay(kept_files(), folder)
+        before = Script(KEPT)
+        script = Script(OVER_KEPT, before, len(before.writes))
+        yield Life(Disk(folder), script, len(before.writes), 0, "kept")
+
+
 def main():
     faults, opened, calls = [], [0, 0, 0], 0
     with concurrent.futures.ThreadPoolExecutor(at_once()) as pool:
-        for name, lines in ("each", EACH), ("many", MANY):
-            with tempfile.TemporaryDirectory() as folder:
-                init(PROGRAM, folder)
-                lives = [Life(Disk(folder), Script(lines), 0, 0, name)]
+        for first in first_lives():
+            lives = [first]
             for depth, share in enumerate(SHARES):
                 good = []
                 for life in lives:
-                    cuts, _ = life.some(int(IMAGES / 2 * share / len(lives)))
+                    cuts, _ = life.some(int(IMAGES / 3 * share / len(lives)))
                     good += tried(cuts, faults, pool)
                     calls += len(life.deeds)
                 opened[depth] += len(good)

@@ -70,7 +70,7 @@ mkdir "$work/part" && : >"$work/part/0000001f.alt" && : >"$work/part/1f.alt" && 
 expect 'where another file of a store is' 2 'alternator: store not empty: file 31' ./alternator "$work/part" 0 init
 rm "$work/part/0000001f.alt"
 says 'other names are passed over' 0 ok ./alternator "$work/part" 0 init
-[ "$(cat "$work/made/"*.alt | od -An -tx1 | tr -d ' \n')" = 414c544c4f473031010000000000000020000000030000000000000001000000000000000100000002000000000000000000414c544c4f47303100 ] \
+[ "$(cat "$work/made/"*.alt | od -An -tx1 | tr -d ' \n')" = 414c544c4f473031010000000000000020000000030000000000000001000000000000000100000002000000000000000000414c544c4f47303200 ] \
   && passed=$((passed + 1)) || { failed=$((failed + 1)); echo 'the bytes of an empty store'; }
 
 # ---- closed standard streams: no file of a store comes into the place of one, so nothing is said or noted into it
@@ -81,7 +81,7 @@ mkdir "$work/tabled"
 printf '%s\n' 'CreateTable {"TableName":"Tab","KeySchema":[{"AttributeName":"k","KeyType":"HASH"}],"AttributeDefinitions":[{"AttributeName":"k","AttributeType":"S"}]}' \
   | ./alternator "$work/tabled" 0 replay 65536 4 >/dev/null
 cp -r "$work/tabled" "$work/crooked"
-printf 'ALTLOG02\0' | dd of="$work/crooked/00000002.alt" conv=notrunc 2>/dev/null
+printf 'ALTLOG03\0' | dd of="$work/crooked/00000002.alt" conv=notrunc 2>/dev/null
 # without STREAMS COMMAND..: runs it without these standard streams, some of the digits 0, 1 and 2
 without() {
   local streams=$1
@@ -188,45 +188,72 @@ spoilt() {
   printf "$4" >"$work/spoilt/$3"
   expect "$1" 3 "$2" ./alternator "$work/spoilt" 0 replay 65536 4
 }
-spoilt 'a log without its header' 'alternator: damaged: file 2 at 0' 00000002.alt 'ALTLOG02\0'
+spoilt 'a log without its header' 'alternator: damaged: file 2 at 0' 00000002.alt 'ALTLOG03\0'
 spoilt 'a log without an end' 'alternator: damaged: file 2 at 8' 00000002.alt 'ALTLOG01'
 spoilt 'an entry past the end' 'alternator: damaged: file 2 at 8' 00000002.alt 'ALTLOG01\1\0\0\0\0\0\0\0\5\0'
 spoilt 'an entry that is no write' 'alternator: damaged: file 2 at 8' 00000002.alt 'ALTLOG01\1\0\0\0\0\0\0\0\0\0'
+spoilt 'a group of no write' 'alternator: damaged: file 2 at 8' 00000002.alt 'ALTLOG02\1\0\0\0\0\0\0\0\10\0\0\0\0\0\0\0\0\0'
+spoilt 'versions of the second form' 'alternator: damaged: file 1 at 0' 00000001.alt 'ALTLOG02\0'
 spoilt 'a version of an empty log' 'alternator: damaged: file 1 at 8' 00000001.alt 'ALTLOG01\0'
-# logged NAME NOTE HEX..: a store whose log has these entries
+# gated HEX..: these entries behind open gates, as printf takes them
+gated() {
+  local entry
+  for entry in "$@"; do printf '01%016x%s' $((${#entry} / 2)) "$entry"; done | sed 's/../\\x&/g'
+}
+# group HEX..: a group of these writes
+group() {
+  printf '%016x' $#
+  printf '%s' "$@"
+}
+# logged FORM NAME NOTE HEX..: a store whose log of that form has these entries
 logged() {
-  local name=$1 note=$2 log='ALTLOG01' entry
-  shift 2
-  for entry in "$@"; do log+=$(printf '01%016x%s' $((${#entry} / 2)) "$entry" | sed 's/../\\x&/g'); done
-  spoilt "$name" "$note" 00000002.alt "$log\\0"
+  local name="$2, form $1" note=$3 log=ALTLOG0$1
+  shift 3
+  spoilt "$name" "$note" 00000002.alt "$log$(gated "$@")\\0"
 }
 # written NUMBER FAMILY KEY COLUMN VALUE: a write of a row with one column, in hexadecimal
 field() { printf '%016x%s' $((${#1} / 2)) "$1"; }
 written() { printf '%016x%016x%08x%s01%016x%s01%s' "$1" 1 "$2" "$(field "$3")" 1 "$(field "$4")" "$(field "$5")"; }
-logged 'an entry with a byte more' 'alternator: damaged: file 2 at 8' "$(written 1 1 61 62 63)00"
-logged 'an entry whose number does not rise' 'alternator: damaged: file 2 at 74' "$(written 2 0 61 62 63)" "$(written 2 0 61 62 63)"
-logged 'a description that is none' 'alternator: row: family 0 key 546162' "$(written 1 0 546162 78 79)"
-logged 'a row that no table has' 'alternator: row: family 1 key 61' "$(written 1 1 61 62 63)"
-logged 'the first of two wrong rows' 'alternator: row: family 0 key 61' "$(written 1 1 61 62 63)" "$(written 2 0 61 62 63)"
-logged 'a next family that is none' 'alternator: row: family 0 key ' "$(written 1 0 '' 6e657874 00)"
+# one HEX: the same write as an entry of the first form, and then as one of the second
+one() { printf %s "$1"; }
+for form in 1 2; do
+  [ $form = 1 ] || one() { group "$1"; }
+  logged $form 'an entry with a byte more' 'alternator: damaged: file 2 at 8' "$(one "$(written 1 1 61 62 63)")00"
+  logged $form 'an entry whose number does not rise' "alternator: damaged: file 2 at $((66 + 8 * form))" "$(one "$(written 2 0 61 62 63)")" "$(one "$(written 2 0 61 62 63)")"
+  logged $form 'a description that is none' 'alternator: row: family 0 key 546162' "$(one "$(written 1 0 546162 78 79)")"
+  logged $form 'a row that no table has' 'alternator: row: family 1 key 61' "$(one "$(written 1 1 61 62 63)")"
+  logged $form 'the first of two wrong rows' 'alternator: row: family 0 key 61' "$(one "$(written 1 1 61 62 63)")" "$(one "$(written 2 0 61 62 63)")"
+  logged $form 'a next family that is none' 'alternator: row: family 0 key ' "$(one "$(written 1 0 '' 6e657874 00)")"
+done
+logged 1 'a group, where one write is wanted' 'alternator: damaged: file 2 at 8' "$(group "$(written 1 1 61 62 63)")"
+logged 2 'a write, where a group is wanted' 'alternator: damaged: file 2 at 8' "$(written 1 1 61 62 63)"
+logged 2 'a group with a write less than it tells' 'alternator: damaged: file 2 at 8' "$(group "$(written 1 1 61 62 63)" '')"
+logged 2 'a group with a write more' 'alternator: damaged: file 2 at 8' "$(group "$(written 1 1 61 62 63)$(written 2 1 61 62 63)")"
+logged 2 'a group whose numbers do not rise' 'alternator: damaged: file 2 at 8' "$(group "$(written 2 1 61 62 63)" "$(written 2 1 61 62 63)")"
+logged 2 'a group below the last number of the one before' 'alternator: damaged: file 2 at 139' "$(group "$(written 1 1 61 62 63)" "$(written 5 1 61 62 63)")" "$(group "$(written 4 1 61 62 63)")"
+logged 2 'a wrong row in the second write of a group' 'alternator: row: family 0 key 61' "$(group "$(written 1 1 61 62 63)" "$(written 2 0 61 62 63)")"
 # a store whose table, of family 1, has one item, which its index, of family 2, has too
 mkdir "$work/indexed"
 says 'a store is made for an index' 0 ok ./alternator "$work/indexed" 0 init
 indexed='CreateTable {"TableName":"Tab","KeySchema":[{"AttributeName":"k","KeyType":"HASH"}],"AttributeDefinitions":[{"AttributeName":"k","AttributeType":"S"},{"AttributeName":"g","AttributeType":"S"}],"GlobalSecondaryIndexes":[{"IndexName":"Gix","KeySchema":[{"AttributeName":"g","KeyType":"HASH"}],"Projection":{"ProjectionType":"ALL"}}]}
 PutItem {"TableName":"Tab","Item":{"k":{"S":"a"},"g":{"S":"a"},"n":{"N":"1"}}}'
 printf '%s\n' "$indexed" | ./alternator "$work/indexed" 0 replay 65536 4 >/dev/null
-# behind NAME NOTE HEX..: that store, or another one by the variable base, in whose log these entries follow; no note where it is opened
+# behind NAME NOTE HEX..: that store, or another one by the variable base, in whose log these writes follow, each as a group, and then all as
+# one; no note where it is opened
 base=indexed
 behind() {
-  local name=$1 note=$2 log='' entry status=3
+  local name=$1 note=$2 status=3 each write groups=()
   [ -n "$note" ] || status=0
   shift 2
-  for entry in "$@"; do log+=$(printf '01%016x%s' $((${#entry} / 2)) "$entry" | sed 's/../\\x&/g'); done
-  rm -rf "$work/spoilt"
-  cp -r "$work/$base" "$work/spoilt"
-  truncate -s -1 "$work/spoilt/00000002.alt"
-  printf "$log\\0" >>"$work/spoilt/00000002.alt"
-  expect "$name" "$status" "$note" ./alternator "$work/spoilt" 0 replay 65536 4
+  for write in "$@"; do groups+=("$(group "$write")"); done
+  for each in groups together; do
+    [ $each = groups ] || groups=("$(group "$@")")
+    rm -rf "$work/spoilt"
+    cp -r "$work/$base" "$work/spoilt"
+    truncate -s -1 "$work/spoilt/00000002.alt"
+    printf "$(gated "${groups[@]}")\\0" >>"$work/spoilt/00000002.alt"
+    expect "$name, $each" "$status" "$note" ./alternator "$work/spoilt" 0 replay 65536 4
+  done
 }
 # cleared NUMBER FAMILY KEY: a write that clears a row
 cleared() { printf '%016x%016x%08x%s01%016x' "$1" 1 "$2" "$(field "$3")" 0; }
@@ -287,6 +314,48 @@ behind 'a change that is gone' '' "$(cleared 3 2 0000000000000002)"
 behind 'rows of no table come before those of streams' 'alternator: row: family 3 key 61' "$(row_of 3 2 61 6d $second)" "$(written 4 3 61 '' '')"
 base=both
 behind 'rows of indexes come behind those of streams' 'alternator: row: family 3 key 61' "$(written 3 2 61 '' '')" "$(row_of 4 3 61 6d $second)"
+
+# ---- a store whose log is of the first form, as a build before the second one left it (checks/kept.txt): its first write makes a log of the second
+
+mkdir "$work/kept"
+while read -r name bytes; do
+  [ "$name" = '#' ] || printf "$(echo "$bytes" | sed 's/../\\x&/g')" >"$work/kept/$name"
+done <checks/kept.txt
+# grown NAME WANTED LINE..: the logs of a copy of it behind these lines, the first by its file and its form, and the bytes of that of the older build
+grown() {
+  local name=$1 wanted=$2 file got=''
+  shift 2
+  rm -rf "$work/grown"
+  cp -r "$work/kept" "$work/grown"
+  printf '%s\n' "$@" | ./alternator "$work/grown" 0 replay 65536 4 >"$work/said" 2>"$work/noted"
+  for file in "$work/grown"/*.alt; do
+    [ "$(head -c 7 "$file" | tr -d '\0')" != ALTLOG0 ] || got+="${got:+ }$((16#$(basename "$file" .alt))):$(head -c 8 "$file" | tail -c 1)"
+  done
+  file=00000002.alt
+  if [ "$got" = "$wanted" ] && [ ! -s "$work/noted" ] && { [ ! -e "$work/grown/$file" ] || cmp -s "$work/kept/$file" "$work/grown/$file"; }; then
+    passed=$((passed + 1))
+  else
+    failed=$((failed + 1))
+    echo "$name: logs '$got' and note '$(cat "$work/noted")', not '$wanted'"
+  fi
+}
+rng() { printf '{"k":{"S":"a"},"r":{"N":"%s"},"g":{"S":"%s"},"v":{"S":"%s"}}' "$@"; }
+again=$(printf 'BatchWriteItem {"RequestItems":{"Rng":[{"PutRequest":{"Item":%s}},{"PutRequest":{"Item":%s}},{"DeleteRequest":{"Key":{"k":{"S":"a"},"r":{"N":"3"}}}}]}}' \
+  "$(rng 2 y again)" "$(rng 5 x five)")
+same="PutItem {\"TableName\":\"Rng\",\"Item\":$(rng 2 x two)}"
+grown 'a store of the first form that is read' '1:1 2:1' 'Scan {"TableName":"Rng"}' @step @reopen
+diff -rq "$work/kept" "$work/grown" && passed=$((passed + 1)) || failed=$((failed + 1))
+grown 'a put of what is there' '1:1 2:1' "$same"
+grown 'a batch that is refused' '1:1 2:1' "${again/\"N\":\"5\"/\"N\":\"2\"}"
+diff -rq "$work/kept" "$work/grown" && passed=$((passed + 1)) || failed=$((failed + 1))
+grown 'the first write' '1:1 2:1 3:2' "$again"
+grown 'further writes' '1:1 2:1 3:2' "$again" "${same/two/2}" @reopen "$again"
+grown 'a flush of all' '1:1 8:2' "$again" @flush
+grown 'a flush of all before the first write' '1:1 7:2' @flush "$again"
+grown 'what it shows' '1:1 8:2' "$again" @flush @reopen 'Scan {"TableName":"Rng"}' 'Scan {"TableName":"Rng","IndexName":"Gix"}'
+says 'what it shows is what was put' 0 "200 {\"Count\":2,\"Items\":[{\"g\":{\"S\":\"y\"},\"k\":{\"S\":\"a\"},\"r\":{\"N\":\"2\"},\"v\":{\"S\":\"again\"}},{\"g\":{\"S\":\"x\"},\"k\":{\"S\":\"a\"},\"r\":{\"N\":\"5\"},\"v\":{\"S\":\"five\"}}],\"ScannedCount\":2}
+200 {\"Count\":2,\"Items\":[{\"g\":{\"S\":\"y\"},\"k\":{\"S\":\"a\"},\"r\":{\"N\":\"2\"}},{\"g\":{\"S\":\"x\"},\"k\":{\"S\":\"a\"},\"r\":{\"N\":\"5\"}}],\"ScannedCount\":2}" tail -n 2 "$work/said"
+
 # a store is held by one process
 mkfifo "$work/wait"
 ./alternator "$work/made" 0 replay 65536 4 <"$work/wait" >"$work/answered" &

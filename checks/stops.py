@@ -2,7 +2,7 @@
 
 In each round `replay` is fed puts, deletes, updates that raise a counter, flushes and reopenings over one store, and is killed a random
 while behind a random number of replies; in every fourth the reopening behind it is killed too. Then the store is opened again, and has to show each write that was
-answered, at most those of one line more (the one that was begun), and none half: in the table, in its index and in its stream alike. Items
+answered, at most those of one line more (the one that was begun), and none half, no batch either: in the table, in its index and in its stream alike. Items
 are large enough that flushes run all the time. Every 50 rounds another store is begun, and the whole stream of the last one read.
 """
 
@@ -13,7 +13,7 @@ import sys
 import tempfile
 import threading
 
-from stores import LIMITS, MADE, Script, answered, delete, ends, init, put, replay, seen, short, word
+from stores import LIMITS, MADE, Script, answered, batch, delete, ends, init, put, replay, seen, short, word
 
 PROGRAM, ROUNDS = sys.argv[1], int(sys.argv[2])
 KEYS = 40
@@ -37,13 +37,16 @@ def raised(times):
 
 
 def nth(count):
-    """The line behind `count` others: of five one raises the counter, of ten one deletes what the line before it has put."""
+    """The line behind `count` others: of five one raises the counter, of ten one deletes what the line before it has put, and one is a batch
+    of three puts."""
     if count % 97 == 0:
         return word("@flush") if count % 2 else word("@reopen")
     if count % 5 == 3:
         return raised(sum(1 for n in range(count + 1) if n % 5 == 3 and n % 97))
     if count % 10 == 7 and (count - 1) % 97:
         return delete((count - 1) % KEYS)
+    if count % 10 == 5:
+        return batch(*(put((count + apart) % KEYS, "g%d" % (count % 7), "%d %s" % (count, FILL)) for apart in (0, 11, 22)))
     return put(count % KEYS, "g%d" % (count % 7), "%d %s" % (count, FILL))
 
 
@@ -85,7 +88,7 @@ class Store:
     def round(self, number):
         """Why the store isn't as it has to be behind one kill, None where it is."""
         coming = [nth(count) for count in range(self.count, self.count + MANY)]
-        script = Script(coming, self.script.writes[: self.writes])
+        script = Script(coming, self.script, self.writes)
         said = killed(self.folder, script.lines, random.randrange(MOST_REPLIES), random.uniform(0, 0.02))
         done = answered(said, script.lines)
         if number % 4 == 3:
@@ -93,7 +96,7 @@ class Store:
         most = script.behind[min(done + 1, MANY)]
         first = self.writes + 1
         got = seen(PROGRAM, self.folder, most, first=first)
-        for after in range(script.behind[done], most + 1):
+        for after in sorted(script.whole & {*range(script.behind[done], most + 1)}):
             if got == since(script.view(after), first):
                 # A line that was begun counts as carried out where its writes are there.
                 self.count += done + (after > script.behind[done])

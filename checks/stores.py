@@ -2,7 +2,7 @@
 
 A `Script` is a list of lines for `replay` over a fresh store, each with the single writes that it makes. After so many of these writes a
 store has to show `view` of them: the items of the table, the keys in its index, and one record of each change, which `seen` reads from a
-store that is opened again.
+store that is opened again. A request is never cut: a store shows the writes of whole lines.
 """
 
 import json
@@ -58,16 +58,18 @@ def word(text):
 
 
 class Script:
-    """Lines, from a fresh store on, or from one that a script before it has left."""
+    """Lines, from a fresh store on, or from one that has the first `count` writes of a script before it."""
 
-    def __init__(self, lines, before=()):
+    def __init__(self, lines, before=None, count=0):
         self.lines = [line for line, _ in lines]
-        self.writes = list(before)
+        self.writes = before.writes[:count] if before else []
         # how many writes there are behind so many lines
         self.behind = [len(self.writes)]
         for _, writes in lines:
             self.writes += writes
             self.behind.append(len(self.writes))
+        # how many there are behind whole lines
+        self.whole = {*self.behind, *(one for one in (before.whole if before else [0]) if one <= count)}
 
     def text(self):
         return "".join(line + "\n" for line in self.lines)
@@ -88,19 +90,28 @@ class Script:
         return items, keys, records
 
     def between(self, least, most, shown):
-        """The count from the least to the most of writes whose view is this, None where there is none."""
+        """The count from the least to the most of writes of whole lines whose view is this, None where there is none."""
         for count in range(least, most + 1):
-            if self.view(count) == shown:
+            if count in self.whole and self.view(count) == shown:
                 return count
         return None
 
 
 # The first write of a script: it makes the table.
 MADE = (TABLE, [(None, None)])
+# Lines whose store is kept as the last build before the second form of segments has left it (kept.txt), and the first ones over it.
+KEPT = [MADE, put(1, "x", "first"), put(1, "y", "second"), batch(put(2, "x", "two"), put(3, "x", "three"), delete(1))]
+OVER_KEPT = [batch(put(1, "x", "again"), put(5, "y", "five"), delete(2)), word("@flush"), word("@reopen"), put(2, "z", "once more")]
 
 
 def run(program, store, words, text, wrap=(), **more):
     return subprocess.run([*wrap, program, store, "0", *words], input=text, capture_output=True, text=True, **more)
+
+
+def kept_files():
+    """The files of that store."""
+    with open(os.path.join(os.path.dirname(__file__), "kept.txt")) as lines:
+        return {name: bytes.fromhex(text) for name, text in (line.split() for line in lines if line[:1] != "#")}
 
 
 def init(program, store):

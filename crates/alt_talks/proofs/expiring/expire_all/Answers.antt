@@ -1,15 +1,13 @@
 -- One more is made, or it was the last, or it broke off.
-use Rattle.std.proofs.Common.{◌≡◌, ◌-◌, ◌+◌, ◌∙◌, ℕ, suc, zero, true, false, sym, ap, subst, refl, nat_lt, length, arith}
+use Rattle.std.proofs.Common.{◌≡◌, ◌-◌, ◌+◌, ◌∙◌, ℕ, suc, true, false, subst, refl, nat_lt, arith}
 use Rattle.std.proofs.lemmas.Bool.{le-ltb, lt-ltb}
 use Rattle.alt_disk.proofs.Calls.{goes_on, goes_refl}
 use Rattle.alt_disk.proofs.Runs.{trusted_back}
 use Rattle.alt_engine.specs.InHand.{Bounds}
 use Rattle.alt_machine.specs.declared.TheConstants.{MOST_EXPIRED}
-use Rattle.alt_machine.specs.Expiry.{expiring}
-use Rattle.alt_machine.specs.State.{State}
 use Rattle.alt_tables.specs.Stands.{bounds_of}
 use Rattle.alt_talks.specs.Own.{BetweenNot, expiries}
-use Rattle.alt_talks.proofs.Expired.{AreExpired, expired_all, expired_as, expired_broke, expired_enough, expired_follows, expired_last, expired_more, expired_none, expired_stands, follows_one, left_next}
+use Rattle.alt_talks.proofs.Expired.{expired_all, expired_as, expired_broke, expired_enough, expired_follows, expired_last, expired_more, expired_none, expired_stands, follows_one, left_next}
 use Rattle.alt_talks.proofs.expiring.expire_all.Goals as goal
 
 pub rounds-init : goal.rounds-init

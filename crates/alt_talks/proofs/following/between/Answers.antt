@@ -1,12 +1,11 @@
 -- Nothing follows but behind every 64th connection, and nothing there where no moment was told.
-use Rattle.std.proofs.Common.{◌≡◌, ◌==◌, ◌%◌, ◌∙◌, ℕ, Option, sym, ap, subst, true, false, Some, None, arith}
+use Rattle.std.proofs.Common.{◌≡◌, ◌∙◌, ℕ, Option, sym, ap, subst, None, arith}
 use Rattle.std.specs.Prelude.{OnOk, IfErr}
 use Rattle.alt_disk.specs.Disk.{DiskState}
 use Rattle.alt_machine.specs.Outcomes.{last_state}
 use Rattle.alt_tables.specs.Stands.{Stands, bounds_of}
 use Rattle.alt_talks.specs.Own.{BetweenNot, Own, own_between}
 use Rattle.alt_talks.specs.Works.{Follows}
-use Rattle.alt_talks.specs.declared.expiring.TheConstants.{BETWEEN_EXPIRIES}
 use Rattle.alt_talks.proofs.Owning.{follows_none, expiries_between, none_between, none_told}
 use Rattle.alt_talks.proofs.following.between.Goals as goal
 

@@ -22,12 +22,13 @@ rounds-init g c =
     )
 
 pub expire-requires : goal.expire-requires
-expire-requires g c = record { ready = λ trusted.
-    let state = g.D.Disk.state in
-    let first = c.requires.ready (trusted_back (state c.args.disk.now) (state c.rounds.disk)
-    c.rounds.invariant.2 trusted) in
-    let so = c.rounds.invariant.0 first.0 first.1 in
-    (so.to, so.stands);
+expire-requires g c = record {
+  ready = λ trusted.
+      let state = g.D.Disk.state in
+      let first = c.requires.ready (trusted_back (state c.args.disk.now) (state c.rounds.disk)
+      c.rounds.invariant.2 trusted) in
+      let so = c.rounds.invariant.0 first.0 first.1 in
+      (so.to, so.stands);
 }
 
 pub rounds-preserved : goal.rounds-preserved

@@ -11,6 +11,7 @@ pub mod Shown
 pub mod Wholes
 pub mod Fields
 pub mod WholeLists
+pub mod BareLaws
 pub mod WholeDescriptions
 pub mod Steady
 pub mod Stopped

@@ -9,6 +9,7 @@ use Rattle.alt_shape.specs.Refusals.{bad_name, bad_key_schema, bad_index, IsKnow
 use Rattle.alt_shape.specs.declared.refusal.Refusal.{Refusal}
 use Rattle.alt_value.specs.declared.kind.KeyKind.{KeyKind}
 use Rattle.alt_value.specs.declared.kind.KeyKind.TheVariants.{S, N, B}
+use Rattle.alt_schema.specs.Bare.{is_whole}
 use Rattle.alt_schema.specs.Described.{key_attr, hash_of, range_of, indexes_from, described_by, same_kind, is_one_of, keys_defined, from_on, IsNew}
 use Rattle.alt_schema.specs.Rules.{names_fit, keys_fit_together, indexes_fit, refused_for, is_key_schema, in_each_schema, is_used, is_defined, all_differ, defines_exactly, stated_indexes, most_locals, most_globals, is_projection, is_local_to}
 use Rattle.alt_schema.specs.declared.schema.KeyAttr.{KeyAttr}
@@ -194,6 +195,12 @@ same_there : (v : Option View) (n : ℕ) → is_some (option_map (λ (w : View).
 same_there None n = refl
 same_there (Some w) n = refl
 
+-- each is whole
+whole_from : (ds : List KeyAttr) (f : ℕ) (is : List StatedIndex)
+    → list_all (λ i. is_whole i.built) (indexes_from ds f is) ≡ true
+whole_from ds f [] = refl
+whole_from ds f (i ∷ is) = whole_from ds (suc f) is
+
 -- ---- the whole
 
 module _ (b : Stated) (taken : refused_for b ≡ None) where
@@ -278,4 +285,10 @@ module _ (b : Stated) (taken : refused_for b ≡ None) where
     stream_family =
         stream_last b.view family (length b.locals) (length b.globals) _
         (length-both b.definitions (family + 1) (family + 1 + length b.locals) b.locals b.globals);
+    whole =
+        list_all-append (λ i. is_whole i.built) (indexes_from b.definitions (family + 1) b.locals)
+        (indexes_from b.definitions (family + 1 + length b.locals) b.globals)
+        ∙ both _ _ (whole_from b.definitions (family + 1) b.locals)
+        (whole_from b.definitions (family + 1 + length b.locals) b.globals);
+    no_time = refl;
   }

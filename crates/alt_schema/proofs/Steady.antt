@@ -7,6 +7,7 @@ use Rattle.std.specs.Option.{option_map_or}
 use Rattle.std.specs.Str.{is_utf8}
 use Rattle.std.proofs.lemmas.List.{append-nil, take-append-drop, length-take-le, length-drop, take_at, drop_at}
 use Rattle.alt_fields.specs.Field.{told_length}
+use Rattle.alt_schema.specs.Bare.{bare}
 use Rattle.alt_schema.specs.Described.{key_attr, IsDescription}
 use Rattle.alt_schema.specs.Format.{kind_byte, view_byte, description_bytes, truth_byte, projection_byte}
 use Rattle.alt_schema.specs.Held.{IsHeld}
@@ -488,7 +489,7 @@ not_nil b rest e = cc
 
 -- bytes with which a description begins are read as it
 no_description : (bytes z : List ℕ) (s : TableSchema) → IsDescription s → IsHeld s
-    → description_bytes s ≡ bytes ++ z → read_description (bytes ++ z) ≡ got s []
+    → description_bytes s ≡ bytes ++ z → read_description (bytes ++ z) ≡ got (bare s) []
 no_description bytes z s d h e =
     ap read_description (sym e ∙ sym (append-nil (description_bytes s))) ∙ description_read s [] d h
 
@@ -522,7 +523,7 @@ none_at bytes front piece behind at e l whole none =
         length-append piece behind,
       );
       none = λ t z d h f.
-          none z t (ap read_description (sym (append_assoc front piece z))
+          none z (bare t) (ap read_description (sym (append_assoc front piece z))
           ∙ no_description (front ++ piece) z t d h (f ∙ ap (λ m. m ++ z) both));
     }
 

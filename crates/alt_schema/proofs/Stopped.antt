@@ -15,6 +15,7 @@ use Rattle.alt_schema.specs.Parts.{Read, got, stops, followed_by, read_bytes, re
 use Rattle.alt_schema.specs.Places.{NoNumber, NoText, text_cut_off, another_field, NoByte, byte_cut_off, another_byte, Unfinished, no_first, no_next, AllNext, Fewer, NoCounted, AnyText, IsNewName, IsDefinedName, IsNextDefinition, NoDefinition, IsKey, key_bytes, NoKey, NoRange, no_truth, no_range_name, NoNames, NoProjection, no_kind_of_projection, no_names, IsIndex, NoIndex, NoIndexes, NoStream, IsStream, NoKeyed, NoDescription, IsBadAt}
 use Rattle.alt_schema.specs.Rules.{is_defined}
 use Rattle.alt_schema.specs.declared.bytes.parsing.Head.{Head}
+use Rattle.alt_schema.specs.declared.schema.Built.TheVariants.{Whole}
 use Rattle.alt_schema.specs.declared.schema.KeyAttr.{KeyAttr}
 use Rattle.alt_schema.specs.declared.schema.Projection.{Projection}
 use Rattle.alt_schema.specs.declared.schema.Projection.TheVariants.{All, KeysOnly, Include}
@@ -569,8 +570,14 @@ index_held ds b i r small e =
     let t4 = range_sound ds p3.mid p4.x p4.mid m3 p4.first in
     let m4 = small_back (range_bytes p4.x) p4.mid (subst Small t4.0 m3) in
     let p5 = both_got _ (read_projection p4.mid) i r p4.second in
-    let v : record { name = p1.x; hash = p3.x; range = p4.x; projection = p5.x; family = p2.x }
-    ≡ i = got_value _ _ _ _ p5.second in
+    let v : record {
+      name = p1.x;
+      hash = p3.x;
+      range = p4.x;
+      projection = p5.x;
+      family = p2.x;
+      built = Whole;
+    } ≡ i = got_value _ _ _ _ p5.second in
     subst IsHeldIndex v (record {
       name = t1.1;
       family = t2.1;
@@ -583,7 +590,7 @@ index_held ds b i r small e =
 index_sound : (ds : List KeyAttr) → Sound index_bytes (IsIndex ds) (read_index ds)
 index_sound ds = λ b i r small e.
     let g = index_got ds b i r small e in
-    (g.0, (index_held ds b i r small e, g.1))
+    (g.0, (index_held ds b i r small e, g.1.0))
 
 -- where no indexes are read, none stand
 indexes_none : (ds : List KeyAttr)

@@ -13,6 +13,7 @@ use Rattle.alt_value.specs.declared.kind.KeyKind.{KeyKind}
 use Rattle.alt_value.specs.declared.kind.KeyKind.TheVariants.{S, N, B}
 use Rattle.alt_fields.specs.declared.bytes.BytesFault.{BytesFault}
 use Rattle.alt_fields.specs.declared.bytes.BytesFault.TheVariants.{Bad, NoMemory as NoRoom}
+use Rattle.alt_schema.specs.Bare.{as_whole, bare}
 use Rattle.alt_schema.specs.Described.{kind_in, key_attr, same_kind, is_one_of, keys_defined, IsDescription}
 use Rattle.alt_schema.specs.Format.{counted, view_byte, stream_bytes, kind_byte, definition_bytes, range_bytes, keys_bytes, projection_bytes, index_bytes, description_bytes, truth_byte, projection_byte}
 use Rattle.alt_schema.specs.Indexes.{of_range}
@@ -22,6 +23,7 @@ use Rattle.alt_schema.specs.Places.{AllNext}
 use Rattle.alt_schema.specs.Rules.{is_defined, all_differ}
 use Rattle.alt_schema.specs.declared.bytes.parsing.Head.{Head}
 use Rattle.alt_schema.specs.declared.bytes.parsing.Keyed.{Keyed}
+use Rattle.alt_schema.specs.declared.schema.Built.TheVariants.{Whole}
 use Rattle.alt_schema.specs.declared.schema.KeyAttr.{KeyAttr}
 use Rattle.alt_schema.specs.declared.schema.Projection.{Projection}
 use Rattle.alt_schema.specs.declared.schema.Projection.TheVariants.{All, KeysOnly, Include}
@@ -29,6 +31,7 @@ use Rattle.alt_schema.specs.declared.schema.View.{View}
 use Rattle.alt_schema.specs.declared.schema.View.TheVariants.{KeysOnly as view_keys, NewImage, OldImage, NewAndOldImages}
 use Rattle.alt_schema.specs.declared.schema.IndexSchema.{IndexSchema}
 use Rattle.alt_schema.specs.declared.schema.TableSchema.{TableSchema}
+use Rattle.alt_schema.proofs.BareLaws.{as_whole-same, map_whole, description_bytes-bare, bare_described, bare_held, bare-same}
 use Rattle.alt_schema.proofs.Bools.{not_true, true_false}
 use Rattle.alt_schema.proofs.NewDescriptions.{left, right, kind_found}
 use Rattle.alt_schema.proofs.Wholes.{Small, small_back, got_value, got_rest, both_got, u64_got, u32_got, u64_read, u32_read, name_got, name_read, byte_got, byte_read}
@@ -268,7 +271,8 @@ index_pieces a b c d e m = simp append_assoc
 -- an index that is read stands there, and its keys are defined ones
 pub index_got : (ds : List KeyAttr) (bytes : List ℕ) (i : IndexSchema) (rest : List ℕ) → Small bytes
     → read_index ds bytes ≡ got i rest
-    → (bytes ≡ index_bytes i ++ rest) × (keys_defined ds i.hash i.range ≡ true)
+    → (bytes ≡ index_bytes i ++ rest)
+    × ((keys_defined ds i.hash i.range ≡ true) × (i.built ≡ Whole))
 unfolding read_index
 index_got ds bytes i rest small e =
     let b1 = both_got _ (read_name any_name bytes) i rest e in
@@ -285,21 +289,31 @@ index_got ds bytes i rest small e =
     let m4 = behind (range_bytes b4.x) b4.mid b3.mid m3 s4.0 in
     let b5 = both_got _ (read_projection b4.mid) i rest b4.second in
     let s5 = projection_got b4.mid b5.x b5.mid m4 b5.first in
-    let v : record { name = b1.x; hash = b3.x; range = b4.x; projection = b5.x; family = b2.x }
-    ≡ i = got_value _ _ _ _ b5.second in (
+    let v : record {
+      name = b1.x;
+      hash = b3.x;
+      range = b4.x;
+      projection = b5.x;
+      family = b2.x;
+      built = Whole;
+    } ≡ i = got_value _ _ _ _ b5.second in (
       s1 ∙ ap (λ m. field b1.x ++ m)
           (s2 ∙ ap (λ m. to_be_bytes w32 b2.x ++ m)
           (s3.0 ∙ ap (λ m. field b3.x.name ++ m) (s4.0 ∙ ap (λ m. range_bytes b4.x ++ m) s5)))
           ∙ index_pieces (field b1.x) (to_be_bytes w32 b2.x) (field b3.x.name) (range_bytes b4.x)
           (projection_bytes b5.x) b5.mid
           ∙ (λ j. index_bytes (v j) ++ got_rest _ _ _ _ b5.second j),
-      ap (λ (t : IndexSchema). keys_defined ds t.hash t.range) (sym v) ∙ (λ j. s3.1 j && s4.1 j),
+      (
+        ap (λ (t : IndexSchema). keys_defined ds t.hash t.range) (sym v)
+            ∙ (λ j. s3.1 j && s4.1 j),
+        ap (λ (t : IndexSchema). t.built) (sym v),
+      ),
     )
 
--- an index that stands there is read
+-- an index that stands there is read as a whole one
 pub index_read : (ds : List KeyAttr) (i : IndexSchema) (rest : List ℕ) → all_differ (λ d. d.name) ds
     ≡ true → keys_defined ds i.hash i.range ≡ true → IsHeldIndex i
-    → read_index ds (index_bytes i ++ rest) ≡ got i rest
+    → read_index ds (index_bytes i ++ rest) ≡ got (as_whole i) rest
 unfolding read_index
 index_read ds i rest a h t =
     let p = projection_bytes i.projection ++ rest in
@@ -322,6 +336,7 @@ index_read ds i rest a h t =
       projection = projection;
       family =
           i.family;
+      built = Whole;
     }) q)) (projection_read i.projection rest t.projection)
 
 -- ---- the head
@@ -454,9 +469,9 @@ keyed_piece k = keys_bytes k.hash k.range
 keyed_pieces : (a b c d m : List ℕ) → a ++ (b ++ (c ++ (d ++ m))) ≡ ((a ++ b) ++ (c ++ d)) ++ m
 keyed_pieces a b c d m = simp append_assoc
 
--- the keys of an index are defined ones
+-- the keys of an index are defined ones, and it is whole
 HasKeys : List KeyAttr → IndexSchema → Type 0
-HasKeys ds i = keys_defined ds i.hash i.range ≡ true
+HasKeys ds i = (keys_defined ds i.hash i.range ≡ true) × (i.built ≡ Whole)
 
 -- what is read behind the definitions stands there
 keyed_got : (ds : List KeyAttr) (bytes : List ℕ) (k : Keyed) (rest : List ℕ) → Small bytes
@@ -517,7 +532,8 @@ keyed_read ds k rest a h hash range ln lh lk gn gh gk =
     let two = right (is_one_of ds k.hash) (of_range (is_one_of ds) true k.range) h in
     let each_read : (before : List IndexSchema) (i : IndexSchema) (q : List ℕ) → IsHeldIndex i
     × HasKeys ds i → read_index ds (index_bytes i ++ q) ≡ got i q
-    = λ before i q p. index_read ds i q a p.1 p.0 in
+    = λ before i q p. index_read ds i q a p.1.0 p.0
+    ∙ ap (λ x. got x q) (as_whole-same i p.1.1) in
     ap (read_keyed ds) (sym (keyed_pieces (field k.hash.name) (range_bytes k.range)
     (counted index_bytes k.locals) (counted index_bytes k.globals) rest))
     ∙ ap (followed_by _) (key_read ds k.hash r a one hash)
@@ -556,10 +572,22 @@ description_pieces : (h s d k : List ℕ) (v : ℕ) (m : List ℕ) → h ++ (v �
     ≡ (h ++ (v ∷ (s ++ (d ++ k)))) ++ m
 description_pieces h s d k v m = simp append_assoc
 
--- what is read as a description stands there, and is one
+-- the first of two facts of each
+first_all : {A : Type 0} (P Q : A → Type 0) (xs : List A) → AllByRecursion (λ x. P x × Q x) xs
+    → AllByRecursion P xs
+first_all P Q [] h = tt
+first_all P Q (x ∷ xs) h = (h.0.0, first_all P Q xs h.1)
+
+-- the second of them
+second_all : {A : Type 0} (P Q : A → Type 0) (xs : List A) → AllByRecursion (λ x. P x × Q x) xs
+    → AllByRecursion Q xs
+second_all P Q [] h = tt
+second_all P Q (x ∷ xs) h = (h.0.1, second_all P Q xs h.1)
+
+-- what is read as a description stands there, and is one, with nothing beside its bytes
 pub description_got : (bytes : List ℕ) (s : TableSchema) (rest : List ℕ) → Small bytes
     → read_description bytes ≡ got s rest
-    → (bytes ≡ description_bytes s ++ rest) × IsDescription s
+    → (bytes ≡ description_bytes s ++ rest) × IsDescription s × (bare s ≡ s)
 unfolding read_description description_bytes head_piece keyed_piece HasKeys
 description_got bytes s rest small e =
     let b1 = both_got _ (read_head bytes) s rest e in
@@ -574,14 +602,18 @@ description_got bytes s rest small e =
     let b3 = both_got _ (read_keyed b2.x b2.mid) s rest b2.second in
     let s3 = keyed_got b2.x b2.mid b3.x b3.mid m2 b3.first in
     let v : joined b1.x b2.x b3.x ≡ s = got_value _ _ _ _ b3.second in
+    let Keys : IndexSchema → Type 0 = λ i. keys_defined b2.x i.hash i.range ≡ true in
+    let IsOne : IndexSchema → Type 0 = λ i. i.built ≡ Whole in
     let good : IsDescription (joined b1.x b2.x b3.x) = record {
       stream = s1.1;
       once = next_differ b2.x [] refl s2.1;
       keys = s3.1;
       index_keys =
           list_all-append (λ i. keys_defined b2.x i.hash i.range) b3.x.locals b3.x.globals
-          ∙ (λ j. all_true (λ i. keys_defined b2.x i.hash i.range) b3.x.locals s3.2 j
-          && all_true (λ i. keys_defined b2.x i.hash i.range) b3.x.globals s3.3 j);
+          ∙ (λ j. all_true (λ i. keys_defined b2.x i.hash i.range) b3.x.locals
+          (first_all Keys IsOne b3.x.locals s3.2) j
+          && all_true (λ i. keys_defined b2.x i.hash i.range) b3.x.globals
+          (first_all Keys IsOne b3.x.globals s3.3) j);
     } in (
       s1.0 ∙ ap (λ m. head_piece b1.x
           ++ (view_byte b1.x.view ∷ (stream_bytes b1.x.stream_family ++ m)))
@@ -590,6 +622,8 @@ description_got bytes s rest small e =
           (counted definition_bytes b2.x) (keyed_piece b3.x) (view_byte b1.x.view) b3.mid
           ∙ (λ j. description_bytes (v j) ++ got_rest _ _ _ _ b3.second j),
       subst IsDescription v good,
+      subst (λ t. bare t ≡ t) v (bare-same (joined b1.x b2.x b3.x)
+          (second_all Keys IsOne b3.x.locals s3.2) (second_all Keys IsOne b3.x.globals s3.3) refl),
     )
 
 -- two facts of each, the second in view of those before
@@ -599,11 +633,13 @@ both_next : {A : Type 0} (P : A → Type 0) (Q : List A → A → Type 0) (xs be
 both_next P Q [] before p q = tt
 both_next P Q (x ∷ xs) before p q = ((p.0, q.0), both_next P Q xs (before ++ x ∷ []) p.1 q.1)
 
--- a description that stands there is read
-pub description_read : (s : TableSchema) (rest : List ℕ) → IsDescription s → IsHeld s
+-- a description without anything beside its bytes is read where it stands
+bare_read : (s : TableSchema) (rest : List ℕ) → IsDescription s → IsHeld s
+    → AllByRecursion (λ i. i.built ≡ Whole) s.locals
+    → AllByRecursion (λ i. i.built ≡ Whole) s.globals → s.ttl ≡ None
     → read_description (description_bytes s ++ rest) ≡ got s rest
 unfolding read_description description_bytes head_piece keyed_piece HasKeys
-description_read s rest d h =
+bare_read s rest d h ls gs none =
     let head : Head = record {
       name = s.name;
       created = s.created;
@@ -637,15 +673,28 @@ description_read s rest d h =
     (differ_next s.definitions [] d.once)))
     ∙ ap (followed_by (λ x q. got (joined head s.definitions x) q))
     (keyed_read s.definitions keyed rest d.once d.keys h.hash h.range
-    h.locals.0 h.locals.1 (true_all (λ i. keys_defined s.definitions i.hash i.range) s.locals
-    (left _ _ all_keys))
-    h.globals.0 h.globals.1 (true_all (λ i. keys_defined s.definitions i.hash i.range) s.globals
-    (right _ _ all_keys)))
+    h.locals.0 h.locals.1 (both_all (λ i. keys_defined s.definitions i.hash i.range ≡ true)
+    (λ i. i.built ≡ Whole) s.locals
+    (true_all (λ i. keys_defined s.definitions i.hash i.range) s.locals
+    (left _ _ all_keys)) ls)
+    h.globals.0 h.globals.1 (both_all (λ i. keys_defined s.definitions i.hash i.range ≡ true)
+    (λ i. i.built ≡ Whole) s.globals
+    (true_all (λ i. keys_defined s.definitions i.hash i.range) s.globals
+    (right _ _ all_keys)) gs))
+    ∙ ap (λ o. got (record s { ttl = o }) rest) (sym none)
 
--- no two descriptions have the same bytes
+-- of one that stands there is read what its bytes tell
+pub description_read : (s : TableSchema) (rest : List ℕ) → IsDescription s → IsHeld s
+    → read_description (description_bytes s ++ rest) ≡ got (bare s) rest
+description_read s rest d h =
+    ap (λ b. read_description (b ++ rest)) (sym (description_bytes-bare s))
+    ∙ bare_read (bare s) rest (bare_described s d) (bare_held s h) (map_whole s.locals)
+    (map_whole s.globals) refl
+
+-- two descriptions that have the same bytes differ at most in what stands beside these
 pub one_spelling : OneSpelling
 one_spelling = λ s t ds hs dt ht e.
-    got_value s t [] []
+    got_value (bare s) (bare t) [] []
     (sym (description_read s [] ds hs) ∙ ap (λ b. read_description (b ++ [])) e
     ∙ description_read t [] dt ht)
 
@@ -660,6 +709,12 @@ described_whole (Ok s) bytes small e =
     (h.1, h.0 ∙ append-nil (description_bytes s))
 described_whole (Err e) bytes small h = h
 
+-- with nothing beside them
+pub read_bare : (r : Result TableSchema BytesFault) (bytes : List ℕ) → Small bytes
+    → IfOk r (λ s. read_description bytes ≡ got s []) → IfOk r (λ s. bare s ≡ s)
+read_bare (Ok s) bytes small e = (description_got bytes s [] small e).2
+read_bare (Err e) bytes small h = h
+
 -- none isn't one
 none_some : {A : Type 0} (x : A) → None ≡ Some x → ⊥
 none_some x e = cc
@@ -670,7 +725,7 @@ pub read_again : (r : Result TableSchema BytesFault) (bytes : List ℕ)
     → ((at : ℕ) → r ≡ Err (Bad at) → StopsAt bytes at) → (s : TableSchema) → IsDescription s
     → IsHeld s → bytes ≡ description_bytes s → IsReadAs s r
 read_again (Ok t) bytes whole place s d h e =
-    got_value t s [] [] (sym whole
+    got_value t (bare s) [] [] (sym whole
     ∙ ap read_description (e ∙ sym (append-nil (description_bytes s)))
     ∙ description_read s [] d h)
 read_again (Err (Bad at)) bytes whole place s d h e =

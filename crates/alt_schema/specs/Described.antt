@@ -7,11 +7,13 @@ use Rattle.serde_json.specs.Data.{Members}
 use Rattle.alt_shape.specs.Refusals.{IsKnown}
 use Rattle.alt_value.specs.declared.kind.KeyKind.{KeyKind}
 use Rattle.alt_value.specs.declared.kind.KeyKind.TheVariants.{S, N, B}
+use Rattle.alt_schema.specs.Bare.{is_whole}
 use Rattle.alt_schema.specs.Indexes.{indexes, of_range}
 use Rattle.alt_schema.specs.Rules.{all_differ, most_locals, most_globals, refusal_of}
 use Rattle.alt_schema.specs.declared.described.SchemaFault.{SchemaFault}
 use Rattle.alt_schema.specs.declared.described.SchemaFault.TheVariants.{Refused, NoMemory}
 use Rattle.alt_schema.specs.Stated.{stated}
+use Rattle.alt_schema.specs.declared.schema.Built.TheVariants.{Whole}
 use Rattle.alt_schema.specs.declared.schema.KeyAttr.{KeyAttr}
 use Rattle.alt_schema.specs.declared.schema.Projection.{Projection}
 use Rattle.alt_schema.specs.declared.schema.Projection.TheVariants.{All, KeysOnly, Include}
@@ -53,6 +55,7 @@ index_for definitions family i = record {
   range = range_of definitions i.keys;
   projection = projection_for i.projects i.includes;
   family = family;
+  built = Whole;
 }
 
 -- the indexes of a list, with families from the given one on
@@ -75,6 +78,7 @@ described_by b moment number family = record {
   created = moment;
   number = number;
   family = family;
+  ttl = None;
 }
 
 -- the description that the body of a CreateTable states, made at a moment by the write of a number
@@ -125,8 +129,8 @@ abbrev pub from_on : {A : Type 0} → ℕ → List A → List ℕ
 from_on n [] = []
 from_on n (x ∷ xs) = n ∷ from_on (suc n) xs
 
--- A description as it is made: at most 5 local and 20 global indexes of different names, and the families rise by one from the
--- table's, over the local indexes, the global indexes and the stream.
+-- A description as it is made: at most 5 local and 20 global indexes of different names, each whole; the families rise by one from
+-- the table's, over the local indexes, the global indexes and the stream; and there is no time to live.
 pub record IsNew (s : TableSchema) : Type 0 where
   pub description : IsDescription s
   pub locals : length s.locals ≤ most_locals
@@ -134,3 +138,5 @@ pub record IsNew (s : TableSchema) : Type 0 where
   pub names : all_differ (λ i. i.name) (indexes s) ≡ true
   pub families : map (λ i. i.family) (indexes s) ≡ from_on (s.family + 1) (indexes s)
   pub stream_family : s.stream_family ≡ option_map (λ v. s.family + 1 + length (indexes s)) s.view
+  pub whole : list_all (λ i. is_whole i.built) (indexes s) ≡ true
+  pub no_time : s.ttl ≡ None

@@ -4,6 +4,7 @@ use Rattle.std.specs.List.{AllByRecursion}
 use Rattle.std.specs.Str.{IsUtf8}
 use Rattle.alt_fields.specs.declared.bytes.BytesFault.{BytesFault}
 use Rattle.alt_fields.specs.declared.bytes.BytesFault.TheVariants.{Bad, NoMemory as NoRoom}
+use Rattle.alt_schema.specs.Bare.{bare}
 use Rattle.alt_schema.specs.Described.{IsDescription}
 use Rattle.alt_schema.specs.Format.{description_bytes}
 use Rattle.alt_schema.specs.declared.schema.Projection.{Projection}
@@ -51,15 +52,16 @@ pub record IsHeld (s : TableSchema) : Type 0 where
   pub range : Where (λ k. IsHeldText k.name) s.range
   pub locals : (length s.locals < 2 ^ 64) × AllByRecursion IsHeldIndex s.locals
   pub globals : (length s.globals < 2 ^ 64) × AllByRecursion IsHeldIndex s.globals
+  pub ttl : Where IsHeldText s.ttl
 
--- bytes are read as that description, unless memory is wanting
+-- bytes are read as what they tell of that description, unless memory is wanting
 abbrev pub IsReadAs : TableSchema → Result TableSchema BytesFault → Type 0
-IsReadAs s (Ok t) = t ≡ s
+IsReadAs s (Ok t) = t ≡ bare s
 IsReadAs s (Err (Bad at)) = ⊥
 IsReadAs s (Err NoRoom) = Unit {0}
 
--- no two descriptions have the same bytes
+-- two descriptions that have the same bytes differ at most in what stands beside these
 abbrev pub OneSpelling : Type 0
 OneSpelling =
     (s t : TableSchema) → IsDescription s → IsHeld s → IsDescription t → IsHeld t
-    → description_bytes s ≡ description_bytes t → s ≡ t
+    → description_bytes s ≡ description_bytes t → bare s ≡ bare t

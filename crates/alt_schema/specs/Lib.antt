@@ -1,3 +1,4 @@
+pub mod Bare
 pub mod Described
 pub mod Format
 pub mod Held

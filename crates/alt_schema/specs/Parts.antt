@@ -16,6 +16,7 @@ use Rattle.alt_schema.specs.declared.bytes.parts.Stop.TheVariants.{Left, NoMemor
 use Rattle.alt_schema.specs.Described.{key_attr}
 use Rattle.alt_schema.specs.Format.{kind_byte, truth_byte, projection_byte, view_byte}
 use Rattle.alt_schema.specs.Rules.{is_defined}
+use Rattle.alt_schema.specs.declared.schema.Built.TheVariants.{Whole}
 use Rattle.alt_schema.specs.declared.schema.KeyAttr.{KeyAttr}
 use Rattle.alt_schema.specs.declared.schema.Projection.{Projection}
 use Rattle.alt_schema.specs.declared.schema.Projection.TheVariants.{All, KeysOnly, Include}
@@ -138,6 +139,7 @@ read_index definitions bytes =
       projection = projection;
       family =
           family;
+      built = Whole;
     }) b5)
     (read_projection b4)) (read_range definitions b3)) (read_key definitions b2)) (read_u32 b1))
     (read_name any_name bytes)
@@ -192,6 +194,7 @@ joined head definitions keyed = record {
   created = head.created;
   number = head.number;
   family = head.family;
+  ttl = None;
 }
 
 -- a description, part by part

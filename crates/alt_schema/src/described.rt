@@ -11,7 +11,7 @@ ghost use Rattle.alt_schema.specs.Rules.{refusal_of, refused_for};
 use crate::reading::stated_of_json;
 use crate::rules::refused_for;
 use crate::stated::{Element, Stated, StatedIndex};
-use crate::{IndexList, IndexSchema, KeyAttr, Projection, TableSchema, TextList};
+use crate::{Built, IndexList, IndexSchema, KeyAttr, Projection, TableSchema, TextList};
 use alt_base::NoMemory;
 use alt_shape::Refusal;
 use alt_value::{KeyKind, Text};
@@ -95,6 +95,7 @@ fn described(
         created: moment,
         number,
         family,
+        ttl: None,
     })
 }
 
@@ -185,6 +186,7 @@ fn index_for(
         range: range_of(alloc, definitions, keys)?,
         projection: projection_for(alloc, index.projects.as_str(), &index.includes)?,
         family,
+        built: Built::Whole,
     })
 }
 

@@ -22,4 +22,4 @@ pub use described::{SchemaFault, schema_of_json};
 pub use json::{json_of_schema, label, stream_arn, view_word};
 pub use lists::{IndexList, KeyAttrList, TextList};
 pub use rules::is_name;
-pub use schema::{IndexSchema, KeyAttr, Projection, TableSchema, View};
+pub use schema::{Built, IndexSchema, KeyAttr, Projection, TableSchema, View};

@@ -99,9 +99,13 @@ pub struct IndexList {
 
 impl Model for IndexList {
     ghost use Rattle.std.specs.Prelude.{List};
+    ghost use Rattle.std.specs.Coded.{codes};
     ghost use Rattle.alt_schema.specs.declared.schema.IndexSchema.{IndexSchema};
+    ghost use Rattle.alt_value.specs.TreeCode.{coded_pair};
 
     ghost Value = { List IndexSchema };
+
+    ghost coded = { Prim.hlevel (codes, coded_pair) };
 
     ghost view = { λ a. a.items.items };
 }

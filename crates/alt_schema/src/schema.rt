@@ -1,7 +1,7 @@
 //! The description of a table and of its indexes, as plain records.
 
 use crate::{IndexList, KeyAttrList, TextList};
-use alt_value::{KeyKind, Text};
+use alt_value::{Item, KeyKind, Text};
 
 /// A key attribute: its name and its kind (DynamoDB API Reference, "AttributeDefinition").
 #[derive(Drop)]
@@ -28,7 +28,15 @@ pub enum Projection {
     Include(TextList),
 }
 
-/// An index: its name, its key, what it keeps, and the family of its rows.
+/// How far an index is built: whole, or up to the key of the table's item that it was built of last, none at
+/// first (Developer Guide, "Managing global secondary indexes", "Backfilling").
+#[derive(Drop)]
+pub enum Built {
+    Whole,
+    UpTo(Option<Item>),
+}
+
+/// An index: its name, its key, what it keeps, the family of its rows, and how far it is built.
 #[derive(Drop)]
 pub struct IndexSchema {
     pub name: Text,
@@ -36,11 +44,13 @@ pub struct IndexSchema {
     pub range: Option<KeyAttr>,
     pub projection: Projection,
     pub family: u32,
+    pub built: Built,
 }
 
 /// A table: its name, the attributes defined, its key, its local and global indexes, what its stream
 /// shows if it has one, with the family of the stream's rows; the moment at which it was made, in
-/// seconds since 1970 began in UTC, the number of that write, and the family of its rows. The indexes are numbered from 0,
+/// seconds since 1970 began in UTC, the number of that write, and the family of its rows; and the
+/// attribute that tells when an item's time is over, where it has one. The indexes are numbered from 0,
 /// the local ones first.
 #[derive(Drop)]
 pub struct TableSchema {
@@ -55,4 +65,5 @@ pub struct TableSchema {
     pub created: u64,
     pub number: u64,
     pub family: u32,
+    pub ttl: Option<Text>,
 }

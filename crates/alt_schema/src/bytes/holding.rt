@@ -23,6 +23,7 @@ pub fn held(s: &TableSchema)
     range_held(&s.range);
     indexes_held(s.locals.as_slice());
     indexes_held(s.globals.as_slice());
+    time_held(&s.ttl);
 }
 
 fn family_held(family: Option<u32>)
@@ -38,6 +39,14 @@ fn text_held(text: &Text)
 {
     let text = text.as_str();
     let _length = text.len();
+}
+
+fn time_held(name: &Option<Text>)
+    ensures { Where IsHeldText name.now }
+{
+    if let Some(name) = name {
+        text_held(name);
+    }
 }
 
 fn definitions_held(definitions: &[KeyAttr])

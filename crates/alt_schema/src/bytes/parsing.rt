@@ -1,6 +1,7 @@
 //! Reads a description from its bytes, as docs/formats/descriptions.md lays them out.
 
 ghost use Rattle.std.specs.Prelude.{◌≡◌, ℕ, [], Err, IfOk, IfErr};
+ghost use Rattle.alt_schema.specs.Bare.{bare};
 ghost use Rattle.alt_schema.specs.Described.{IsDescription};
 ghost use Rattle.alt_schema.specs.Format.{view_byte, description_bytes};
 ghost use Rattle.alt_schema.specs.Held.{IsHeld, IsReadAs, OneSpelling};
@@ -11,16 +12,18 @@ use crate::bytes::parts::{
     Stop, take_definitions, take_key, take_names, take_range, take_text, take_u32, take_u64,
 };
 use crate::named::Definitions;
-use crate::{IndexList, IndexSchema, KeyAttr, KeyAttrList, Projection, TableSchema, View};
+use crate::{Built, IndexList, IndexSchema, KeyAttr, KeyAttrList, Projection, TableSchema, View};
 use alt_fields::BytesFault;
 use alt_value::Text;
 use std::alloc::Global;
 
 /// The description whose bytes these are. Else `Bad`, with the first place where they can't go on as
 /// those of a description, or where something stands behind it; for the name of a definition that
-/// stands twice, or of a key that has no definition, it is the place of its field.
+/// stands twice, or of a key that has no definition, it is the place of its field. What stands beside the
+/// bytes isn't told: each index is whole, and there is no time to live.
 pub fn schema_of_bytes(alloc: Global, bytes: &[u8]) -> Result<TableSchema, BytesFault>
     ensures description { IfOk result (λ s. IsDescription s × (bytes.now ≡ description_bytes s)) }
+    ensures bare { IfOk result (λ s. bare s ≡ s) }
     ensures place { (at : ℕ) → result ≡ Err (BytesFault.Bad at) → IsBadAt bytes.now at }
     // So the bytes of a description are never bad.
     ensures again { (s : TableSchema) → IsDescription s → IsHeld s
@@ -83,6 +86,7 @@ fn joined(head: Head, definitions: KeyAttrList, keyed: Keyed) -> TableSchema
         created: head.created,
         number: head.number,
         family: head.family,
+        ttl: None,
     }
 }
 
@@ -229,6 +233,7 @@ fn take_index<'b>(
         range,
         projection,
         family,
+        built: Built::Whole,
     };
     Ok((index, rest))
 }

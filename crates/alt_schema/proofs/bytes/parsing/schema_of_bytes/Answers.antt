@@ -2,12 +2,18 @@
 use Rattle.std.proofs.Common.{arith}
 use Rattle.alt_schema.proofs.Stopped.{bad_at}
 use Rattle.alt_schema.proofs.Wholes.{small_of}
-use Rattle.alt_schema.proofs.WholeDescriptions.{described_whole, read_again, one_spelling}
+use Rattle.alt_schema.proofs.WholeDescriptions.{described_whole, read_bare, read_again, one_spelling}
 use Rattle.alt_schema.proofs.bytes.parsing.schema_of_bytes.Goals as goal
 
 pub returns-clause-description : goal.returns-clause-description
 returns-clause-description c =
     described_whole c.read_whole.result c.args.bytes.now
+    (small_of c.args.bytes.now (λ i. omega (arith, c.type_inv.bytes i)))
+    c.read_whole.ensures.whole
+
+pub returns-clause-bare : goal.returns-clause-bare
+returns-clause-bare c =
+    read_bare c.read_whole.result c.args.bytes.now
     (small_of c.args.bytes.now (λ i. omega (arith, c.type_inv.bytes i)))
     c.read_whole.ensures.whole
 

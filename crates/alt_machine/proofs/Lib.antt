@@ -1,8 +1,11 @@
+pub mod Agreeing
 pub mod Batches
 pub mod Behind
+pub mod Building
 pub mod Chains
 pub mod Creations
 pub mod Descriptions
+pub mod Expirations
 pub mod Families
 pub mod Full
 pub mod FullActions
@@ -27,6 +30,8 @@ pub mod States
 pub mod Steps
 pub mod Targets
 pub mod Tests
+pub mod Timeless
+pub mod Timing
 pub mod Together
 pub mod Trimming
 pub mod Untouched

@@ -203,5 +203,6 @@ module _ (ms : Members) (moment number family : ℕ) where
           indexes_differ = made_new.names;
           locals_few = made_new.locals;
           globals_few = made_new.globals;
+          built = made_new.whole;
           whole = made_new.description;
         }

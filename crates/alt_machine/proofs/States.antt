@@ -96,7 +96,7 @@ changes_more d n m z c changes e is h = by d.stream_family refl
         (changes_with d n z family c changes f e is h)
 
 -- a table in a state with later numbers
-table_later : (s r : State) (name : List ℕ) (t : Table) → s.next_number ≤ r.next_number
+pub table_later : (s r : State) (name : List ℕ) (t : Table) → s.next_number ≤ r.next_number
     → s.next_family ≤ r.next_family → IsTable s name t → IsTable r name t
 table_later s r name t n f h = record {
   named = h.named;
@@ -120,7 +120,7 @@ one_less true n = omega arith
 one_less false n = omega arith
 
 -- where the name was there the count stays
-same_count : (b : Bool) (n : ℕ) → b ≡ true → cond b n (n + 1) ≡ n
+pub same_count : (b : Bool) (n : ℕ) → b ≡ true → cond b n (n + 1) ≡ n
 same_count true n e = refl
 same_count false n e = absurd (let f : ⊥ = cc in f)
 

@@ -1,7 +1,9 @@
 pub mod Batches
 pub mod Body
+pub mod Building
 pub mod Changes
 pub mod Conditional
+pub mod Expiry
 pub mod Expressions
 pub mod Indexed
 pub mod Keys

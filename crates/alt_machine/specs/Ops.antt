@@ -6,6 +6,8 @@ pub mod DeleteItem
 pub mod DeleteTable
 pub mod DescribeStream
 pub mod DescribeTable
+pub mod DescribeTimeToLive
+pub mod ExpireItems
 pub mod GetItem
 pub mod GetRecords
 pub mod GetShardIterator
@@ -15,3 +17,4 @@ pub mod PutItem
 pub mod Query
 pub mod Scan
 pub mod UpdateItem
+pub mod UpdateTimeToLive

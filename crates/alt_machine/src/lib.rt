@@ -4,7 +4,8 @@
 //! and the program share, and no function that does anything.
 #![tactic(auto)]
 
-ghost use Rattle.alt_machine.specs.Laws.{StepsKeepValid, OneAtom, PlacesLie, IndexPlacesLie, AllIndex, OlderConditions, OlderKeys, OlderUpdates};
+ghost use Rattle.alt_machine.specs.Expiry.{DeletesExpired};
+ghost use Rattle.alt_machine.specs.Laws.{StepsKeepValid, OneAtom, PlacesLie, IndexPlacesLie, AllIndex, OthersExpireNone, OlderConditions, OlderKeys, OlderUpdates};
 ghost use Rattle.alt_machine.specs.State.{start};
 ghost use Rattle.alt_machine.specs.Valid.{IsValid};
 
@@ -12,7 +13,7 @@ use alt_expr::{Cond, Paths, Update};
 use alt_fields::Bytes;
 use alt_value::{Item, Text};
 
-/// An operation that is built (DynamoDB API Reference, "Actions").
+/// An operation that is built (DynamoDB API Reference, "Actions"; ExpireItems is this project's own).
 #[derive(Clone, Copy, Debug, PartialEq, Eq)]
 pub enum Operation {
     CreateTable,
@@ -31,6 +32,9 @@ pub enum Operation {
     DescribeStream,
     GetShardIterator,
     GetRecords,
+    UpdateTimeToLive,
+    DescribeTimeToLive,
+    ExpireItems,
 }
 
 /// What a request has of an item: all of it, at its member Item, or the key alone, at Key.
@@ -67,6 +71,13 @@ pub struct PlacedMember {
     pub place: Bytes,
 }
 
+/// Where an item stands: the name of its table, and its place there.
+#[derive(Drop)]
+pub struct Standing {
+    pub table: Text,
+    pub place: Bytes,
+}
+
 /// The numbers of writes are below 2^62 - 1.
 pub const NUMBERS_END: u64 = 4_611_686_018_427_387_903;
 
@@ -91,6 +102,12 @@ pub const MOST_WRITES: usize = 25;
 /// The most keys of a BatchGetItem (API Reference, "BatchGetItem").
 pub const MOST_KEYS: usize = 100;
 
+/// Five years, in seconds: a time to live that is further back is taken for none (Developer Guide, "Using time to live (TTL) in DynamoDB").
+pub const FIVE_YEARS: u64 = 157_680_000;
+
+/// The most items that an ExpireItems deletes.
+pub const MOST_EXPIRED: usize = 25;
+
 /// The records of a GetRecords where the request doesn't say how many (Streams API Reference, "GetRecords").
 pub const MOST_RECORDS: u64 = 1000;
 
@@ -98,8 +115,9 @@ pub const MOST_RECORDS: u64 = 1000;
 pub const BATCH_BYTES: u64 = 16_777_216;
 
 /// The laws of the machine: the state of an empty store is valid, each request leads from a valid state to a valid one and has one atom
-/// at most, the items of a table and of an index lie by their keys, and an index has the items of its table that have its keys; the
-/// trees of members of the older interface mean what these ask. It does nothing.
+/// at most, the items of a table and of an index lie by their keys, and an index has the items of its table that have its keys; an
+/// ExpireItems deletes exactly the items that it names, and no other request deletes one because of its time; the trees of members of the
+/// older interface mean what these ask. It does nothing.
 pub fn laws()
     ensures start { IsValid start }
     ensures steps { StepsKeepValid }
@@ -107,6 +125,8 @@ pub fn laws()
     ensures places { PlacesLie }
     ensures index_places { IndexPlacesLie }
     ensures indexes { AllIndex }
+    ensures expiry { DeletesExpired }
+    ensures others { OthersExpireNone }
     ensures older_conditions { OlderConditions }
     ensures older_keys { OlderKeys }
     ensures older_updates { OlderUpdates }

@@ -1,10 +1,12 @@
 -- Each operation's writes keep what is valid.
+use Rattle.alt_machine.proofs.Expirations.{deletes_expired}
 use Rattle.alt_machine.proofs.Indexing.{index_places_lie, all_index}
 use Rattle.alt_legacy.proofs.Keyed.{keys_asked}
 use Rattle.alt_machine.proofs.OlderMeaning.{older_conditions, older_updates}
 use Rattle.alt_machine.proofs.Placed.{places_lie}
 use Rattle.alt_machine.proofs.States.{start_valid}
 use Rattle.alt_machine.proofs.Steps.{one_atom, step_valid}
+use Rattle.alt_machine.proofs.Timeless.{others_expire_none}
 use Rattle.alt_machine.proofs.laws.Goals as goal
 
 pub returns-clause-start : goal.returns-clause-start
@@ -24,6 +26,12 @@ returns-clause-index_places c = index_places_lie
 
 pub returns-clause-indexes : goal.returns-clause-indexes
 returns-clause-indexes c = all_index
+
+pub returns-clause-expiry : goal.returns-clause-expiry
+returns-clause-expiry c = deletes_expired
+
+pub returns-clause-others : goal.returns-clause-others
+returns-clause-others c = others_expire_none
 
 pub returns-clause-older_conditions : goal.returns-clause-older_conditions
 returns-clause-older_conditions c = older_conditions

@@ -12,10 +12,9 @@ use Rattle.alt_layout.specs.Layout.{Layout, shown, IsFirstShown}
 use Rattle.alt_machine.specs.declared.TheConstants.{NUMBERS_END, FAMILIES_END}
 use Rattle.alt_machine.specs.State.{State, Table, Texts, families_of}
 use Rattle.alt_machine.proofs.Families.{of_contained}
-use Rattle.alt_schema.specs.Described.{IsDescription}
+use Rattle.alt_machine.specs.Valid.{IsMade}
 use Rattle.alt_schema.specs.Held.{IsHeld}
 use Rattle.alt_schema.specs.declared.schema.TableSchema.{TableSchema}
-use Rattle.alt_schema.proofs.WholeDescriptions.{one_spelling}
 use Rattle.alt_views.specs.ItemRows.{item_columns}
 use Rattle.alt_opening.specs.private.Opening.{IsCatalog, IsGood, AreApart}
 use Rattle.alt_opening.specs.Recovery.{Agrees, IsBefore, IsUpTo, IsFirstWrong}
@@ -24,8 +23,9 @@ use Rattle.alt_opening.specs.StateRows.{catalog_family, table_row, next_row}
 use Rattle.alt_opening.proofs.Assembled.{AssembledRows, assembled, not_empty}
 use Rattle.alt_opening.proofs.Ties.{tied, itself}
 use Rattle.alt_opening.proofs.Cuts.{cut, shown-cut, shown-here, shown-not}
-use Rattle.alt_opening.proofs.OneState.{some, one_column-value, next_row-one}
+use Rattle.alt_opening.proofs.OneState.{some, next_row-one}
 use Rattle.alt_opening.proofs.Families.{own_family}
+use Rattle.alt_opening.proofs.TableRow.{one_table_row}
 use Rattle.alt_value.specs.Tree.{Pair}
 
 -- ---- the rows before one
@@ -102,15 +102,16 @@ module _ (l : Layout) (Here : ℕ → List ℕ → Type 0) (r : State) (agrees :
 
   -- the one that was described
   pub described_at : (name : List ℕ) (d : TableSchema) → Here catalog_family name
-      → eq_by_cmp key_cmp name [] ≡ false → IsDescription d → IsHeld d
+      → eq_by_cmp key_cmp name [] ≡ false → IsMade d → IsHeld d
       → shown l catalog_family name ≡ Some (table_row d)
       → (t : Table) × (map.get r.tables name ≡ Some t) × (t.description ≡ d)
   described_at name d here named is held shows =
       let (t, at, row) = table_at name (table_row d) here named shows in (
         t,
         at,
-        one_spelling t.description d (agrees.valid.tables name t at).made.whole
-            (agrees.held.descriptions name t at) is held (sym (one_column-value _ _ _ row)),
+        one_table_row t.description d (agrees.valid.tables name t at).made.whole
+            (agrees.held.descriptions name t at) (agrees.valid.tables name t at).made.built
+            is.whole held is.built (sym row),
       )
 
 -- a state of the rows before one, taken alone, agrees there
@@ -216,7 +217,7 @@ module _ (l : Layout) (next : ℕ) (catalog : Texts TableSchema) (read : IsCatal
     none = λ r agrees.
         let (t, there, same) = described_at l (λ f k. IsUpTo f k d.family key) r agrees name d
         (inl (inl (omega (arith, within.0)))) (not_empty l.next_number next name d good)
-        good.made.whole good.held (read.stands name d at).1 in
+        good.made good.held (read.stands name d at).1 in
         no_item r agrees t there same;
   })
     where

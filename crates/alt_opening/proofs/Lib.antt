@@ -35,6 +35,7 @@ pub mod StreamKeys
 pub mod StreamList
 pub mod StreamState
 pub mod StreamSteps
+pub mod TableRow
 pub mod TableSteps
 pub mod Ties
 pub mod TrimmedLaws

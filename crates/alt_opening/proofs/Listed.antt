@@ -1,6 +1,7 @@
 -- The list of the tables and the map that it stands for: what a search found, and what a change there leaves.
-use Rattle.std.proofs.Common.{◌≡◌, refl, true, false, cond, sym, ap, ◌∙◌, ℕ, ◌+◌, ◌<◌, ◌≤◌, List, [], ◌∷◌, length, get_or, map, Option, Some, None, option_map, slice_get, MatchOption, Bor, All, take, drop, suc, arith}
-use Rattle.std.proofs.lemmas.List.Elements.{All-append, All-cons, All-take, All-drop}
+use Rattle.std.proofs.Common.{◌≡◌, refl, true, false, cond, sym, ap, ◌∙◌, ℕ, zero, ◌+◌, ◌<◌, ◌≤◌, List, [], ◌∷◌, length, get_or, map, Option, Some, None, option_map, slice_get, MatchOption, Bor, All, take, drop, set, suc, arith}
+use Rattle.std.proofs.lemmas.List.{get_or_default}
+use Rattle.std.proofs.lemmas.List.Elements.{All-append, All-cons, All-head, All-tail, All-take, All-drop}
 use Rattle.std.specs.List.{insert, remove, filter, HoldsAt}
 use Rattle.std.specs.List.{find as find_first}
 use Rattle.std.specs.List.Sorted.{IsPartitionPoint}
@@ -14,7 +15,7 @@ use Rattle.alt_machine.specs.State.{Texts}
 use Rattle.alt_value.specs.Members.{text_order}
 use Rattle.alt_opening.specs.Order.{first_after}
 use Rattle.alt_schema.specs.declared.schema.TableSchema.{TableSchema}
-use Rattle.alt_opening.proofs.Named.{entry, IsInOrder, Stands, Goes, stands, goes, find-stands, find-goes, put-goes, where_key-stands, where_key-goes, after-stands, after-goes, next_stands, next_goes}
+use Rattle.alt_opening.proofs.Named.{entry, IsInOrder, Stands, Goes, stands, goes, find-stands, find-goes, put-stands, put-goes, where_key-stands, where_key-goes, after-stands, after-goes, next_stands, next_goes}
 use Rattle.alt_opening.proofs.Sorted.{put-in_order, map-put, where_key-in_order, map-where_key}
 
 -- ---- what holds of each of a list
@@ -29,6 +30,13 @@ module _ {X : Type 0} (P : X → Type 0) where
   pub All-remove : (xs : List X) (i : ℕ) → All P xs → All P (remove xs i)
   All-remove xs i all = All-append P (take i xs) (drop (suc i) xs) (All-take P i xs all)
       (All-drop P (suc i) xs all)
+
+  -- and with another at a place
+  pub All-set : (xs : List X) (i : ℕ) (y : X) → All P xs → P y → All P (set xs i y)
+  All-set [] i y all holds = all
+  All-set (x ∷ xs) zero y all holds = All-cons P y xs holds (All-tail P x xs all)
+  All-set (x ∷ xs) (suc i) y all holds = All-cons P x (set xs i y) (All-head P x xs all)
+      (All-set xs i y (All-tail P x xs all) holds)
 
 -- ---- descriptions in order
 
@@ -95,6 +103,13 @@ key_of : (o : Option TableSchema) → option_map (λ (p : List ℕ × TableSchem
 key_of None = refl
 key_of (Some e) = refl
 
+-- what stands at a place
+one_there : (es : List TableSchema) (i : ℕ) → i < length es
+    → (d : TableSchema) × (get_or es i d ≡ d)
+one_there [] i within = absurd (omega arith)
+one_there (e ∷ es) i within =
+    (get_or (e ∷ es) i e, get_or_default (e ∷ es) i (get_or (e ∷ es) i e) e within)
+
 -- what is there isn't missing
 pub not_both : {X P : Type 0} (o : Option X) (x : X) → o ≡ Some x → o ≡ None → P
 not_both o x some none = let e : Some x ≡ None = sym some ∙ none in cc
@@ -137,6 +152,21 @@ module _ (name : List ℕ) (es : List TableSchema) (i : ℕ) (sorted : AreInOrde
     removed fs is =
         let left = where_key-stands name_of itself name es i sorted here ∙ ap pairs (sym is) in
         (where_key-in_order _ _ name sorted left, map-where_key _ _ name sorted left)
+
+    -- what is there with another of that name in its place
+    pub replaced : (fs : List TableSchema) (f : TableSchema) → fs ≡ set es i f → name_of f ≡ name
+        → AreInOrder fs × (tables fs ≡ map.insert (tables es) name (itself f))
+    replaced fs f is named =
+        let new = put-stands name_of itself name es i f named here ∙ ap pairs (sym is) in
+        (put-in_order _ _ name (itself f) sorted new, map-put _ _ name (itself f) sorted new)
+
+    -- where its time to live is another, its description was there
+    pub retimed : (fs : List TableSchema) (ttl : Option (List ℕ))
+        → ((d : TableSchema) → fs ≡ set es i (record (get_or es i d) { ttl = ttl }))
+        → (d : TableSchema) × (get_or es i d ≡ d) × (fs ≡ set es i (record d { ttl = ttl }))
+    retimed fs ttl given =
+        let (e, at) = one_there es i within in
+        (e, at, given e ∙ ap (λ (x : TableSchema). set es i (record x { ttl = ttl })) at)
 
   -- where it is to go there
   module _ (within : i ≤ length es) (apart : Parts name es i) where

@@ -145,6 +145,51 @@ module _ (catalog : Texts TableSchema) (live : List ℕ) (are : AreLiveIn catalo
           let g : ⊥ = cc in g)
       there_still name e at false other = at
 
+  -- ---- another of the same families
+
+  -- live stay those of the catalog with another description in the place of one
+  pub live_alike : (name : List ℕ) (e : TableSchema) → map.get catalog name ≡ Some d
+      → families_of e ≡ families_of d → AreLiveIn (map.insert catalog name e) live
+  live_alike name e here same = record {
+    each = λ f of. are.each f (was f of (eq_by_cmp text_order of.name name) refl
+        (sym (map.get-insert text_total catalog name e of.name) ∙ of.there));
+    only = λ f there. ⊎_elim (λ (own : f ≡ catalog_family). inl own)
+        (λ (of : IsOfTable catalog f). inr (is f of (eq_by_cmp text_order of.name name) refl
+        (map.get-insert text_total catalog name e of.name)))
+        (are.only f there);
+  }
+    where
+      was : (f : ℕ) (of : IsOfTable (map.insert catalog name e) f) (b : Bool)
+          → eq_by_cmp text_order of.name name ≡ b
+          → cond b (Some e) (map.get catalog of.name) ≡ Some of.description → IsOfTable catalog f
+      was f of true tie at = record {
+        name = name;
+        description = d;
+        there = here;
+        has = subst (λ fs. Contains fs f) same
+            (subst (λ (t : TableSchema). Contains (families_of t) f) (sym (some _ _ at)) of.has);
+      }
+      was f of false tie at =
+          record { name = of.name; description = of.description; there = at; has = of.has }
+
+      is : (f : ℕ) (of : IsOfTable catalog f) (b : Bool) → eq_by_cmp text_order of.name name ≡ b
+          → map.get (map.insert catalog name e) of.name ≡ cond b (Some e) (map.get catalog of.name)
+          → IsOfTable (map.insert catalog name e) f
+      is f of true tie at = record {
+        name = of.name;
+        description = e;
+        there = at;
+        has = subst (λ fs. Contains fs f) (sym same)
+            (subst (λ (t : TableSchema). Contains (families_of t) f)
+            (some _ _ (sym of.there ∙ ap (map.get catalog) (tied of.name name tie) ∙ here)) of.has);
+      }
+      is f of false tie at = record {
+        name = of.name;
+        description = of.description;
+        there = at ∙ of.there;
+        has = of.has;
+      }
+
   -- ---- a table less
 
   -- without its families live are those of the catalog without it, where no other table has one of them

@@ -5,6 +5,7 @@ use Rattle.std.proofs.lemmas.List.Folds.{list_all-append}
 use Rattle.std.specs.List.{list_all}
 use Rattle.std.specs.Prelude.{◌&&◌}
 use Rattle.alt_machine.specs.Valid.{IsMade, is_local, is_pair, is_used, names_few}
+use Rattle.alt_schema.specs.Bare.{is_whole}
 use Rattle.alt_schema.specs.Described.{IsDescription}
 use Rattle.alt_schema.specs.Indexes.{indexes}
 use Rattle.alt_schema.specs.Rules.{all_differ, is_name, most_locals, most_globals}
@@ -38,8 +39,9 @@ module _ (d : TableSchema) where
   named i = names_few i.projection
 
   -- a description that passes the test is as it is made
-  pub as_made : is_as_made d ≡ true → IsDescription d → IsMade d
-  as_made e whole =
+  pub as_made : is_as_made d ≡ true → IsDescription d
+      → list_all (λ i. is_whole i.built) (indexes d) ≡ true → IsMade d
+  as_made e whole built =
       let few : are_few_indexes d ≡ true = left (are_few_indexes d) _ e in
       let rest : (are_named d && (are_keyed d && are_shaped d)) ≡ true =
       right (are_few_indexes d) _ e in
@@ -64,6 +66,7 @@ module _ (d : TableSchema) where
         used = right (all_indexes paired d) _ also;
         locals = left (list_all (is_local d.hash d.range) d.locals) _ shapes;
         projections = lists named d ∙ right (list_all (is_local d.hash d.range) d.locals) _ shapes;
+        built = built;
         whole = whole;
       }
 

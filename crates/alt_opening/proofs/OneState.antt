@@ -13,16 +13,15 @@ use Rattle.alt_layout.specs.Layout.{Layout, shown}
 use Rattle.alt_layout.proofs.OneLayout.{one_layout}
 use Rattle.alt_machine.specs.State.{State, Table}
 use Rattle.alt_machine.specs.Valid.{IsTable, IsValid}
-use Rattle.alt_schema.specs.Format.{description_bytes}
 use Rattle.alt_schema.specs.Rules.{is_name}
 use Rattle.alt_schema.specs.declared.schema.TableSchema.{TableSchema}
-use Rattle.alt_schema.proofs.WholeDescriptions.{one_spelling}
 use Rattle.alt_opening.specs.Images.{StandsFor}
 use Rattle.alt_opening.specs.Recovery.{Agrees, AgreesWhole}
 use Rattle.alt_views.specs.ItemRows.{item_columns}
 use Rattle.alt_opening.proofs.OneStream.{ShowsStream, one_stream, one_trimmed}
 use Rattle.alt_opening.proofs.StreamKeys.{Above}
 use Rattle.alt_opening.proofs.KeptChanges.{are_kept, are_small, trimmed_small}
+use Rattle.alt_opening.proofs.TableRow.{one_table_row}
 use Rattle.alt_opening.specs.StateRows.{Shows, IsHeldWhole, item_rows, table_row, next_row, one_column}
 use Rattle.alt_views.proofs.ItemRowLaws.{item_columns-one}
 use Rattle.alt_value.specs.Tree.{Pair}
@@ -128,13 +127,13 @@ module _ (l : Layout) (s r : State) (agrees_s : AgreesWhole l s) (agrees_r : Agr
   -- tables of one name are one
   one_table : (name : List ℕ) (t u : Table) → map.get s.tables name ≡ Some t
       → map.get r.tables name ≡ Some u
-      → description_bytes t.description ≡ description_bytes u.description → t ≡ u
+      → table_row t.description ≡ table_row u.description → t ≡ u
   one_table name t u at_t at_u same =
       let is_t : IsTable s name t = agrees_s.rows.valid.tables name t at_t in
       let is_u : IsTable r name u = agrees_r.rows.valid.tables name u at_u in
-      let descriptions : t.description ≡ u.description = one_spelling t.description u.description
-      is_t.made.whole (agrees_s.rows.held.descriptions name t at_t)
-      is_u.made.whole (agrees_r.rows.held.descriptions name u at_u) same in
+      let descriptions : t.description ≡ u.description = one_table_row t.description u.description
+      is_t.made.whole (agrees_s.rows.held.descriptions name t at_t) is_t.made.built
+      is_u.made.whole (agrees_r.rows.held.descriptions name u at_u) is_u.made.built same in
       let items : t.items ≡ u.items = items-one t u
       (has_whole s agrees_s.rows.valid agrees_s.rows.held name t at_t)
       (has_whole r agrees_r.rows.valid agrees_r.rows.held name u at_u)
@@ -158,7 +157,7 @@ module _ (l : Layout) (s r : State) (agrees_s : AgreesWhole l s) (agrees_r : Agr
   at_name name (Some t) None e f same =
       let no : Some (table_row t.description) ≡ None = same in cc no
   at_name name (Some t) (Some u) e f same = ap (λ x. Some x)
-      (one_table name t u e f (one_column-value (codes "t") _ _ (some _ _ same)))
+      (one_table name t u e f (some _ _ same))
 
   by_name : (name : List ℕ) (b : Bool) → eq_by_cmp key_cmp name [] ≡ b
       → map.get s.tables name ≡ map.get r.tables name

@@ -230,7 +230,7 @@ module _ (l : Layout) (s : State) (agrees : AgreesWhole l s) where
       is.agrees.valid.tables is.name is.table is.there in
       let not_empty = named is.state is.name is.table table in
       let (u, at, same) = described_at l (λ f k. Unit {0}) s agrees.rows is.name
-      is.table.description tt not_empty table.made.whole
+      is.table.description tt not_empty table.made
       (is.agrees.held.descriptions is.name is.table is.there)
       (is.agrees.catalog is.name tt
       ∙ (λ i. if not_empty i then next_row is.state.next_family

@@ -203,7 +203,7 @@ module _ (l : Layout) (next : ℕ) (catalog : Texts TableSchema) (name : List �
     known other e at = described_at l (λ f k. IsUpTo f k catalog_family name) r agrees other e
         (inl (inr (refl, (read.stands other e at).0)))
         (not_empty l.next_number next other e (read.good other e at))
-        (read.good other e at).made.whole (read.good other e at).held (read.stands other e at).1
+        (read.good other e at).made (read.good other e at).held (read.stands other e at).1
 
     -- and it isn't this one
     other_name : (other : List ℕ) (e : TableSchema) → map.get catalog other ≡ Some e

@@ -1,5 +1,5 @@
 -- The rows that stand for a state (docs/formats/table-rows.md), and the changes of rows that a write of the state makes.
-use Rattle.std.specs.Prelude.{◌≡◌, ◌≤◌, ◌<◌, ◌^◌, ◌==◌, ℕ, List, [], map as each, All, if◌then◌else◌, Option, Some, None, option_map, codes}
+use Rattle.std.specs.Prelude.{◌≡◌, ◌≤◌, ◌<◌, ◌^◌, ◌==◌, ℕ, List, [], ◌∷◌, map as each, All, if◌then◌else◌, Option, Some, None, option_map, codes}
 use Rattle.std.specs.Int.{w32, to_be_bytes}
 use Rattle.std.specs.Ordering.{eq_by_cmp}
 use Rattle.std.specs.FinMap as map
@@ -34,9 +34,18 @@ abbrev pub next_row : ℕ → Option Columns
 next_row family = if family == 1 then None else Some
     (one_column (codes "next") (to_be_bytes w32 family))
 
--- the description of a table
+-- the cells of a table's row, by their names: the attribute for time to live, where there is one, and the bytes of the description
+abbrev pub table_cells : Option (List ℕ) → List ℕ → List (List ℕ × List ℕ)
+table_cells None bytes = (codes "t", bytes) ∷ []
+table_cells (Some name) bytes = (codes "l", name) ∷ (codes "t", bytes) ∷ []
+
+-- a row of these
+abbrev pub described_row : Option (List ℕ) → List ℕ → Columns
+described_row time bytes = map.from_sorted (table_cells time bytes)
+
+-- the row of a table: its description, and beside its bytes what these don't tell
 abbrev pub table_row : TableSchema → Columns
-table_row d = one_column (codes "t") (description_bytes d)
+table_row d = described_row d.ttl (description_bytes d)
 
 -- the next family stands at the empty key, and each description at its table's name
 abbrev pub catalog_rows : State → List ℕ → Option Columns

@@ -1,9 +1,9 @@
 //! The descriptions of the tables by their names. There are 256 at most, so they stand in one sorted list.
 
-ghost use Rattle.std.specs.Prelude.{◌≡◌, ◌≢◌, ◌<◌, ◌≤◌, ◌==◌, ◌||◌, ◌↔◌, ◌∷◌, [], ℕ, List, T, false, None, Some, OnOk, OnErr, IfOk, IfErr, IfSome, option_map, length, map as each, slice_get, slice_index_or};
+ghost use Rattle.std.specs.Prelude.{◌≡◌, ◌≢◌, ◌<◌, ◌≤◌, ◌==◌, ◌||◌, ◌↔◌, ◌∷◌, [], ℕ, List, T, false, None, Some, OnOk, OnErr, IfOk, IfErr, IfSome, option_map, length, map as each, slice_get, slice_index_or, slice_set, vec_len};
 ghost use Rattle.std.specs.FinMap as map;
 ghost use Rattle.std.specs.FinMap.Entries.{is_sorted};
-ghost use Rattle.std.specs.List.{HoldsAt, list_any};
+ghost use Rattle.std.specs.List.{HoldsAt, list_any, remove};
 ghost use Rattle.std.specs.List.Sorted.{IsPartitionPoint};
 ghost use Rattle.std.specs.declared.cmp.Ordering.TheVariants.{Less, Greater};
 ghost use Rattle.alt_machine.specs.Ops.ListTables.{names_after};
@@ -20,6 +20,7 @@ use crate::live::Live;
 use crate::opened::has_family;
 use alt_base::NoMemory;
 use alt_schema::{IndexSchema, TableSchema};
+use alt_value::Text;
 use std::alloc::Global;
 use std::cmp::Ordering;
 use std::marker::Model;
@@ -109,15 +110,25 @@ impl Catalog {
         ensures rest { self.new ≡ map.remove self.old name.now }
     {
         match seek(&self.entries, name) {
-            Ok(i) => {
-                self.entries.remove(i);
-            }
+            Ok(i) => take_out(&mut self.entries, i),
             Err(_) => {}
         }
     }
 }
 
 impl Catalog {
+    /// Gives the table of that name, where there is one, that attribute for time to live, or none.
+    pub fn set_ttl(&mut self, name: &str, ttl: Option<Text>)
+        ensures timed { self.new ≡ option_map_or
+            (λ d. map.insert self.old name.now (record d { ttl = ttl }))
+            (map.get self.old name.now) self.old }
+    {
+        match seek(&self.entries, name) {
+            Ok(i) => give_time(&mut self.entries, i, ttl),
+            Err(_) => {}
+        }
+    }
+
     /// The families of the catalog itself and of all tables.
     pub fn live(&self, alloc: Global) -> Result<Live, NoMemory>
         ensures live { IfOk result (λ live. AreLiveIn self.now live) }
@@ -140,6 +151,24 @@ impl Catalog {
         self.entries
             .get(least_above(self.entries.as_slice(), family))
     }
+}
+
+/// Takes the table at a place out.
+fn take_out(entries: &mut Vec<TableSchema>, i: usize)
+    requires { i < vec_len entries.old }
+    ensures { entries.new.items ≡ remove entries.old.items i }
+{
+    entries.remove(i);
+}
+
+/// Gives the table at a place that attribute for time to live, or none.
+fn give_time(entries: &mut Vec<TableSchema>, i: usize, ttl: Option<Text>)
+    requires { i < vec_len entries.old }
+    ensures { (d : TableSchema) → entries.new.items
+        ≡ slice_set entries.old.items i
+        (record (slice_index_or entries.old.items i d) { ttl = ttl }) }
+{
+    entries[i].ttl = ttl;
 }
 
 /// Where the description of a name stands, or where it is to go.

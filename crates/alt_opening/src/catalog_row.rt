@@ -1,17 +1,22 @@
-//! The rows of the catalog: descriptions at their tables' names, and the next family at the empty key (docs/formats/table-rows.md).
+//! The rows of the catalog: descriptions at their tables' names, each with what stands beside its bytes, and the next family at the empty
+//! key (docs/formats/table-rows.md).
 
-ghost use Rattle.std.specs.Prelude.{◌≡◌, ◌<◌, ◌≤◌, ◌^◌, ℕ, List, Err, IfOk, IfSome, IfNone, option_map};
+ghost use Rattle.std.specs.Prelude.{◌≡◌, ◌<◌, ◌≤◌, ◌^◌, ℕ, List, true, Option, Some, Err, IfOk, IfSome, IfNone, option_map};
 ghost use Rattle.std.specs.Int.{w32, to_be_bytes};
+ghost use Rattle.std.specs.List.{list_all};
+ghost use Rattle.alt_schema.specs.Bare.{is_whole};
 ghost use Rattle.alt_schema.specs.Described.{IsDescription};
-ghost use Rattle.alt_schema.specs.Held.{IsHeld};
+ghost use Rattle.alt_schema.specs.Held.{IsHeld, IsHeldText, Where};
+ghost use Rattle.alt_schema.specs.Indexes.{indexes};
 ghost use Rattle.alt_schema.specs.declared.schema.TableSchema.{TableSchema};
-ghost use Rattle.alt_opening.specs.StateRows.{one_column, next_row, table_row};
+ghost use Rattle.alt_opening.specs.StateRows.{one_column, next_row, described_row, table_row};
 
 use alt_base::NoMemory;
 use alt_cells::ShownRow;
 use alt_fields::{Bytes, BytesFault, put_u32, take_u32};
 use alt_machine::FAMILIES_END;
 use alt_schema::{TableSchema, held, schema_bytes, schema_of_bytes};
+use alt_value::Text;
 use alt_views::Unread;
 use std::alloc::Global;
 
@@ -24,13 +29,45 @@ const NEXT: &[u8] = b"next";
 /// The column of a description.
 const TABLE: &[u8] = b"t";
 
+/// The column of the attribute for time to live.
+const TIME: &[u8] = b"l";
+
 /// The row of a table.
 pub fn row_of_schema(alloc: Global, schema: &TableSchema) -> Result<ShownRow, NoMemory>
     ensures row { IfOk result (λ row. row ≡ table_row schema.now) }
 {
+    match &schema.ttl {
+        Some(name) => row_with_time(alloc, schema, Some(name)),
+        None => row_with_time(alloc, schema, None),
+    }
+}
+
+/// The row of a table as it is with that attribute for time to live, or with none.
+pub fn row_with_time(
+    alloc: Global,
+    schema: &TableSchema,
+    ttl: Option<&Text>,
+) -> Result<ShownRow, NoMemory>
+    ensures row { IfOk result (λ row. row
+        ≡ table_row (record schema.now { ttl = option_map (λ t. t.now) ttl.entry })) }
+{
     let mut bytes = Vec::new(alloc);
     schema_bytes(schema, &mut bytes)?;
-    one_column(alloc, TABLE, bytes)
+    match ttl {
+        Some(name) => timed_row(alloc, name, bytes),
+        None => one_column(alloc, TABLE, bytes),
+    }
+}
+
+/// The row of a table with time to live.
+fn timed_row(alloc: Global, name: &Text, bytes: Vec<u8>) -> Result<ShownRow, NoMemory>
+    ensures row { IfOk result (λ row. row ≡ described_row (Some name.now) bytes.items) }
+{
+    let mut row = ShownRow::new(alloc);
+    let value = Bytes::new(alloc, name.as_str().as_bytes())?;
+    row.push(Bytes::new(alloc, TIME)?, value)?;
+    row.push(Bytes::new(alloc, TABLE)?, Bytes::from_vec(bytes))?;
+    Ok(row)
 }
 
 /// The row of the next family, none where it is 1.
@@ -58,20 +95,85 @@ fn one_column(alloc: Global, name: &[u8], value: Vec<u8>) -> Result<ShownRow, No
 /// The description whose row this is.
 pub(crate) fn schema_of_row(alloc: Global, row: &ShownRow) -> Result<TableSchema, Unread>
     ensures schema { IfOk result (λ d. IsDescription d × IsHeld d × (row.now ≡ table_row d)) }
+    ensures whole { IfOk result (λ d. list_all (λ i. is_whole i.built) (indexes d) ≡ true) }
     ensures none { result ≡ Err Unread.Bad → (d : TableSchema) → IsDescription d → IsHeld d
         → row.now ≡ table_row d → ⊥ }
 {
-    let Some(bytes) = value_of(row, TABLE) else {
+    let Some((time, bytes)) = cells_of(row) else {
         return Err(Unread::Bad);
     };
+    let ttl = time_of(alloc, time)?;
     match schema_of_bytes(alloc, bytes) {
         Ok(schema) => {
-            held(&schema);
-            Ok(schema)
+            let timed = with_time(schema, ttl);
+            held(&timed);
+            Ok(timed)
         }
         Err(BytesFault::Bad { .. }) => Err(Unread::Bad),
         Err(BytesFault::NoMemory) => Err(Unread::NoMemory),
     }
+}
+
+/// The values of the cells of a table's row: the attribute for time to live, where there is one, and the bytes of its description. None
+/// where it has others.
+fn cells_of(row: &ShownRow) -> Option<(Option<&[u8]>, &[u8])>
+    ensures cells { IfSome result (λ c. row.now
+        ≡ described_row (option_map (λ t. t.now) c.0) c.1.now) }
+    ensures none { IfNone result ((time : Option (List ℕ)) (bytes : List ℕ)
+        → row.now ≡ described_row time bytes → ⊥) }
+{
+    if let Some(bytes) = value_of(row, TABLE) {
+        return Some((None, bytes));
+    }
+    match timed_cells(row) {
+        Some((name, bytes)) => Some((Some(name), bytes)),
+        None => None,
+    }
+}
+
+/// The same of a table with time to live.
+fn timed_cells(row: &ShownRow) -> Option<(&[u8], &[u8])>
+    ensures cells { IfSome result (λ c. row.now ≡ described_row (Some c.0.now) c.1.now) }
+    ensures none { IfNone result ((name bytes : List ℕ)
+        → row.now ≡ described_row (Some name) bytes → ⊥) }
+{
+    let columns = row.as_slice();
+    if columns.len() != 2 {
+        return None;
+    }
+    let time = &columns[0];
+    let table = &columns[1];
+    if time.0.as_slice() != TIME {
+        return None;
+    }
+    if table.0.as_slice() != TABLE {
+        return None;
+    }
+    Some((time.1.as_slice(), table.1.as_slice()))
+}
+
+/// The text of an attribute's name, where there is one.
+fn time_of(alloc: Global, time: Option<&[u8]>) -> Result<Option<Text>, Unread>
+    ensures text { IfOk result (λ text. text ≡ option_map (λ t. t.now) time.entry) }
+    ensures none { result ≡ Err Unread.Bad
+        → Where IsHeldText (option_map (λ t. t.now) time.entry) → ⊥ }
+{
+    let Some(bytes) = time else {
+        return Ok(None);
+    };
+    match std::str::from_utf8(bytes) {
+        Ok(name) => Ok(Some(Text::new(alloc, name)?)),
+        Err(_) => Err(Unread::Bad),
+    }
+}
+
+/// The description with that time to live.
+fn with_time(schema: TableSchema, ttl: Option<Text>) -> TableSchema
+    ensures { result ≡ record schema { ttl = ttl } }
+{
+    let mut schema = schema;
+    schema.ttl = ttl;
+    schema
 }
 
 /// The next family that the row at the empty key tells, where one is shown there. None where no family has that row.

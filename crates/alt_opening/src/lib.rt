@@ -21,7 +21,7 @@ mod trimmed;
 mod trimmed_row;
 
 pub use catalog::Catalog;
-pub use catalog_row::{CATALOG, row_of_family, row_of_schema};
+pub use catalog_row::{CATALOG, row_of_family, row_of_schema, row_with_time};
 pub use change_rows::{change_at, number_of};
 pub use change_scan::same;
 pub use faults::OpenFault;

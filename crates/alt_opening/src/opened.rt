@@ -1,14 +1,16 @@
 //! The catalog of a store that is opened: the next family, and the descriptions of its tables.
 
-ghost use Rattle.std.specs.Prelude.{◌≡◌, ◌↔◌, ◌==◌, ◌++◌, None, Err, IfOk, IfErr, IfSome, OnOk, IsErrOf, IsTrue, map as each};
+ghost use Rattle.std.specs.Prelude.{◌≡◌, ◌↔◌, ◌==◌, ◌++◌, true, None, Err, IfOk, IfErr, IfSome, OnOk, IsErrOf, IsTrue, map as each};
 ghost use Rattle.std.specs.FinMap as map;
-ghost use Rattle.std.specs.List.{list_any};
+ghost use Rattle.std.specs.List.{list_all, list_any};
 ghost use Rattle.alt_base.specs.Counts.{Rose};
 ghost use Rattle.alt_engine.specs.InHand.{Reads};
 ghost use Rattle.alt_layout.specs.Layout.{Layout};
 ghost use Rattle.alt_machine.specs.State.{families_of};
+ghost use Rattle.alt_schema.specs.Bare.{is_whole};
 ghost use Rattle.alt_schema.specs.Described.{IsDescription};
 ghost use Rattle.alt_schema.specs.Held.{IsHeld};
+ghost use Rattle.alt_schema.specs.Indexes.{indexes};
 ghost use Rattle.alt_schema.specs.declared.schema.TableSchema.{TableSchema};
 ghost use Rattle.alt_opening.specs.private.Opening.{IsApart, IsCatalog, IsGood, IsRowFault, IsNextFamily, IsReadOn, IsReadUpTo, IsTableAt, MayStand, are_families, are_within, are_apart, is_number, passes};
 ghost use Rattle.alt_opening.specs.Scans.{IsAhead, Walked};
@@ -193,6 +195,7 @@ fn may_stand(
 ) -> Result<bool, NoMemory>
     requires description { IsDescription schema.now }
     requires held { IsHeld schema.now }
+    requires whole { list_all (λ i. is_whole i.built) (indexes schema.now) ≡ true }
     ensures may { IfOk result (λ may. IsTrue may
         ↔ MayStand number family catalog.now name.now schema.now) }
 {
@@ -213,6 +216,7 @@ fn may_stand(
 fn is_good(number: u64, family: u32, name: &Bytes, schema: &TableSchema, families: &[u32]) -> bool
     requires description { IsDescription schema.now }
     requires held { IsHeld schema.now }
+    requires whole { list_all (λ i. is_whole i.built) (indexes schema.now) ≡ true }
     requires families { families.now ≡ families_of schema.now }
     ensures good { IsTrue result ↔ IsGood number family name.now schema.now }
 {

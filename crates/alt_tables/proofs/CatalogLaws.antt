@@ -32,6 +32,7 @@ use Rattle.alt_machine.proofs.Looks.{at_insert, at_remove, not_there}
 use Rattle.alt_machine.proofs.Rekeying.{given_by}
 use Rattle.alt_machine.proofs.States.{with_table_valid, without_table_valid}
 use Rattle.alt_schema.specs.Described.{IsNew}
+use Rattle.alt_schema.specs.Format.{description_bytes}
 use Rattle.alt_schema.specs.Held.{IsHeld}
 use Rattle.alt_schema.specs.Rules.{is_name}
 use Rattle.alt_schema.specs.declared.schema.IndexSchema.{IndexSchema}
@@ -43,6 +44,7 @@ use Rattle.alt_tables.proofs.ChangeLaws.{ShowsWrite, one_change, two_changes, ot
 use Rattle.alt_views.proofs.ItemRowLaws.{can_show}
 use Rattle.alt_views.specs.IndexRows.{index_columns}
 use Rattle.alt_opening.proofs.OneState.{some, nameless}
+use Rattle.alt_opening.proofs.TableRow.{get-described_row}
 use Rattle.alt_tables.proofs.IndexFamilies.{index_family}
 use Rattle.alt_tables.proofs.StreamShows.{stream_family}
 use Rattle.alt_tables.proofs.WriteLaws.{family_within, index_within, stream_within}
@@ -52,6 +54,11 @@ pub one_can_show : (name value : List ℕ) → CanShow (Some (one_column name va
 one_can_show name value = can_show (one_column name value) name value
     (map.get-insert key_total map.empty name value name
     ∙ ap (λ b. cond b (Some value) (map.get (map.empty {R = key_cmp}) name)) (itself name))
+
+-- so can that of a table
+pub table_can_show : (d : TableSchema) → CanShow (Some (table_row d))
+table_can_show d = can_show (table_row d) (codes "t") (description_bytes d)
+    (get-described_row d.ttl (description_bytes d))
 
 -- and so can that of the next family
 next_can_show : (family : ℕ) → CanShow (next_row family)
@@ -74,7 +81,7 @@ none_rekeyed {Y = Y} g key = by (map.get (rekeyed g map.empty) key) refl
         let no : None ≡ Some x = sym (map.get-empty key_cmp place) ∙ here in cc no
 
 -- changes of the catalog leave all other families
-off_catalog : (c : RowChange) (cs : List RowChange) (family : ℕ) (key : List ℕ)
+pub off_catalog : (c : RowChange) (cs : List RowChange) (family : ℕ) (key : List ℕ)
     → c.family ≡ catalog_family → 1 ≤ family
     → change_of family key (c ∷ cs) ≡ change_of family key cs
 off_catalog c cs family key is high = other_family c cs family key
@@ -124,7 +131,7 @@ module _ (l : Layout) (s : State) (shows : Shows l s) (valid : IsValid s) where
         by_key true true e f = absurd (false≢true (sym named
             ∙ ap (λ k. eq_by_cmp key_cmp k d.name) (sym (tied key [] f)) ∙ e))
         by_key true false e f = written-change_between catalog_family d.name None
-            (Some (table_row d)) (one_can_show (codes "t") _)
+            (Some (table_row d)) (table_can_show d)
         by_key false true e f = written-change_between catalog_family [] (next_row s.next_family)
             (next_row after) (next_can_show after)
         by_key false false e f = refl
@@ -287,7 +294,7 @@ module _ (l : Layout) (s : State) (shows : Shows l s) (valid : IsValid s) where
     }
 
 -- no name of a table is empty
-table_named : (s : State) (name : List ℕ) (t : Table) → IsValid s → map.get s.tables name ≡ Some t
+pub table_named : (s : State) (name : List ℕ) (t : Table) → IsValid s → map.get s.tables name ≡ Some t
     → eq_by_cmp key_cmp [] name ≡ false
 table_named s [] t valid at = let no : None ≡ Some t = sym (nameless s valid) ∙ at in cc no
 table_named s (c ∷ cs) t valid at = refl

@@ -3,6 +3,8 @@ pub mod Batches
 pub mod Behind
 pub mod ByKeys
 pub mod CatalogLaws
+pub mod TimeLaws
+pub mod Timed
 pub mod ChangeLaws
 pub mod ChangePages
 pub mod Differing

@@ -103,7 +103,7 @@ broke file now wants s r NoMemory given = tt
 -- ---- fronts
 
 -- what is known of fronts is so of whichever layout the rows are
-fronts_of_rows : (now : DiskState) (new : Tables) (l : Layout) (tables : Texts Table)
+pub fronts_of_rows : (now : DiskState) (new : Tables) (l : Layout) (tables : Texts Table)
     → HasRows now new l → AreFronts l tables (fronts_of new) → (m : Layout) → HasRows now new m
     → AreFronts m tables (fronts_of new)
 fronts_of_rows now new l tables rows are m other =
@@ -246,7 +246,7 @@ module _ (before : DiskState) (old : Tables) (s : State) (t : Table) (stands : S
 -- ---- a table
 
 -- each of the row changes is of the catalog
-abbrev OfCatalog : List RowChange → Type 0
+abbrev pub OfCatalog : List RowChange → Type 0
 OfCatalog [] = Unit {0}
 OfCatalog (c ∷ cs) = (c.family ≡ catalog_family) × OfCatalog cs
 
@@ -262,7 +262,7 @@ catalog_others family some (c ∷ cs) of =
 
 module _ (before : DiskState) (old : Tables) (s : State) (stands : Stands before old s) where
   -- row changes of the catalog leave what is known of fronts
-  catalog_fronts : (batch : List RowChange) → T (is_distinct batch) → OfCatalog batch
+  pub catalog_fronts : (batch : List RowChange) → T (is_distinct batch) → OfCatalog batch
       → AreFronts (changed_rows stands.rows.layout batch) s.tables (fronts_of old)
   catalog_fronts batch distinct of = fronts_alike stands.rows.layout
       (changed_rows stands.rows.layout batch) s.tables (fronts_of old)

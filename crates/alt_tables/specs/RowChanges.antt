@@ -42,6 +42,11 @@ creation_changes before after d = change_between catalog_family d.name None (Som
 abbrev pub drop_changes : TableSchema → List RowChange
 drop_changes d = change_between catalog_family d.name (Some (table_row d)) None ∷ []
 
+-- of a table that has another attribute for time to live, or none: the row of its description changes
+abbrev pub time_changes : TableSchema → Option (List ℕ) → List RowChange
+time_changes d ttl = change_between catalog_family d.name (Some (table_row d))
+    (Some (table_row (record d { ttl = ttl }))) ∷ []
+
 -- the rows behind these changes, which are one write with the next number
 abbrev pub changed_rows : Layout → List RowChange → Layout
 changed_rows l changes = with_write l (batch_write l changes)

@@ -9,15 +9,17 @@ ghost use Rattle.alt_layout.specs.Layout.{Layout};
 ghost use Rattle.alt_machine.specs.Ops.CreateTable.{with_table};
 ghost use Rattle.alt_machine.specs.Ops.DeleteTable.{without_table};
 ghost use Rattle.alt_machine.specs.Ops.ListTables.{names_after};
+ghost use Rattle.alt_machine.specs.Ops.UpdateTimeToLive.{with_time};
 ghost use Rattle.alt_machine.specs.Outcomes.{a_number, a_table};
-ghost use Rattle.alt_machine.specs.State.{State, families_of};
+ghost use Rattle.alt_machine.specs.State.{State, Table, families_of};
 ghost use Rattle.alt_machine.specs.Valid.{IsMade, IsValid};
 ghost use Rattle.alt_machine.specs.Wanted.{table_lack};
 ghost use Rattle.alt_schema.specs.Described.{IsNew};
+ghost use Rattle.alt_schema.specs.Held.{IsHeldText, Where};
 ghost use Rattle.alt_tables.specs.Faults.{IsFindFault, Writes};
 ghost use Rattle.alt_tables.specs.Images.{Leaves};
 ghost use Rattle.alt_opening.specs.Order.{first_after};
-ghost use Rattle.alt_tables.specs.RowChanges.{Turns, changed_rows, creation_changes, drop_changes};
+ghost use Rattle.alt_tables.specs.RowChanges.{Turns, changed_rows, creation_changes, drop_changes, time_changes};
 ghost use Rattle.alt_tables.specs.Several.{AreDistinct, TurnsAll, with_batches};
 ghost use Rattle.alt_tables.specs.Stands.{AreReady, HasRows, Stands, catalog_of, number_of, family_of, bounds_of, trimmed_of};
 ghost use Rattle.alt_opening.specs.Opened.{Holds};
@@ -32,9 +34,11 @@ use alt_engine::Engine;
 use alt_fields::Bytes;
 use alt_machine::{FAMILIES_END, MOST_FAMILIES, MOST_TABLES, NUMBERS_END};
 use alt_opening::{
-    CATALOG, Catalog, Live, Trimmed, forget, row_of_family, row_of_schema, trimmed_number,
+    CATALOG, Catalog, Live, Trimmed, forget, row_of_family, row_of_schema, row_with_time,
+    trimmed_number,
 };
 use alt_schema::{TableSchema, held};
+use alt_value::Text;
 use std::alloc::Global;
 
 /// All tables with their items, over an engine. With the disk beneath it they stand for a state of the machine (docs/ARCHITECTURE.md).
@@ -190,6 +194,51 @@ impl Tables {
         }
     }
 
+    /// Gives a table that is there that attribute for time to live, or none.
+    pub fn set_ttl<D: Disk>(
+        &mut self,
+        disk: &mut D,
+        table: &str,
+        name: Option<&str>,
+    ) -> Result<(), TableFault>
+        requires ready { AreReady (D.state disk.old) self.old }
+        requires there { map.contains_key (catalog_of self.old) table.now ≡ true }
+        ensures writes { (s : State) (t : Table) → Stands (D.state disk.old) self.old s
+            → map.get s.tables table.now ≡ Some t
+            → Writes (bounds_of self.old).file (Stands (D.state disk.new) self.new) a_number s
+            (with_time s table.now t (option_map (λ n. n.now) name.entry) ∷ []) result }
+        ensures disk { (s : State) (t : Table) → Stands (D.state disk.old) self.old s
+            → map.get s.tables table.now ≡ Some t
+            → Leaves (D.state disk.old) (D.state disk.new) s
+            (with_time s table.now t (option_map (λ n. n.now) name.entry) ∷ []) }
+        ensures no_memory { IsErrOf result TableFault.NoMemory
+            → D.state disk.new ≡ D.state disk.old }
+        ensures limits { bounds_of self.new ≡ bounds_of self.old }
+        ensures goes { Goes (D.state disk.old) (D.state disk.new) }
+        ensures cause { IsErrOf result TableFault.Failed
+            → Rose (D.state disk.old).faults (D.state disk.new).faults }
+    {
+        let number = self.engine.next_number();
+        if number >= NUMBERS_END {
+            return Err(TableFault::Spent { number });
+        }
+        if let Some(number) = self.engine.wanting_file() {
+            return Err(TableFault::Spent { number });
+        }
+        let Some(schema) = self.catalog.get(table) else {
+            unreachable!();
+        };
+        let ttl = named(self.alloc, name)?;
+        let batch = timing(self.alloc, schema, ttl.as_ref())?;
+        match self.make(disk, &batch) {
+            Ok(_) => {
+                self.catalog.set_ttl(table, ttl);
+                Ok(())
+            }
+            Err(fault) => Err(fault),
+        }
+    }
+
     /// Makes one write of these row changes. What is known without the disk stays, but for the number. After an Err the engine is spent.
     pub(crate) fn make<D: Disk>(&mut self, disk: &mut D, batch: &Batch) -> Result<u64, TableFault>
         requires ready { IsTrusted (D.state disk.old)
@@ -291,6 +340,32 @@ fn removal(alloc: Global, schema: &TableSchema) -> Result<Batch, NoMemory>
     let mut batch = Batch::new(alloc);
     batch.add(RowChange::between(alloc, CATALOG, key, Some(&row), None)?)?;
     Ok(batch)
+}
+
+/// That of a table with another attribute for time to live, or none: the row of its description changes.
+fn timing(alloc: Global, schema: &TableSchema, ttl: Option<&Text>) -> Result<Batch, NoMemory>
+    ensures changes { IfOk result (λ batch. batch
+        ≡ time_changes schema.now (option_map (λ t. t.now) ttl.entry)) }
+{
+    let old = row_of_schema(alloc, schema)?;
+    let new = row_with_time(alloc, schema, ttl)?;
+    let key = Bytes::new(alloc, schema.name.as_str().as_bytes())?;
+    let mut batch = Batch::new(alloc);
+    batch.add(RowChange::between(alloc, CATALOG, key, Some(&old), Some(&new))?)?;
+    Ok(batch)
+}
+
+/// A copy of a name, where one is given.
+fn named(alloc: Global, name: Option<&str>) -> Result<Option<Text>, NoMemory>
+    ensures copied { IfOk result (λ text. text ≡ option_map (λ n. n.now) name.entry) }
+    ensures held { IfOk result (Where IsHeldText) }
+{
+    let Some(name) = name else {
+        return Ok(None);
+    };
+    let text = Text::new(alloc, name)?;
+    let _length = text.len();
+    Ok(Some(text))
 }
 
 /// How many families a table takes.

@@ -1,18 +1,16 @@
 -- A description that may not stand there is the only one with that row.
 use Rattle.std.proofs.Common.{◌≡◌, sym, subst, ◌∙◌, IsTrue}
 use Rattle.std.proofs.lemmas.Bool.{false≢true}
-use Rattle.std.specs.Prelude.{codes}
-use Rattle.alt_schema.proofs.WholeDescriptions.{one_spelling}
 use Rattle.alt_opening.specs.private.Opening.{MayStand}
-use Rattle.alt_opening.proofs.OneState.{one_column-value}
+use Rattle.alt_opening.proofs.TableRow.{one_table_row}
 use Rattle.alt_opening.proofs.opened.test_table.Goals as goal
 
 pub returns-else-branch-clause-none : goal.returns-else-branch-clause-none
 returns-else-branch-clause-none c bad d is =
     let read = c.in_ok-schema.ensures.schema in
-    let same : d ≡ c.in_ok-schema.schema = one_spelling d c.in_ok-schema.schema
-    is.may.good.made.whole is.may.good.held read.0 read.1
-    (one_column-value (codes "t") _ _ (sym is.row ∙ read.2)) in
+    let same : d ≡ c.in_ok-schema.schema = one_table_row d c.in_ok-schema.schema
+    is.may.good.made.whole is.may.good.held is.may.good.made.built read.0 read.1
+    c.in_ok-schema.ensures.whole (sym is.row ∙ read.2) in
     let may : IsTrue c.in_ok-may_stand.field-0 = c.in_ok-may_stand.ensures.may.1
     (subst (MayStand c.args.number c.args.family c.args.catalog.now c.args.name.now) same
     is.may) in

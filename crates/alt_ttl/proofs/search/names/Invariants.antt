@@ -1,0 +1,13 @@
+-- The names so far and those after the last of them are all.
+use Rattle.std.proofs.Common.{◌≡◌, ◌++◌, [], length}
+use denote.Text.{Utf8}
+use denote.Shadow.{shadow}
+use Rattle.alt_machine.specs.Ops.ListTables.{names_after}
+use Rattle.alt_tables.specs.Stands.{catalog_of}
+use Rattle.alt_ttl.proofs.search.names.Given as goal
+
+abbrev pub invariant-loop : goal.invariant-loop
+invariant-loop l = shadow (Utf8 l.last)
+    × (length l.names.items ≡ l.counter)
+    × (l.names.items ++ names_after l.last (catalog_of l.tables)
+    ≡ names_after [] (catalog_of l.tables))

@@ -1,0 +1,3 @@
+-- What private contracts alone cite: nobody who believes the promises of this crate has to read it.
+pub mod Searched
+pub mod Timed

@@ -1,0 +1,15 @@
+//! Time to live: UpdateTimeToLive and DescribeTimeToLive (DynamoDB API Reference, "Actions"), and ExpireItems, which deletes the items
+//! whose time is over (docs/API.md).
+#![tactic(auto)]
+
+mod describe_time;
+mod expiry;
+mod over;
+mod replies;
+mod search;
+mod standings;
+mod update_time;
+
+pub use describe_time::describe_time_to_live;
+pub use expiry::{expire, expire_items};
+pub use update_time::update_time_to_live;

@@ -1,7 +1,7 @@
 -- Which requests only read, whatever becomes of them.
 use Rattle.std.specs.Prelude.{Bool, true, false, Option, Some, None, IsTrue}
 use Rattle.alt_machine.specs.declared.Operation.{Operation}
-use Rattle.alt_machine.specs.declared.Operation.TheVariants.{CreateTable, DescribeTable, ListTables, DeleteTable, PutItem, GetItem, DeleteItem, UpdateItem, Query, Scan, BatchWriteItem, BatchGetItem, ListStreams, DescribeStream, GetShardIterator, GetRecords}
+use Rattle.alt_machine.specs.declared.Operation.TheVariants.{CreateTable, DescribeTable, ListTables, DeleteTable, PutItem, GetItem, DeleteItem, UpdateItem, Query, Scan, BatchWriteItem, BatchGetItem, ListStreams, DescribeStream, GetShardIterator, GetRecords, UpdateTimeToLive, DescribeTimeToLive, ExpireItems}
 
 -- The operation has no writes.
 abbrev pub is_read : Operation → Bool
@@ -21,6 +21,9 @@ is_read ListStreams = true
 is_read DescribeStream = true
 is_read GetShardIterator = true
 is_read GetRecords = true
+is_read UpdateTimeToLive = false
+is_read DescribeTimeToLive = true
+is_read ExpireItems = false
 
 -- So it is of a request that names no operation that is built.
 abbrev pub OnlyReads : Option Operation → Type 0

@@ -34,11 +34,12 @@ use alt_request::Stop;
 use alt_shape::{Refusal, Reply, refuse};
 use alt_streams::{describe_stream, get_records, get_shard_iterator, list_streams};
 use alt_tables::{TableFault, Tables};
+use alt_ttl::{describe_time_to_live, expire_items, update_time_to_live};
 use serde_json::{Map, Value};
 use std::alloc::Global;
 
 /// The operations that are built, by name.
-static OPERATIONS: [(&str, Operation); 16] = [
+static OPERATIONS: [(&str, Operation); 19] = [
     ("CreateTable", Operation::CreateTable),
     ("DescribeTable", Operation::DescribeTable),
     ("ListTables", Operation::ListTables),
@@ -55,6 +56,9 @@ static OPERATIONS: [(&str, Operation); 16] = [
     ("DescribeStream", Operation::DescribeStream),
     ("GetShardIterator", Operation::GetShardIterator),
     ("GetRecords", Operation::GetRecords),
+    ("UpdateTimeToLive", Operation::UpdateTimeToLive),
+    ("DescribeTimeToLive", Operation::DescribeTimeToLive),
+    ("ExpireItems", Operation::ExpireItems),
 ];
 
 /// The built operation of that name, `None` exactly where there is none.
@@ -241,5 +245,8 @@ fn carry_out<D: Disk>(
         Operation::DescribeStream => describe_stream(alloc, tables, disk, body, moment),
         Operation::GetShardIterator => get_shard_iterator(alloc, tables, disk, body, moment),
         Operation::GetRecords => get_records(alloc, tables, disk, body, moment),
+        Operation::UpdateTimeToLive => update_time_to_live(alloc, tables, disk, body, moment),
+        Operation::DescribeTimeToLive => describe_time_to_live(alloc, tables, disk, body, moment),
+        Operation::ExpireItems => expire_items(alloc, tables, disk, body, moment),
     }
 }

@@ -48,9 +48,11 @@ use Rattle.alt_machine.specs.Ops.ListStreams.{list_streams}
 use Rattle.alt_machine.specs.Ops.DescribeStream.{describe_stream}
 use Rattle.alt_machine.specs.Ops.GetShardIterator.{get_shard_iterator}
 use Rattle.alt_machine.specs.Ops.GetRecords.{get_records}
+use Rattle.alt_machine.specs.Ops.DescribeTimeToLive.{describe_time_to_live}
+use Rattle.alt_machine.specs.Ops.UpdateTimeToLive.{update_time_to_live}
 use Rattle.alt_machine.specs.State.{State, Table}
 use Rattle.alt_machine.specs.declared.Operation.{Operation}
-use Rattle.alt_machine.specs.declared.Operation.TheVariants.{CreateTable, DescribeTable, ListTables, DeleteTable, PutItem, GetItem, DeleteItem, UpdateItem, Query, Scan, BatchWriteItem, BatchGetItem, ListStreams, DescribeStream, GetShardIterator, GetRecords}
+use Rattle.alt_machine.specs.declared.Operation.TheVariants.{CreateTable, DescribeTable, ListTables, DeleteTable, PutItem, GetItem, DeleteItem, UpdateItem, Query, Scan, BatchWriteItem, BatchGetItem, ListStreams, DescribeStream, GetShardIterator, GetRecords, UpdateTimeToLive, DescribeTimeToLive, ExpireItems}
 use Rattle.alt_named.specs.Named.{AreSame, SaysNamed, is_among}
 use Rattle.alt_shape.specs.Bodies as bodies
 use Rattle.alt_shape.specs.Shape.{given, natural_of, unless_null}
@@ -525,6 +527,23 @@ module _ (s : State) (moment : ℕ) (ms bs : Members) where
         at (codes "Limit") refl,
       ) refl
 
+  pub update_time_heeds : AreSame (heeded UpdateTimeToLive) ms bs
+      → update_time_to_live s ms ≡ update_time_to_live s bs
+  unfolding update_time_to_live
+  update_time_heeds h =
+      let at = same (heeded UpdateTimeToLive) ms bs h in
+      rw (
+        at (codes "TableName") refl,
+        at (codes "TimeToLiveSpecification") refl,
+      ) refl
+
+  pub describe_time_heeds : AreSame (heeded DescribeTimeToLive) ms bs
+      → describe_time_to_live s ms ≡ describe_time_to_live s bs
+  unfolding describe_time_to_live bodies.describe_table
+  describe_time_heeds h =
+      let at = same (heeded DescribeTimeToLive) ms bs h in
+      rw (at (codes "TableName") refl) refl
+
 -- so for each operation
 pub heeds : (op : Operation) → Heeds op
 heeds CreateTable s moment ms bs h = create_table_heeds s moment ms bs h
@@ -543,6 +562,9 @@ heeds ListStreams s moment ms bs h = list_streams_heeds s moment ms bs h
 heeds DescribeStream s moment ms bs h = describe_stream_heeds s moment ms bs h
 heeds GetShardIterator s moment ms bs h = get_shard_iterator_heeds s moment ms bs h
 heeds GetRecords s moment ms bs h = get_records_heeds s moment ms bs h
+heeds UpdateTimeToLive s moment ms bs h = update_time_heeds s moment ms bs h
+heeds DescribeTimeToLive s moment ms bs h = describe_time_heeds s moment ms bs h
+heeds ExpireItems s moment ms bs h = refl
 
 -- so a body of which these are read is enough
 pub suffices : (op : Operation) (body found : Option Members) → SaysNamed (heeded op) body found

@@ -34,6 +34,9 @@ pub fn heeded(operation: Operation) -> &'static [&'static str]
         Operation::DescribeStream => &DESCRIBE_STREAM,
         Operation::GetShardIterator => &GET_SHARD_ITERATOR,
         Operation::GetRecords => &GET_RECORDS,
+        Operation::UpdateTimeToLive => &UPDATE_TIME_TO_LIVE,
+        Operation::DescribeTimeToLive => &TABLE,
+        Operation::ExpireItems => &NONE,
     }
 }
 
@@ -149,3 +152,8 @@ static GET_SHARD_ITERATOR: [&str; 4] = [
 ];
 
 static GET_RECORDS: [&str; 2] = ["ShardIterator", "Limit"];
+
+/// Of an operation whose body says nothing.
+static NONE: [&str; 0] = [];
+
+static UPDATE_TIME_TO_LIVE: [&str; 2] = ["TableName", "TimeToLiveSpecification"];

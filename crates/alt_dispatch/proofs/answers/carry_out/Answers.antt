@@ -148,6 +148,30 @@ returns-in-GetRecords-clause-carried g c =
     (Stands (g.D.Disk.state c.get_records.new.disk) c.get_records.new.tables) c.get_records.result
     c.get_records.ensures.carried
 
+pub returns-in-UpdateTimeToLive-clause-carried : goal.returns-in-UpdateTimeToLive-clause-carried
+returns-in-UpdateTimeToLive-clause-carried g c =
+    carried_as c.args.operation _ c.in-UpdateTimeToLive.is c.args.moment
+    (members_view c.args.body.now.entries)
+    (Stands (g.D.Disk.state c.args.disk.now) c.args.tables.now)
+    (Stands (g.D.Disk.state c.update_time_to_live.new.disk) c.update_time_to_live.new.tables)
+    c.update_time_to_live.result c.update_time_to_live.ensures.carried
+
+pub returns-in-DescribeTimeToLive-clause-carried : goal.returns-in-DescribeTimeToLive-clause-carried
+returns-in-DescribeTimeToLive-clause-carried g c =
+    carried_as c.args.operation _ c.in-DescribeTimeToLive.is c.args.moment
+    (members_view c.args.body.now.entries)
+    (Stands (g.D.Disk.state c.args.disk.now) c.args.tables.now)
+    (Stands (g.D.Disk.state c.describe_time_to_live.new.disk) c.describe_time_to_live.new.tables)
+    c.describe_time_to_live.result c.describe_time_to_live.ensures.carried
+
+pub returns-in-ExpireItems-clause-carried : goal.returns-in-ExpireItems-clause-carried
+returns-in-ExpireItems-clause-carried g c =
+    carried_as c.args.operation _ c.in-ExpireItems.is c.args.moment
+    (members_view c.args.body.now.entries)
+    (Stands (g.D.Disk.state c.args.disk.now) c.args.tables.now)
+    (Stands (g.D.Disk.state c.expire_items.new.disk) c.expire_items.new.tables)
+    c.expire_items.result c.expire_items.ensures.carried
+
 -- ---- what only reads
 
 -- a call that wasn't made of the disk reads
@@ -211,3 +235,13 @@ returns-in-GetShardIterator-clause-reads g c reads = unread (g.D.Disk.state c.ar
 
 pub returns-in-GetRecords-clause-reads : goal.returns-in-GetRecords-clause-reads
 returns-in-GetRecords-clause-reads g c reads = c.get_records.ensures.disk
+
+pub returns-in-UpdateTimeToLive-clause-reads : goal.returns-in-UpdateTimeToLive-clause-reads
+returns-in-UpdateTimeToLive-clause-reads g c reads = absurd (writes_not c.args.operation _ c.in-UpdateTimeToLive.is refl reads)
+
+pub returns-in-DescribeTimeToLive-clause-reads : goal.returns-in-DescribeTimeToLive-clause-reads
+returns-in-DescribeTimeToLive-clause-reads g c reads = unread (g.D.Disk.state c.args.disk.now)
+    (g.D.Disk.state c.describe_time_to_live.new.disk) c.describe_time_to_live.ensures.disk
+
+pub returns-in-ExpireItems-clause-reads : goal.returns-in-ExpireItems-clause-reads
+returns-in-ExpireItems-clause-reads g c reads = absurd (writes_not c.args.operation _ c.in-ExpireItems.is refl reads)

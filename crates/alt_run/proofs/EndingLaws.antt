@@ -97,7 +97,7 @@ some_served r per count fault next s es ms x = record {
     | inr (inr one) ↦ inr (inr (
       one.0,
       one.1,
-      record { left = one.2.left; serves = one.2.serves; cause = tt },
+      record { left = one.2.left; serves = one.2.serves; cause = inl tt },
     ))
   ];
   most = x.most;

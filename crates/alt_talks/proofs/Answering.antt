@@ -7,7 +7,7 @@ use Rattle.alt_machine.specs.Step.{step}
 use Rattle.alt_machine.specs.Wanted.{Lack, lack_among, wanted}
 use Rattle.alt_machine.specs.declared.Operation.{Operation}
 use Rattle.alt_machine.proofs.Steps.{one_atom}
-use Rattle.alt_talks.specs.Stops.{Image, IsUncut, AtEach}
+use Rattle.alt_talks.specs.Stops.{Image, IsAmong, IsUncut, AtEach}
 use Rattle.alt_tables.specs.Faults.{BreakOff, IsLastFile, WantFile, told_by_tables}
 use Rattle.alt_tables.specs.Images.{Leaves, StandsFor}
 use Rattle.alt_tables.specs.Stands.{Stands}
@@ -48,18 +48,31 @@ uncut_leaves a b tables s o body moment stands leaves trusted =
           uncut_some image s (step s o body moment).atoms (one_atom s o body moment) some.0 some.1;
     }
 
--- what broke off a request is why it has no answer
+-- what is left of any writes is that before one of them or that after the last
+pub among_leaves : (a b : DiskState) (tables : Tables) (s : State) (atoms : List State)
+    → Stands a tables s → Leaves a b s atoms → AtEach a b (λ _ image. IsAmong image s atoms)
+among_leaves a b tables s atoms stands leaves trusted =
+    let p = leaves_images a b tables s atoms stands leaves in
+    record {
+      later = p.later;
+      past = p.past;
+      file = λ g outside. absurd (outside tt);
+      fates = λ t g outside low high. absurd (outside tt);
+      each = p.each;
+    }
+
+-- what broke off a request is why it has no answer: a lack, or, where it writes anything and lacks nothing, that of a file
 pub caused : (file : ℕ) (now : State → Type 0) (s : State) (outcome : Outcome) (given : TableFault)
     (fault : RunFault) → told_by_run fault ≡ told_by_tables given
     → BreakOff file now outcome.wants s outcome.atoms given
-    → IsAnswerFault file (wanted s outcome) fault
+    → IsAnswerFault file (wanted s outcome) outcome.atoms fault
 caused file now s outcome (Spent n) fault same h = ⊎_elim
     (λ (lacks : lack_among outcome.wants s outcome.atoms ≡ Some (record { number = n; before = h.0 })).
     inl (subst (OnlySpent (Lacks s outcome)) (sym same)
     (ap (option_map (λ (l : Lack). l.number)) lacks)))
     (λ (last : (h.0 ≡ 0) × (lack_among outcome.wants s outcome.atoms ≡ None)
     × WantFile file outcome.atoms n).
-    inr (last.1, subst (OnlySpent (IsLastFile file)) (sym same) last.2.1)) h.1
+    inr (last.1, last.2.0, subst (OnlySpent (IsLastFile file)) (sym same) last.2.1)) h.1
 caused file now s outcome (Damaged f at) fault same h = absurd h
 caused file now s outcome (BadRow family key) fault same h = absurd h
 caused file now s outcome Failed fault same h =

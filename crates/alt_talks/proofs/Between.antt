@@ -8,15 +8,15 @@ use Rattle.alt_engine.specs.InHand.{Bounds}
 use Rattle.alt_tables.specs.Stands.{Stands, bounds_of}
 use Rattle.alt_tables.specs.declared.tables.Tables.{Tables}
 use Rattle.alt_talks.specs.Connections.{after_own}
-use Rattle.alt_talks.specs.Faults.{IsCausedBy, reach}
-use Rattle.alt_talks.specs.Own.{Own, after_between, last_told, own_between}
+use Rattle.alt_talks.specs.Faults.{reach}
+use Rattle.alt_talks.specs.Own.{BetweenNot, Own, after_between, last_told, own_between}
 use Rattle.alt_talks.specs.Runs.{Counting, LeadsOn, OfStretch, Stretch, Timed}
 use Rattle.alt_talks.specs.Stops.{AreWithin, AtEach, IsAmong}
 use Rattle.alt_talks.specs.TalkRules.{rules}
 use Rattle.alt_talks.specs.TalkStops.{ComesOn, LeftBetween, ServedSomeOn}
 use Rattle.alt_talks.specs.Works.{Follows}
 use Rattle.alt_talks.specs.declared.fault.RunFault.{RunFault}
-use Rattle.alt_talks.proofs.FileFaults.{reach_both}
+use Rattle.alt_talks.proofs.FileFaults.{between_more, reach_both}
 use Rattle.alt_talks.proofs.Stopping.{Meet}
 use Rattle.alt_talks.proofs.Stretching.{stretch_goes, stretch_then}
 use Rattle.alt_talks.proofs.TalkAmong.{SofarOn, served_between_on, sofar_more_on}
@@ -98,11 +98,12 @@ module _ (per n next : ℕ) (a b c d : DiskState) (t1 t2 : Tables) (s : State) (
 
   -- or it broke off
   pub served_followed : (count : ℕ) (fault : RunFault) → n < count
-      → ((u : State) → Stands c t2 u → IsCausedBy (own_between (suc n) moment u).lacks fault)
+      → ((u : State) → Stands c t2 u → BetweenNot now (own_between (suc n) moment u) fault)
       → Stretch a d (ServedSomeOn rules per count fault next s)
   served_followed count fault few cause = then_came {R = ServedSomeOn rules per count fault next s}
       (λ es fs ms ns meet x y told low.
       served_between_on rules lawful per a b c s p.to n es fs ms ns meet x d left moment told y
       came.calls.trusts follows_rules count fault next few
-      (subst (λ (o : Own). IsCausedBy o.lacks fault) (sym (rules-between (suc n) moment left))
-      (cause left came.stands)))
+      (between_more now (reach next (ms ++ ns)) _ fault low
+      (subst (λ (o : Own). BetweenNot now o fault) (sym (rules-between (suc n) moment left))
+      (cause left came.stands))))

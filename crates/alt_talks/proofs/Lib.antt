@@ -1,5 +1,6 @@
 pub mod Between
 pub mod Breaking
+pub mod Expired
 pub mod FileFaults
 pub mod Answering
 pub mod Arriving

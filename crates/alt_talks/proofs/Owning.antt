@@ -1,5 +1,7 @@
--- What the server does by itself today: nothing but work.
-use Rattle.std.proofs.Common.{◌≡◌, inl, inr, ℕ, [], Option, Some, None, option_map, refl, ap}
+-- What the server does by itself: nothing but work behind a request, and behind every 64th connection it deletes expired items.
+use Rattle.std.proofs.Common.{◌≡◌, ◌==◌, ◌%◌, ap, inl, inr, ℕ, Bool, true, false, List, [], Option, Some, None, option_map, refl}
+use Rattle.std.specs.Prelude.{if◌then◌else◌}
+use Rattle.std.specs.Option.{option_map_or}
 use Rattle.alt_disk.specs.Disk.{DiskState}
 use Rattle.alt_disk.proofs.Calls.{goes_refl}
 use Rattle.alt_machine.specs.State.{State}
@@ -10,7 +12,8 @@ use Rattle.alt_tables.specs.Stands.{Stands}
 use Rattle.alt_tables.specs.declared.tables.Tables.{Tables}
 use Rattle.alt_tables.proofs.Left.{stands_left}
 use Rattle.alt_talks.specs.Faults.{IsAnswerFault, IsCausedBy, told_by_run}
-use Rattle.alt_talks.specs.Own.{Own, none_own, own_behind, own_between}
+use Rattle.alt_talks.specs.Own.{Own, expiries, none_own, own_behind, own_between}
+use Rattle.alt_talks.specs.declared.expiring.TheConstants.{BETWEEN_EXPIRIES, MOST_EXPIRIES}
 use Rattle.alt_talks.specs.Stops.{IsAmong}
 use Rattle.alt_talks.specs.Turns.{or_next}
 use Rattle.alt_talks.specs.Works.{Follows, Works}
@@ -25,10 +28,28 @@ none_behind s = refl
 pub none_lacked : (s : State) → (own_behind s).lacks ≡ None
 none_lacked s = ap (λ (o : Own). o.lacks) (none_behind s)
 
+-- nothing behind a connection of another number
 pub none_between : (number : ℕ) (moment : Option ℕ) (s : State)
-    → own_between number moment s ≡ none_own
+    → (number % BETWEEN_EXPIRIES == 0) ≡ false → own_between number moment s ≡ none_own
 unfolding own_between
-none_between number moment s = refl
+none_between number moment s other = ap (λ (b : Bool). if b
+    then option_map_or (λ m. expiries MOST_EXPIRIES m s) moment none_own else none_own) other
+
+-- nor where no moment was told
+pub none_told : (number : ℕ) (s : State) → own_between number None s ≡ none_own
+unfolding own_between
+none_told number s = by (number % BETWEEN_EXPIRIES == 0)
+  where
+    by : (b : Bool) → (if b then none_own else none_own) ≡ none_own
+    by true = refl
+    by false = refl
+
+-- else expired items are deleted, at that moment
+pub expiries_between : (number moment : ℕ) (s : State) → (number % BETWEEN_EXPIRIES == 0) ≡ true
+    → own_between number (Some moment) s ≡ expiries MOST_EXPIRIES moment s
+unfolding own_between
+expiries_between number moment s is = ap (λ (b : Bool). if b
+    then expiries MOST_EXPIRIES moment s else none_own) is
 
 -- ---- nothing follows
 
@@ -52,8 +73,8 @@ follows_worked a b s works = record {
 
 -- nothing, where neither lacks anything
 pub enough_both : (a b : Option Lack) → a ≡ None → b ≡ None → or_next a b ≡ None
-enough_both None b here then = then
-enough_both (Some x) b here then = here
+enough_both None b here behind = behind
+enough_both (Some x) b here behind = here
 
 -- what the request lacks is lacked
 pub cause_first : (a b : Option Lack) (fault : RunFault) → IsCausedBy a fault
@@ -65,10 +86,10 @@ cause_first None b fault h =
     (λ d no. no) (told_by_run fault) h
 
 -- and it has no answer for what is lacked, where the server lacks nothing behind it
-pub answer_first : (file : ℕ) (a b : Option Lack) (fault : RunFault) → b ≡ None
-    → IsAnswerFault file a fault → IsAnswerFault file (or_next a b) fault
-answer_first file a b fault none (inl h) = inl (cause_first a b fault h)
-answer_first file a b fault none (inr h) = inr (enough_both a b h.0 none, h.1)
+pub answer_first : (file : ℕ) (a b : Option Lack) (atoms : List State) (fault : RunFault) → b ≡ None
+    → IsAnswerFault file a atoms fault → IsAnswerFault file (or_next a b) atoms fault
+answer_first file a b atoms fault none (inl h) = inl (cause_first a b fault h)
+answer_first file a b atoms fault none (inr h) = inr (enough_both a b h.0 none, h.1, h.2)
 
 -- and so is what the server lacks behind one that lacks nothing
 pub cause_behind : (a b : Option Lack) (fault : RunFault) → a ≡ None → IsCausedBy b fault

@@ -6,8 +6,8 @@ use Rattle.alt_machine.specs.State.{State}
 use Rattle.alt_shell.specs.Log.{Log, entry, accepted, until, taken, said_in}
 use Rattle.alt_tables.specs.Images.{StandsFor}
 use Rattle.alt_talks.specs.Connections.{Connection, entries_of, turns_of, after_all, after_own, start}
-use Rattle.alt_talks.specs.Faults.{IsCausedBy, reach}
-use Rattle.alt_talks.specs.Own.{last_told}
+use Rattle.alt_talks.specs.Faults.{reach}
+use Rattle.alt_talks.specs.Own.{BetweenNot, last_told}
 use Rattle.alt_talks.specs.Runs.{OfStretch}
 use Rattle.alt_talks.specs.Stops.{Image, state_behind, IsLeft, AtEach, AreWithin}
 use Rattle.alt_talks.specs.Talks.{Turn, Rules, Lawful, turns_at}
@@ -234,12 +234,12 @@ module _ (r : Rules) (w : Lawful r) (per : ℕ) (a : DiskState) where
           )
 
       pub served_between_on : (count : ℕ) (fault : RunFault) (next : ℕ) → n < count
-          → IsCausedBy (r.between (suc n) moment u).lacks fault
+          → BetweenNot (reach next (ms ++ ns)) (r.between (suc n) moment u) fault
           → ServedSomeOn r per count fault next s a d (es ++ fs) (ms ++ ns)
       unfolding served_between
       served_between_on count fault next few cause = (
         served_between r per n count fault next s t u es fs ms ns few x.0 y.0
-            (subst (λ (m : Option ℕ). IsCausedBy (r.between (suc n) m u).lacks fault) told cause),
+            (subst (λ (m : Option ℕ). BetweenNot (reach next (ms ++ ns)) (r.between (suc n) m u) fault) told cause),
         left_both,
       )
 

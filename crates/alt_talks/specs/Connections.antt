@@ -5,7 +5,7 @@ use Rattle.alt_machine.specs.Outcomes.{last_state}
 use Rattle.alt_machine.specs.State.{State}
 use Rattle.alt_shell.specs.Log.{Log, accepted, none_came, hung_up, entry, taken, says_failed, crosses}
 use Rattle.alt_talks.specs.Faults.{IsCausedBy, reach}
-use Rattle.alt_talks.specs.Own.{last_told}
+use Rattle.alt_talks.specs.Own.{BetweenNot, last_told}
 use Rattle.alt_talks.specs.declared.fault.RunFault.{RunFault}
 use Rattle.alt_talks.specs.Talks.{Turn, Rules, Place, at, turns, closes}
 use Rattle.alt_talks.specs.TalkTexts.{after}
@@ -107,12 +107,13 @@ pub record Served (r : Rules) (per connections : ℕ) (s t : State) (entries : L
   pub state : t ≡ after_all r per 1 None s all
   pub ends : ((length all ≡ connections) × (last ≡ [])) ⊎ ((length all < connections) × ((m n : ℕ) × (last ≡ entry m n none_came ∷ [])))
 
--- Behind a connection that was served and hung up the server's own requests broke off.
-pub record BreaksBetween (r : Rules) (per number : ℕ) (moment : Option ℕ) (fault : RunFault) (s : State)
-    (k : Connection) : Type 0 where
+-- Behind a connection that was served and hung up the server's own requests broke off: for what they lack, or, where they write anything and so
+-- many numbers reach the last file, for that file, which the segment wants that the first of their writes makes.
+pub record BreaksBetween (r : Rules) (per numbers number : ℕ) (moment : Option ℕ) (fault : RunFault)
+    (s : State) (k : Connection) : Type 0 where
   pub left : State
   pub serves : Serves r per s k left
-  pub cause : IsCausedBy (r.between number moment left).lacks fault
+  pub cause : BetweenNot numbers (r.between number moment left) fault
 
 -- Another status: the connections before were served so, and one may have broken off, which was hung up then or never accepted; or what the
 -- server does by itself behind it did. The moments told on those before count where one that broke off wants a file.
@@ -124,5 +125,5 @@ pub record ServedSome (r : Rules) (per connections : ℕ) (fault : RunFault) (ne
   pub made : entries ≡ entries_of all ++ entries_of last
   pub moments : told ≡ told_of all ++ told_of last
   pub some : ((last ≡ []) × IsCausedBy None fault) ⊎ ((k : Connection) × (last ≡ k ∷ []) × Breaks r per fault (reach next (told_of all)) halfway k)
-      ⊎ ((k : Connection) × (last ≡ k ∷ []) × BreaksBetween r per (suc (length all)) (last_told None told) fault halfway k)
+      ⊎ ((k : Connection) × (last ≡ k ∷ []) × BreaksBetween r per (reach next told) (suc (length all)) (last_told None told) fault halfway k)
   pub most : length all + length last ≤ connections

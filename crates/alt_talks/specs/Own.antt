@@ -1,9 +1,16 @@
--- What the server does by itself: requests of its own, without a text, and without a moment of their own. There are none today.
-use Rattle.std.specs.Prelude.{◌≡◌, ◌⊎◌, ℕ, List, [], ◌∷◌, Bool, true, Option, Some, None}
-use Rattle.alt_machine.specs.Outcomes.{last_state}
+-- What the server does by itself: requests of its own, without a text, and without a moment of their own. Behind a request there are none,
+-- and behind every 64th connection it deletes expired items.
+use Rattle.std.specs.Prelude.{◌≡◌, ◌≤◌, ◌==◌, ◌%◌, ◌⊎◌, ℕ, zero, suc, nat_lt, length, if◌then◌else◌, List, [], ◌∷◌, ◌++◌, Bool, true, Option, Some, None}
+use Rattle.std.specs.Option.{option_map_or}
+use Rattle.alt_machine.specs.declared.TheConstants.{MOST_EXPIRED}
+use Rattle.alt_machine.specs.Expiry.{expiring}
+use Rattle.alt_machine.specs.Ops.ExpireItems.{expire_items}
+use Rattle.alt_machine.specs.Outcomes.{Outcome, last_state}
 use Rattle.alt_machine.specs.State.{State}
-use Rattle.alt_machine.specs.Wanted.{Lack}
+use Rattle.alt_machine.specs.Wanted.{Lack, wanted}
 use Rattle.alt_talks.specs.Faults.{IsCausedBy, IsFileFault}
+use Rattle.alt_talks.specs.Turns.{or_next}
+use Rattle.alt_talks.specs.declared.expiring.TheConstants.{BETWEEN_EXPIRIES, MOST_EXPIRIES}
 use Rattle.alt_talks.specs.declared.fault.RunFault.{RunFault}
 
 -- What such requests come to: the single writes that they make, each by the state after it, and the number or family that one of them
@@ -16,7 +23,22 @@ pub record Own : Type 0 where
 abbrev pub none_own : Own
 none_own = record { atoms = []; lacks = None }
 
+-- what one request comes to from a state
+abbrev pub own_of : State → Outcome → Own
+own_of s outcome = record { atoms = outcome.atoms; lacks = wanted s outcome }
+
+-- these and then those
+abbrev pub own_then : Own → Own → Own
+own_then a b = record { atoms = a.atoms ++ b.atoms; lacks = or_next a.lacks b.lacks }
+
 -- ---- what the server does
+
+-- ExpireItems at a moment, and again as long as one deletes as many as it may, so many times at most.
+abbrev pub expiries : ℕ → ℕ → State → Own
+expiries zero moment s = none_own
+expiries (suc n) moment s = own_then (own_of s (expire_items s moment))
+    (if nat_lt (length (expiring s moment)) MOST_EXPIRED then none_own
+    else expiries n moment (last_state s (expire_items s moment).atoms))
 
 -- behind a request, from the state that the request left
 unfoldable pub own_behind : State → Own
@@ -25,7 +47,8 @@ own_behind s = none_own
 -- Behind a connection, from the state that its requests left: how many connections have come by then, and the last moment that was told
 -- while they were served, none where none was.
 unfoldable pub own_between : ℕ → Option ℕ → State → Own
-own_between number moment s = none_own
+own_between number moment s = if number % BETWEEN_EXPIRIES == 0
+    then option_map_or (λ m. expiries MOST_EXPIRIES m s) moment none_own else none_own
 
 -- ---- the states behind it
 
@@ -47,3 +70,9 @@ last_told before (m ∷ ms) = last_told (Some m) ms
 abbrev pub FollowsNot : Bool → ℕ → Option Lack → RunFault → Type 0
 FollowsNot works numbers lack fault =
     IsCausedBy lack fault ⊎ ((works ≡ true) × (lack ≡ None) × IsFileFault numbers fault)
+
+-- Why what follows a connection breaks off: these requests of the server's own lack a number or a family, the device failed, or memory was
+-- refused; or, where they write anything, the segment that the first of their writes makes wants a file, where so many numbers reach the last.
+abbrev pub BetweenNot : ℕ → Own → RunFault → Type 0
+BetweenNot numbers own fault = IsCausedBy own.lacks fault
+    ⊎ ((1 ≤ length own.atoms) × IsFileFault numbers fault)

@@ -586,7 +586,7 @@ pub fn connections<S: Shell>(
             Err(fault) => return Err(fault),
         }
         served += 1;
-        match between(tables, shell, served, last) {
+        match between(alloc, tables, shell, served, last) {
             Ok(()) => {}
             Err(fault) => return Err(fault),
         }

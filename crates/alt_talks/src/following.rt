@@ -1,5 +1,5 @@
-//! What the server does by itself between two requests of its clients: its own requests behind one of theirs, and behind a connection
-//! (none today), and a step of work.
+//! What the server does by itself between two requests of its clients: its own requests behind one of theirs (none), and behind a connection,
+//! and a step of work.
 
 ghost use Rattle.std.specs.Prelude.{◌≡◌, ◌≤◌, ◌+◌, None, true, IfErr, OnOk, IsErrOf};
 ghost use Rattle.alt_base.specs.Counts.{Rose};
@@ -8,14 +8,15 @@ ghost use Rattle.alt_engine.specs.declared.work.Task.TheVariants.{Step};
 ghost use Rattle.alt_machine.specs.State.{State};
 ghost use Rattle.alt_tables.specs.FilesLeft.{most_files};
 ghost use Rattle.alt_tables.specs.Stands.{AreReady, Stands, bounds_of, limits_of};
-ghost use Rattle.alt_talks.specs.Faults.{IsCausedBy};
-ghost use Rattle.alt_talks.specs.Own.{FollowsNot, after_behind, after_between, own_behind, own_between};
+ghost use Rattle.alt_talks.specs.Own.{BetweenNot, FollowsNot, after_behind, after_between, own_behind, own_between};
 ghost use Rattle.alt_talks.specs.Works.{AfterWork, Follows};
 
+use crate::expiring::{BETWEEN_EXPIRIES, MOST_EXPIRIES, expire_all};
 use crate::fault::RunFault;
 use crate::working::work;
 use alt_disk::Disk;
 use alt_tables::{Tables, Task};
+use std::alloc::Global;
 
 /// What follows a request: the server's own requests behind it, and then, where that is wanted, one step of work.
 pub fn follow<D: Disk>(tables: &mut Tables, disk: &mut D, works: bool) -> Result<(), RunFault>
@@ -48,8 +49,9 @@ pub fn follow<D: Disk>(tables: &mut Tables, disk: &mut D, works: bool) -> Result
 }
 
 /// What follows a connection: the server's own requests behind it. So many connections have come by then, and this was the last moment that
-/// was told while they were served, `None` where none was.
+/// was told while they were served, `None` where none was. Expired items are deleted behind every 64th, at that moment.
 pub(crate) fn between<D: Disk>(
+    alloc: Global,
     tables: &mut Tables,
     disk: &mut D,
     number: u32,
@@ -63,11 +65,18 @@ pub(crate) fn between<D: Disk>(
     ensures enough { (s : State) → Stands (D.state disk.old) tables.old s
         → OnOk result ((own_between number moment s).lacks ≡ None) }
     ensures fault { (s : State) → Stands (D.state disk.old) tables.old s
-        → IfErr result (IsCausedBy (own_between number moment s).lacks) }
+        → IfErr result (BetweenNot (bounds_of tables.old).file
+        (own_between number moment s)) }
     ensures limits { bounds_of tables.new ≡ bounds_of tables.old }
     ensures goes { Goes (D.state disk.old) (D.state disk.new) }
     ensures cause { IsErrOf result RunFault.Failed
         → Rose (D.state disk.old).faults (D.state disk.new).faults }
 {
-    Ok(())
+    if number % BETWEEN_EXPIRIES != 0 {
+        return Ok(());
+    }
+    match moment {
+        Some(moment) => expire_all(alloc, tables, disk, moment, MOST_EXPIRIES),
+        None => Ok(()),
+    }
 }

@@ -2,6 +2,7 @@
 #![tactic(auto)]
 
 mod connection;
+mod expiring;
 mod fault;
 mod following;
 mod front;

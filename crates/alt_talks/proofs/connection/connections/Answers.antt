@@ -2,8 +2,7 @@ use Rattle.std.proofs.Common.{◌≡◌, ◌<◌, ◌+◌, inl, inr, ℕ, List, 
 use Rattle.alt_machine.specs.State.{State}
 use Rattle.alt_shell.specs.Log.{Log}
 use Rattle.alt_talks.specs.Arrivals.{Came, CameOne, NoneWill}
-use Rattle.alt_talks.specs.Faults.{IsCausedBy}
-use Rattle.alt_talks.specs.Own.{after_between, own_between}
+use Rattle.alt_talks.specs.Own.{BetweenNot, after_between, own_between}
 use Rattle.alt_talks.specs.Runs.{LeadsOn, Timed}
 use Rattle.alt_talks.specs.TalkStops.{ComesOn, ComesSomeOn, ServedOn, ServedSomeOn}
 use Rattle.alt_talks.specs.TalkRules.{rules}
@@ -98,8 +97,9 @@ returns-in-Err-between-clause-served g c = λ s stands.
     c.in-Ok-true.field-0-test (c.in-Ok-true.ensures.served t there))
     (λ u there. by_next n (λ (k : ℕ). Follows d e u (own_between k c.connection.new.last u).atoms)
     (c.in-Err-between.ensures.follows u there)) c.args.count c.in-Err-between.fault few
-    (λ u there. by_next n (λ (k : ℕ). IsCausedBy (own_between k c.connection.new.last u).lacks
-    c.in-Err-between.fault) (c.in-Err-between.ensures.fault u there))
+    (λ u there. by_next n (λ (k : ℕ). BetweenNot (bounds_of c.connection.new.tables).file
+    (own_between k c.connection.new.last u) c.in-Err-between.fault)
+    (c.in-Err-between.ensures.fault u there))
 
 pub returns-in-Err-between-clause-most : goal.returns-in-Err-between-clause-most
 returns-in-Err-between-clause-most g c =

@@ -1,5 +1,6 @@
 mod chains;
 mod damage;
+mod expiry;
 mod files;
 mod kept;
 mod merging;

@@ -20,7 +20,7 @@ use Rattle.alt_opening.proofs.LiveLaws.{live_alike}
 use Rattle.alt_opening.proofs.OneState.{some}
 use Rattle.alt_opening.proofs.Ties.{tied}
 use Rattle.alt_opening.proofs.TrimmedLaws.{trimmed-stay}
-use Rattle.alt_tables.specs.Fronts.{AreFronts, IsFront, front_at}
+use Rattle.alt_tables.specs.Fronts.{AreFronts, IsFront}
 use Rattle.alt_tables.specs.RowChanges.{Turns, changed_rows, time_changes}
 use Rattle.alt_tables.specs.Stands.{HasRows, Stands, catalog_of, fronts_of, number_of, trimmed_of}
 use Rattle.alt_tables.specs.declared.fronts.Front.{Front}
@@ -62,7 +62,7 @@ pub given_time : (m n : Texts TableSchema) (name : List ℕ) (d : TableSchema)
     → o ≡ ttl → map.get m name ≡ Some d → n ≡ map.insert m name (record d { ttl = ttl })
 given_time m n name d o ttl is same at =
     is ∙ ap (λ x. option_map_or
-        (λ (e : TableSchema). map.insert m name (record e { ttl = o })) x m) at
+    (λ (e : TableSchema). map.insert m name (record e { ttl = o })) x m) at
     ∙ ap (λ t. map.insert m name (record d { ttl = t })) same
 
 module _ (before : DiskState) (old : Tables) (s : State) (stands : Stands before old s)

@@ -1,5 +1,5 @@
 -- The row has two entries of those names, or isn't a table's.
-use Rattle.std.proofs.Common.{◌≡◌, refl, ◌∷◌, [], Bool, true, false, not, Some, sym, ◌∙◌, arith}
+use Rattle.std.proofs.Common.{◌≡◌, refl, Bool, true, false, not, Some, sym, ◌∙◌, arith}
 use Rattle.std.proofs.lemmas.Bool.{false≢true}
 use Rattle.std.specs.Prelude.{codes}
 use Rattle.alt_opening.specs.StateRows.{described_row}

@@ -1,12 +1,12 @@
 -- The description of the name gives way to one with that time to live.
-use Rattle.std.proofs.Common.{◌≡◌, sym, ap, subst, ◌∙◌, ℕ, List, Some, Option, set}
+use Rattle.std.proofs.Common.{sym, ap, subst, ◌∙◌, ℕ, List, Some, Option, set}
 use Rattle.std.proofs.lemmas.List.Elements.{All-same}
 use Rattle.std.specs.FinMap as map
 use Rattle.std.specs.Option.{option_map_or}
 use Rattle.alt_machine.specs.State.{Texts}
 use Rattle.alt_schema.specs.declared.schema.TableSchema.{TableSchema}
 use Rattle.alt_opening.specs.Families.{HasOwnFamilies}
-use Rattle.alt_opening.proofs.Listed.{All-set, AreInOrder, tables, get-found, get-missed, name_of, replaced, retimed}
+use Rattle.alt_opening.proofs.Listed.{All-set, get-found, get-missed, name_of, replaced, retimed}
 use Rattle.alt_opening.proofs.catalog.Catalog.set_ttl.Goals as goal
 
 -- the catalog with another time to live of the table

@@ -10,7 +10,7 @@ use Rattle.alt_machine.specs.State.{Texts}
 use Rattle.alt_schema.specs.Held.{IsHeldText, Where}
 use Rattle.alt_schema.specs.declared.schema.TableSchema.{TableSchema}
 use Rattle.alt_tables.specs.RowChanges.{time_changes}
-use Rattle.alt_tables.specs.Stands.{Stands}
+use Rattle.alt_tables.specs.Stands.{Stands, bounds_of}
 use Rattle.alt_tables.proofs.Holding.{leaves_quiet}
 use Rattle.alt_tables.proofs.Making.{broke, one_made, spent_file}
 use Rattle.alt_tables.proofs.Timed.{given_time, time_stands, time_turned}
@@ -20,13 +20,13 @@ pub returns-then-number-ge-NUMBERS_END-clause-disk : goal.returns-then-number-ge
 returns-then-number-ge-NUMBERS_END-clause-disk g c s t stands at =
     leaves_quiet (g.D.Disk.state c.args.disk.now) (g.D.Disk.state c.args.disk.now)
     c.args.self.now.engine s
-    (with_time s c.args.table.now t (option_map (λ n. n.now) c.args.name.entry) ∷ []) stands.rows
+    (with_time s c.args.table.now t (option_map (λ n. n.now) c.args.name) ∷ []) stands.rows
     stands.valid (quiet_start (g.D.Disk.state c.args.disk.now))
 
 pub returns-in-Some-clause-writes : goal.returns-in-Some-clause-writes
 returns-in-Some-clause-writes g c s t stands at =
     spent_file (Stands (g.D.Disk.state c.args.disk.now) c.args.self.now) a_number s
-    (with_time s c.args.table.now t (option_map (λ n. n.now) c.args.name.entry)) c.in-Some.number
+    (with_time s c.args.table.now t (option_map (λ n. n.now) c.args.name)) c.in-Some.number
     (has_number s.next_number (omega (
       arith,
       stands.number,
@@ -39,21 +39,21 @@ pub returns-in-Some-clause-disk : goal.returns-in-Some-clause-disk
 returns-in-Some-clause-disk g c s t stands at =
     leaves_quiet (g.D.Disk.state c.args.disk.now) (g.D.Disk.state c.args.disk.now)
     c.args.self.now.engine s
-    (with_time s c.args.table.now t (option_map (λ n. n.now) c.args.name.entry) ∷ []) stands.rows
+    (with_time s c.args.table.now t (option_map (λ n. n.now) c.args.name) ∷ []) stands.rows
     stands.valid (quiet_start (g.D.Disk.state c.args.disk.now))
 
 pub returns-in_err-ttl-clause-disk : goal.returns-in_err-ttl-clause-disk
 returns-in_err-ttl-clause-disk g c s t stands at =
     leaves_quiet (g.D.Disk.state c.args.disk.now) (g.D.Disk.state c.args.disk.now)
     c.args.self.now.engine s
-    (with_time s c.args.table.now t (option_map (λ n. n.now) c.args.name.entry) ∷ []) stands.rows
+    (with_time s c.args.table.now t (option_map (λ n. n.now) c.args.name) ∷ []) stands.rows
     stands.valid (quiet_start (g.D.Disk.state c.args.disk.now))
 
 pub returns-in_err-batch-clause-disk : goal.returns-in_err-batch-clause-disk
 returns-in_err-batch-clause-disk g c s t stands at =
     leaves_quiet (g.D.Disk.state c.args.disk.now) (g.D.Disk.state c.args.disk.now)
     c.args.self.now.engine s
-    (with_time s c.args.table.now t (option_map (λ n. n.now) c.args.name.entry) ∷ []) stands.rows
+    (with_time s c.args.table.now t (option_map (λ n. n.now) c.args.name) ∷ []) stands.rows
     stands.valid (quiet_start (g.D.Disk.state c.args.disk.now))
 
 pub make-requires-clause-file : goal.make-requires-clause-file
@@ -65,7 +65,7 @@ make-requires-clause-ready g c trusted =
 
 pub returns-in-Ok-clause-writes : goal.returns-in-Ok-clause-writes
 returns-in-Ok-clause-writes g c s t stands at =
-    let ttl : Option (List ℕ) = option_map (λ n. n.now) c.args.name.entry in
+    let ttl : Option (List ℕ) = option_map (λ n. n.now) c.args.name in
     let is : c.in_ok-batch.batch ≡ time_changes c.in-Some-get.schema.now ttl =
     c.in_ok-batch.ensures.changes ∙ ap (time_changes c.in-Some-get.schema.now)
     (c.as_ref.ensures.value ∙ c.in_ok-ttl.ensures.copied) in
@@ -92,7 +92,7 @@ returns-in-Ok-clause-writes g c s t stands at =
 
 pub returns-in-Ok-clause-disk : goal.returns-in-Ok-clause-disk
 returns-in-Ok-clause-disk g c s t stands at =
-    let ttl : Option (List ℕ) = option_map (λ n. n.now) c.args.name.entry in
+    let ttl : Option (List ℕ) = option_map (λ n. n.now) c.args.name in
     let is : c.in_ok-batch.batch ≡ time_changes c.in-Some-get.schema.now ttl =
     c.in_ok-batch.ensures.changes ∙ ap (time_changes c.in-Some-get.schema.now)
     (c.as_ref.ensures.value ∙ c.in_ok-ttl.ensures.copied) in
@@ -102,15 +102,16 @@ returns-in-Ok-clause-disk g c s t stands at =
     (subst (Where IsHeldText) c.in_ok-ttl.ensures.copied c.in_ok-ttl.ensures.held) in
     c.make.ensures.disk s (with_time s c.args.table.now t ttl) stands.rows stands.valid turned
 
-pub returns-clause-writes : goal.returns-clause-writes
-returns-clause-writes g c s t stands at =
-    broke (Stands (g.D.Disk.state c.make.new.disk) c.make.new.self) a_number s
-    (with_time s c.args.table.now t (option_map (λ n. n.now) c.args.name.entry)) c.in-Err.fault
+pub returns-in-Err-clause-writes : goal.returns-in-Err-clause-writes
+returns-in-Err-clause-writes g c s t stands at =
+    broke (bounds_of c.args.self.now).file
+    (Stands (g.D.Disk.state c.make.new.disk) c.make.new.self) a_number s
+    (with_time s c.args.table.now t (option_map (λ n. n.now) c.args.name)) c.in-Err.fault
     c.in-Err.ensures.fault
 
-pub returns-clause-disk : goal.returns-clause-disk
-returns-clause-disk g c s t stands at =
-    let ttl : Option (List ℕ) = option_map (λ n. n.now) c.args.name.entry in
+pub returns-in-Err-clause-disk : goal.returns-in-Err-clause-disk
+returns-in-Err-clause-disk g c s t stands at =
+    let ttl : Option (List ℕ) = option_map (λ n. n.now) c.args.name in
     let is : c.in_ok-batch.batch ≡ time_changes c.in-Some-get.schema.now ttl =
     c.in_ok-batch.ensures.changes ∙ ap (time_changes c.in-Some-get.schema.now)
     (c.as_ref.ensures.value ∙ c.in_ok-ttl.ensures.copied) in

@@ -98,12 +98,12 @@ module _ (per n next : ℕ) (a b c d : DiskState) (t1 t2 : Tables) (s : State) (
 
   -- or it broke off
   pub served_followed : (count : ℕ) (fault : RunFault) → n < count
-      → ((u : State) → Stands c t2 u → BetweenNot now (own_between (suc n) moment u).lacks fault)
+      → ((u : State) → Stands c t2 u → BetweenNot now (own_between (suc n) moment u) fault)
       → Stretch a d (ServedSomeOn rules per count fault next s)
   served_followed count fault few cause = then_came {R = ServedSomeOn rules per count fault next s}
       (λ es fs ms ns meet x y told low.
       served_between_on rules lawful per a b c s p.to n es fs ms ns meet x d left moment told y
       came.calls.trusts follows_rules count fault next few
       (between_more now (reach next (ms ++ ns)) _ fault low
-      (subst (λ (o : Own). BetweenNot now o.lacks fault) (sym (rules-between (suc n) moment left))
+      (subst (λ (o : Own). BetweenNot now o fault) (sym (rules-between (suc n) moment left))
       (cause left came.stands))))

@@ -1,7 +1,6 @@
 -- Expired items that are deleted by the server itself, 25 at a time.
-use Rattle.std.proofs.Common.{◌≡◌, ◌≤◌, ◌<◌, ⊎_elim, inl, inr, refl, sym, ap, subst, ◌∙◌, ℕ, zero, suc, List, [], ◌∷◌, ◌++◌, length, take, true, false, Bool, nat_lt, Option, None, Some, append_assoc, append-nil, arith}
+use Rattle.std.proofs.Common.{◌≡◌, ◌≤◌, ◌<◌, ◌+◌, ◌-◌, ⊎_elim, inl, inr, refl, sym, ap, subst, ◌∙◌, ℕ, zero, suc, List, [], ◌∷◌, ◌++◌, length, true, false, Bool, nat_lt, Option, None, Some, append_assoc, append-nil, length-append, arith}
 use Rattle.std.specs.Prelude.{if◌then◌else◌}
-use Rattle.std.proofs.lemmas.List.{take_all}
 use Rattle.alt_disk.specs.Disk.{DiskState, Goes}
 use Rattle.alt_disk.proofs.Calls.{goes_on}
 use Rattle.alt_disk.proofs.Runs.{trusted_on}
@@ -16,14 +15,14 @@ use Rattle.alt_tables.specs.Faults.{AreMade, BreakOff, told_by_tables}
 use Rattle.alt_tables.specs.Stands.{Stands}
 use Rattle.alt_tables.specs.declared.faults.TableFault.{TableFault}
 use Rattle.alt_tables.specs.declared.tables.Tables.{Tables}
-use Rattle.alt_talks.specs.Faults.{IsAnswerFault, IsCausedBy, told_by_run}
-use Rattle.alt_talks.specs.Own.{BetweenNot, Own, expiries, none_own, own_of, own_then}
-use Rattle.alt_talks.specs.Stops.{AtEach, Image, IsAmong}
+use Rattle.alt_talks.specs.Faults.{IsCausedBy, IsFileFault, told_by_run}
+use Rattle.alt_talks.specs.Own.{BetweenNot, Own, expiries, none_own}
+use Rattle.alt_talks.specs.Stops.{Image, IsAmong}
 use Rattle.alt_talks.specs.Turns.{or_next}
 use Rattle.alt_talks.specs.Works.{Follows}
 use Rattle.alt_talks.specs.declared.fault.RunFault.{RunFault}
-use Rattle.alt_talks.proofs.Answering.{among_leaves, caused}
-use Rattle.alt_talks.proofs.Owning.{cause_behind, cause_first, follows_none}
+use Rattle.alt_talks.proofs.Answering.{among_leaves, caused_writing}
+use Rattle.alt_talks.proofs.Owning.{cause_first, follows_none}
 use Rattle.alt_talks.proofs.Stopping.{last_state-append, leaves-weaker, spans_two}
 
 -- ---- some writes and then others
@@ -57,11 +56,11 @@ among_then s xs ys image h =
 -- requests of the server's own, and then others
 pub follows_then : (a b c : DiskState) (s : State) (xs ys : List State) → Follows a b s xs
     → Follows b c (last_state s xs) ys → Follows a c s (xs ++ ys)
-follows_then a b c s xs ys first then = record {
-  goes = goes_on a b c first.goes then.goes;
+follows_then a b c s xs ys first rest = record {
+  goes = goes_on a b c first.goes rest.goes;
   leaves = λ trusted. spans_two a b c (λ _ image. IsAmong image s xs)
       (λ _ image. IsAmong image (last_state s xs) ys) (λ _ image. IsAmong image s (xs ++ ys))
-      (first.leaves trusted) (then.leaves (trusted_on a b first.goes trusted))
+      (first.leaves trusted) (rest.leaves (trusted_on a b first.goes trusted))
       (λ t image before h. among_first s xs ys image h)
       (λ t image from h. among_then s xs ys image h);
 }
@@ -161,15 +160,21 @@ module _ (a b c : DiskState) (t u : Tables) (moment most left : ℕ) (s : State)
   pub expired_broke : (file : ℕ) (given : TableFault) (fault : RunFault)
       → told_by_run fault ≡ told_by_tables given
       → BreakOff file (Stands c u) (expire_items so.to moment).wants so.to atoms given
-      → BetweenNot file (expiries most moment s).lacks fault
-  expired_broke file given fault same broke =
-      subst (λ (l : Option Lack). BetweenNot file l fault) (sym so.lacks)
-      (⊎_elim
+      → BetweenNot file (expiries most moment s) fault
+  expired_broke file given fault same broke = ⊎_elim
       (λ (h : IsCausedBy (wanted so.to (expire_items so.to moment)) fault).
-      inl (cause_first (wanted so.to (expire_items so.to moment)) (rest_of left moment so.to).lacks
-      fault h))
-      (λ h. inr h.1)
-      (caused file (Stands c u) so.to (expire_items so.to moment) given fault same broke))
+      inl (subst (λ (l : Option Lack). IsCausedBy l fault) (sym so.lacks)
+      (cause_first (wanted so.to (expire_items so.to moment)) (rest_of left moment so.to).lacks
+      fault h)))
+      (λ (h : (wanted so.to (expire_items so.to moment) ≡ None) × (1 ≤ length atoms)
+      × IsFileFault file fault). inr (some h.1, h.2))
+      (caused_writing file (Stands c u) so.to (expire_items so.to moment) given fault same broke)
+    where
+      some : 1 ≤ length atoms → 1 ≤ length (expiries most moment s).atoms
+      some few = subst (λ (xs : List State). 1 ≤ length xs) (sym so.atoms)
+          (let both = length-append so.done (atoms ++ (rest_of left moment so.to).atoms) in
+          let behind = length-append atoms (rest_of left moment so.to).atoms in
+          omega (arith, few, both, behind))
 
   -- and a stop left some of what is made
   pub expired_follows : Follows b c so.to atoms → Follows a c s (expiries most moment s).atoms
@@ -198,3 +203,18 @@ pub expired_all : (a b : DiskState) (t : Tables) (moment most : ℕ) (s : State)
     → AreExpired a b t moment most zero s → Follows a b s (expiries most moment s).atoms
 expired_all a b t moment most s so =
     subst (Follows a b s) (sym (so.atoms ∙ append-nil so.done)) so.follows
+
+-- and nothing was lacked
+pub expired_enough : (a b : DiskState) (t : Tables) (moment most : ℕ) (s : State)
+    → AreExpired a b t moment most zero s → (expiries most moment s).lacks ≡ None
+expired_enough a b t moment most s so = so.lacks
+
+-- as many are left as were, in another word
+pub expired_as : (a b : DiskState) (t : Tables) (moment most m n : ℕ) (s : State) → m ≡ n
+    → AreExpired a b t moment most m s → AreExpired a b t moment most n s
+expired_as a b t moment most m n s same so =
+    subst (λ (k : ℕ). AreExpired a b t moment most k s) same so
+
+-- one of them is made next
+pub left_next : (most i : ℕ) → i < most → most - i ≡ suc (most - (i + 1))
+left_next most i low = omega (arith, low)

@@ -1,12 +1,11 @@
 -- Faults of work that wants a file.
-use Rattle.std.proofs.Common.{inl, inr, Option, ◌≡◌, ◌≤◌, ◌+◌, ◌-◌, ◌^◌, ◌∷◌, ◌++◌, ℕ, List, sym, subst, arith, length-append}
+use Rattle.std.proofs.Common.{◌≡◌, ◌≤◌, ◌+◌, ◌-◌, ◌^◌, ◌∷◌, ◌++◌, ℕ, List, inl, inr, sym, subst, arith, length-append}
 use Rattle.alt_faults.specs.Faults.{Damage, OnlySpent}
 use Rattle.alt_faults.proofs.Telling.{tells-more}
 use Rattle.alt_tables.specs.FilesLeft.{most_files}
 use Rattle.alt_tables.specs.Faults.{IsWorkFault as IsTableFault, told_by_tables}
 use Rattle.alt_tables.specs.declared.faults.TableFault.{TableFault}
-use Rattle.alt_machine.specs.Wanted.{Lack}
-use Rattle.alt_talks.specs.Own.{BetweenNot}
+use Rattle.alt_talks.specs.Own.{BetweenNot, Own}
 use Rattle.alt_talks.specs.Faults.{IsFileFault, reach, told_by_run}
 use Rattle.alt_talks.specs.declared.fault.RunFault.{RunFault}
 
@@ -23,10 +22,10 @@ file_more fault m n le h = tells-more (λ k. (k ≡ 2 ^ 32 - 1) × (2 ^ 32 ≤ m
     (λ k x. (x.0, let low = x.1 in omega (arith, low, le))) (λ d x. x) (told_by_run fault) h
 
 -- so what follows a connection breaks off for
-pub between_more : (m n : ℕ) (lack : Option Lack) (fault : RunFault) → m ≤ n
-    → BetweenNot m lack fault → BetweenNot n lack fault
-between_more m n lack fault le (inl h) = inl h
-between_more m n lack fault le (inr h) = inr (file_more fault m n le h)
+pub between_more : (m n : ℕ) (own : Own) (fault : RunFault) → m ≤ n → BetweenNot m own fault
+    → BetweenNot n own fault
+between_more m n own fault le (inl h) = inl h
+between_more m n own fault le (inr h) = inr (h.0, file_more fault m n le h.1)
 
 -- moments and then more moments
 pub reach_then : (next : ℕ) (ms ns : List ℕ) → reach (reach next ms) ns ≤ reach next (ms ++ ns)

@@ -1,5 +1,5 @@
 -- What the server does by itself: nothing but work behind a request, and behind every 64th connection it deletes expired items.
-use Rattle.std.proofs.Common.{◌≡◌, ◌⊎◌, ◌==◌, ◌%◌, ap, inl, inr, ℕ, Bool, true, false, List, [], Option, Some, None, option_map, refl}
+use Rattle.std.proofs.Common.{◌≡◌, ◌==◌, ◌%◌, ap, inl, inr, ℕ, Bool, true, false, [], Option, Some, None, option_map, refl}
 use Rattle.std.specs.Prelude.{if◌then◌else◌}
 use Rattle.std.specs.Option.{option_map_or}
 use Rattle.alt_disk.specs.Disk.{DiskState}
@@ -11,10 +11,10 @@ use Rattle.alt_tables.specs.Images.{StandsFor}
 use Rattle.alt_tables.specs.Stands.{Stands}
 use Rattle.alt_tables.specs.declared.tables.Tables.{Tables}
 use Rattle.alt_tables.proofs.Left.{stands_left}
-use Rattle.alt_talks.specs.Faults.{IsAnswerFault, IsCausedBy, IsFileFault, told_by_run}
+use Rattle.alt_talks.specs.Faults.{IsAnswerFault, IsCausedBy, told_by_run}
 use Rattle.alt_talks.specs.Own.{Own, expiries, none_own, own_behind, own_between}
 use Rattle.alt_talks.specs.declared.expiring.TheConstants.{BETWEEN_EXPIRIES, MOST_EXPIRIES}
-use Rattle.alt_talks.specs.Stops.{AtEach, IsAmong}
+use Rattle.alt_talks.specs.Stops.{IsAmong}
 use Rattle.alt_talks.specs.Turns.{or_next}
 use Rattle.alt_talks.specs.Works.{Follows, Works}
 use Rattle.alt_talks.specs.declared.fault.RunFault.{RunFault}
@@ -73,8 +73,8 @@ follows_worked a b s works = record {
 
 -- nothing, where neither lacks anything
 pub enough_both : (a b : Option Lack) → a ≡ None → b ≡ None → or_next a b ≡ None
-enough_both None b here then = then
-enough_both (Some x) b here then = here
+enough_both None b here behind = behind
+enough_both (Some x) b here behind = here
 
 -- what the request lacks is lacked
 pub cause_first : (a b : Option Lack) (fault : RunFault) → IsCausedBy a fault

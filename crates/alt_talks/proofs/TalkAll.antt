@@ -176,7 +176,7 @@ served_some r per n count fault next s t es fs ms ns few a (inr one) =
 -- or what the server does by itself behind one
 unfoldable pub served_between : (r : Rules) (per n count : ℕ) (fault : RunFault) (next : ℕ) (s t u : State)
     (es fs : Log) (ms ns : List ℕ) → n < count → Sofar r per n s t es ms → Comes r per true t u fs ns
-    → BetweenNot (reach next (ms ++ ns)) (r.between (suc n) (last_told None (ms ++ ns)) u).lacks fault
+    → BetweenNot (reach next (ms ++ ns)) (r.between (suc n) (last_told None (ms ++ ns)) u) fault
     → ServedSome r per count fault next s (es ++ fs) (ms ++ ns)
 served_between r per n count fault next s t u es fs ms ns few a b cause =
     let k = b.0 in record {
@@ -194,7 +194,7 @@ served_between r per n count fault next s t u es fs ms ns few a b cause =
         record {
           left = u;
           serves = b.1;
-          cause = subst (λ (i : ℕ). BetweenNot (reach next (ms ++ ns)) (r.between i (last_told None (ms ++ ns)) u).lacks fault)
+          cause = subst (λ (i : ℕ). BetweenNot (reach next (ms ++ ns)) (r.between i (last_told None (ms ++ ns)) u) fault)
               (number_all r per n s t es ms a) cause;
         },
       ));

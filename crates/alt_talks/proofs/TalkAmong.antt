@@ -234,12 +234,12 @@ module _ (r : Rules) (w : Lawful r) (per : ℕ) (a : DiskState) where
           )
 
       pub served_between_on : (count : ℕ) (fault : RunFault) (next : ℕ) → n < count
-          → BetweenNot (reach next (ms ++ ns)) (r.between (suc n) moment u).lacks fault
+          → BetweenNot (reach next (ms ++ ns)) (r.between (suc n) moment u) fault
           → ServedSomeOn r per count fault next s a d (es ++ fs) (ms ++ ns)
       unfolding served_between
       served_between_on count fault next few cause = (
         served_between r per n count fault next s t u es fs ms ns few x.0 y.0
-            (subst (λ (m : Option ℕ). BetweenNot (reach next (ms ++ ns)) (r.between (suc n) m u).lacks fault) told cause),
+            (subst (λ (m : Option ℕ). BetweenNot (reach next (ms ++ ns)) (r.between (suc n) m u) fault) told cause),
         left_both,
       )
 

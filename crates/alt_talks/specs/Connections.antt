@@ -107,13 +107,13 @@ pub record Served (r : Rules) (per connections : ℕ) (s t : State) (entries : L
   pub state : t ≡ after_all r per 1 None s all
   pub ends : ((length all ≡ connections) × (last ≡ [])) ⊎ ((length all < connections) × ((m n : ℕ) × (last ≡ entry m n none_came ∷ [])))
 
--- Behind a connection that was served and hung up the server's own requests broke off: for what they lack, or where so many numbers reach the
--- last file, which the segment wants that the first of their writes makes.
+-- Behind a connection that was served and hung up the server's own requests broke off: for what they lack, or, where they write anything and so
+-- many numbers reach the last file, for that file, which the segment wants that the first of their writes makes.
 pub record BreaksBetween (r : Rules) (per numbers number : ℕ) (moment : Option ℕ) (fault : RunFault)
     (s : State) (k : Connection) : Type 0 where
   pub left : State
   pub serves : Serves r per s k left
-  pub cause : BetweenNot numbers (r.between number moment left).lacks fault
+  pub cause : BetweenNot numbers (r.between number moment left) fault
 
 -- Another status: the connections before were served so, and one may have broken off, which was hung up then or never accepted; or what the
 -- server does by itself behind it did. The moments told on those before count where one that broke off wants a file.

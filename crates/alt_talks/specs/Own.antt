@@ -1,6 +1,6 @@
 -- What the server does by itself: requests of its own, without a text, and without a moment of their own. Behind a request there are none,
 -- and behind every 64th connection it deletes expired items.
-use Rattle.std.specs.Prelude.{◌≡◌, ◌==◌, ◌%◌, ◌⊎◌, ℕ, zero, suc, nat_lt, length, if◌then◌else◌, List, [], ◌∷◌, ◌++◌, Bool, true, Option, Some, None}
+use Rattle.std.specs.Prelude.{◌≡◌, ◌≤◌, ◌==◌, ◌%◌, ◌⊎◌, ℕ, zero, suc, nat_lt, length, if◌then◌else◌, List, [], ◌∷◌, ◌++◌, Bool, true, Option, Some, None}
 use Rattle.std.specs.Option.{option_map_or}
 use Rattle.alt_machine.specs.declared.TheConstants.{MOST_EXPIRED}
 use Rattle.alt_machine.specs.Expiry.{expiring}
@@ -71,7 +71,8 @@ abbrev pub FollowsNot : Bool → ℕ → Option Lack → RunFault → Type 0
 FollowsNot works numbers lack fault =
     IsCausedBy lack fault ⊎ ((works ≡ true) × (lack ≡ None) × IsFileFault numbers fault)
 
--- Why what follows a connection breaks off: the server's own requests lack that number or family, the device failed, or memory was refused; or
--- the segment that the first of their writes makes wants a file, where so many numbers reach the last.
-abbrev pub BetweenNot : ℕ → Option Lack → RunFault → Type 0
-BetweenNot numbers lack fault = IsCausedBy lack fault ⊎ IsFileFault numbers fault
+-- Why what follows a connection breaks off: these requests of the server's own lack a number or a family, the device failed, or memory was
+-- refused; or, where they write anything, the segment that the first of their writes makes wants a file, where so many numbers reach the last.
+abbrev pub BetweenNot : ℕ → Own → RunFault → Type 0
+BetweenNot numbers own fault = IsCausedBy own.lacks fault
+    ⊎ ((1 ≤ length own.atoms) × IsFileFault numbers fault)

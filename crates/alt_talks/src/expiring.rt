@@ -39,7 +39,7 @@ pub(crate) fn expire_all<D: Disk>(
     ensures enough { (s : State) → Stands (D.state disk.old) tables.old s
         → OnOk result ((expiries most moment s).lacks ≡ None) }
     ensures fault { (s : State) → Stands (D.state disk.old) tables.old s
-        → IfErr result (BetweenNot (bounds_of tables.old).file (expiries most moment s).lacks) }
+        → IfErr result (BetweenNot (bounds_of tables.old).file (expiries most moment s)) }
     ensures limits { bounds_of tables.new ≡ bounds_of tables.old }
     ensures goes { Goes (D.state disk.old) (D.state disk.new) }
     ensures cause { IsErrOf result RunFault.Failed

@@ -66,7 +66,7 @@ pub(crate) fn between<D: Disk>(
         → OnOk result ((own_between number moment s).lacks ≡ None) }
     ensures fault { (s : State) → Stands (D.state disk.old) tables.old s
         → IfErr result (BetweenNot (bounds_of tables.old).file
-        (own_between number moment s).lacks) }
+        (own_between number moment s)) }
     ensures limits { bounds_of tables.new ≡ bounds_of tables.old }
     ensures goes { Goes (D.state disk.old) (D.state disk.new) }
     ensures cause { IsErrOf result RunFault.Failed

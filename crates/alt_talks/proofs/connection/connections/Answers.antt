@@ -98,7 +98,7 @@ returns-in-Err-between-clause-served g c = λ s stands.
     (λ u there. by_next n (λ (k : ℕ). Follows d e u (own_between k c.connection.new.last u).atoms)
     (c.in-Err-between.ensures.follows u there)) c.args.count c.in-Err-between.fault few
     (λ u there. by_next n (λ (k : ℕ). BetweenNot (bounds_of c.connection.new.tables).file
-    (own_between k c.connection.new.last u).lacks c.in-Err-between.fault)
+    (own_between k c.connection.new.last u) c.in-Err-between.fault)
     (c.in-Err-between.ensures.fault u there))
 
 pub returns-in-Err-between-clause-most : goal.returns-in-Err-between-clause-most

@@ -7,10 +7,10 @@ use Rattle.alt_talks.proofs.Expired.{AreExpired}
 use Rattle.alt_talks.proofs.expiring.expire_all.Given as goal
 
 abbrev pub invariant-rounds : goal.invariant-rounds
-invariant-rounds g l = record {
-  made : (s : State) → Stands (g.D.Disk.state l.fn.disk) l.fn.tables s
-      → AreExpired (g.D.Disk.state l.fn.disk) (g.D.Disk.state l.disk) l.tables l.moment l.most
-      (l.most - l.counter) s;
-  limits : bounds_of l.tables ≡ bounds_of l.fn.tables;
-  goes : Goes (g.D.Disk.state l.fn.disk) (g.D.Disk.state l.disk);
-}
+invariant-rounds g l =
+    let state = g.D.Disk.state in
+    ((s : State) → Stands (state l.initial.disk) l.initial.tables s
+    → AreExpired (state l.initial.disk) (state l.disk) l.tables l.moment l.most
+    (l.most - l.counter) s)
+    × (bounds_of l.tables ≡ bounds_of l.initial.tables)
+    × Goes (state l.initial.disk) (state l.disk)

@@ -1,6 +1,7 @@
 mod chains;
 mod damage;
 mod files;
+mod kept;
 mod merging;
 mod over;
 mod reads;

@@ -2,6 +2,7 @@ mod chains;
 mod damage;
 mod expiry;
 mod files;
+mod kept;
 mod merging;
 mod over;
 mod reads;

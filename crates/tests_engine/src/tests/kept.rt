@@ -58,9 +58,11 @@ fn forms(alloc: Global, disk: &MemoryDisk) -> Option<Vec<Form>> {
 
 // Whether it is opened as it is, and its first write makes a segment of the second form behind the others, and the next ones none.
 fn is_written(alloc: Global) -> Option<bool> {
+    let mut shown = kept(alloc)?;
+    let mut reader = opened(alloc, &mut shown)?;
+    let read = shows_all(alloc, &mut reader, &mut shown, 7)?;
     let mut disk = kept(alloc)?;
     let mut engine = opened(alloc, &mut disk)?;
-    let read = shows_all(alloc, &mut engine, &mut disk, 7)?;
     let before = forms(alloc, &disk)?;
     put_all(alloc, &mut engine, &mut disk, &MORE)?;
     let after = forms(alloc, &disk)?;
@@ -140,7 +142,7 @@ fn stops(alloc: Global) -> Option<bool> {
             return Some(false);
         }
     }
-    Some(ended - begun == 10)
+    Some(ended.saturating_sub(begun) == 10)
 }
 
 #[test]

@@ -7,9 +7,9 @@ use std::alloc::Global;
 /// Bytes that are written at a place of a file of a fresh store, none where the file is removed, and the note.
 type Row = (u32, u64, &'static [u8], &'static [u8]);
 
-/// The entry of write 1 with the row of the table `Tab` in the catalog, whose cell `t` is one byte 0, and the closed gate behind it.
+/// The entry of write 1 alone, with the row of the table `Tab` in the catalog, whose cell `t` is one byte 0, and the closed gate behind it.
 const BAD_ROW: &[u8] =
-    b"\x01\0\0\0\0\0\0\0\x3b\0\0\0\0\0\0\0\x01\0\0\0\0\0\0\0\x01\0\0\0\0\0\0\0\0\0\0\0\x03Tab\0\0\0\0\0\0\0\0\x01\0\0\0\0\0\0\0\x01t\x01\0\0\0\0\0\0\0\x01\0\0";
+    b"\x01\0\0\0\0\0\0\0\x43\0\0\0\0\0\0\0\x01\0\0\0\0\0\0\0\x01\0\0\0\0\0\0\0\x01\0\0\0\0\0\0\0\0\0\0\0\x03Tab\0\0\0\0\0\0\0\0\x01\0\0\0\0\0\0\0\x01t\x01\0\0\0\0\0\0\0\x01\0\0";
 
 static ROWS: [Row; 5] = [
     (1, 0, b"\0", b"alternator: damaged: file 1 at 0\n"),

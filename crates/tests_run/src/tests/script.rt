@@ -1,7 +1,7 @@
 //! The lines of the tests of stops, and what a store shows behind each of their writes.
 
 use super::over::{behind, fresh, shown};
-use alt_disk::MemoryDisk;
+use alt_disk::{Disk, MemoryDisk};
 use std::alloc::Global;
 
 /// A table with a global index of its keys alone, and with a stream of what is put.
@@ -29,11 +29,14 @@ pub(super) const DELETE_1: &str =
 pub(super) const DELETE_2: &str =
     r#"DeleteItem {"TableName":"Rng","Key":{"k":{"S":"a"},"r":{"N":"2"}}}"#;
 
-const BATCH: &str =
+pub(super) const BATCH: &str =
     r#"BatchWriteItem {"RequestItems":{"Rng":[{"PutRequest":{"Item":{"k":{"S":"a"},"r":{"N":"2"},"g":{"S":"x"}}}},{"PutRequest":{"Item":{"k":{"S":"a"},"r":{"N":"3"},"g":{"S":"x"}}}},{"DeleteRequest":{"Key":{"k":{"S":"a"},"r":{"N":"1"}}}}]}}"#;
 
-/// Lines, the single writes that they make, each as a line of its own, and how many of these there are behind so many lines.
+/// Lines, those of them that write, and how many of these there are behind so many lines. They run over a fresh store, or over kept files,
+/// which are those behind some lines before.
 pub(super) struct Script<'a> {
+    pub(super) kept: &'a [(u32, &'a [u8])],
+    pub(super) before: &'a [&'a str],
     pub(super) lines: &'a [&'a str],
     pub(super) writes: &'a [&'a str],
     pub(super) behind: &'a [usize],
@@ -41,17 +44,19 @@ pub(super) struct Script<'a> {
 
 /// Each way of writing, flushes, and a merge of all.
 pub(super) static EACH: Script<'static> = Script {
+    kept: &[],
+    before: &[],
     lines: &[
         CREATE, PUT_1X, PUT_1Y, BATCH, "@flush", DELETE_2, "@flush", "@merge", PUT_4,
     ],
-    writes: &[
-        CREATE, PUT_1X, PUT_1Y, PUT_2, PUT_3, DELETE_1, DELETE_2, PUT_4,
-    ],
-    behind: &[0, 1, 2, 3, 6, 6, 7, 7, 7, 8],
+    writes: &[CREATE, PUT_1X, PUT_1Y, BATCH, DELETE_2, PUT_4],
+    behind: &[0, 1, 2, 3, 4, 4, 5, 5, 5, 6],
 };
 
 /// Lines between which merges are under way, one family after another: writes, flushes, a reopening, which gives one up, and steps.
 pub(super) static UNDER_WAY: Script<'static> = Script {
+    kept: &[],
+    before: &[],
     lines: &[
         CREATE, PUT_1X, "@flush", PUT_1Y, "@flush", PUT_2, "@flush", "@step", DELETE_1, "@step",
         "@reopen", "@step", "@step", PUT_3, "@step", "@step", DELETE_2, "@flush", "@step", "@step",
@@ -64,6 +69,20 @@ pub(super) static UNDER_WAY: Script<'static> = Script {
         0, 1, 2, 2, 3, 3, 4, 4, 4, 5, 5, 5, 5, 5, 6, 6, 6, 7, 7, 7, 7, 7, 8, 8,
     ],
 };
+
+/// The disk on which a script runs.
+pub(super) fn begun(alloc: Global, script: &Script) -> Option<MemoryDisk> {
+    if script.kept.is_empty() {
+        return fresh(alloc);
+    }
+    let mut disk = MemoryDisk::new(alloc);
+    for (file, bytes) in script.kept {
+        disk.write_at(*file, 0, bytes).ok()?;
+        disk.sync(*file).ok()?;
+    }
+    let (now, _) = disk.counts();
+    disk.stopped(now, &[]).ok()
+}
 
 /// The table, its index and all records of its stream are read.
 static SHOW: [&str; 3] = [
@@ -84,7 +103,8 @@ pub(super) fn view_behind(
     count: usize,
     more: &[&str],
 ) -> Option<Vec<u8>> {
-    let disk = behind(alloc, fresh(alloc)?, script.writes.get(..count)?)?;
+    let disk = behind(alloc, fresh(alloc)?, script.before)?;
+    let disk = behind(alloc, disk, script.writes.get(..count)?)?;
     view(alloc, behind(alloc, disk, more)?)
 }
 

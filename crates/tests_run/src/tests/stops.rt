@@ -1,7 +1,7 @@
 //! Runs that are stopped at each moment, and runs in which each call fails: of the disk, of standard input and of standard output.
 
-use super::over::{REPLAY, ended, fresh, left, replayed, shell_over};
-use super::script::{EACH, Script, choices, view, views};
+use super::over::{REPLAY, ended, left, replayed, shell_over};
+use super::script::{EACH, Script, begun, choices, view, views};
 use alt_disk::MemoryDisk;
 use alt_shell::MemoryShell;
 use std::alloc::Global;
@@ -84,7 +84,7 @@ fn holds_at(
     whole: &MemoryShell,
     moment: u64,
 ) -> Option<bool> {
-    let failed = failing(alloc, fresh(alloc)?, script.lines, moment)?;
+    let failed = failing(alloc, begun(alloc, script)?, script.lines, moment)?;
     let count = replies(failed.said(None), whole.said(None))?;
     let views = allowed(script, views, count)?;
     let (end, _) = failed.disk().counts();
@@ -98,7 +98,7 @@ fn holds_at(
 pub(super) fn stops(alloc: Global, script: &Script, least: u64) -> Option<Option<u64>> {
     let views = views(alloc, script, &[])?;
     let choices = choices(alloc)?;
-    let whole = replayed(alloc, fresh(alloc)?, script.lines)?;
+    let whole = replayed(alloc, begun(alloc, script)?, script.lines)?;
     let (end, _) = whole.disk().counts();
     for moment in 0..end {
         if holds_at(alloc, script, &views, &choices, &whole, moment) != Some(true) {

@@ -156,7 +156,7 @@ returns-in-Some-clause-writes g c s stands =
         ),
         (
           let some = some_of _ c.if-is_empty.ensures in
-          omega (arith, count, some, c.differing-changes.result.ok.0),
+              omega (arith, count, some, c.differing-changes.result.ok.0),
           c.in-Some.ensures.last,
         ),
       ),

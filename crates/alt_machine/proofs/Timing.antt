@@ -15,7 +15,7 @@ use Rattle.alt_machine.specs.Ops.DescribeTimeToLive as describe
 use Rattle.alt_machine.specs.Ops.UpdateTimeToLive.{of_body, of_time, time_left, timed, update_time_to_live, with_time}
 use Rattle.alt_machine.specs.Outcomes.{a_number}
 use Rattle.alt_machine.specs.State.{State, Table, Change, families_of}
-use Rattle.alt_machine.specs.Valid.{AreChanges, IsChange, IsMade, IsStored, IsTable, IsValid, WasStored}
+use Rattle.alt_machine.specs.Valid.{AreChanges, IsChange, IsMade, IsStored, IsTable, IsValid}
 use Rattle.alt_machine.proofs.Chains.{Steps, no_steps, one_step, steps-unless}
 use Rattle.alt_machine.proofs.Lacks.{number_room}
 use Rattle.alt_machine.proofs.Looks.{at_insert}
@@ -48,27 +48,16 @@ module _ (d : TableSchema) (ttl : Option (List ℕ)) where
   stored_same place item is = record {
     stands = is.stands;
     fits = is.fits;
-    index_keys = is.index_keys;
     size = is.size;
     depth = is.depth;
     full = is.full;
     names = is.names;
   }
 
-  was_same : (place : List ℕ) (item : List Pair) → WasStored d place item → WasStored e place item
-  was_same place item is = record {
-    stands = is.stands;
-    fits = is.fits;
-    size = is.size;
-    depth = is.depth;
-    full = is.full;
-    names = is.names;
-  }
-
-  was_some : (place : List ℕ) (o : Option (List Pair)) → IfSome o (WasStored d place)
-      → IfSome o (WasStored e place)
-  was_some place None is = tt
-  was_some place (Some item) is = was_same place item is
+  some_same : (place : List ℕ) (o : Option (List Pair)) → IfSome o (IsStored d place)
+      → IfSome o (IsStored e place)
+  some_same place None is = tt
+  some_same place (Some item) is = stored_same place item is
 
   -- so are its changes
   changes_same : (next trimmed : ℕ) (changes : List Change) → AreChanges d next trimmed changes
@@ -78,8 +67,8 @@ module _ (d : TableSchema) (ttl : Option (List ℕ)) where
       number = is.number;
       differ = is.differ;
       place = is.place;
-      old = was_some is.place c.old is.old;
-      new = was_some is.place c.new is.new;
+      old = some_same is.place c.old is.old;
+      new = some_same is.place c.new is.new;
     }) changes h.each;
     rise = h.rise;
     above = h.above;

@@ -5,7 +5,7 @@ use Rattle.std.specs.Str.{bytes_eq}
 use Rattle.std.specs.FinMap as map
 use Rattle.alt_schema.specs.Bare.{is_whole}
 use Rattle.alt_schema.specs.Described.{IsDescription}
-use Rattle.alt_schema.specs.Indexes.{indexes, is_key, keys_fit, of_range}
+use Rattle.alt_schema.specs.Indexes.{indexes, is_key, of_range}
 use Rattle.alt_schema.specs.Rules.{is_name, all_differ, most_locals, most_globals, most_included}
 use Rattle.alt_schema.specs.declared.schema.IndexSchema.{IndexSchema}
 use Rattle.alt_schema.specs.declared.schema.KeyAttr.{KeyAttr}
@@ -26,12 +26,12 @@ use Rattle.alt_machine.specs.State.{State, Table, Change, families_of}
 abbrev pub deepest : ℕ
 deepest = 32
 
--- An item of a table stands at the place of its key. Its keys fit in the table and in the indexes, it isn't too large, no value in
--- it is too deep, no set in it is empty, and its names rise, none of them empty.
+-- An item of a table, now or once, stands at the place of its key. Its key fits, it isn't too large, no value in it is too deep, no
+-- set in it is empty, and its names rise, none of them empty. Its keys in indexes need not fit: what was written before an index
+-- came stays, and isn't in the index.
 pub record IsStored (d : TableSchema) (place : List ℕ) (item : List Pair) : Type 0 where
   pub stands : place_of d item ≡ Some place
   pub fits : key_fits d item ≡ true
-  pub index_keys : keys_fit d item ≡ true
   pub size : item_size item ≤ LARGEST_ITEM
   pub depth : fields_depth (fields_of item) ≤ deepest
   pub full : T (fields_full (fields_of item))
@@ -85,22 +85,13 @@ pub record IsMade (d : TableSchema) : Type 0 where
 
 -- ---- changes
 
--- An item that was at a place once: it is as an item there has to be, but that its keys in indexes may not fit.
-pub record WasStored (d : TableSchema) (place : List ℕ) (item : List Pair) : Type 0 where
-  pub stands : place_of d item ≡ Some place
-  pub fits : key_fits d item ≡ true
-  pub size : item_size item ≤ LARGEST_ITEM
-  pub depth : fields_depth (fields_of item) ≤ deepest
-  pub full : T (fields_full (fields_of item))
-  pub names : IsItem item
-
 -- A change has a number below the next. The old item and the new one differ, and those of them that are there have one and the same key.
 pub record IsChange (d : TableSchema) (next : ℕ) (c : Change) : Type 0 where
   pub number : c.number < next
   pub differ : c.old ≢ c.new
   pub place : List ℕ
-  pub old : IfSome c.old (WasStored d place)
-  pub new : IfSome c.new (WasStored d place)
+  pub old : IfSome c.old (IsStored d place)
+  pub new : IfSome c.new (IsStored d place)
 
 -- The changes of a table rise by their numbers, from above the number of the last that was trimmed, which is below the next; and one
 -- without a stream has none and trimmed none.

@@ -24,7 +24,7 @@ use Rattle.alt_machine.specs.Replies.{answers}
 use Rattle.alt_machine.specs.Sources.{hash_of, if_readable, index_asked, index_at, index_named}
 use Rattle.alt_machine.specs.Streams.{arn_in, stream_at}
 use Rattle.alt_schema.specs.Described.{described_by, description_of}
-use Rattle.alt_schema.specs.Indexes.{indexes, is_named}
+use Rattle.alt_schema.specs.Indexes.{indexes, is_read_as}
 use Rattle.alt_schema.specs.Rules.{refusal_of, refused_for}
 use Rattle.alt_schema.specs.Stated.{stated}
 use Rattle.alt_schema.specs.declared.schema.IndexSchema.{IndexSchema}
@@ -256,7 +256,7 @@ module _ (s : State) (moment : ℕ) (ms bs : Members) where
         → index_named d ms name ≡ index_named d bs name
     query_named d None = refl
     query_named d (Some name) = λ i.
-        or_refused no_such_index (position (is_named name) (indexes d))
+        or_refused no_such_index (position (is_read_as name) (indexes d))
         >>= (λ number. query_readable d number i)
 
     query_index : (d : TableSchema) → index_asked d ms ≡ index_asked d bs
@@ -379,7 +379,7 @@ module _ (s : State) (moment : ℕ) (ms bs : Members) where
         → index_named d ms name ≡ index_named d bs name
     scan_named d None = refl
     scan_named d (Some name) = λ i.
-        or_refused no_such_index (position (is_named name) (indexes d))
+        or_refused no_such_index (position (is_read_as name) (indexes d))
         >>= (λ number. scan_readable d number i)
 
     scan_index : (d : TableSchema) → index_asked d ms ≡ index_asked d bs

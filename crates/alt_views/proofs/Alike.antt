@@ -3,7 +3,7 @@ use Rattle.std.proofs.Common.{◌≡◌, ◌<◌, refl, sym, ap, subst, ◌∙�
 use Rattle.std.proofs.lemmas.Bool.{false≢true}
 use Rattle.std.proofs.lemmas.Map.Text.{is_eq-slice_cmp}
 use Rattle.std.proofs.lemmas.Slice.Eq.{bytes_eq-Decides}
-use Rattle.std.specs.Prelude.{◌&&◌, ◌||◌, if◌then◌else◌, is_some, is_none, option_and_then}
+use Rattle.std.specs.Prelude.{◌&&◌, ◌||◌, if◌then◌else◌, is_none, option_and_then}
 use Rattle.std.specs.Option.{option_map_or}
 use Rattle.std.specs.List.{list_any}
 use Rattle.std.specs.Str.{bytes_eq}
@@ -15,7 +15,7 @@ use Rattle.alt_cells.specs.declared.batch.RowChange.{RowChange}
 use Rattle.alt_cells.proofs.Searched.{get_entry}
 use Rattle.alt_keyorder.specs.Place.{Place, place_bytes}
 use Rattle.alt_machine.specs.Indexed.{index_place}
-use Rattle.alt_schema.specs.Indexes.{has_part, is_in_index, is_key, is_projected, cut, of_range, stands_in}
+use Rattle.alt_schema.specs.Indexes.{has_part, is_in_index, is_key, is_key_value, is_projected, cut, longest_hash, longest_range, of_range, stands_in}
 use Rattle.alt_schema.specs.declared.schema.IndexSchema.{IndexSchema}
 use Rattle.alt_schema.specs.declared.schema.KeyAttr.{KeyAttr}
 use Rattle.alt_schema.specs.declared.schema.TableSchema.{TableSchema}
@@ -105,21 +105,24 @@ module _ (d : TableSchema) (i : IndexSchema) where
       by q false kept = refl
 
   -- a key attribute that is kept is in what is kept exactly where it is in the item
-  has-cut : (item : List Pair) (key : KeyAttr) → is_projected d i key.name ≡ true
-      → has_part (cut d i item) key ≡ has_part item key
-  has-cut item key kept = ap is_some (at_name-where (is_projected d i) key.name item
+  has-cut : (most : ℕ) (item : List Pair) (key : KeyAttr) → is_projected d i key.name ≡ true
+      → has_part most (cut d i item) key ≡ has_part most item key
+  has-cut most item key kept = ap (λ o. option_map_or (is_key_value most key.kind) o false)
+      (at_name-where (is_projected d i) key.name item
       ∙ ap (λ b. cond b (at_name key.name item) None) kept)
 
   -- what is kept of an item is in the index exactly where the item is
   in-cut : (item : List Pair) → is_in_index i (cut d i item) ≡ is_in_index i item
-  in-cut item = λ j. has-cut item i.hash (own_kept d i i.hash.name (hash_is_key i.hash i.range)) j
+  in-cut item = λ j. has-cut longest_hash item i.hash
+      (own_kept d i i.hash.name (hash_is_key i.hash i.range)) j
       && range i.range (own_kept d i) j
     where
       range : (r : Option KeyAttr)
           → ((name : List ℕ) → is_key i.hash r name ≡ true → is_projected d i name ≡ true)
-          → of_range (has_part (cut d i item)) true r ≡ of_range (has_part item) true r
+          → of_range (has_part longest_range (cut d i item)) true r
+          ≡ of_range (has_part longest_range item) true r
       range None kept = refl
-      range (Some r) kept = has-cut item r (kept r.name (range_is_key i.hash r))
+      range (Some r) kept = has-cut longest_range item r (kept r.name (range_is_key i.hash r))
 
   -- a row by whether it is there, its place and what is kept
   row_by : Bool → Option Place → List Pair → Option KeyedRow

@@ -1,9 +1,14 @@
+pub mod Added
+pub mod Altering
 pub mod Batches
 pub mod Behind
+pub mod BuildSteps
 pub mod Building
+pub mod BuiltKeys
 pub mod Chains
 pub mod Creations
 pub mod Descriptions
+pub mod Entries
 pub mod Expirations
 pub mod Families
 pub mod Full
@@ -11,6 +16,7 @@ pub mod FullActions
 pub mod FullChanges
 pub mod FullTerms
 pub mod Indexing
+pub mod Inserted
 pub mod KeyStays
 pub mod Lacks
 pub mod Lists
@@ -21,7 +27,9 @@ pub mod Older
 pub mod OlderMeaning
 pub mod Placed
 pub mod Puts
+pub mod Redescribed
 pub mod Rekeying
+pub mod Removed
 pub mod Said
 pub mod Same
 pub mod Spoken
@@ -34,3 +42,4 @@ pub mod Together
 pub mod Trimming
 pub mod Untouched
 pub mod Updates
+pub mod WholeBuilt

@@ -36,7 +36,7 @@ start_valid = record {
 }
 
 -- the changes of a table, where the next number is later
-changes_later : (d : TableSchema) (n m z : ℕ) (changes : List Change) → n ≤ m
+pub changes_later : (d : TableSchema) (n m z : ℕ) (changes : List Change) → n ≤ m
     → AreChanges d n z changes → AreChanges d m z changes
 changes_later d n m z changes le h = record {
   each = All-weaker (IsChange d n) (IsChange d m) (λ (c : Change) is. record {

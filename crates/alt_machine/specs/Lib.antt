@@ -1,3 +1,4 @@
+pub mod Altered
 pub mod Batches
 pub mod Body
 pub mod Building

@@ -3,7 +3,6 @@ use Rattle.std.specs.Prelude.{◌≡◌, ◌≢◌, ◌≤◌, ◌<◌, ◌&&◌
 use Rattle.std.specs.List.{list_all, list_any}
 use Rattle.std.specs.Str.{bytes_eq}
 use Rattle.std.specs.FinMap as map
-use Rattle.alt_schema.specs.Bare.{is_whole}
 use Rattle.alt_schema.specs.Described.{IsDescription}
 use Rattle.alt_schema.specs.Indexes.{indexes, is_key, of_range}
 use Rattle.alt_schema.specs.Rules.{is_name, all_differ, most_locals, most_globals, most_included}
@@ -17,6 +16,7 @@ use Rattle.alt_value.specs.Size.{item_size, fields_depth}
 use Rattle.alt_value.specs.Tree.{Pair, fields_of}
 use Rattle.alt_value.specs.Values.{IsItemOfValues, fields_full}
 use Rattle.alt_machine.specs.declared.TheConstants.{LARGEST_ITEM, MOST_TABLES, NUMBERS_END, FAMILIES_END}
+use Rattle.alt_machine.specs.Building.{IsBuilt}
 use Rattle.alt_machine.specs.Keys.{key_fits, place_of}
 use Rattle.alt_machine.specs.State.{State, Table, Change, families_of}
 
@@ -67,8 +67,8 @@ is_used d name = is_key d.hash d.range name || list_any (λ i. is_key i.hash i.r
     (indexes d)
 
 -- A description as it is made: the table and its indexes have names; keys, local indexes and projections are as they have to be; at
--- most 5 local and 20 global indexes of different names, each built whole; and exactly the key attributes are defined, none of them
--- twice.
+-- most 5 local and 20 global indexes of different names, of which at most one is being built; and exactly the key attributes are
+-- defined, none of them twice.
 pub record IsMade (d : TableSchema) : Type 0 where
   pub spelled : is_name d.name ≡ true
   pub indexes_spelled : list_all (λ i. is_name i.name) (indexes d) ≡ true
@@ -80,7 +80,7 @@ pub record IsMade (d : TableSchema) : Type 0 where
   pub projections : list_all (λ i. names_few i.projection) (indexes d) ≡ true
   pub locals_few : length d.locals ≤ most_locals
   pub globals_few : length d.globals ≤ most_globals
-  pub built : list_all (λ i. is_whole i.built) (indexes d) ≡ true
+  pub built : IsBuilt d
   pub whole : IsDescription d
 
 -- ---- changes

@@ -1,4 +1,5 @@
 -- Each operation's writes keep what is valid.
+use Rattle.alt_machine.proofs.BuildSteps.{builds_keep_valid}
 use Rattle.alt_machine.proofs.Expirations.{deletes_expired}
 use Rattle.alt_machine.proofs.Indexing.{index_places_lie, all_index}
 use Rattle.alt_legacy.proofs.Keyed.{keys_asked}
@@ -16,6 +17,9 @@ returns-clause-steps c = step_valid
 
 pub returns-clause-one_atom : goal.returns-clause-one_atom
 returns-clause-one_atom c = one_atom
+
+pub returns-clause-builds : goal.returns-clause-builds
+returns-clause-builds c = builds_keep_valid
 
 pub returns-clause-places : goal.returns-clause-places
 returns-clause-places c = places_lie

@@ -11,18 +11,18 @@ use Rattle.alt_value.proofs.Texts.{text_total, text_apart}
 use Rattle.alt_machine.specs.State.{Texts}
 
 -- the first of two tests that pass
-first : (a b : Bool) → T (a && b) → T a
+pub first : (a b : Bool) → T (a && b) → T a
 first true b p = tt
 first false b p = p
 
 -- and the second
-second : (a b : Bool) → T (a && b) → T b
+pub second : (a b : Bool) → T (a && b) → T b
 second true b p = p
 second false b p = absurd p
 
 module _ {X : Type 0} where
   -- a key below all is none of them
-  none_below : (q : List ℕ) (es : List (List ℕ × X)) → T (below_all text_order q es)
+  pub none_below : (q : List ℕ) (es : List (List ℕ × X)) → T (below_all text_order q es)
       → find text_order q es ≡ None
   none_below q [] h = refl
   none_below q (e ∷ es) h =

@@ -2,6 +2,7 @@ pub mod Added
 pub mod Altering
 pub mod Batches
 pub mod Behind
+pub mod BuildParts
 pub mod BuildSteps
 pub mod Building
 pub mod BuiltKeys

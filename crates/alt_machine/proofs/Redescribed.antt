@@ -2,7 +2,10 @@
 use Rattle.std.proofs.Common.{◌≡◌, ◌≢◌, ◌⊎◌, refl, sym, ap, subst, ◌∙◌, ℕ, ◌+◌, ◌<◌, ◌≤◌, Bool, true, is_some, List, [], ◌∷◌, Option, Some, None, option_map, inl, inr, All, AllPairs, Contains, arith}
 use Rattle.std.specs.FinMap.{len-insert}
 use Rattle.std.specs.FinMap as map
+use Rattle.std.specs.FinMap.Entries.{where_key}
 use Rattle.std.specs.List.{list_all}
+use Rattle.std.specs.Option.{option_map_or}
+use Rattle.std.specs.Ordering.{is_le}
 use Rattle.std.specs.Prelude.{◌&&◌, IfSome, if◌then◌else◌, option_and_then}
 use Rattle.std.proofs.lemmas.List.Elements.{All-weaker}
 use Rattle.alt_keyorder.specs.Place.{place_bytes}
@@ -13,14 +16,15 @@ use Rattle.alt_schema.specs.declared.schema.IndexSchema.{IndexSchema}
 use Rattle.alt_schema.specs.declared.schema.TableSchema.{TableSchema}
 use Rattle.alt_schema.proofs.Bools.{both}
 use Rattle.alt_schema.proofs.NewDescriptions.{left, right}
+use Rattle.alt_value.specs.Members.{text_order}
 use Rattle.alt_value.specs.Tree.{Pair}
 use Rattle.alt_value.proofs.Texts.{text_total}
 use Rattle.alt_machine.specs.declared.TheConstants.{NUMBERS_END, FAMILIES_END}
-use Rattle.alt_machine.specs.Building.{built_place, is_built_to}
+use Rattle.alt_machine.specs.Building.{built_part, built_place, is_built_to, reaches}
 use Rattle.alt_machine.specs.Keys.{is_within, key_fits, key_value, place_beside, place_of}
 use Rattle.alt_machine.specs.Lists.{start_beside, start_value}
 use Rattle.alt_machine.specs.Ops.UpdateTable.{redescribed, with_description}
-use Rattle.alt_machine.specs.State.{State, Table, Change, families_of}
+use Rattle.alt_machine.specs.State.{State, Table, Texts, Change, families_of}
 use Rattle.alt_machine.specs.Valid.{AreChanges, IsChange, IsMade, IsStored, IsTable, IsValid}
 use Rattle.alt_machine.proofs.Families.{of_contained}
 use Rattle.alt_machine.proofs.Looks.{at_insert}
@@ -64,6 +68,18 @@ module _ (d e : TableSchema) (alike : IsAlike d e) where
   keys_alike (g ∷ gs) h = both (is_built_to e g.built) _
       (built_to-alike g.built ∙ left (is_built_to d g.built) _ h)
       (keys_alike gs (right (is_built_to d g.built) _ h))
+
+  -- it is built of the same items
+  reaches_alike : (b : Built) (place : List ℕ) → reaches e b place ≡ reaches d b place
+  reaches_alike Whole place = refl
+  reaches_alike (UpTo None) place = refl
+  reaches_alike (UpTo (Some key)) place =
+      ap (λ o. option_map_or (λ last. is_le (text_order place last)) o false) (built_place-alike key)
+
+  pub built_part-alike : (b : Built) (items : Texts (List Pair))
+      → built_part e b items ≡ built_part d b items
+  built_part-alike b items = λ j. map.from_sorted
+      (where_key text_order (λ place. reaches_alike b place j) (map.entries items))
 
   -- what is stored by one is stored by the other
   stored_alike : (place : List ℕ) (item : List Pair) → IsStored d place item → IsStored e place item

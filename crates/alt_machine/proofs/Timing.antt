@@ -21,7 +21,7 @@ module _ (d : TableSchema) (ttl : Option (List ℕ)) where
   e = record d { ttl = ttl }
 
   -- it is a description of the same table
-  alike_same : IsAlike d e
+  pub alike_same : IsAlike d e
   alike_same = record { name = refl; hash = refl; range = refl; stream = refl; number = refl }
 
   -- it is as it is made

@@ -8,6 +8,7 @@ use Rattle.alt_cells.specs.Keys.{key_cmp}
 use Rattle.alt_changes.specs.ChangeRows.{change_columns, row_key}
 use Rattle.alt_changes.specs.TrimRows.{trimmed_row}
 use Rattle.alt_layout.specs.Layout.{Layout, shown}
+use Rattle.alt_machine.specs.Building.{built_part}
 use Rattle.alt_machine.specs.Indexed.{index_items}
 use Rattle.alt_machine.specs.Sources.{index_at}
 use Rattle.alt_machine.specs.State.{State, Table, Texts, Change}
@@ -59,10 +60,10 @@ catalog_rows s key =
 abbrev pub item_rows : Table → List ℕ → Option Columns
 item_rows t key = option_map item_columns (map.get t.items key)
 
--- what an index keeps of the items, each at its place there, in the family of the index
+-- what an index keeps of the items of which it is built, each at its place there, in the family of the index
 abbrev pub index_rows : Table → IndexSchema → List ℕ → Option Columns
 index_rows t i key = option_map (index_columns t.description i)
-    (map.get (index_items t.description i t.items) key)
+    (map.get (index_items t.description i (built_part t.description i.built t.items)) key)
 
 -- changes by the keys of their rows
 abbrev pub keyed_changes : List Change → Texts Change

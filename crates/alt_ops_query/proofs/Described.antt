@@ -9,7 +9,7 @@ use Rattle.alt_machine.specs.State.{State, Table}
 use Rattle.alt_machine.proofs.Descriptions.{get-descriptions}
 use Rattle.alt_machine.proofs.Indexing.{all_index, is_entry}
 use Rattle.alt_ops_query.specs.Places.{MayStand, place_in}
-use Rattle.alt_ops_query.proofs.Lists.{none_past}
+use Rattle.alt_views.proofs.Taken.{none_past}
 use Rattle.alt_request.proofs.Named.{table_found}
 use Rattle.alt_schema.specs.Indexes.{cut, index_row, indexes, is_in_index, is_projected}
 use Rattle.alt_schema.specs.declared.schema.IndexSchema.{IndexSchema}

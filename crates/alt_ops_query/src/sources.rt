@@ -50,16 +50,3 @@ fn as_ref(range: &Option<KeyAttr>) -> Option<&KeyAttr>
         None => None,
     }
 }
-
-/// Whether an attribute of that name is a key there: of the table, and in an index of the index too.
-pub(crate) fn is_key_there(schema: &TableSchema, index: Option<&IndexSchema>, name: &str) -> bool
-    ensures key { result
-        ≡ machine.is_key_there schema.now (option_map (λ i. i.now) index.entry) name.now }
-{
-    match index {
-        Some(index) => {
-            is_key(&schema.hash, &schema.range, name) || is_key(&index.hash, &index.range, name)
-        }
-        None => is_key(&schema.hash, &schema.range, name),
-    }
-}

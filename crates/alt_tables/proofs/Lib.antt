@@ -1,10 +1,9 @@
 pub mod Ahead
 pub mod Batches
 pub mod Behind
+pub mod BuildShows
 pub mod ByKeys
 pub mod CatalogLaws
-pub mod TimeLaws
-pub mod Timed
 pub mod ChangeLaws
 pub mod ChangePages
 pub mod Differing
@@ -31,6 +30,8 @@ pub mod Standing
 pub mod Starting
 pub mod StreamShows
 pub mod StreamTrims
+pub mod TimeLaws
+pub mod Timed
 pub mod TrimKeys
 pub mod TrimSteps
 pub mod Trimmed

@@ -24,7 +24,7 @@ use Rattle.alt_value.specs.Members.{text_order}
 use Rattle.alt_value.specs.Tree.{Pair}
 use Rattle.alt_value.proofs.Texts.{text_total, text_apart}
 use Rattle.alt_views.specs.private.Changed.{AreAlikeBeside, DifferAt, may_change}
-use Rattle.alt_views.specs.IndexRows.{KeyedRow, changes_in, if_said, index_columns, moved_changes, row_in_index}
+use Rattle.alt_views.specs.IndexRows.{KeyedRow, moves_in, if_said, index_columns, moved_changes, row_in_index}
 use Rattle.alt_views.proofs.Keeping.{hash_is_key, range_is_key, own_kept, place-cut, same_name}
 use Rattle.alt_views.proofs.Parts.{at_name-where}
 
@@ -143,7 +143,7 @@ module _ (d : TableSchema) (i : IndexSchema) where
 
   -- An index that keeps none of the names at which items differ has no change.
   pub nothing_changes : (names : Option (List (List ℕ))) (old new : Option (List Pair))
-      → DifferAt names old new → may_change d i names ≡ false → changes_in d old new i ≡ []
+      → DifferAt names old new → may_change d i names ≡ false → moves_in d old new i ≡ []
   nothing_changes None old new differ unkept = absurd (false≢true (sym unkept))
   nothing_changes (Some names) None new differ unkept = absurd differ
   nothing_changes (Some names) (Some o) None differ unkept = absurd differ

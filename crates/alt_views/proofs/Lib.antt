@@ -11,4 +11,5 @@ pub mod Numbers
 pub mod Parts
 pub mod Placing
 pub mod Reading
+pub mod Taken
 pub mod Values

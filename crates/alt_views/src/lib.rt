@@ -8,6 +8,7 @@ mod indexed;
 mod item_row;
 mod place;
 mod rows;
+mod start;
 
 pub use changes::index_changes;
 pub use indexed::{IndexRow, index_row, item_of_index_row};
@@ -15,3 +16,4 @@ pub use item_row::{Unread, item_of_row, row_of_item};
 pub use place::{KeyValues, index_place, key_fits, key_values, place_of, place_of_both};
 pub use rows::index::{index_keys_fit, index_named};
 pub use rows::projection::{index_at, index_item, is_key};
+pub use start::start_place;

@@ -1,11 +1,11 @@
 -- An attribute that is no key is one of all.
 use Rattle.std.proofs.Common.{Bool, sym, ap, ◌∙◌, option_map, arith}
 use Rattle.alt_machine.specs.Sources.{is_key_there}
-use Rattle.alt_ops_query.proofs.Lists.{all_more, all_taken, none_past, not_all}
+use Rattle.alt_views.proofs.Taken.{all_more, all_taken, none_past, not_all}
 use Rattle.alt_value.specs.Stands.{tree_of}
 use Rattle.alt_value.specs.Tree.{Pair}
-use Rattle.alt_ops_query.proofs.places.has_keys_alone.Goals as goal
-use Rattle.alt_ops_query.proofs.places.has_keys_alone.Goals.{in-Some+else-not-is_key_there, in_default}
+use Rattle.alt_views.proofs.start.has_keys_alone.Goals as goal
+use Rattle.alt_views.proofs.start.has_keys_alone.Goals.{in-Some+else-not-is_key_there, in_default}
 
 pub returns-then-not-is_key_there : goal.returns-then-not-is_key_there
 returns-then-not-is_key_there c = sym (not_all

@@ -14,6 +14,7 @@ use Rattle.alt_schema.specs.declared.schema.TableSchema.{TableSchema}
 use Rattle.alt_value.specs.Members.{text_order}
 use Rattle.alt_value.specs.Tree.{Pair}
 use Rattle.alt_machine.specs.declared.TheConstants.{BUILT_AT_ONCE}
+use Rattle.alt_machine.specs.Keys.{place_of}
 use Rattle.alt_machine.specs.Lists.{key_attributes, start_place}
 use Rattle.alt_machine.specs.State.{State, Table, Texts, after_write}
 
@@ -29,6 +30,10 @@ reaches d Whole place = true
 reaches d (UpTo None) place = false
 reaches d (UpTo (Some key)) place =
     option_map_or (λ last. is_le (text_order place last)) (built_place d key) false
+
+-- it is built of an item of the table
+abbrev pub is_reached : TableSchema → Built → List Pair → Bool
+is_reached d built item = option_map_or (reaches d built) (place_of d item) (is_whole built)
 
 -- the items of a table of which an index is built
 abbrev pub built_part : TableSchema → Built → Texts (List Pair) → Texts (List Pair)

@@ -42,7 +42,7 @@ module _ (d : TableSchema) (number moment : ℕ) (writer : Writer) (place : List
       (option_map item_columns new)
 
   abbrev of_indexes : List RowChange
-  of_indexes = index_changes d place old new
+  of_indexes = index_changes d old new
 
   abbrev of_stream : List RowChange
   of_stream = row_changes d (change_left number moment writer old new)
@@ -67,7 +67,7 @@ module _ (d : TableSchema) (number moment : ℕ) (writer : Writer) (place : List
       (item_changes d number moment writer place old new) of_trim (
         λ same. other (subst (Contains (families_of d)) same (own_family d)),
         others-append family of_indexes of_stream
-            (others-index_changes d place old new family (indexes d) (λ n i at same.
+            (others-index_changes d old new family (indexes d) (λ n i at same.
             other (subst (Contains (families_of d)) same (index_family d n i at))))
             (others-row_changes d (change_left number moment writer old new) family
             (λ f stream same. other (subst (Contains (families_of d)) same (stream_family d f stream)))),
@@ -97,7 +97,7 @@ module _ (d : TableSchema) (number moment : ℕ) (writer : Writer) (place : List
         (append_assoc of_indexes of_stream of_trim)
         ∙ change_of-behind family key (of_item ∷ of_indexes) (of_stream ++ of_trim) (
           stream_family_differs d own family stream,
-          others-index_changes d place old new family (indexes d)
+          others-index_changes d old new family (indexes d)
               (λ n i at. stream_index_differs d own n i at family stream),
         )
         ∙ ap (change_of family key) in_stream

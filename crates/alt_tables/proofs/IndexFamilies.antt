@@ -4,7 +4,7 @@ use Rattle.std.proofs.lemmas.Bool.{eqb-true}
 use Rattle.std.proofs.lemmas.List.{length-append}
 use Rattle.std.proofs.lemmas.List.Elements.{All-nil, All-cons}
 use Rattle.std.proofs.lemmas.Option.{slice_get-map, slice_get_within, get_or_from_slice_get}
-use Rattle.std.specs.Prelude.{◌==◌, ◌&&◌, ◌||◌, option_and_then, if◌then◌else◌}
+use Rattle.std.specs.Prelude.{◌==◌, ◌&&◌, ◌||◌, option_and_then}
 use Rattle.std.specs.List.{flat_map}
 use Rattle.std.specs.Option.{option_map_or}
 use Rattle.std.specs.Str.{bytes_eq}
@@ -20,8 +20,7 @@ use Rattle.alt_tables.proofs.ChangeLaws.{AreOthers, others-append}
 use Rattle.alt_tables.proofs.Moving.{others-moved_changes}
 use Rattle.alt_value.specs.Tree.{Pair}
 use Rattle.alt_views.specs.Batches.{AreNew, AreOfOwnFamilies}
-use Rattle.alt_views.specs.IndexRows.{changes_in, index_changes, row_in_index, moves_in}
-use Rattle.alt_machine.specs.Building.{reaches}
+use Rattle.alt_views.specs.IndexRows.{changes_in, index_changes, built_row}
 
 -- the families of the indexes of a table
 abbrev pub index_families : TableSchema → List ℕ
@@ -86,24 +85,16 @@ own_families d differ a b x below within = rewritten
 -- ---- changes of index rows
 
 -- they are of no family but those of the indexes
-pub others-built : (d : TableSchema) (place : List ℕ) (old new : Option (List Pair)) (family : ℕ)
-    (i : IndexSchema) → i.family ≢ family → AreOthers family (changes_in d place old new i)
-others-built d place old new family i other = by (reaches d i.built place)
-  where
-    by : (b : Bool) → AreOthers family (if b then moves_in d old new i else [])
-    by true = others-moved_changes i.family family (option_and_then (row_in_index d i) old)
-        (option_and_then (row_in_index d i) new) other
-    by false = tt
-
-pub others-index_changes : (d : TableSchema) (place : List ℕ) (old new : Option (List Pair))
-    (family : ℕ) (is : List IndexSchema)
+pub others-index_changes : (d : TableSchema) (old new : Option (List Pair)) (family : ℕ)
+    (is : List IndexSchema)
     → ((n : ℕ) (i : IndexSchema) → slice_get is n ≡ Some i → i.family ≢ family)
-    → AreOthers family (flat_map (changes_in d place old new) is)
-others-index_changes d place old new family [] h = tt
-others-index_changes d place old new family (i ∷ is) h =
-    others-append family (changes_in d place old new i) (flat_map (changes_in d place old new) is)
-    (others-built d place old new family i (h 0 i refl))
-    (others-index_changes d place old new family is (λ n j at. h (suc n) j at))
+    → AreOthers family (flat_map (changes_in d old new) is)
+others-index_changes d old new family [] h = tt
+others-index_changes d old new family (i ∷ is) h =
+    others-append family (changes_in d old new i) (flat_map (changes_in d old new) is)
+    (others-moved_changes i.family family (option_and_then (built_row d i) old)
+    (option_and_then (built_row d i) new) (h 0 i refl))
+    (others-index_changes d old new family is (λ n j at. h (suc n) j at))
 
 -- a batch with a change of another family alone has none of their rows
 others_new : (c : RowChange) (cs : List RowChange) → AreOthers c.family cs → AreNew (c ∷ []) cs
@@ -117,9 +108,8 @@ others_new c (x ∷ xs) others = All-cons (λ (x : RowChange). has_row (c ∷ []
     by false differs = refl
 
 -- So those of a table's indexes may join the change of an item's row.
-pub index_changes_new : (d : TableSchema) → HasOwnFamilies d → (place : List ℕ)
-    (old new : Option (List Pair))
-    → (c : RowChange) → c.family ≡ d.family → AreNew (c ∷ []) (index_changes d place old new)
-index_changes_new d differ place old new c of_table = others_new c (index_changes d place old new)
-    (others-index_changes d place old new c.family (indexes d)
+pub index_changes_new : (d : TableSchema) → HasOwnFamilies d → (old new : Option (List Pair))
+    → (c : RowChange) → c.family ≡ d.family → AreNew (c ∷ []) (index_changes d old new)
+index_changes_new d differ old new c of_table = others_new c (index_changes d old new)
+    (others-index_changes d old new c.family (indexes d)
     (λ n i at same. index_family_differs d differ n i at (sym (same ∙ of_table))))

@@ -17,25 +17,25 @@ use Rattle.alt_machine.specs.Writes.{with_item}
 use Rattle.alt_machine.proofs.Rekeying.{AreApart, unless_at, moved, get-rekeyed-with_item, gives}
 use Rattle.alt_schema.specs.declared.schema.IndexSchema.{IndexSchema}
 use Rattle.alt_schema.specs.declared.schema.TableSchema.{TableSchema}
-use Rattle.alt_tables.proofs.IndexFamilies.{others-built}
 use Rattle.alt_tables.proofs.ChangeLaws.{ShowsWrite, AreOthers, others-append, change_of-behind, change_of-front}
 use Rattle.alt_tables.proofs.Moving.{WasShown, RowCanShow, shown-moved_changes, others-moved_changes}
 use Rattle.alt_value.specs.Tree.{Pair}
-use Rattle.alt_views.specs.IndexRows.{KeyedRow, index_columns, beside_keys, row_in_index, changes_in, moved_changes, moves_in}
+use Rattle.alt_views.specs.IndexRows.{KeyedRow, beside_keys, built_row, changes_in, index_columns, moved_changes, moves_in, row_in_index}
 use Rattle.alt_views.proofs.ItemRowLaws.{item_can_show}
 
 -- ---- the changes of one index among those of all
 
 -- the changes of the other indexes are of other families
-others-changes_in : (d : TableSchema) (place : List ℕ) (old new : Option (List Pair)) (family : ℕ)
+others-changes_in : (d : TableSchema) (old new : Option (List Pair)) (family : ℕ)
     (is : List IndexSchema) → All (λ f. f ≢ family) (map (λ (i : IndexSchema). i.family) is)
-    → AreOthers family (flat_map (changes_in d place old new) is)
-others-changes_in d place old new family [] h = tt
-others-changes_in d place old new family (i ∷ is) h =
-    others-append family (changes_in d place old new i) (flat_map (changes_in d place old new) is)
-    (others-built d place old new family i
+    → AreOthers family (flat_map (changes_in d old new) is)
+others-changes_in d old new family [] h = tt
+others-changes_in d old new family (i ∷ is) h =
+    others-append family (changes_in d old new i) (flat_map (changes_in d old new) is)
+    (others-moved_changes i.family family (option_and_then (built_row d i) old)
+    (option_and_then (built_row d i) new)
     (All-head (λ f. f ≢ family) i.family (map (λ (i : IndexSchema). i.family) is) h))
-    (others-changes_in d place old new family is
+    (others-changes_in d old new family is
     (All-tail (λ f. f ≢ family) i.family (map (λ (i : IndexSchema). i.family) is) h))
 
 -- the family of an index at a place, in the list of families
@@ -50,25 +50,26 @@ family_at is n i x at =
     )
 
 -- Of the changes of all indexes, those of the family of one are its own.
-pub change_of-index : (d : TableSchema) (place : List ℕ) (old new : Option (List Pair))
-    (is : List IndexSchema) (n : ℕ) (i : IndexSchema) → AllPairs (λ f g. f ≢ g) (map (λ (i : IndexSchema). i.family) is)
+pub change_of-index : (d : TableSchema) (old new : Option (List Pair)) (is : List IndexSchema)
+    (n : ℕ) (i : IndexSchema) → AllPairs (λ f g. f ≢ g) (map (λ (i : IndexSchema). i.family) is)
     → slice_get is n ≡ Some i → (key : List ℕ)
-    → change_of i.family key (flat_map (changes_in d place old new) is)
-    ≡ change_of i.family key (changes_in d place old new i)
-change_of-index d place old new [] n i differ at key = absurd (let no : None ≡ Some i = at in cc no)
-change_of-index d place old new (j ∷ is) zero i differ at key =
+    → change_of i.family key (flat_map (changes_in d old new) is)
+    ≡ change_of i.family key (changes_in d old new i)
+change_of-index d old new [] n i differ at key = absurd (let no : None ≡ Some i = at in cc no)
+change_of-index d old new (j ∷ is) zero i differ at key =
     let same : j ≡ i = ap (λ o. unwrap_or o j) at in
-    change_of-front i.family key (changes_in d place old new j) (flat_map (changes_in d place old new) is)
-    (others-changes_in d place old new i.family is (λ k x within same_family.
+    change_of-front i.family key (changes_in d old new j) (flat_map (changes_in d old new) is)
+    (others-changes_in d old new i.family is (λ k x within same_family.
     differ 0 (suc k) x (omega arith) (omega (arith, within))
     (ap (λ (i : IndexSchema). i.family) same ∙ sym same_family)))
-    ∙ ap (λ i'. change_of i.family key (changes_in d place old new i')) same
-change_of-index d place old new (j ∷ is) (suc n) i differ at key =
+    ∙ ap (λ i'. change_of i.family key (changes_in d old new i')) same
+change_of-index d old new (j ∷ is) (suc n) i differ at key =
     let there = family_at is n i j.family at in
-    change_of-behind i.family key (changes_in d place old new j) (flat_map (changes_in d place old new) is)
-    (others-built d place old new i.family j (λ same. differ 0 (suc n) j.family (omega arith)
+    change_of-behind i.family key (changes_in d old new j) (flat_map (changes_in d old new) is)
+    (others-moved_changes j.family i.family (option_and_then (built_row d j) old)
+    (option_and_then (built_row d j) new) (λ same. differ 0 (suc n) j.family (omega arith)
     (omega (arith, there.0)) (same ∙ sym there.1)))
-    ∙ change_of-index d place old new is n i
+    ∙ change_of-index d old new is n i
     (λ a b x below within. differ (suc a) (suc b) x (omega (arith, below)) (omega (arith, within)))
     at key
 

@@ -117,12 +117,12 @@ no_row family key (c ∷ cs) others = by (c.family == family) refl ∙ no_row fa
     by false differs = refl
 
 -- So it may join the changes of an item's row and of its index rows.
-pub change_new : (d : TableSchema) → HasOwnFamilies d → (place : List ℕ)
-    (old new : Option (List Pair)) → (c : RowChange) → c.family ≡ d.family → (family : ℕ) → d.stream_family ≡ Some family
-    → (key : List ℕ) → has_row (c ∷ index_changes d place old new) family key ≡ false
-change_new d differ place old new c of_table family stream key =
-    no_row family key (c ∷ index_changes d place old new) (
+pub change_new : (d : TableSchema) → HasOwnFamilies d → (old new : Option (List Pair))
+    → (c : RowChange) → c.family ≡ d.family → (family : ℕ) → d.stream_family ≡ Some family
+    → (key : List ℕ) → has_row (c ∷ index_changes d old new) family key ≡ false
+change_new d differ old new c of_table family stream key =
+    no_row family key (c ∷ index_changes d old new) (
       λ same. stream_family_differs d differ family stream (sym of_table ∙ same),
-      others-index_changes d place old new family (indexes d)
+      others-index_changes d old new family (indexes d)
           (λ n i at. stream_index_differs d differ n i at family stream),
     )

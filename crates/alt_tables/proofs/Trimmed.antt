@@ -65,9 +65,9 @@ pub no_lesser_row : (d : TableSchema) → HasOwnFamilies d → (number moment : 
     → has_row (item_changes d number moment writer place old new) family (row_key k) ≡ false
 no_lesser_row d own number moment writer place old new family stream k less small = has_none
     (change_between d.family place (option_map item_columns old) (option_map item_columns new)
-    ∷ index_changes d place old new)
+    ∷ index_changes d old new)
     (row_changes d (change_left number moment writer old new)) family (row_key k)
-    (change_new d own place old new (change_between d.family place (option_map item_columns old)
+    (change_new d own old new (change_between d.family place (option_map item_columns old)
     (option_map item_columns new)) refl family stream (row_key k))
     ((λ i. has_row (option_map_or (λ f. each (row_change f)
     (option_to_list (change_left number moment writer old new))) (stream i) []) family (row_key k))

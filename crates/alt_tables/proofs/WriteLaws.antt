@@ -49,8 +49,9 @@ use Rattle.alt_tables.proofs.IndexShows.{change_of-index, index_shows}
 use Rattle.alt_tables.proofs.IndexFamilies.{index_family, index_family_differs, own_families, others-index_changes}
 use Rattle.alt_tables.proofs.StreamShows.{others-row_changes, others-trim_changes, stream_family, stream_family_differs, stream_index_differs}
 use Rattle.alt_tables.proofs.StreamTrims.{stream_shows}
-use Rattle.alt_views.specs.IndexRows.{changes_in, index_changes, index_columns, moves_in}
+use Rattle.alt_views.specs.IndexRows.{index_changes, index_columns, moves_in}
 use Rattle.alt_views.proofs.ItemRowLaws.{items_can_show}
+use Rattle.alt_views.proofs.Reached.{IsAt, changes_at}
 use Rattle.alt_opening.proofs.Maps.{same_texts}
 use Rattle.alt_opening.proofs.OneState.{some}
 use Rattle.alt_value.specs.Tree.{Pair}
@@ -125,7 +126,7 @@ module _ (l : Layout) (s : State) (shows : Shows l s) (valid : IsValid s) (held 
 
   -- what the indexes keep of the item that was there, and of the one that is to be there
   abbrev index_part : List RowChange
-  index_part = index_changes t.description place (map.get t.items place) new
+  index_part = index_changes t.description (map.get t.items place) new
 
   is_table : IsTable s name t
   is_table = valid.tables name t at
@@ -147,7 +148,7 @@ module _ (l : Layout) (s : State) (shows : Shows l s) (valid : IsValid s) (held 
   index_part_apart : (family : ℕ)
       → ((n : ℕ) (i : IndexSchema) → index_at t.description (Some n) ≡ Some i → i.family ≢ family)
       → AreOthers family index_part
-  index_part_apart family apart = others-index_changes t.description place (map.get t.items place) new
+  index_part_apart family apart = others-index_changes t.description (map.get t.items place) new
       family (indexes t.description) apart
 
   -- and that of the stream's row, of the stream's
@@ -214,17 +215,30 @@ module _ (l : Layout) (s : State) (shows : Shows l s) (valid : IsValid s) (held 
         → (key : List ℕ) → shown (with_write l w) i.family key ≡ index_rows changed i key
     there n i at_index = by (reaches t.description i.built place) refl
       where
+        -- the items before and after the write are of its place
+        old_at : (o : Option (List Pair)) → map.get t.items place ≡ o
+            → IsAt t.description i place o
+        old_at None here = tt
+        old_at (Some item) here = (is_table.items place item here).stands
+
+        new_at : (o : Option (List Pair)) → new ≡ o → IsAt t.description i place o
+        new_at None is = tt
+        new_at (Some item) is = (stored item is).stands
+
         -- the changes in its family
         of_index : (key : List ℕ) → change_of i.family key w.changes
-            ≡ change_of i.family key (changes_in t.description place (map.get t.items place) new i)
+            ≡ change_of i.family key (if reaches t.description i.built place
+            then moves_in t.description (map.get t.items place) new i else [])
         of_index key = ap (change_of i.family key) changes
             ∙ other_family change (index_part ++ stream_part) i.family key
             (index_family_differs t.description is_table.differ n i at_index)
             ∙ change_of-front i.family key index_part stream_part (stream_part_apart i.family
             (λ f stream same. stream_index_differs t.description is_table.differ n i at_index f stream
             (sym same)))
-            ∙ change_of-index t.description place (map.get t.items place) new (indexes t.description)
-            n i (own_families t.description is_table.differ) at_index key
+            ∙ change_of-index t.description (map.get t.items place) new (indexes t.description) n i
+            (own_families t.description is_table.differ) at_index key
+            ∙ ap (change_of i.family key) (changes_at t.description i place (map.get t.items place) new
+            (old_at (map.get t.items place) refl) (new_at new refl))
 
         values_after : (q : List ℕ) (item : List Pair)
             → map.get (with_item t.items place new) q ≡ Some item → IsItemOfValues item
@@ -482,7 +496,7 @@ item_turns s moment writer name t place new leftovers valid held room at differ 
           place new room differ stored given leftovers left (batch_write l changes)
           (ap (λ cs. change_between t.description.family place
           (option_map item_columns (map.get t.items place)) (option_map item_columns new) ∷ cs)
-          (append_assoc (index_changes t.description place (map.get t.items place) new)
+          (append_assoc (index_changes t.description (map.get t.items place) new)
           (row_changes t.description
           (change_left s.next_number moment writer (map.get t.items place) new))
           (trim_changes t.description t.trimmed (with_row s.next_number moment writer t place

@@ -24,7 +24,7 @@ abbrev pub item_changes : TableSchema → ℕ → ℕ → Writer → List ℕ �
     → Option (List Pair) → List RowChange
 item_changes d number moment writer place old new = change_between d.family place
     (option_map item_columns old) (option_map item_columns new)
-    ∷ (index_changes d place old new ++ row_changes d (change_left number moment writer old new))
+    ∷ (index_changes d old new ++ row_changes d (change_left number moment writer old new))
 
 -- of the write that leaves the item: these, the row of number 0 of the stream where the number of the last change that is trimmed rises, and rows
 -- left over of such changes, which are hidden

@@ -9,12 +9,11 @@ ghost use Rattle.alt_cells.specs.Walks.{RowMap};
 ghost use Rattle.alt_machine.specs.Sources.{index_at};
 ghost use Rattle.alt_machine.specs.State.{State, Table};
 ghost use Rattle.alt_machine.specs.Walks.{items_between};
-ghost use Rattle.alt_schema.specs.Indexes.{indexes};
 ghost use Rattle.alt_schema.specs.declared.schema.IndexSchema.{IndexSchema};
 ghost use Rattle.alt_schema.specs.declared.schema.TableSchema.{TableSchema};
 ghost use Rattle.alt_tables.specs.Faults.{IsFindFault, IsReadFault, IsUnspent};
 ghost use Rattle.alt_tables.specs.private.Pages.{AreItemsOf, AreKept, ArePut};
-ghost use Rattle.alt_tables.specs.Reading.{HasRowFiles, family_read, places_between, walk_reads};
+ghost use Rattle.alt_tables.specs.Reading.{CanRead, HasRowFiles, family_read, places_between, walk_reads};
 ghost use Rattle.alt_tables.specs.Stands.{AreReady, Reads, Stands, KeepsCatalog, catalog_of};
 ghost use Rattle.alt_value.specs.Tree.{Pair};
 
@@ -46,7 +45,7 @@ impl Tables {
         requires ready { AreReady (D.state disk.old) self.old }
         requires there { map.contains_key (catalog_of self.old) table.now ≡ true }
         requires index { (d : TableSchema) → map.get (catalog_of self.old) table.now ≡ Some d
-            → IfSome index (λ number. number < length (indexes d)) }
+            → IfSome index (λ number. CanRead d number) }
         ensures rows { (s : State) (t : Table) → Stands (D.state disk.old) self.old s
             → map.get s.tables table.now ≡ Some t
             → OnOk result (out.new.items ≡ out.old.items ++ take most
@@ -145,7 +144,7 @@ impl Tables {
         requires ready { AreReady (D.state disk.old) self.old }
         requires there { map.contains_key (catalog_of self.old) table.now ≡ true }
         requires index { (d : TableSchema) → map.get (catalog_of self.old) table.now ≡ Some d
-            → number < length (indexes d) }
+            → CanRead d number }
         ensures rows { (s : State) (t : Table) (i : IndexSchema)
             → Stands (D.state disk.old) self.old s → map.get s.tables table.now ≡ Some t
             → index_at t.description (Some number) ≡ Some i

@@ -14,7 +14,10 @@ use Rattle.alt_cells.specs.Keys.{key_cmp}
 use Rattle.alt_cells.specs.declared.batch.RowChange.{RowChange}
 use Rattle.alt_cells.proofs.Searched.{get_entry}
 use Rattle.alt_keyorder.specs.Place.{Place, place_bytes}
+use Rattle.alt_machine.specs.Building.{is_reached, reaches}
 use Rattle.alt_machine.specs.Indexed.{index_place}
+use Rattle.alt_machine.specs.Keys.{place_of}
+use Rattle.alt_schema.specs.Bare.{is_whole}
 use Rattle.alt_schema.specs.Indexes.{has_part, is_in_index, is_key, is_key_value, is_projected, cut, longest_hash, longest_range, of_range, stands_in}
 use Rattle.alt_schema.specs.declared.schema.IndexSchema.{IndexSchema}
 use Rattle.alt_schema.specs.declared.schema.KeyAttr.{KeyAttr}
@@ -24,8 +27,8 @@ use Rattle.alt_value.specs.Members.{text_order}
 use Rattle.alt_value.specs.Tree.{Pair}
 use Rattle.alt_value.proofs.Texts.{text_total, text_apart}
 use Rattle.alt_views.specs.private.Changed.{AreAlikeBeside, DifferAt, may_change}
-use Rattle.alt_views.specs.IndexRows.{KeyedRow, moves_in, if_said, index_columns, moved_changes, row_in_index}
-use Rattle.alt_views.proofs.Keeping.{hash_is_key, range_is_key, own_kept, place-cut, same_name}
+use Rattle.alt_views.specs.IndexRows.{KeyedRow, built_row, changes_in, if_said, index_columns, moved_changes, row_in_index}
+use Rattle.alt_views.proofs.Keeping.{hash_is_key, range_is_key, own_kept, own_place-cut, place-cut, same_name}
 use Rattle.alt_views.proofs.Parts.{at_name-where}
 
 -- ---- a row that stays says nothing
@@ -141,13 +144,23 @@ module _ (d : TableSchema) (i : IndexSchema) where
       sym (place-cut d i o) ∙ ap (index_place d i) same ∙ place-cut d i n in
       λ j. row_by (there j) (place j) (same j)
 
+  -- an index is built of both or of neither
+  reached-alike : (o n : List Pair) → cut d i o ≡ cut d i n
+      → is_reached d i.built o ≡ is_reached d i.built n
+  reached-alike o n same = ap (λ p. option_map_or (reaches d i.built) p (is_whole i.built))
+      (sym (own_place-cut d i o) ∙ ap (place_of d) same ∙ own_place-cut d i n)
+
+  -- so they have one row as far as it is built
+  pub built-alike : (o n : List Pair) → cut d i o ≡ cut d i n → built_row d i o ≡ built_row d i n
+  built-alike o n same = λ j. if reached-alike o n same j then row-alike o n same j else None
+
   -- An index that keeps none of the names at which items differ has no change.
   pub nothing_changes : (names : Option (List (List ℕ))) (old new : Option (List Pair))
-      → DifferAt names old new → may_change d i names ≡ false → moves_in d old new i ≡ []
+      → DifferAt names old new → may_change d i names ≡ false → changes_in d old new i ≡ []
   nothing_changes None old new differ unkept = absurd (false≢true (sym unkept))
   nothing_changes (Some names) None new differ unkept = absurd differ
   nothing_changes (Some names) (Some o) None differ unkept = absurd differ
   nothing_changes (Some names) (Some o) (Some n) differ unkept =
-      ap (λ r. moved_changes i.family r (row_in_index d i n))
-      (row-alike o n (cut-alike names o n differ unkept))
-      ∙ moved_changes-same i.family (row_in_index d i n)
+      ap (λ r. moved_changes i.family r (built_row d i n))
+      (built-alike o n (cut-alike names o n differ unkept))
+      ∙ moved_changes-same i.family (built_row d i n)

@@ -10,6 +10,7 @@ pub mod Moved
 pub mod Numbers
 pub mod Parts
 pub mod Placing
+pub mod Reached
 pub mod Reading
 pub mod Taken
 pub mod Values

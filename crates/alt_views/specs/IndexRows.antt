@@ -1,15 +1,14 @@
 -- The rows of an index (docs/formats/table-rows.md): the keys of the index and of the table make the row's key; its columns are the
 -- marker and the other attributes that the index keeps. And the changes of these rows when an item changes.
-use Rattle.std.specs.Prelude.{◌≡◌, ℕ, not, IfSome, List, [], ◌∷◌, if◌then◌else◌, Option, Some, None, option_map, option_and_then}
+use Rattle.std.specs.Prelude.{ℕ, not, List, [], ◌∷◌, if◌then◌else◌, Option, Some, None, option_map, option_and_then}
 use Rattle.std.specs.List.{flat_map}
 use Rattle.std.specs.Ordering.{eq_by_cmp}
 use Rattle.std.specs.FinMap.Entries.{where_key}
 use Rattle.alt_cells.specs.declared.batch.RowChange.{RowChange}
 use Rattle.alt_cells.specs.Changes.{Columns, change_between}
 use Rattle.alt_cells.specs.Keys.{key_cmp}
-use Rattle.alt_machine.specs.Building.{reaches}
+use Rattle.alt_machine.specs.Building.{is_reached}
 use Rattle.alt_machine.specs.Indexed.{index_entry}
-use Rattle.alt_machine.specs.Keys.{place_of}
 use Rattle.alt_schema.specs.Indexes.{indexes, is_key}
 use Rattle.alt_schema.specs.declared.schema.IndexSchema.{IndexSchema}
 use Rattle.alt_schema.specs.declared.schema.KeyAttr.{KeyAttr}
@@ -40,6 +39,10 @@ index_columns d i kept = item_columns (beside_keys d i kept)
 abbrev pub row_in_index : TableSchema → IndexSchema → List Pair → Option KeyedRow
 row_in_index d i item = option_map (λ e. (e.0, index_columns d i e.1)) (index_entry d i item)
 
+-- the same, if the index is built of it
+abbrev pub built_row : TableSchema → IndexSchema → List Pair → Option KeyedRow
+built_row d i item = if is_reached d i.built item then row_in_index d i item else None
+
 -- ---- changes
 
 -- a change that says nothing isn't made
@@ -60,28 +63,18 @@ moved_changes family (Some o) (Some n) =
     if eq_by_cmp key_cmp n.0 o.0 then if_said (change_between family o.0 (Some o.1) (Some n.1))
     else change_between family o.0 (Some o.1) None ∷ change_between family n.0 None (Some n.1) ∷ []
 
--- the changes of the rows of one index when an item, if one was there, gives way to another, if one comes
+-- the changes of the rows of one index that is built of all items, when an item, if one was there, gives way to another, if one comes
 abbrev pub moves_in : TableSchema → Option (List Pair) → Option (List Pair) → IndexSchema
     → List RowChange
 moves_in d old new i = moved_changes i.family (option_and_then (row_in_index d i) old)
     (option_and_then (row_in_index d i) new)
 
--- none where it isn't built up to the place of the item yet
-abbrev pub changes_in : TableSchema → List ℕ → Option (List Pair) → Option (List Pair) → IndexSchema
+-- and of one that is built of some
+abbrev pub changes_in : TableSchema → Option (List Pair) → Option (List Pair) → IndexSchema
     → List RowChange
-changes_in d place old new i = if reaches d i.built place then moves_in d old new i else []
-
--- the first of two items that is there
-abbrev pub first_of : Option (List Pair) → Option (List Pair) → Option (List Pair)
-first_of (Some old) new = Some old
-first_of None new = new
-
--- Both items, where they are there, are of that place of a table.
-abbrev pub AreAt : TableSchema → List ℕ → Option (List Pair) → Option (List Pair) → Type 0
-AreAt d place old new = IfSome old (λ item. place_of d item ≡ Some place)
-    × IfSome new (λ item. place_of d item ≡ Some place)
+changes_in d old new i = moved_changes i.family (option_and_then (built_row d i) old)
+    (option_and_then (built_row d i) new)
 
 -- and those of all indexes of a table
-abbrev pub index_changes : TableSchema → List ℕ → Option (List Pair) → Option (List Pair)
-    → List RowChange
-index_changes d place old new = flat_map (changes_in d place old new) (indexes d)
+abbrev pub index_changes : TableSchema → Option (List Pair) → Option (List Pair) → List RowChange
+index_changes d old new = flat_map (changes_in d old new) (indexes d)

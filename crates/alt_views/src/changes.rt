@@ -1,33 +1,28 @@
 //! The changes of index rows that a write of an item makes.
 
-ghost use Rattle.std.specs.Prelude.{◌≡◌, ◌++◌, ◌∷◌, [], ◌<◌, ℕ, List, false, IfOk, OnOk, length, map, option_map, option_and_then, slice_get, Some, None};
+ghost use Rattle.std.specs.Prelude.{◌≡◌, ◌++◌, ◌∷◌, [], ◌<◌, false, IfOk, OnOk, length, map, option_map, option_and_then, slice_get, Some, None};
 ghost use Rattle.alt_cells.specs.Batches.{has_row};
 ghost use Rattle.alt_cells.specs.Changes.{change_between};
-ghost use Rattle.alt_machine.specs.Building.{reaches};
-ghost use Rattle.alt_machine.specs.Keys.{place_of};
 ghost use Rattle.alt_schema.specs.Indexes.{indexes};
-ghost use Rattle.alt_schema.specs.declared.schema.Built.TheVariants.{UpTo};
 ghost use Rattle.alt_schema.specs.declared.schema.IndexSchema.{IndexSchema};
 ghost use Rattle.alt_views.specs.Batches.{AreNew, AreOfOwnFamilies};
 ghost use Rattle.alt_views.specs.private.Changed.{DifferAt};
-ghost use Rattle.alt_views.specs.IndexRows.{AreAt, changes_in, first_of, if_said, index_changes, moved_changes, moves_in, row_in_index};
+ghost use Rattle.alt_views.specs.IndexRows.{built_row, changes_in, if_said, index_changes, moved_changes};
 ghost use Rattle.alt_views.specs.Read.{row_at};
 
 use crate::changed::{changed_names, may_change};
-use crate::indexed::{IndexRow, index_row};
-use crate::place::place_of;
+use crate::indexed::IndexRow;
+use crate::reach::built_row;
 use crate::rows::projection::index_at;
-use crate::start::start_place;
 use alt_base::NoMemory;
 use alt_cells::{Batch, RowChange};
-use alt_schema::{Built, TableSchema};
+use alt_schema::TableSchema;
 use alt_value::Item;
 use std::alloc::Global;
 
 /// Puts the row changes at the end of a batch that turn the index rows of an item into those of another, for every index of the table; an
-/// item that isn't there has no rows, and an index that is being built changes only where it is built of the place of the items, which is
-/// one. Where a row keeps its key, only what differs is written, and nothing where nothing does. The families of the indexes differ, and
-/// the batch has no change of these rows yet.
+/// item that isn't there has no rows, and an index that is being built has none of an item that it isn't built of. Where a row keeps its key, only what differs is written, and nothing where nothing does. The
+/// families of the indexes differ, and the batch has no change of these rows yet.
 pub fn index_changes(
     alloc: Global,
     schema: &TableSchema,
@@ -36,81 +31,20 @@ pub fn index_changes(
     batch: &mut Batch,
 ) -> Result<(), NoMemory>
     requires families { AreOfOwnFamilies schema.now }
-    requires rows { (place : List ℕ)
-        × AreAt schema.now place (option_map (λ i. i.now) old) (option_map (λ i. i.now) new)
-        × AreNew batch.old (index_changes schema.now place (option_map (λ i. i.now) old)
-        (option_map (λ i. i.now) new)) }
-    ensures changes { (place : List ℕ)
-        → AreAt schema.now place (option_map (λ i. i.now) old.entry)
-        (option_map (λ i. i.now) new.entry)
-        → OnOk result (batch.new ≡ batch.old ++ index_changes schema.now place
+    requires rows { AreNew batch.old
+        (index_changes schema.now (option_map (λ i. i.now) old) (option_map (λ i. i.now) new)) }
+    ensures changes { OnOk result (batch.new ≡ batch.old ++ index_changes schema.now
         (option_map (λ i. i.now) old.entry) (option_map (λ i. i.now) new.entry)) }
 {
-    let Some(item) = one_of(old, new) else {
-        return Ok(());
-    };
     let count = schema.locals.as_slice().len() + schema.globals.as_slice().len();
     let names = &changed_names(alloc, count, old, new)?;
     for number in 0..count {
-        if is_reached(alloc, schema, number, item)? {
-            change_index(alloc, schema, number, names, old, new, batch)?;
-        }
+        change_index(alloc, schema, number, names, old, new, batch)?;
     }
     Ok(())
 }
 
-/// The first of two items that is there.
-fn one_of<'i>(old: Option<&'i Item>, new: Option<&'i Item>) -> Option<&'i Item>
-    ensures { option_map (λ i. i.now) result ≡ first_of (option_map (λ i. i.now) old)
-        (option_map (λ i. i.now) new) }
-{
-    match old {
-        Some(item) => Some(item),
-        None => new,
-    }
-}
-
-/// Whether the index of that number is built of an item that has a place.
-fn is_reached(
-    alloc: Global,
-    schema: &TableSchema,
-    number: usize,
-    item: &Item,
-) -> Result<bool, NoMemory>
-    requires there { number < length (indexes schema.now) }
-    ensures reached { (i : IndexSchema) → slice_get (indexes schema.now) number ≡ Some i
-        → (place : List ℕ) → place_of schema.now item.now ≡ Some place
-        → IfOk result (λ reached. reached ≡ reaches schema.now i.built place) }
-{
-    match &index_at(schema, number).built {
-        Built::Whole => Ok(true),
-        Built::UpTo(None) => Ok(false),
-        Built::UpTo(Some(key)) => is_up_to(alloc, schema, key, item),
-    }
-}
-
-/// Whether the place of an item is that of a key, or before it.
-fn is_up_to(
-    alloc: Global,
-    schema: &TableSchema,
-    key: &Item,
-    item: &Item,
-) -> Result<bool, NoMemory>
-    ensures { (place : List ℕ) → place_of schema.now item.now ≡ Some place
-        → IfOk result (λ reached. reached
-        ≡ reaches schema.now (UpTo (Some key.now)) place) }
-{
-    let Some(last) = start_place(alloc, schema, None, key)? else {
-        return Ok(false);
-    };
-    match place_of(alloc, schema, item)? {
-        Some(place) => Ok(place.as_slice().cmp(last.as_slice()).is_le()),
-        None => Ok(false),
-    }
-}
-
-/// The same for one index that is built of them, with the names at which the items differ where these are told. Where it keeps none of
-/// them no row is made.
+/// The same for one index, with the names at which the items differ where these are told. Where it keeps none of them no row is made.
 fn change_index(
     alloc: Global,
     schema: &TableSchema,
@@ -125,9 +59,9 @@ fn change_index(
         (option_map (λ i. i.now) old) (option_map (λ i. i.now) new) }
     requires rows { (i : IndexSchema) → slice_get (indexes schema.now) number ≡ Some i
         → AreNew batch.old
-        (moves_in schema.now (option_map (λ i. i.now) old) (option_map (λ i. i.now) new) i) }
+        (changes_in schema.now (option_map (λ i. i.now) old) (option_map (λ i. i.now) new) i) }
     ensures changes { (i : IndexSchema) → slice_get (indexes schema.now) number ≡ Some i
-        → OnOk result (batch.new ≡ batch.old ++ moves_in schema.now
+        → OnOk result (batch.new ≡ batch.old ++ changes_in schema.now
         (option_map (λ i. i.now) old.entry) (option_map (λ i. i.now) new.entry) i) }
 {
     let index = index_at(schema, number);
@@ -140,7 +74,7 @@ fn change_index(
     change_row(alloc, family, before, after, batch)
 }
 
-/// The row of an item, if one is there, in the index of that number.
+/// The row of an item, if one is there, in the index of that number, as far as that is built.
 fn row_of(
     alloc: Global,
     schema: &TableSchema,
@@ -150,10 +84,10 @@ fn row_of(
     requires there { number < length (indexes schema.now) }
     ensures row { (i : IndexSchema) → slice_get (indexes schema.now) number ≡ Some i
         → IfOk result (λ row. option_map row_at row
-        ≡ option_and_then (row_in_index schema.now i) (option_map (λ i. i.now) item.entry)) }
+        ≡ option_and_then (built_row schema.now i) (option_map (λ i. i.now) item.entry)) }
 {
     match item {
-        Some(item) => index_row(alloc, schema, number, item),
+        Some(item) => built_row(alloc, schema, number, item),
         None => Ok(None),
     }
 }

@@ -7,7 +7,7 @@ use Rattle.std.proofs.lemmas.List.{length-map}
 use Rattle.std.proofs.lemmas.List.Elements.{All-weaker}
 use Rattle.std.proofs.lemmas.List.Folds.{list_all-append, list_any-append}
 use Rattle.alt_schema.specs.Described.{is_one_of, keys_defined, same_kind}
-use Rattle.alt_schema.specs.Indexes.{indexes, is_key, of_range}
+use Rattle.alt_schema.specs.Indexes.{indexes, is_key, is_used, of_range}
 use Rattle.alt_schema.specs.Rules as rules
 use Rattle.alt_schema.specs.Rules.{all_differ, is_name}
 use Rattle.alt_schema.specs.declared.schema.IndexSchema.{IndexSchema}
@@ -17,10 +17,10 @@ use Rattle.alt_schema.specs.declared.stated.Stated.{Stated}
 use Rattle.alt_schema.specs.declared.stated.StatedIndex.{StatedIndex}
 use Rattle.alt_schema.proofs.Bools.{both}
 use Rattle.alt_schema.proofs.NewDescriptions.{at_most, keys_found, left, right}
-use Rattle.alt_machine.specs.Altered.{definitions_with, elements_of, index_added, indexes_fit_with, keys_fit_with, stated_index, stated_with, with_index}
+use Rattle.alt_schema.specs.Altered.{definitions_with, elements_of, index_added, indexes_fit_with, keys_fit_with, stated_index, stated_with, with_index}
 use Rattle.alt_machine.specs.Building.{IsBuilt, building_in, is_building, is_built_to}
 use Rattle.alt_machine.specs.State.{families_of}
-use Rattle.alt_machine.specs.Valid.{IsMade, is_pair, is_used, names_few}
+use Rattle.alt_machine.specs.Valid.{IsMade, is_pair, names_few}
 use Rattle.alt_machine.proofs.Inserted.{all_inserted, differ_inserted, inserted_is, last_passes, names_differ, or_left, push_passes}
 use Rattle.alt_machine.proofs.Made.{or_false, pair_kept, projection_kept, tests_alike, used_kept}
 use Rattle.alt_machine.proofs.Redescribed.{IsAlike, keys_alike}

@@ -11,12 +11,13 @@ use Rattle.alt_schema.specs.declared.schema.KeyAttr.{KeyAttr}
 use Rattle.alt_schema.specs.declared.schema.TableSchema.{TableSchema}
 use Rattle.alt_schema.specs.declared.stated.StatedIndex.{StatedIndex}
 use Rattle.alt_schema.proofs.NewDescriptions.{left, right}
+use Rattle.alt_shape.specs.Bodies as bodies
 use Rattle.alt_shape.specs.Refusals.{bad_index, bad_index_update, bad_key_schema, bad_name, no_such_index}
 use Rattle.alt_machine.specs.declared.TheConstants.{NUMBERS_END, FAMILIES_END}
-use Rattle.alt_machine.specs.Altered.{definitions_fit, indexes_fit_with, is_none_of, keys_fit_with, with_index, without_index}
+use Rattle.alt_schema.specs.Altered.{definitions_fit, indexes_fit_with, is_none_of, keys_fit_with, with_index, without_index}
 use Rattle.alt_machine.specs.Building.{building_in}
 use Rattle.alt_machine.specs.Members.{may_name, table_name}
-use Rattle.alt_machine.specs.Ops.UpdateTable.{acts, altered, altered_by, alters, are_keys_good, are_single, changes, comes_early, coming, described, family_after, going, names_fit, of_body, of_indexes, shape, state_altered, update_table, wanted_for, with_description}
+use Rattle.alt_machine.specs.Ops.UpdateTable.{acts, altered, altered_by, alters, are_keys_good, are_single, changes, comes_early, coming, described, family_after, going, names_fit, of_body, of_indexes, state_altered, update_table, wanted_for, with_description}
 use Rattle.alt_machine.specs.Body.{of_shape}
 use Rattle.alt_machine.specs.Outcomes.{Outcome, says}
 use Rattle.alt_machine.specs.Refusals.{first_answer, refuse_if, refuse_unless}
@@ -97,7 +98,7 @@ module _ (s : State) (name : List ℕ) (t : Table) (v : IsValid s)
 -- what a body that isn't refused names has good names
 names_good : (ms : Members) → first_answer (of_body ms) ≡ None → names_fit ms ≡ true
 names_good ms free =
-    let shaped = rest_none (of_shape (shape ms)) _ free in
+    let shaped = rest_none (of_shape (bodies.update_table ms)) _ free in
     let single = unless_holds (are_single ms) bad_index_update _ shaped.1 in
     right (may_name ms (codes "TableName")) _
     (unless_holds (may_name ms (codes "TableName") && names_fit ms) bad_name [] single.1).0

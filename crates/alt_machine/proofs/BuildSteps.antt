@@ -8,7 +8,7 @@ use Rattle.std.specs.Str.{bytes_eq}
 use Rattle.std.proofs.lemmas.List.{length-map}
 use Rattle.std.proofs.lemmas.List.Elements.{All-filter, All-from_recursion, All-head, All-tail, All-take}
 use Rattle.alt_schema.specs.Described.{keys_defined}
-use Rattle.alt_schema.specs.Indexes.{indexes, is_key}
+use Rattle.alt_schema.specs.Indexes.{indexes, is_key, is_used}
 use Rattle.alt_schema.specs.Rules.{all_differ, is_name}
 use Rattle.alt_schema.specs.declared.schema.Built.{Built}
 use Rattle.alt_schema.specs.declared.schema.Built.TheVariants.{Whole, UpTo}
@@ -22,7 +22,7 @@ use Rattle.alt_machine.specs.Laws.{BuildsKeepValid}
 use Rattle.alt_machine.specs.Lists.{key_attributes}
 use Rattle.alt_machine.specs.Outcomes.{a_number}
 use Rattle.alt_machine.specs.State.{State, Table, families_of}
-use Rattle.alt_machine.specs.Valid.{IsMade, IsStored, IsTable, IsValid, is_pair, is_used, names_few}
+use Rattle.alt_machine.specs.Valid.{IsMade, IsStored, IsTable, IsValid, is_pair, names_few}
 use Rattle.alt_machine.proofs.BuiltKeys.{key_there}
 use Rattle.alt_machine.proofs.Chains.{IsStep, all_valid, no_steps, one_at_most, one_step}
 use Rattle.alt_machine.proofs.Entries.{each_entry}

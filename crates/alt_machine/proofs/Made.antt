@@ -4,9 +4,9 @@ use Rattle.std.specs.Prelude.{◌&&◌, ◌||◌, codes, if◌then◌else◌}
 use Rattle.std.specs.List.{list_all, list_any}
 use Rattle.std.specs.Str.{bytes_eq}
 use Rattle.serde_json.specs.Data.{Members}
-use Rattle.alt_machine.specs.Valid.{is_pair, are_two, is_local, is_used, names_few, IsMade}
+use Rattle.alt_machine.specs.Valid.{is_pair, are_two, is_local, names_few, IsMade}
 use Rattle.alt_schema.specs.Described.{description_of, described_by, hash_of, range_of, index_for, indexes_from, projection_for, IsNew}
-use Rattle.alt_schema.specs.Indexes.{is_key}
+use Rattle.alt_schema.specs.Indexes.{is_key, is_used}
 use Rattle.alt_schema.specs.Rules as rules
 use Rattle.alt_schema.specs.Rules.{is_name}
 use Rattle.alt_schema.specs.Stated.{stated}

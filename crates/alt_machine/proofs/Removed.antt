@@ -7,17 +7,17 @@ use Rattle.std.proofs.lemmas.List.Elements.{All-cons, All-head, All-tail, All-co
 use Rattle.std.proofs.lemmas.List.Kept.{AllPairs-cons}
 use Rattle.std.proofs.lemmas.Slice.Eq.{bytes_eq-Decides}
 use Rattle.alt_schema.specs.Described.{is_one_of, keys_defined, same_kind}
-use Rattle.alt_schema.specs.Indexes.{indexes, is_key, is_named, of_range}
+use Rattle.alt_schema.specs.Indexes.{indexes, is_key, is_named, is_used, of_range}
 use Rattle.alt_schema.specs.Rules.{is_name}
 use Rattle.alt_schema.specs.declared.schema.IndexSchema.{IndexSchema}
 use Rattle.alt_schema.specs.declared.schema.KeyAttr.{KeyAttr}
 use Rattle.alt_schema.specs.declared.schema.TableSchema.{TableSchema}
 use Rattle.alt_schema.proofs.Bools.{both}
 use Rattle.alt_schema.proofs.NewDescriptions.{left, right}
-use Rattle.alt_machine.specs.Altered.{without_index, without_named}
+use Rattle.alt_schema.specs.Altered.{without_index, without_named}
 use Rattle.alt_machine.specs.Building.{IsBuilt, is_building, is_built_to}
 use Rattle.alt_machine.specs.State.{families_of}
-use Rattle.alt_machine.specs.Valid.{IsMade, is_pair, is_used, names_few}
+use Rattle.alt_machine.specs.Valid.{IsMade, is_pair, names_few}
 use Rattle.alt_machine.proofs.Inserted.{all_left, behind_passes, differ_left, fewer_left, filter_pass, filter_passes, filter_short, head_pairs, or_left, or_right, pairs_left, tail_pairs}
 use Rattle.alt_machine.proofs.Redescribed.{IsAlike, keys_alike}
 

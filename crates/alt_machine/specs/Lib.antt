@@ -1,4 +1,3 @@
-pub mod Altered
 pub mod Batches
 pub mod Body
 pub mod Building

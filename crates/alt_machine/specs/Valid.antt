@@ -1,10 +1,10 @@
 -- What holds of every state that the machine comes to from the empty store.
-use Rattle.std.specs.Prelude.{◌≡◌, ◌≢◌, ◌≤◌, ◌<◌, ◌&&◌, ◌||◌, ℕ, Bool, true, false, not, nat_lt, nat_le, T, List, [], length, Option, Some, None, IfSome, All, AllPairs, Contains}
-use Rattle.std.specs.List.{list_all, list_any}
+use Rattle.std.specs.Prelude.{◌≡◌, ◌≢◌, ◌≤◌, ◌<◌, ◌&&◌, ℕ, Bool, true, false, not, nat_lt, nat_le, T, List, [], length, Option, Some, None, IfSome, All, AllPairs, Contains}
+use Rattle.std.specs.List.{list_all}
 use Rattle.std.specs.Str.{bytes_eq}
 use Rattle.std.specs.FinMap as map
 use Rattle.alt_schema.specs.Described.{IsDescription}
-use Rattle.alt_schema.specs.Indexes.{indexes, is_key, of_range}
+use Rattle.alt_schema.specs.Indexes.{indexes, is_used, of_range}
 use Rattle.alt_schema.specs.Rules.{is_name, all_differ, most_locals, most_globals, most_included}
 use Rattle.alt_schema.specs.declared.schema.IndexSchema.{IndexSchema}
 use Rattle.alt_schema.specs.declared.schema.KeyAttr.{KeyAttr}
@@ -60,11 +60,6 @@ names_few projects.All = true
 names_few projects.KeysOnly = true
 names_few (projects.Include names) = nat_lt 0 (length names) &&
     (nat_le (length names) most_included && list_all (λ n. nat_lt 0 (length n)) names)
-
--- a name is that of a key attribute of the table or of an index
-abbrev pub is_used : TableSchema → List ℕ → Bool
-is_used d name = is_key d.hash d.range name || list_any (λ i. is_key i.hash i.range name)
-    (indexes d)
 
 -- A description as it is made: the table and its indexes have names; keys, local indexes and projections are as they have to be; at
 -- most 5 local and 20 global indexes of different names, of which at most one is being built; and exactly the key attributes are

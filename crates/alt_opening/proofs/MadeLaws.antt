@@ -4,10 +4,10 @@ use Rattle.std.proofs.lemmas.Bool.{leb-true, le-leb}
 use Rattle.std.proofs.lemmas.List.Folds.{list_all-append}
 use Rattle.std.specs.List.{list_all}
 use Rattle.std.specs.Prelude.{◌&&◌}
-use Rattle.alt_machine.specs.Valid.{IsMade, is_local, is_pair, is_used, names_few}
+use Rattle.alt_machine.specs.Valid.{IsMade, is_local, is_pair, names_few}
 use Rattle.alt_schema.specs.Bare.{is_whole}
 use Rattle.alt_schema.specs.Described.{IsDescription}
-use Rattle.alt_schema.specs.Indexes.{indexes}
+use Rattle.alt_schema.specs.Indexes.{indexes, is_used}
 use Rattle.alt_schema.specs.Rules.{all_differ, is_name, most_locals, most_globals}
 use Rattle.alt_schema.specs.declared.schema.IndexSchema.{IndexSchema}
 use Rattle.alt_schema.specs.declared.schema.TableSchema.{TableSchema}

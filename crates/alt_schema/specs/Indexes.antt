@@ -78,6 +78,11 @@ has_key_name name key = bytes_eq key.name name
 abbrev pub is_key : KeyAttr → Option KeyAttr → List ℕ → Bool
 is_key hash range name = has_key_name name hash || of_range (has_key_name name) false range
 
+-- whether it is one of the table or of an index
+abbrev pub is_used : TableSchema → List ℕ → Bool
+is_used d name = is_key d.hash d.range name
+    || list_any (λ i. is_key i.hash i.range name) (indexes d)
+
 -- whether a projection names the attribute
 abbrev pub is_included : Projection → List ℕ → Bool
 is_included All name = true

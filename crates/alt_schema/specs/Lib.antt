@@ -1,3 +1,4 @@
+pub mod Altered
 pub mod Bare
 pub mod Described
 pub mod Format

@@ -171,7 +171,7 @@ fn indexes_from(
     Ok(list)
 }
 
-fn index_for(
+pub(crate) fn index_for(
     alloc: Global,
     definitions: &[KeyAttr],
     family: u32,

@@ -5,17 +5,16 @@ use Rattle.std.specs.FinMap as finite
 use Rattle.std.specs.List.{filter, flat_map, list_all, list_any}
 use Rattle.serde_json.specs.Data.{Data, Members}
 use Rattle.serde_json.specs.Find.{as_object}
-use Rattle.alt_shape.specs.Bodies.{attribute_definition, first_of, in_array, in_items, in_object, object_fault, optional, required, secondary_index}
+use Rattle.alt_shape.specs.Bodies as bodies
 use Rattle.alt_shape.specs.Refusals.{Answer, bad_index, bad_index_update, bad_key_schema, bad_name, no_such_index}
-use Rattle.alt_shape.specs.Shape.{a_text, an_array, an_object, first_unmet, given}
-use Rattle.alt_shape.specs.declared.rule.Broken.{Broken}
+use Rattle.alt_shape.specs.Shape.{given}
 use Rattle.alt_schema.specs.Json.{description_json}
 use Rattle.alt_schema.specs.Rules.{is_name}
 use Rattle.alt_schema.specs.Stated.{at_most_one, definitions_of, index_in, stated_at, text_of}
 use Rattle.alt_schema.specs.declared.schema.KeyAttr.{KeyAttr}
 use Rattle.alt_schema.specs.declared.schema.TableSchema.{TableSchema}
 use Rattle.alt_schema.specs.declared.stated.StatedIndex.{StatedIndex}
-use Rattle.alt_machine.specs.Altered.{definitions_fit, indexes_fit_with, is_none_of, keys_fit_with, with_index, without_index}
+use Rattle.alt_schema.specs.Altered.{definitions_fit, indexes_fit_with, is_none_of, keys_fit_with, with_index, without_index}
 use Rattle.alt_machine.specs.Body.{of_shape}
 use Rattle.alt_machine.specs.Building.{building_in}
 use Rattle.alt_machine.specs.Lists.{is_given}
@@ -27,26 +26,6 @@ use Rattle.alt_machine.specs.State.{State, Table}
 use Rattle.alt_machine.specs.Targets.{on_table}
 
 -- ---- the body
-
--- a change of an index: one that comes, as CreateTable has it, one whose throughput changes, or one that goes, by its name
-abbrev pub update_fault : Members → Option Broken
-update_fault ms = first_of (
-    first_unmet (
-    optional (codes "Create") an_object ∷
-    optional (codes "Update") an_object ∷
-    optional (codes "Delete") an_object ∷ []) ms ∷
-    in_object (codes "Create") secondary_index ms ∷
-    in_object (codes "Delete") (first_unmet (required (codes "IndexName") a_text ∷ [])) ms ∷ [])
-
--- it names a table, and may define attributes and change indexes
-abbrev pub shape : Members → Option Broken
-shape ms = first_of (
-    first_unmet (
-    required (codes "TableName") a_text ∷
-    optional (codes "AttributeDefinitions") an_array ∷
-    optional (codes "GlobalSecondaryIndexUpdates") an_array ∷ []) ms ∷
-    in_array (codes "AttributeDefinitions") (in_items (object_fault attribute_definition)) ms ∷
-    in_array (codes "GlobalSecondaryIndexUpdates") (in_items (object_fault update_fault)) ms ∷ [])
 
 -- the members of a change, if it is an object
 abbrev pub change_of : Data → List Members
@@ -94,7 +73,7 @@ names_fit ms = list_all (λ i. is_name i.name) (coming ms) && list_all is_name (
 -- what the body alone says: its shape, then changes that aren't single, then names
 abbrev pub of_body : Members → List (Option Answer)
 of_body ms =
-    of_shape (shape ms) ∷
+    of_shape (bodies.update_table ms) ∷
     refuse_unless (are_single ms) bad_index_update ∷
     refuse_unless (may_name ms (codes "TableName") && names_fit ms) bad_name ∷ []
 

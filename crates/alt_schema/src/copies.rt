@@ -1,0 +1,120 @@
+//! Copies of descriptions and of what they hold.
+
+ghost use Rattle.std.specs.Prelude.{◌≡◌, IfOk};
+
+use crate::{Built, IndexList, IndexSchema, KeyAttr, KeyAttrList, Projection, TableSchema, TextList};
+use alt_base::NoMemory;
+use alt_value::Text;
+use std::alloc::Global;
+
+/// The same description once more. Fails for want of memory alone.
+pub fn copied_schema(alloc: Global, s: &TableSchema) -> Result<TableSchema, NoMemory>
+    ensures same { IfOk result (λ e. e ≡ s.now) }
+{
+    Ok(TableSchema {
+        name: s.name.copy()?,
+        definitions: copied_keys(alloc, s.definitions.as_slice())?,
+        hash: copied_key(&s.hash)?,
+        range: copied_range(&s.range)?,
+        locals: copied_indexes(alloc, s.locals.as_slice())?,
+        globals: copied_indexes(alloc, s.globals.as_slice())?,
+        view: s.view,
+        stream_family: s.stream_family,
+        created: s.created,
+        number: s.number,
+        family: s.family,
+        ttl: copied_text(&s.ttl)?,
+    })
+}
+
+fn copied_keys(alloc: Global, keys: &[KeyAttr]) -> Result<KeyAttrList, NoMemory>
+    ensures { IfOk result (λ ks. ks ≡ keys.now) }
+{
+    let mut list = KeyAttrList::new(alloc);
+    for key in keys {
+        list.push(copied_key(key)?)?;
+    }
+    Ok(list)
+}
+
+pub(crate) fn copied_key(key: &KeyAttr) -> Result<KeyAttr, NoMemory>
+    ensures { IfOk result (λ k. k ≡ key.now) }
+{
+    Ok(KeyAttr {
+        name: key.name.copy()?,
+        kind: key.kind,
+    })
+}
+
+pub(crate) fn copied_range(range: &Option<KeyAttr>) -> Result<Option<KeyAttr>, NoMemory>
+    ensures { IfOk result (λ r. r ≡ range.now) }
+{
+    match range {
+        Some(range) => Ok(Some(copied_key(range)?)),
+        None => Ok(None),
+    }
+}
+
+fn copied_indexes(alloc: Global, indexes: &[IndexSchema]) -> Result<IndexList, NoMemory>
+    ensures { IfOk result (λ is. is ≡ indexes.now) }
+{
+    let mut list = IndexList::new(alloc);
+    for index in indexes {
+        list.push(copied_index(alloc, index)?)?;
+    }
+    Ok(list)
+}
+
+pub(crate) fn copied_index(alloc: Global, index: &IndexSchema) -> Result<IndexSchema, NoMemory>
+    ensures { IfOk result (λ i. i ≡ index.now) }
+{
+    Ok(IndexSchema {
+        name: index.name.copy()?,
+        hash: copied_key(&index.hash)?,
+        range: copied_range(&index.range)?,
+        projection: copied_projection(alloc, &index.projection)?,
+        family: index.family,
+        built: copied_built(&index.built)?,
+    })
+}
+
+fn copied_projection(alloc: Global, projection: &Projection) -> Result<Projection, NoMemory>
+    ensures { IfOk result (λ p. p ≡ projection.now) }
+{
+    match projection {
+        Projection::All => Ok(Projection::All),
+        Projection::KeysOnly => Ok(Projection::KeysOnly),
+        Projection::Include(names) => {
+            Ok(Projection::Include(copied_texts(alloc, names.as_slice())?))
+        }
+    }
+}
+
+pub(crate) fn copied_texts(alloc: Global, names: &[Text]) -> Result<TextList, NoMemory>
+    ensures { IfOk result (λ ns. ns ≡ names.now) }
+{
+    let mut list = TextList::new(alloc);
+    for name in names {
+        list.push(name.copy()?)?;
+    }
+    Ok(list)
+}
+
+fn copied_built(built: &Built) -> Result<Built, NoMemory>
+    ensures { IfOk result (λ b. b ≡ built.now) }
+{
+    match built {
+        Built::Whole => Ok(Built::Whole),
+        Built::UpTo(None) => Ok(Built::UpTo(None)),
+        Built::UpTo(Some(key)) => Ok(Built::UpTo(Some(key.copy()?))),
+    }
+}
+
+fn copied_text(text: &Option<Text>) -> Result<Option<Text>, NoMemory>
+    ensures { IfOk result (λ t. t ≡ text.now) }
+{
+    match text {
+        Some(text) => Ok(Some(text.copy()?)),
+        None => Ok(None),
+    }
+}

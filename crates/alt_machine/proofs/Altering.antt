@@ -1,5 +1,5 @@
 -- The write of an UpdateTable leads from a valid state to a valid one.
-use Rattle.std.proofs.Common.{◌≡◌, ◌≢◌, refl, ap, ℕ, ◌+◌, ◌<◌, ◌≤◌, Bool, true, false, ◌&&◌, is_some, List, [], ◌∷◌, Option, Some, None, All, inl, inr, arith}
+use Rattle.std.proofs.Common.{◌≡◌, ◌≢◌, refl, ℕ, ◌+◌, ◌<◌, ◌≤◌, Bool, true, false, ◌&&◌, is_some, List, [], ◌∷◌, Option, Some, None, inl, inr, arith}
 use Rattle.std.specs.FinMap as map
 use Rattle.std.specs.List.{list_all, list_any}
 use Rattle.std.specs.Prelude.{codes, if◌then◌else◌}
@@ -19,7 +19,7 @@ use Rattle.alt_machine.specs.Building.{building_in}
 use Rattle.alt_machine.specs.Members.{may_name, table_name}
 use Rattle.alt_machine.specs.Ops.UpdateTable.{acts, altered, altered_by, alters, are_keys_good, are_single, changes, comes_early, coming, described, family_after, going, names_fit, of_body, of_indexes, state_altered, update_table, wanted_for, with_description}
 use Rattle.alt_machine.specs.Body.{of_shape}
-use Rattle.alt_machine.specs.Outcomes.{Outcome, says}
+use Rattle.alt_machine.specs.Outcomes.{says}
 use Rattle.alt_machine.specs.Refusals.{first_answer, refuse_if, refuse_unless}
 use Rattle.alt_machine.specs.State.{State, Table, families_of}
 use Rattle.alt_machine.specs.Valid.{IsTable, IsValid}

@@ -1,5 +1,5 @@
 -- The items of which an index is built after a step: those of before and the next ones.
-use Rattle.std.proofs.Common.{◌≡◌, ◌<◌, ◌≤◌, refl, sym, ap, subst, ◌∙◌, ℕ, zero, suc, Bool, true, false, cond, not, ◌&&◌, T, is_eq, is_lt, is_le, nat_le, List, [], ◌∷◌, map, take, length, Option, Some, None, All, arith}
+use Rattle.std.proofs.Common.{◌≡◌, ◌≤◌, refl, sym, ap, subst, ◌∙◌, ℕ, zero, suc, Bool, true, false, cond, not, ◌&&◌, T, is_eq, is_lt, is_le, nat_le, List, [], ◌∷◌, map, take, length, Option, Some, None, All, arith}
 use Rattle.std.proofs.lemmas.Bool.{leb-true}
 use Rattle.std.proofs.lemmas.List.Elements.{All-cons, All-head, All-nil, All-tail, All-take}
 use Rattle.std.specs.FinMap as finite

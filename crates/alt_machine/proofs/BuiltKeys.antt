@@ -1,5 +1,5 @@
 -- The key of an item that is stored is a key of the table, of the item's place.
-use Rattle.std.proofs.Common.{◌≡◌, refl, sym, ap, ◌∙◌, ℕ, Bool, true, false, cond, ◌&&◌, ◌||◌, is_some, List, [], ◌∷◌, Option, Some, None, option_map, arith}
+use Rattle.std.proofs.Common.{◌≡◌, refl, sym, ap, ◌∙◌, ℕ, Bool, true, false, cond, ◌||◌, List, [], ◌∷◌, Option, Some, None, option_map, arith}
 use Rattle.std.specs.Prelude.{if◌then◌else◌, option_and_then}
 use Rattle.std.specs.FinMap.Entries.{find-where_key, where_key}
 use Rattle.std.specs.List.{list_all}
@@ -18,7 +18,7 @@ use Rattle.alt_value.specs.declared.kind.KeyKind.TheVariants.{S, N, B}
 use Rattle.alt_value.proofs.Texts.{text_apart}
 use Rattle.alt_machine.specs.Building.{built_place}
 use Rattle.alt_machine.specs.Keys.{can_be_key, if_key, key_value, place_beside, place_of}
-use Rattle.alt_machine.specs.Lists.{has_keys_alone, is_of_kind, key_attributes, place_there, start_beside, start_value}
+use Rattle.alt_machine.specs.Lists.{is_of_kind, key_attributes, place_there, start_beside, start_value}
 use Rattle.alt_machine.specs.Sources.{is_key_there}
 
 -- what can be a key of a kind is of that kind

@@ -1,5 +1,5 @@
 -- The items of a table have keys of their own in an index, and those of an index lie by these.
-use Rattle.std.proofs.Common.{◌≡◌, refl, sym, ap, subst, ◌∙◌, ℕ, Bool, true, false, ◌&&◌, List, Option, Some, None, option_map, is_some}
+use Rattle.std.proofs.Common.{◌≡◌, refl, sym, ap, subst, ◌∙◌, ℕ, Bool, true, false, ◌&&◌, List, Option, Some, None, option_map}
 use Rattle.std.proofs.lemmas.Bool.{false≢true}
 use Rattle.std.specs.Prelude.{if◌then◌else◌, option_and_then, unwrap_or}
 use Rattle.std.specs.Option.{option_map_or}
@@ -11,7 +11,6 @@ use Rattle.alt_keyorder.proofs.PlaceLaws.{index_tell, index_lie}
 use Rattle.alt_machine.specs.Indexed.{KeyValues, values_beside, values_of, place_of_both, index_place, index_entry}
 use Rattle.alt_machine.specs.Keys.{can_be_key, if_key, key_value, place_beside, place_of}
 use Rattle.alt_machine.specs.Laws.{IndexPlacesLie, AllIndex}
-use Rattle.alt_machine.specs.Sources.{index_at}
 use Rattle.alt_machine.specs.State.{Texts}
 use Rattle.alt_machine.specs.Valid.{IsStored}
 use Rattle.alt_machine.proofs.Placed.{part_kind}

@@ -1,6 +1,6 @@
 -- UpdateTable: adds a global index to a table, or takes one from it, while writes go on (DynamoDB API Reference, "UpdateTable";
 -- docs/API.md).
-use Rattle.std.specs.Prelude.{ℕ, ◌+◌, ◌==◌, Bool, false, ◌&&◌, ◌||◌, nat_le, length, map, codes, if◌then◌else◌, List, [], ◌∷◌, Option, Some, None, is_some, option_and_then}
+use Rattle.std.specs.Prelude.{ℕ, ◌+◌, ◌==◌, Bool, false, ◌&&◌, ◌||◌, nat_le, length, map, codes, if◌then◌else◌, List, [], ◌∷◌, Option, is_some, option_and_then}
 use Rattle.std.specs.FinMap as finite
 use Rattle.std.specs.List.{filter, flat_map, list_all, list_any}
 use Rattle.serde_json.specs.Data.{Data, Members}

@@ -1,15 +1,15 @@
 //! What Query and Scan read: a table, or one of its indexes.
 
-ghost use Rattle.std.specs.Prelude.{◌≡◌, ◌<◌, IfSome, length, option_map};
+ghost use Rattle.std.specs.Prelude.{◌≡◌, ◌<◌, IfSome, option_map};
 ghost use Rattle.alt_machine.specs.Sources as machine;
-ghost use Rattle.alt_schema.specs.Indexes.{indexes};
+ghost use Rattle.alt_views.specs.Readable.{CanRead};
 
 use alt_schema::{IndexSchema, KeyAttr, TableSchema};
 use alt_views::{index_at, is_key};
 
 /// The index of that number; where no number is told, the table itself is read.
 pub(crate) fn index_of(schema: &TableSchema, number: Option<usize>) -> Option<&IndexSchema>
-    requires there { IfSome number (λ n. n < length (indexes schema.now)) }
+    requires there { IfSome number (λ n. CanRead schema.now n) }
     ensures index { option_map (λ i. i.now) result ≡ machine.index_at schema.now number }
 {
     match number {

@@ -1,6 +1,6 @@
 -- What a walk over the items of a table, or of one of its indexes, may read of the disk: each row file of its family twice, and once more for each version
 -- of a row in these files at a place that it passes.
-use Rattle.std.specs.Prelude.{◌≡◌, ◌<◌, ℕ, zero, suc, ◌+◌, ◌*◌, ◌&&◌, Bool, true, false, not, List, [], ◌∷◌, length, map, Option, Some, None}
+use Rattle.std.specs.Prelude.{◌≡◌, ℕ, zero, suc, ◌+◌, ◌*◌, ◌&&◌, Bool, true, false, not, List, [], ◌∷◌, length, map, Option, Some, None}
 use Rattle.std.specs.BTreeMap.Range.{entries_between, range_contains}
 use Rattle.std.specs.declared.ops.Bound.TheVariants.{Included}
 use Rattle.alt_cells.specs.Walks.{RowMap}
@@ -8,19 +8,11 @@ use Rattle.alt_families.specs.Reads.{versions_of}
 use Rattle.alt_layout.specs.Families.{files_of}
 use Rattle.alt_layout.specs.Files.{Image, IsLayout}
 use Rattle.alt_layout.specs.Layout.{Layout}
-use Rattle.alt_machine.specs.Sources.{index_at}
 use Rattle.alt_machine.specs.State.{Table}
 use Rattle.alt_machine.specs.Walks.{end_bound, is_beyond, placed_items, turned}
-use Rattle.alt_schema.specs.Bare.{is_whole}
-use Rattle.alt_schema.specs.Indexes.{indexes}
 use Rattle.alt_schema.specs.declared.schema.IndexSchema.{IndexSchema}
 use Rattle.alt_schema.specs.declared.schema.TableSchema.{TableSchema}
 use Rattle.alt_value.specs.Members.{text_order}
-
--- An index can be read: it is one of the table's, and whole.
-abbrev pub CanRead : TableSchema → ℕ → Type 0
-CanRead d number = (number < length (indexes d))
-    × ((i : IndexSchema) → index_at d (Some number) ≡ Some i → is_whole i.built ≡ true)
 
 -- The family of what is read: the table's, or that of the index.
 abbrev pub family_read : TableSchema → Option IndexSchema → ℕ

@@ -1,6 +1,6 @@
 //! Walks over the items of a table, or of one of its indexes, in the order of their places or the other way.
 
-ghost use Rattle.std.specs.Prelude.{◌≡◌, ◌↔◌, ◌++◌, ◌+◌, ◌<◌, ◌≤◌, take, length, map as each, true, List, Some, None, IfOk, IfErr, IfSome, OnOk, OnErr, IsErrOf};
+ghost use Rattle.std.specs.Prelude.{◌≡◌, ◌↔◌, ◌++◌, ◌+◌, ◌<◌, ◌≤◌, take, map as each, true, List, Some, None, IfOk, IfErr, IfSome, OnOk, OnErr, IsErrOf};
 ghost use Rattle.std.specs.FinMap as map;
 ghost use Rattle.std.specs.List.{last_or};
 ghost use Rattle.alt_base.specs.Counts.{Rose};
@@ -13,9 +13,10 @@ ghost use Rattle.alt_schema.specs.declared.schema.IndexSchema.{IndexSchema};
 ghost use Rattle.alt_schema.specs.declared.schema.TableSchema.{TableSchema};
 ghost use Rattle.alt_tables.specs.Faults.{IsFindFault, IsReadFault, IsUnspent};
 ghost use Rattle.alt_tables.specs.private.Pages.{AreItemsOf, AreKept, ArePut};
-ghost use Rattle.alt_tables.specs.Reading.{CanRead, HasRowFiles, family_read, places_between, walk_reads};
+ghost use Rattle.alt_tables.specs.Reading.{HasRowFiles, family_read, places_between, walk_reads};
 ghost use Rattle.alt_tables.specs.Stands.{AreReady, Reads, Stands, KeepsCatalog, catalog_of};
 ghost use Rattle.alt_value.specs.Tree.{Pair};
+ghost use Rattle.alt_views.specs.Readable.{CanRead};
 
 use crate::faults::TableFault;
 use crate::tables::Tables;

@@ -1,9 +1,10 @@
 //! The indexes of a table: the one of a name, and whether an item's index keys are keys.
 
-ghost use Rattle.std.specs.Prelude.{◌≡◌, ◌<◌, length, option_map, IfSome};
+ghost use Rattle.std.specs.Prelude.{◌≡◌, ◌<◌, length, IfSome};
 ghost use Rattle.std.specs.List.{position, list_all};
 ghost use Rattle.alt_value.specs.Stands.{tree_of};
 ghost use Rattle.alt_schema.specs.Indexes.{indexes, is_read_as, is_key_length, is_key_value, part_fits, index_fits, keys_fit};
+ghost use Rattle.alt_views.specs.Readable.{CanRead};
 
 use alt_schema::{IndexSchema, KeyAttr, TableSchema};
 use alt_value::{Attr, Item, KeyKind};
@@ -13,6 +14,7 @@ use alt_value::{Attr, Item, KeyKind};
 pub fn index_named(s: &TableSchema, name: &str) -> Option<usize>
     ensures first { result ≡ position (is_read_as name.now) (indexes s.now) }
     ensures within { IfSome result (λ number. number < length (indexes s.now)) }
+    ensures read { IfSome result (λ number. CanRead s.now number) }
 {
     number_of(s, name)
 }

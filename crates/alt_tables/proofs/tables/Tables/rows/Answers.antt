@@ -6,7 +6,8 @@ use Rattle.alt_machine.specs.Walks.{items_between}
 use Rattle.alt_schema.specs.Indexes.{indexes}
 use Rattle.alt_tables.proofs.Pages.{within_some}
 use Rattle.alt_tables.proofs.Standing.{known}
-use Rattle.alt_tables.specs.Reading.{CanRead, HasRowFiles, family_read, places_between, walk_reads}
+use Rattle.alt_tables.specs.Reading.{HasRowFiles, family_read, places_between, walk_reads}
+use Rattle.alt_views.specs.Readable.{CanRead}
 use Rattle.alt_tables.proofs.tables.Tables.rows.Goals as goal
 
 pub index_rows-requires-clause-index : goal.index_rows-requires-clause-index

@@ -1,4 +1,5 @@
 pub mod Ahead
+pub mod AlterLaws
 pub mod Batches
 pub mod Behind
 pub mod BuildShows
@@ -6,6 +7,7 @@ pub mod ByKeys
 pub mod CatalogLaws
 pub mod ChangeLaws
 pub mod ChangePages
+pub mod DescribedShows
 pub mod Differing
 pub mod Elsewhere
 pub mod FilesLaws

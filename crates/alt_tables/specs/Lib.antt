@@ -1,3 +1,4 @@
+pub mod Altering
 pub mod Faults
 pub mod FilesLeft
 pub mod Found

@@ -47,6 +47,12 @@ abbrev pub time_changes : TableSchema → Option (List ℕ) → List RowChange
 time_changes d ttl = change_between catalog_family d.name (Some (table_row d))
     (Some (table_row (record d { ttl = ttl }))) ∷ []
 
+-- of a table that has another description: its row changes, and the next family
+abbrev pub alter_changes : ℕ → ℕ → TableSchema → TableSchema → List RowChange
+alter_changes before after d e = change_between catalog_family d.name (Some (table_row d))
+    (Some (table_row e))
+    ∷ change_between catalog_family [] (next_row before) (next_row after) ∷ []
+
 -- the rows behind these changes, which are one write with the next number
 abbrev pub changed_rows : Layout → List RowChange → Layout
 changed_rows l changes = with_write l (batch_write l changes)

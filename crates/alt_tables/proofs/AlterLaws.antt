@@ -1,6 +1,7 @@
 -- The rows of a state in which a table has a global index more or less, and the write that leads there.
-use Rattle.std.proofs.Common.{◌≡◌, ◌≤◌, ◌<◌, ◌+◌, ◌⊎◌, ℕ, zero, suc, Bool, true, false, cond, List, [], ◌∷◌, ◌++◌, length, Some, None, refl, sym, ap, subst, ◌∙◌, inl, inr, slice_get, append_assoc, arith, All}
+use Rattle.std.proofs.Common.{◌≡◌, ◌≢◌, ◌≤◌, ◌<◌, ◌+◌, ◌⊎◌, ℕ, zero, suc, Bool, true, false, cond, List, [], ◌∷◌, ◌++◌, length, Some, None, refl, sym, ap, subst, ◌∙◌, inl, inr, slice_get, append_assoc, arith, All}
 use Rattle.std.proofs.lemmas.Bool.Decides.{nat_tests}
+use Rattle.std.proofs.lemmas.List.Elements.{All-weaker}
 use Rattle.std.specs.Prelude.{if◌then◌else◌, nat_lt, not, option_map}
 use Rattle.std.specs.List.{filter}
 use Rattle.std.specs.Ordering.{eq_by_cmp}
@@ -18,27 +19,32 @@ use Rattle.alt_machine.specs.Building.{built_part}
 use Rattle.alt_machine.specs.Indexed.{index_entry, index_items}
 use Rattle.alt_machine.specs.Ops.UpdateTable.{redescribed, with_description}
 use Rattle.alt_machine.specs.Sources.{index_at}
-use Rattle.alt_machine.specs.State.{State, Table, Texts}
-use Rattle.alt_machine.specs.Valid.{IsHeldChange, IsValid}
-use Rattle.alt_machine.proofs.Added.{alike_added}
+use Rattle.alt_machine.specs.Outcomes.{a_family, a_number}
+use Rattle.alt_machine.specs.State.{State, Table, Texts, families_of}
+use Rattle.alt_machine.specs.Valid.{IsHeldChange, IsMade, IsTable, IsValid}
+use Rattle.alt_machine.specs.Wanted.{lack_of}
+use Rattle.alt_machine.proofs.Added.{alike_added, differ_added, families_added, own_added}
 use Rattle.alt_machine.proofs.Building.{get-built_part}
 use Rattle.alt_machine.proofs.Inserted.{filter_short}
 use Rattle.alt_machine.proofs.Looks.{at_insert}
-use Rattle.alt_machine.proofs.Redescribed.{IsAlike, built_part-alike}
-use Rattle.alt_machine.proofs.Removed.{alike_removed}
+use Rattle.alt_machine.proofs.Lacks.{index_room, number_room}
+use Rattle.alt_machine.proofs.Redescribed.{IsAlike, built_part-alike, with_description_valid}
+use Rattle.alt_machine.proofs.Removed.{alike_removed, differ_removed, families_removed, own_removed}
 use Rattle.alt_schema.specs.Altered.{index_added, with_index, without_index}
 use Rattle.alt_schema.specs.Held.{IsHeld}
 use Rattle.alt_schema.specs.Indexes.{indexes, is_named}
 use Rattle.alt_schema.specs.declared.schema.Built.TheVariants.{UpTo}
 use Rattle.alt_schema.specs.declared.schema.IndexSchema.{IndexSchema}
+use Rattle.alt_schema.specs.declared.schema.KeyAttr.{KeyAttr}
 use Rattle.alt_schema.specs.declared.schema.TableSchema.{TableSchema}
+use Rattle.alt_schema.specs.declared.stated.StatedIndex.{StatedIndex}
 use Rattle.alt_value.specs.Members.{text_order}
 use Rattle.alt_value.specs.Tree.{Pair}
 use Rattle.alt_views.specs.IndexRows.{index_columns}
 use Rattle.alt_opening.specs.StateRows.{HasMoment, IsHeldWhole, Shows, catalog_family, index_rows, next_row}
 use Rattle.alt_opening.proofs.Maps.{same_texts}
 use Rattle.alt_opening.proofs.OneState.{some}
-use Rattle.alt_tables.specs.Altering.{HasLess, HasMore, MayAlter, family_left}
+use Rattle.alt_tables.specs.Altering.{MayAlter, alter_wants, family_left, has_more}
 use Rattle.alt_tables.specs.RowChanges.{Turns, alter_changes}
 use Rattle.alt_tables.proofs.CatalogLaws.{next_can_show, no_items, none_rekeyed, off_catalog, table_named}
 use Rattle.alt_tables.proofs.ChangeLaws.{ShowsWrite, two_changes}
@@ -82,10 +88,17 @@ more_counted [] x = omega arith
 more_counted (y ∷ ys) x = omega (arith, more_counted ys x)
 
 lt_so : (a b : ℕ) → a < b → nat_lt a b ≡ true
-lt_so a b h = grind (arith, nat_tests, h)
+lt_so a b h = grind (arith, nat_tests)
 
 lt_not : (a b : ℕ) → b ≤ a → nat_lt a b ≡ false
-lt_not a b h = grind (arith, nat_tests, h)
+lt_not a b h = grind (arith, nat_tests)
+
+-- so a description with an index more has more of them
+pub is_longer : (d : TableSchema) (more : List KeyAttr) (family : ℕ) (index : StatedIndex)
+    → has_more d (with_index d more family index) ≡ true
+is_longer d more family index = lt_so (length d.globals)
+    (length (d.globals ++ index_added d more family index ∷ []))
+    (more_counted d.globals (index_added d more family index))
 
 -- ---- rows
 
@@ -212,72 +225,114 @@ module _ (s : State) (name : List ℕ) (t : Table) (at : map.get s.tables name �
   abbrev d : TableSchema
   d = t.description
 
+  -- it is made and nothing is lacked: then the state with it is valid
+  abbrev MayCome : TableSchema → Type 0
+  MayCome e = IsMade e → lack_of (alter_wants d e) s ≡ None
+      → IsValid (with_description s name t e (family_left s.next_family d e))
+
+  is_table : IsTable s name t
+  is_table = valid.tables name t at
+
   -- what is said of such a description
   abbrev Comes : TableSchema → Type 0
   Comes e = IsHeld e → IsValid (with_description s name t e (family_left s.next_family d e))
       → Turns (alter_changes s.next_family (family_left s.next_family d e) d e) s
       (with_description s name t e (family_left s.next_family d e))
 
-  -- with one more
-  turns_more : (e : TableSchema) → HasMore s.next_family d e → Comes e
-  turns_more e more = subst Comes (sym more.is) with_more
-    where
-      abbrev x : TableSchema
-      x = with_index d more.definitions s.next_family more.index
+  -- ---- with one more
 
-      abbrev new : IndexSchema
-      new = index_added d more.definitions s.next_family more.index
+  module _ (more : List KeyAttr) (index : StatedIndex) where
+    abbrev with_one : TableSchema
+    with_one = with_index d more s.next_family index
 
-      counted : family_left s.next_family d x ≡ s.next_family + 1
-      counted = ap (λ b. if b then s.next_family + 1 else s.next_family)
-          (lt_so (length d.globals) (length (d.globals ++ new ∷ []))
-          (more_counted d.globals new))
+    abbrev new : IndexSchema
+    new = index_added d more s.next_family index
 
-      each : (n : ℕ) (i : IndexSchema) → index_at x (Some n) ≡ Some i
-          → WasOrComes d s.next_family i
-      each n i at_index = elim (more_at (indexes d) new i n
-          (subst (λ (is : List IndexSchema). slice_get is n ≡ Some i)
-          (sym (append_assoc d.locals d.globals (new ∷ []))) at_index)) [
-            | inl was ↦ inl (n, was)
-            | inr comes ↦ inr (
-              ap (λ (j : IndexSchema). j.built) (sym comes),
-              omega (arith, ap (λ (j : IndexSchema). j.family) comes),
-            )
-          ]
+    longer : has_more d with_one ≡ true
+    longer = is_longer d more s.next_family index
 
-      with_more : Comes x
-      with_more held_x then = turns_alike s name t at valid x (family_left s.next_family d x)
-          (omega (arith, counted)) (alike_added d more.definitions s.next_family more.index) refl
-          (λ i. refl) (λ i m. refl) each held held_x then
+    counted : family_left s.next_family d with_one ≡ s.next_family + 1
+    counted = ap (λ b. if b then s.next_family + 1 else s.next_family) longer
 
-  -- with one less
-  turns_less : (e : TableSchema) → HasLess d e → Comes e
-  turns_less e less = subst Comes (sym less.is) with_less
-    where
-      abbrev x : TableSchema
-      x = without_index d less.name
+    each : (n : ℕ) (i : IndexSchema) → index_at with_one (Some n) ≡ Some i
+        → WasOrComes d s.next_family i
+    each n i at_index = elim (more_at (indexes d) new i n
+        (subst (λ (is : List IndexSchema). slice_get is n ≡ Some i)
+        (sym (append_assoc d.locals d.globals (new ∷ []))) at_index)) [
+          | inl was ↦ inl (n, was)
+          | inr comes ↦ inr (
+            ap (λ (j : IndexSchema). j.built) (sym comes),
+            omega (arith, ap (λ (j : IndexSchema). j.family) comes),
+          )
+        ]
 
-      abbrev stays : IndexSchema → Bool
-      stays i = not (is_named less.name i)
+    valid_more : MayCome with_one
+    valid_more made enough =
+        let room = index_room s
+        (sym (ap (λ b. lack_of (if b then a_family else a_number) s) longer) ∙ enough) in
+        subst (λ n. IsValid (with_description s name t with_one n)) (sym counted)
+        (with_description_valid s name t with_one (s.next_family + 1) valid room.0 at (omega arith)
+        (omega (arith, room.1)) (alike_added d more s.next_family index) made
+        (families_added d more s.next_family index (λ g. (1 ≤ g) × (g < s.next_family + 1))
+        (valid.next_family.0, omega arith)
+        (All-weaker (λ g. (1 ≤ g) × (g < s.next_family)) (λ g. (1 ≤ g) × (g < s.next_family + 1))
+        (λ g below. (below.0, omega (arith, below.1))) (families_of d) is_table.families))
+        (differ_added d more s.next_family index
+        (All-weaker (λ g. (1 ≤ g) × (g < s.next_family)) (λ g. g ≢ s.next_family)
+        (λ g below same. omega (arith, below.1, same)) (families_of d) is_table.families)
+        is_table.differ)
+        (λ g here. elim (own_added d more s.next_family index g here) [
+          | inl was ↦ inl was
+          | inr own ↦ inr (omega (arith, own))
+        ]))
 
-      counted : family_left s.next_family d x ≡ s.next_family
-      counted = ap (λ b. if b then s.next_family + 1 else s.next_family)
-          (lt_not (length d.globals) (length (filter stays d.globals))
-          (filter_short stays d.globals))
+    turns_more : Comes with_one
+    turns_more held_x then = turns_alike s name t at valid with_one
+        (family_left s.next_family d with_one) (omega (arith, counted))
+        (alike_added d more s.next_family index) refl (λ i. refl) (λ i m. refl) each held held_x
+        then
 
-      each : (n : ℕ) (i : IndexSchema) → index_at x (Some n) ≡ Some i
-          → WasOrComes d s.next_family i
-      each n i at_index = inl (behind_left stays d.locals d.globals n i at_index)
+  -- ---- with one less
 
-      with_less : Comes x
-      with_less held_x then = turns_alike s name t at valid x (family_left s.next_family d x)
-          (omega (arith, counted)) (alike_removed d less.name) refl (λ i. refl) (λ i m. refl) each
-          held held_x then
+  module _ (gone : List ℕ) where
+    abbrev without : TableSchema
+    without = without_index d gone
+
+    abbrev stays : IndexSchema → Bool
+    stays i = not (is_named gone i)
+
+    shorter : has_more d without ≡ false
+    shorter = lt_not (length d.globals) (length (filter stays d.globals))
+        (filter_short stays d.globals)
+
+    left : family_left s.next_family d without ≡ s.next_family
+    left = ap (λ b. if b then s.next_family + 1 else s.next_family) shorter
+
+    was : (n : ℕ) (i : IndexSchema) → index_at without (Some n) ≡ Some i
+        → WasOrComes d s.next_family i
+    was n i at_index = inl (behind_left stays d.locals d.globals n i at_index)
+
+    valid_less : MayCome without
+    valid_less made enough = subst (λ n. IsValid (with_description s name t without n)) (sym left)
+        (with_description_valid s name t without s.next_family valid
+        (number_room s (sym (ap (λ b. lack_of (if b then a_family else a_number) s) shorter)
+        ∙ enough)) at (omega arith) valid.next_family.1 (alike_removed d gone) made
+        (families_removed d gone (λ g. (1 ≤ g) × (g < s.next_family)) is_table.families)
+        (differ_removed d gone is_table.differ) (λ g here. inl (own_removed d gone g here)))
+
+    turns_less : Comes without
+    turns_less held_x then = turns_alike s name t at valid without
+        (family_left s.next_family d without) (omega (arith, left)) (alike_removed d gone) refl
+        (λ i. refl) (λ i m. refl) was held held_x then
+
+  -- ---- with either
+
+  -- the state with such a description is valid
+  pub alter_valid : (e : TableSchema) → MayAlter s.next_family d e → MayCome e
+  alter_valid e (inl more) = subst MayCome (sym more.is) (valid_more more.definitions more.index)
+  alter_valid e (inr less) = subst MayCome (sym less.is) (valid_less less.name)
 
   -- The write of a table with an index more or less turns the state into that one.
-  pub alter_turns : (e : TableSchema) → MayAlter s.next_family d e → IsHeld e
-      → IsValid (with_description s name t e (family_left s.next_family d e))
-      → Turns (alter_changes s.next_family (family_left s.next_family d e) d e) s
-      (with_description s name t e (family_left s.next_family d e))
-  alter_turns e (inl more) = turns_more e more
-  alter_turns e (inr less) = turns_less e less
+  pub alter_turns : (e : TableSchema) → MayAlter s.next_family d e → Comes e
+  alter_turns e (inl more) = subst Comes (sym more.is) (turns_more more.definitions more.index)
+  alter_turns e (inr less) = subst Comes (sym less.is) (turns_less less.name)

@@ -1,5 +1,6 @@
 pub mod Ahead
 pub mod AlterLaws
+pub mod Altered
 pub mod Batches
 pub mod Behind
 pub mod BuildShows

@@ -1,7 +1,8 @@
 //! All tables: what is known of them by their names, the numbers and families that are left, and the writes of the catalog.
 
-ghost use Rattle.std.specs.Prelude.{◌^◌, ◌≡◌, ◌∷◌, [], ◌+◌, ◌<◌, ◌≤◌, length, true, None, Some, IsSome, IfOk, IfErr, OnOk, IsErrOf, option_map, slice_get, T};
+ghost use Rattle.std.specs.Prelude.{◌^◌, ◌==◌, ◌≡◌, ◌∷◌, [], ◌+◌, ◌<◌, ◌≤◌, length, true, None, Some, IsSome, IfOk, IfErr, OnOk, IsErrOf, option_map, slice_get, T};
 ghost use Rattle.std.specs.FinMap as map;
+ghost use Rattle.std.specs.List.{list_any};
 ghost use Rattle.alt_base.specs.Counts.{Rose};
 ghost use Rattle.alt_cells.specs.Batches.{is_distinct};
 ghost use Rattle.alt_disk.specs.Disk.{IsTrusted, Goes};
@@ -9,6 +10,7 @@ ghost use Rattle.alt_layout.specs.Layout.{Layout};
 ghost use Rattle.alt_machine.specs.Ops.CreateTable.{with_table};
 ghost use Rattle.alt_machine.specs.Ops.DeleteTable.{without_table};
 ghost use Rattle.alt_machine.specs.Ops.ListTables.{names_after};
+ghost use Rattle.alt_machine.specs.Ops.UpdateTable.{with_description};
 ghost use Rattle.alt_machine.specs.Ops.UpdateTimeToLive.{with_time};
 ghost use Rattle.alt_machine.specs.Outcomes.{a_number, a_table};
 ghost use Rattle.alt_machine.specs.State.{State, Table, families_of};
@@ -16,10 +18,11 @@ ghost use Rattle.alt_machine.specs.Valid.{IsMade, IsValid};
 ghost use Rattle.alt_machine.specs.Wanted.{table_lack};
 ghost use Rattle.alt_schema.specs.Described.{IsNew};
 ghost use Rattle.alt_schema.specs.Held.{IsHeldText, Where};
+ghost use Rattle.alt_tables.specs.Altering.{MayAlter, alter_wants, family_left, has_more};
 ghost use Rattle.alt_tables.specs.Faults.{IsFindFault, Writes};
 ghost use Rattle.alt_tables.specs.Images.{Leaves};
 ghost use Rattle.alt_opening.specs.Order.{first_after};
-ghost use Rattle.alt_tables.specs.RowChanges.{Turns, changed_rows, creation_changes, drop_changes, time_changes};
+ghost use Rattle.alt_tables.specs.RowChanges.{Turns, alter_changes, changed_rows, creation_changes, drop_changes, time_changes};
 ghost use Rattle.alt_tables.specs.Several.{AreDistinct, TurnsAll, with_batches};
 ghost use Rattle.alt_tables.specs.Stands.{AreReady, HasRows, Stands, catalog_of, number_of, family_of, bounds_of, trimmed_of};
 ghost use Rattle.alt_opening.specs.Opened.{Holds};
@@ -239,6 +242,62 @@ impl Tables {
         }
     }
 
+    /// Gives a table that is there another description, which has one global index more, of the next family, or one less.
+    pub fn alter<D: Disk>(&mut self, disk: &mut D, schema: TableSchema) -> Result<(), TableFault>
+        requires ready { AreReady (D.state disk.old) self.old }
+        requires there { map.contains_key (catalog_of self.old) schema.name ≡ true }
+        requires made { IsMade schema }
+        requires alters { (d : TableSchema) → map.get (catalog_of self.old) schema.name ≡ Some d
+            → MayAlter (family_of self.old) d schema }
+        ensures writes { (s : State) (t : Table) → Stands (D.state disk.old) self.old s
+            → map.get s.tables schema.name ≡ Some t
+            → Writes (bounds_of self.old).file (Stands (D.state disk.new) self.new)
+            (alter_wants t.description schema) s (with_description s schema.name t schema
+            (family_left s.next_family t.description schema) ∷ []) result }
+        ensures disk { (s : State) (t : Table) → Stands (D.state disk.old) self.old s
+            → map.get s.tables schema.name ≡ Some t
+            → Leaves (D.state disk.old) (D.state disk.new) s (with_description s schema.name t schema
+            (family_left s.next_family t.description schema) ∷ []) }
+        ensures no_memory { IsErrOf result TableFault.NoMemory
+            → D.state disk.new ≡ D.state disk.old }
+        ensures limits { bounds_of self.new ≡ bounds_of self.old }
+        ensures goes { Goes (D.state disk.old) (D.state disk.new) }
+        ensures cause { IsErrOf result TableFault.Failed
+            → Rose (D.state disk.old).faults (D.state disk.new).faults }
+    {
+        let number = self.engine.next_number();
+        if number >= NUMBERS_END {
+            return Err(TableFault::Spent { number });
+        }
+        let Some(old) = self.catalog.get(schema.name.as_str()) else {
+            unreachable!();
+        };
+        let more = has_more(old, &schema);
+        // The family that comes next is none of the table's: on a disk that doesn't tell its contents it might be.
+        if more && (self.family >= FAMILIES_END || has_family(old, self.family)) {
+            return Err(TableFault::Spent {
+                number: u64::from(self.family),
+            });
+        }
+        if let Some(number) = self.engine.wanting_file() {
+            return Err(TableFault::Spent { number });
+        }
+        held(&schema);
+        let after = if more { self.family + 1 } else { self.family };
+        let batch = alteration(self.alloc, self.family, after, old, &schema)?;
+        let live = self.live.without_table(self.alloc, old)?;
+        let live = live.with_table(self.alloc, &schema)?;
+        match self.make(disk, &batch) {
+            Ok(_) => {
+                self.live = live;
+                self.family = after;
+                self.catalog.replace(schema);
+                Ok(())
+            }
+            Err(fault) => Err(fault),
+        }
+    }
+
     /// Makes one write of these row changes. What is known without the disk stays, but for the number. After an Err the engine is spent.
     pub(crate) fn make<D: Disk>(&mut self, disk: &mut D, batch: &Batch) -> Result<u64, TableFault>
         requires ready { IsTrusted (D.state disk.old)
@@ -353,6 +412,50 @@ fn timing(alloc: Global, schema: &TableSchema, ttl: Option<&Text>) -> Result<Bat
     let mut batch = Batch::new(alloc);
     batch.add(RowChange::between(alloc, CATALOG, key, Some(&old), Some(&new))?)?;
     Ok(batch)
+}
+
+/// That of a table with another description: its row changes, and the next family.
+fn alteration(
+    alloc: Global,
+    before: u32,
+    after: u32,
+    old: &TableSchema,
+    schema: &TableSchema,
+) -> Result<Batch, NoMemory>
+    requires named { 0 < length old.now.name }
+    ensures changes { IfOk result (λ batch. batch
+        ≡ alter_changes before after old.now schema.now) }
+{
+    let was = row_of_schema(alloc, old)?;
+    let row = row_of_schema(alloc, schema)?;
+    let key = Bytes::new(alloc, old.name.as_str().as_bytes())?;
+    let before = row_of_family(alloc, before)?;
+    let after = row_of_family(alloc, after)?;
+    let mut batch = Batch::new(alloc);
+    batch.add(RowChange::between(alloc, CATALOG, key, Some(&was), Some(&row))?)?;
+    let next = Bytes::new(alloc, &[])?;
+    batch.add(RowChange::between(alloc, CATALOG, next, before.as_ref(), after.as_ref())?)?;
+    Ok(batch)
+}
+
+/// Whether a description has an index more than another.
+fn has_more(old: &TableSchema, schema: &TableSchema) -> bool
+    ensures { result ≡ has_more old.now schema.now }
+{
+    old.globals.as_slice().len() < schema.globals.as_slice().len()
+}
+
+/// Whether a table has a family.
+fn has_family(schema: &TableSchema, family: u32) -> bool
+    ensures { result ≡ list_any (λ f. f == family) (families_of schema.now) }
+{
+    let stream = match schema.stream_family {
+        Some(own) => own == family,
+        None => false,
+    };
+    schema.family == family
+        || (schema.locals.as_slice().iter().any(|i| i.family == family)
+            || (schema.globals.as_slice().iter().any(|i| i.family == family) || stream))
 }
 
 /// A copy of a name, where one is given.

@@ -1,5 +1,5 @@
 -- The changes of the rows of an index that is built of some items, where the items of a write stand at one place.
-use Rattle.std.proofs.Common.{◌≡◌, refl, sym, ap, ◌∙◌, ℕ, Bool, true, false, List, [], Option, Some, None}
+use Rattle.std.proofs.Common.{◌≡◌, refl, ap, ◌∙◌, ℕ, Bool, true, false, List, [], Option, Some, None}
 use Rattle.std.specs.Option.{option_map_or}
 use Rattle.std.specs.Prelude.{IfSome, if◌then◌else◌, option_and_then}
 use Rattle.alt_schema.specs.Bare.{is_whole}
@@ -8,7 +8,7 @@ use Rattle.alt_schema.specs.declared.schema.TableSchema.{TableSchema}
 use Rattle.alt_value.specs.Tree.{Pair}
 use Rattle.alt_machine.specs.Building.{is_reached, reaches}
 use Rattle.alt_machine.specs.Keys.{place_of}
-use Rattle.alt_views.specs.IndexRows.{KeyedRow, built_row, changes_in, moved_changes, moves_in, row_in_index}
+use Rattle.alt_views.specs.IndexRows.{built_row, changes_in, moved_changes, moves_in, row_in_index}
 
 module _ (d : TableSchema) (i : IndexSchema) (place : List ℕ) where
   -- an item, where it is there, is of that place

@@ -108,7 +108,7 @@ below_last x f [] h e is =
 below_last x f (g ∷ gs) h e is = below_last x g gs (second (is_lt (text_order x f.0)) _ h) e is
 
 -- the first of a list in order are in order
-sorted_taken : (n : ℕ) (es : Placed) → T (is_sorted text_order es)
+pub sorted_taken : (n : ℕ) (es : Placed) → T (is_sorted text_order es)
     → T (is_sorted text_order (take n es))
 sorted_taken zero es h = tt
 sorted_taken (suc n) [] h = tt
@@ -285,7 +285,7 @@ module _ (d : TableSchema) (b : Built) where
     abbrev more : Placed
     more = left_part d b items
 
-    in_order : T (is_sorted text_order more)
+    pub in_order : T (is_sorted text_order more)
     in_order = is_sorted-where_key text_order (λ q. not (reaches d b q)) (finite.entries items)
         (finite.entries_sorted items)
 

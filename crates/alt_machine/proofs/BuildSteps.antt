@@ -209,7 +209,7 @@ module _ (b : Built) where
 -- ---- the state
 
 -- each of a table's items is stored
-all_stored : (s : State) (name : List ℕ) (t : Table) → IsTable s name t
+pub all_stored : (s : State) (name : List ℕ) (t : Table) → IsTable s name t
     → All (λ e. IsStored t.description e.0 e.1) (finite.entries t.items)
 all_stored s name t is = All-from_recursion (λ e. IsStored t.description e.0 e.1)
     (finite.entries t.items) (each_entry (IsStored t.description) t.items is.items)

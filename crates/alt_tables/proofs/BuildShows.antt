@@ -55,7 +55,7 @@ module _ (d : TableSchema) (i : IndexSchema) where
   rows_of items key = option_map (index_columns d i) (finite.get (index_items d i items) key)
 
   -- where no two of more items have one key, no two of these have
-  apart_of : (items more : Texts (List Pair))
+  pub apart_of : (items more : Texts (List Pair))
       → ((q : List ℕ) (x : List Pair) → finite.get items q ≡ Some x → finite.get more q ≡ Some x)
       → AreApart (index_entry d i) more → AreApart (index_entry d i) items
   apart_of items more inside apart p q x y key v w at_p at_q entry_x entry_y =

@@ -3,6 +3,7 @@ pub mod AlterLaws
 pub mod Altered
 pub mod Batches
 pub mod Behind
+pub mod BuildLaws
 pub mod BuildShows
 pub mod ByKeys
 pub mod CatalogLaws

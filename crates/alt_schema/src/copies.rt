@@ -1,6 +1,7 @@
 //! Copies of descriptions and of what they hold.
 
-ghost use Rattle.std.specs.Prelude.{◌≡◌, IfOk};
+ghost use Rattle.std.specs.Prelude.{◌≡◌, IfOk, if◌then◌else◌, map, not};
+ghost use Rattle.alt_schema.specs.Bare.{is_whole};
 
 use crate::{Built, IndexList, IndexSchema, KeyAttr, KeyAttrList, Projection, TableSchema, TextList};
 use alt_base::NoMemory;
@@ -25,6 +26,38 @@ pub fn copied_schema(alloc: Global, s: &TableSchema) -> Result<TableSchema, NoMe
         family: s.family,
         ttl: copied_text(&s.ttl)?,
     })
+}
+
+/// The same with what is being built of it built so far. Fails for want of memory alone.
+pub fn built_copy(alloc: Global, s: &TableSchema, built: &Built) -> Result<TableSchema, NoMemory>
+    ensures built { IfOk result (λ e. e ≡ record s.now {
+        globals = map (λ i. if not (is_whole i.built) then record i { built = built.now } else i)
+        s.now.globals;
+    }) }
+{
+    let mut later = copied_schema(alloc, s)?;
+    later.globals = built_indexes(alloc, s.globals.as_slice(), built)?;
+    Ok(later)
+}
+
+fn built_indexes(
+    alloc: Global,
+    indexes: &[IndexSchema],
+    built: &Built,
+) -> Result<IndexList, NoMemory>
+    ensures { IfOk result (λ is. is
+        ≡ map (λ i. if not (is_whole i.built) then record i { built = built.now } else i)
+        indexes.now) }
+{
+    let mut list = IndexList::new(alloc);
+    for index in indexes {
+        let mut copy = copied_index(alloc, index)?;
+        if !index.built.is_whole() {
+            copy.built = copied_built(built)?;
+        }
+        list.push(copy)?;
+    }
+    Ok(list)
 }
 
 fn copied_keys(alloc: Global, keys: &[KeyAttr]) -> Result<KeyAttrList, NoMemory>

@@ -1,6 +1,7 @@
 //! The tables with their items over the engine: what the machine's state stands for on a disk.
 #![tactic(auto)]
 
+mod build;
 mod by_keys;
 mod changes;
 mod faults;

@@ -25,6 +25,7 @@ pub mod Named
 pub mod NextFamily
 pub mod NextRow
 pub mod OneColumn
+pub mod OneKey
 pub mod OneState
 pub mod OneStream
 pub mod Recovering

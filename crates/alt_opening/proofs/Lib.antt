@@ -25,6 +25,8 @@ pub mod Named
 pub mod NextFamily
 pub mod NextRow
 pub mod OneColumn
+pub mod OneDescription
+pub mod OneIndex
 pub mod OneKey
 pub mod OneState
 pub mod OneStream

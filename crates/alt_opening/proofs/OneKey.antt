@@ -22,8 +22,11 @@ use Rattle.alt_value.specs.Values.{AreFields, IsItemOfValues, IsValue}
 use Rattle.alt_value.specs.declared.kind.KeyKind.{KeyKind}
 use Rattle.alt_value.specs.declared.kind.KeyKind.TheVariants.{S, N, B}
 use Rattle.alt_value.proofs.Texts.{text_apart, text_total}
-use Rattle.alt_opening.proofs.OneState.{some}
 use Rattle.alt_opening.proofs.Ties.{tied}
+
+-- what is there is one
+some : {A : Type 0} (x y : A) → Some x ≡ Some y → x ≡ y
+some x y e = cc
 
 -- a value of a kind is one that a key can have
 of_kind : (kind : KeyKind) (t : Tree) → IsValue t → is_of_kind kind t ≡ true → IsOfKind kind t

@@ -1,6 +1,7 @@
 //! Copies of descriptions and of what they hold.
 
-ghost use Rattle.std.specs.Prelude.{◌≡◌, IfOk, if◌then◌else◌, map, not};
+ghost use Rattle.std.specs.List.{list_any};
+ghost use Rattle.std.specs.Prelude.{◌≡◌, IfOk, if◌then◌else◌, map, not, IfSome, IfNone, true, false, ◌==◌};
 ghost use Rattle.alt_schema.specs.Bare.{is_whole};
 
 use crate::{Built, IndexList, IndexSchema, KeyAttr, KeyAttrList, Projection, TableSchema, TextList};
@@ -58,6 +59,39 @@ fn built_indexes(
         list.push(copy)?;
     }
     Ok(list)
+}
+
+/// The description with its global index of a family built so far, none where no index has it. Fails for want of memory alone.
+pub fn with_built(
+    alloc: Global,
+    s: &TableSchema,
+    family: u32,
+    built: Built,
+) -> Result<Option<TableSchema>, NoMemory>
+    ensures built { IfOk result (λ o. IfSome o (λ e. e ≡ record s.now {
+        globals = map (λ i. if i.family == family then record i { built = built } else i)
+        s.now.globals;
+    })) }
+    ensures none { IfOk result (λ o. IfNone o
+        (list_any (λ i. i.family == family) s.now.globals ≡ false)) }
+{
+    let mut later = copied_schema(alloc, s)?;
+    let mut globals = IndexList::new(alloc);
+    let mut found = false;
+    for index in s.globals.as_slice() {
+        let mut copy = copied_index(alloc, index)?;
+        if index.family == family {
+            copy.built = copied_built(&built)?;
+            found = true;
+        }
+        globals.push(copy)?;
+    }
+    later.globals = globals;
+    if found {
+        Ok(Some(later))
+    } else {
+        Ok(None)
+    }
 }
 
 fn copied_keys(alloc: Global, keys: &[KeyAttr]) -> Result<KeyAttrList, NoMemory>

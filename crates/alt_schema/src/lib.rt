@@ -22,7 +22,7 @@ pub use altered::{fits_definitions, with_index, without_index};
 pub use bytes::format::schema_bytes;
 pub use bytes::holding::held;
 pub use bytes::parsing::schema_of_bytes;
-pub use copies::{built_copy, copied_schema};
+pub use copies::{built_copy, copied_schema, with_built};
 pub use described::{SchemaFault, schema_of_json};
 pub use json::{json_of_schema, label, stream_arn, view_word};
 pub use lists::{IndexList, KeyAttrList, TextList};

@@ -1,11 +1,11 @@
 -- The step in which an index is built further turns the rows of a state into those of the state with it.
-use Rattle.std.proofs.Common.{◌≡◌, ◌≢◌, ◌≤◌, ◌<◌, ◌+◌, ◌⊎◌, ℕ, zero, suc, Bool, true, false, cond, not, T, List, [], ◌∷◌, ◌++◌, length, map as each, take, Option, Some, None, refl, sym, ap, subst, ◌∙◌, inl, inr, slice_get, option_map, arith, All, AllPairs, Contains}
+use Rattle.std.proofs.Common.{◌≡◌, ◌≢◌, ◌≤◌, ◌<◌, ◌+◌, ◌⊎◌, ℕ, zero, suc, Bool, true, false, cond, not, T, List, [], ◌∷◌, ◌++◌, map as each, take, Option, Some, None, refl, sym, ap, subst, ◌∙◌, inl, inr, slice_get, option_map, arith, All, Contains}
 use Rattle.std.proofs.lemmas.Bool.{false≢true}
 use Rattle.std.proofs.lemmas.List.Elements.{All-cons, All-head, All-tail, All-nil, All-take}
 use Rattle.std.proofs.lemmas.Option.{slice_get-map}
 use Rattle.std.specs.Cmp.{tied_itself}
 use Rattle.std.specs.Prelude.{if◌then◌else◌}
-use Rattle.std.specs.List.{filter, find, list_all}
+use Rattle.std.specs.List.{filter}
 use Rattle.std.specs.Ordering.{eq_by_cmp, is_lt}
 use Rattle.std.specs.FinMap as map
 use Rattle.std.specs.FinMap.Entries.{below_all, is_sorted}
@@ -30,12 +30,10 @@ use Rattle.alt_machine.proofs.BuildSteps.{all_stored, with_built_valid}
 use Rattle.alt_machine.proofs.Building.{get-built_part}
 use Rattle.alt_machine.proofs.Entries.{first, second}
 use Rattle.alt_machine.proofs.Indexing.{index_apart}
-use Rattle.alt_machine.proofs.Inserted.{head_pairs, tail_pairs}
 use Rattle.alt_machine.proofs.Looks.{at_insert}
 use Rattle.alt_machine.proofs.Redescribed.{IsAlike, built_part-alike}
 use Rattle.alt_machine.proofs.Rekeying.{AreApart}
 use Rattle.alt_schema.specs.Bare.{is_whole}
-use Rattle.alt_schema.proofs.NewDescriptions.{left, right}
 use Rattle.alt_schema.specs.Held.{IsHeld}
 use Rattle.alt_schema.specs.Indexes.{indexes}
 use Rattle.alt_schema.specs.declared.schema.Built.{Built}
@@ -45,6 +43,7 @@ use Rattle.alt_value.specs.Members.{text_order}
 use Rattle.alt_value.specs.Tree.{Pair}
 use Rattle.alt_opening.specs.StateRows.{HasMoment, IsHeldWhole, Shows, catalog_family, index_rows}
 use Rattle.alt_opening.proofs.Families.{own_family}
+use Rattle.alt_opening.proofs.OneIndex.{at_each, behind_any, found_at, one_of_family, only_one}
 use Rattle.alt_opening.proofs.OneState.{some}
 use Rattle.alt_opening.proofs.Ties.{tied, itself}
 use Rattle.alt_tables.specs.RowChanges.{Turns, step_changes}
@@ -59,50 +58,7 @@ use Rattle.alt_tables.proofs.StreamTrims.{change_first}
 use Rattle.alt_tables.proofs.WriteLaws.{index_within}
 use Rattle.alt_views.specs.IndexRows.{index_columns, moves_in, row_in_index}
 
--- ---- one of a list
-
-module _ {A : Type 0} (p : A → Bool) where
-  -- the first that passes stands there
-  found_at : (xs : List A) (x : A) → find p xs ≡ Some x
-      → (n : ℕ) × (slice_get xs n ≡ Some x) × (p x ≡ true)
-  found_at [] x e = absurd (let no : ⊥ = cc in no)
-  found_at (y ∷ ys) x e = by (λ f. found_at ys x f) (p y) refl e
-    where
-      by : (find p ys ≡ Some x → (n : ℕ) × (slice_get ys n ≡ Some x) × (p x ≡ true)) → (b : Bool)
-          → p y ≡ b → cond b (Some y) (find p ys) ≡ Some x
-          → (n : ℕ) × (slice_get (y ∷ ys) n ≡ Some x) × (p x ≡ true)
-      by later true c f = (0, f, subst (λ z. p z ≡ true) (some y x f) c)
-      by later false c f = let (n, at, passes) = later f in (suc n, at, passes)
-
-  -- what passes is one of those that do
-  passes_counted : (xs : List A) (n : ℕ) (x : A) → slice_get xs n ≡ Some x → p x ≡ true
-      → 1 ≤ length (filter p xs)
-  passes_counted [] n x at e = absurd (let no : ⊥ = cc in no)
-  passes_counted (y ∷ ys) n x at e = by (λ k f. passes_counted ys k x f e) n at (p y) refl
-    where
-      by : ((k : ℕ) → slice_get ys k ≡ Some x → 1 ≤ length (filter p ys)) → (k : ℕ)
-          → slice_get (y ∷ ys) k ≡ Some x → (b : Bool) → p y ≡ b
-          → 1 ≤ length (cond b (y ∷ filter p ys) (filter p ys))
-      by later k f true c = omega arith
-      by later zero f false c = absurd (false≢true (sym c ∙ ap p (some y x f) ∙ e))
-      by later (suc k) f false c = later k f
-
-  -- where no two pass, what passes is the first that does
-  only_one : (xs : List A) → length (filter p xs) ≤ 1 → (x : A) → find p xs ≡ Some x → (n : ℕ)
-      (z : A) → slice_get xs n ≡ Some z → p z ≡ true → z ≡ x
-  only_one [] few x e n z at passes = absurd (let no : ⊥ = cc in no)
-  only_one (y ∷ ys) few x e n z at passes =
-      by (λ h f k g. only_one ys h x f k z g passes) n at (p y) refl few e
-    where
-      by : (length (filter p ys) ≤ 1 → find p ys ≡ Some x → (k : ℕ) → slice_get ys k ≡ Some z → z ≡ x)
-          → (k : ℕ) → slice_get (y ∷ ys) k ≡ Some z → (b : Bool) → p y ≡ b
-          → length (cond b (y ∷ filter p ys) (filter p ys)) ≤ 1
-          → cond b (Some y) (find p ys) ≡ Some x → z ≡ x
-      by later zero g true c h f = sym (some y z g) ∙ some y x f
-      by later (suc k) g true c h f =
-          absurd (omega (arith, h, passes_counted ys k z g passes))
-      by later zero g false c h f = absurd (false≢true (sym c ∙ ap p (some y z g) ∙ passes))
-      by later (suc k) g false c h f = later h f k g
+-- ---- indexes
 
 module _ {A : Type 0} (f : A → A) where
   -- what stands in two lists of which the second is changed was there before
@@ -128,51 +84,6 @@ module _ {A : Type 0} (f : A → A) where
           | inr changed ↦ inr changed
         ],
       )
-
--- what each of a list passes, the one at a place does
-at_each : {A : Type 0} (test : A → Bool) (xs : List A) (n : ℕ) (x : A) → list_all test xs ≡ true
-    → slice_get xs n ≡ Some x → test x ≡ true
-at_each test [] n x all e = absurd (let no : ⊥ = cc in no)
-at_each test (y ∷ ys) zero x all e = subst (λ z. test z ≡ true) (some y x e) (left (test y) _ all)
-at_each test (y ∷ ys) (suc n) x all e = at_each test ys n x (right (test y) _ all) e
-
--- what stands in a list stands in it behind another
-behind_any : {A : Type 0} (xs ys : List A) (n : ℕ) (x : A) → slice_get ys n ≡ Some x
-    → (m : ℕ) × (slice_get (xs ++ ys) m ≡ Some x)
-behind_any [] ys n x at = (n, at)
-behind_any (z ∷ zs) ys n x at = let (m, here) = behind_any zs ys n x at in (suc m, here)
-
--- ---- one index of a family
-
-abbrev family_in : IndexSchema → ℕ
-family_in i = i.family
-
--- what holds of each family holds of that at a place
-family_holds : (P : ℕ → Type 0) (is : List IndexSchema) (n : ℕ) (i : IndexSchema)
-    → All P (each family_in is) → slice_get is n ≡ Some i → P i.family
-family_holds P [] n i all at = absurd (let no : ⊥ = cc in no)
-family_holds P (x ∷ xs) zero i all at =
-    subst (λ (y : IndexSchema). P y.family) (some x i at) (All-head P x.family (each family_in xs) all)
-family_holds P (x ∷ xs) (suc n) i all at =
-    family_holds P xs n i (All-tail P x.family (each family_in xs) all) at
-
--- where no two indexes have one family, those that have one are one
-one_of_family : (is : List IndexSchema) → AllPairs (λ f g. f ≢ g) (each family_in is) → (n m : ℕ)
-    (x y : IndexSchema) → slice_get is n ≡ Some x → slice_get is m ≡ Some y → x.family ≡ y.family
-    → x ≡ y
-one_of_family [] apart n m x y at_x at_y same = absurd (let no : ⊥ = cc in no)
-one_of_family (z ∷ zs) apart zero zero x y at_x at_y same = sym (some z x at_x) ∙ some z y at_y
-one_of_family (z ∷ zs) apart zero (suc m) x y at_x at_y same =
-    absurd (family_holds (λ g. z.family ≢ g) zs m y
-    (head_pairs (λ f g. f ≢ g) z.family (each family_in zs) apart) at_y
-    (ap family_in (some z x at_x) ∙ same))
-one_of_family (z ∷ zs) apart (suc n) zero x y at_x at_y same =
-    absurd (family_holds (λ g. z.family ≢ g) zs n x
-    (head_pairs (λ f g. f ≢ g) z.family (each family_in zs) apart) at_x
-    (ap family_in (some z y at_y) ∙ sym same))
-one_of_family (z ∷ zs) apart (suc n) (suc m) x y at_x at_y same =
-    one_of_family zs (tail_pairs (λ f g. f ≢ g) z.family (each family_in zs) apart) n m x y at_x
-    at_y same
 
 -- ---- items that come
 

@@ -50,7 +50,7 @@ use Rattle.alt_opening.proofs.Maps.{same_texts}
 use Rattle.alt_opening.proofs.OneState.{some, nameless}
 use Rattle.alt_value.specs.Members.{text_order}
 use Rattle.alt_value.specs.Tree.{Pair}
-use Rattle.alt_opening.proofs.TableRow.{get-described_row}
+use Rattle.alt_opening.proofs.TableRow.{get-table_row}
 use Rattle.alt_tables.proofs.IndexFamilies.{index_family}
 use Rattle.alt_tables.proofs.StreamShows.{stream_family}
 use Rattle.alt_tables.proofs.WriteLaws.{family_within, index_within, stream_within}
@@ -64,7 +64,7 @@ one_can_show name value = can_show (one_column name value) name value
 -- so can that of a table
 pub table_can_show : (d : TableSchema) → CanShow (Some (table_row d))
 table_can_show d = can_show (table_row d) (codes "t") (description_bytes d)
-    (get-described_row d.ttl (description_bytes d))
+    (get-table_row d)
 
 -- and so can that of the next family
 next_can_show : (family : ℕ) → CanShow (next_row family)

@@ -1,10 +1,12 @@
 -- What is read of the catalog while a store is opened.
-use Rattle.std.specs.Prelude.{◌≡◌, ◌≢◌, ◌<◌, ◌≤◌, ◌==◌, ◌&&◌, ℕ, Bool, true, not, nat_lt, nat_le, List, [], ◌∷◌, Option, Some, None, All, AllPairs, Contains, if◌then◌else◌, length, slice_index_or}
+use Rattle.std.specs.FinMap.Entries.{below_all}
+use Rattle.std.specs.Prelude.{◌≡◌, ◌≢◌, ◌<◌, ◌≤◌, ◌==◌, ◌&&◌, ℕ, Bool, true, not, nat_lt, nat_le, List, [], ◌∷◌, Option, Some, None, All, AllPairs, Contains, if◌then◌else◌, length, slice_index_or, T}
 use Rattle.std.specs.List.{list_all, list_any}
 use Rattle.std.specs.Option.{option_map_or}
 use Rattle.std.specs.Str.{bytes_eq}
 use Rattle.std.specs.FinMap as map
 use Rattle.alt_cells.specs.Changes.{Columns}
+use Rattle.alt_cells.specs.Keys.{key_cmp}
 use Rattle.alt_layout.specs.Layout.{Layout, shown}
 use Rattle.alt_machine.specs.declared.TheConstants.{FAMILIES_END, MOST_TABLES}
 use Rattle.alt_machine.specs.State.{State, Texts, descriptions, families_of}
@@ -62,6 +64,10 @@ pub record IsGood (next_number next : ℕ) (name : List ℕ) (d : TableSchema) :
   pub number : (1 ≤ d.number) × (d.number < next_number)
   pub families : All (λ f. (1 ≤ f) × (f < next)) (families_of d)
   pub differ : AllPairs (λ f g. f ≢ g) (families_of d)
+
+-- a name stands before those of all these cells
+abbrev pub AllBelow : List ℕ → List (List ℕ × List ℕ) → Type 0
+AllBelow name cells = T (below_all key_cmp name cells)
 
 -- the tests of it, beside those of its bytes
 abbrev pub passes : ℕ → ℕ → List ℕ → TableSchema → Bool

@@ -5,7 +5,7 @@ use Rattle.alt_fields.specs.declared.bytes.BytesFault.{BytesFault}
 use Rattle.alt_schema.specs.Held.{IsHeldText, IsReadAs, Where}
 use Rattle.alt_schema.specs.Format.{description_bytes}
 use Rattle.alt_opening.proofs.TableRow.{row_timed, timed_is, timed_whole, told_alike}
-use Rattle.alt_opening.proofs.catalog_row.schema_of_row.Goals as goal
+use Rattle.alt_opening.proofs.catalog_row.plain_schema.Goals as goal
 
 pub returns-in-Ok-clause-schema : goal.returns-in-Ok-clause-schema
 returns-in-Ok-clause-schema c = (

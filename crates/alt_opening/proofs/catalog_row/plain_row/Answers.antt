@@ -2,7 +2,7 @@
 use Rattle.std.proofs.Common.{◌∙◌, ◌++◌, ap, refl, Some, option_map, Result, Ok, Err, IfOk}
 use Rattle.alt_schema.specs.Format.{description_bytes}
 use Rattle.alt_opening.proofs.TableRow.{one_described, row_timed}
-use Rattle.alt_opening.proofs.catalog_row.row_with_time.Goals as goal
+use Rattle.alt_opening.proofs.catalog_row.plain_row.Goals as goal
 
 -- what holds of a value by what held of it
 if_ok : {A E : Type 0} (P Q : A → Type 0) (r : Result A E) → ((x : A) → P x → Q x) → IfOk r P

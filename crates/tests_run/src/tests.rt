@@ -1,3 +1,4 @@
+mod backfill;
 mod chains;
 mod damage;
 mod expiry;

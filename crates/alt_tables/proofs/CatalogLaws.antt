@@ -67,7 +67,7 @@ table_can_show d = can_show (table_row d) (codes "t") (description_bytes d)
     (get-table_row d)
 
 -- and so can that of the next family
-next_can_show : (family : ℕ) → CanShow (next_row family)
+pub next_can_show : (family : ℕ) → CanShow (next_row family)
 next_can_show family = by_test (family == 1)
   where
     by_test : (b : Bool) → CanShow (if b then None else Some
@@ -76,7 +76,7 @@ next_can_show family = by_test (family == 1)
     by_test false = one_can_show (codes "next") (to_be_bytes w32 family)
 
 -- an index of no items has none
-none_rekeyed : {X Y : Type 0} (g : X → Option (List ℕ × Y)) (key : List ℕ)
+pub none_rekeyed : {X Y : Type 0} (g : X → Option (List ℕ × Y)) (key : List ℕ)
     → map.get (rekeyed g map.empty) key ≡ None
 none_rekeyed {Y = Y} g key = by (map.get (rekeyed g map.empty) key) refl
   where
@@ -87,7 +87,7 @@ none_rekeyed {Y = Y} g key = by (map.get (rekeyed g map.empty) key) refl
         let no : None ≡ Some x = sym (map.get-empty key_cmp place) ∙ here in cc no
 
 -- no items
-abbrev no_items : Texts (List Pair)
+abbrev pub no_items : Texts (List Pair)
 no_items = map.empty
 
 -- of them an index is built of none

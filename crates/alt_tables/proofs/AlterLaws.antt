@@ -189,10 +189,10 @@ module _ (s : State) (name : List ℕ) (t : Table) (at : map.get s.tables name �
   -- The write turns the state into that one.
   turns_alike : IsHeldWhole s → IsHeld e → IsValid (with_description s name t e next)
       → Turns batch s (with_description s name t e next)
-  turns_alike held held_e then = record {
+  turns_alike held held_e is_valid = record {
     shows = λ distinct l past shows. alter_shows l shows
         (shows_batch l (batch_write l batch) distinct past (omega arith));
-    valid = then;
+    valid = is_valid;
     held = record {
       items = record {
         items = λ other q x item at_x here.
@@ -287,10 +287,10 @@ module _ (s : State) (name : List ℕ) (t : Table) (at : map.get s.tables name �
         ]))
 
     turns_more : Comes with_one
-    turns_more held_x then = turns_alike s name t at valid with_one
+    turns_more held_x is_valid = turns_alike s name t at valid with_one
         (family_left s.next_family d with_one) (omega (arith, counted))
         (alike_added d more s.next_family index) refl (λ i. refl) (λ i m. refl) each held held_x
-        then
+        is_valid
 
   -- ---- with one less
 
@@ -321,9 +321,9 @@ module _ (s : State) (name : List ℕ) (t : Table) (at : map.get s.tables name �
         (differ_removed d gone is_table.differ) (λ g here. inl (own_removed d gone g here)))
 
     turns_less : Comes without
-    turns_less held_x then = turns_alike s name t at valid without
+    turns_less held_x is_valid = turns_alike s name t at valid without
         (family_left s.next_family d without) (omega (arith, left)) (alike_removed d gone) refl
-        (λ i. refl) (λ i m. refl) was held held_x then
+        (λ i. refl) (λ i m. refl) was held held_x is_valid
 
   -- ---- with either
 

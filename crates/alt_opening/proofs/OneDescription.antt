@@ -48,6 +48,16 @@ none_passes p (x ∷ xs) e = by (p x) refl e
     by false c f = ap (λ b. cond (not b) (list_all (λ y. not (p y)) xs) false) c
         ∙ none_passes p xs f
 
+-- the first of a list, or another
+abbrev first_of : IndexSchema → List IndexSchema → IndexSchema
+first_of i [] = i
+first_of i (z ∷ zs) = z
+
+-- what is behind it
+abbrev behind_first : List IndexSchema → List IndexSchema
+behind_first [] = []
+behind_first (z ∷ zs) = zs
+
 -- two lists that are one as if whole are one, where each of one and that of the other at its place are
 lists_one : (xs ys : List IndexSchema) → each as_whole xs ≡ each as_whole ys
     → ((n : ℕ) (x y : IndexSchema) → slice_get xs n ≡ Some x → slice_get ys n ≡ Some y
@@ -56,16 +66,8 @@ lists_one [] [] same one = refl
 lists_one [] (y ∷ ys) same one = absurd (omega (arith, ap length same))
 lists_one (x ∷ xs) [] same one = absurd (omega (arith, ap length same))
 lists_one (x ∷ xs) (y ∷ ys) same one = λ j.
-    one 0 x y refl refl (ap (first (as_whole x)) same) j
-    ∷ lists_one xs ys (ap rest same) (λ n v w at_v at_w. one (suc n) v w at_v at_w) j
-  where
-    first : IndexSchema → List IndexSchema → IndexSchema
-    first i [] = i
-    first i (z ∷ zs) = z
-
-    rest : List IndexSchema → List IndexSchema
-    rest [] = []
-    rest (z ∷ zs) = zs
+    one 0 x y refl refl (ap (first_of (as_whole x)) same) j
+    ∷ lists_one xs ys (ap behind_first same) (λ n v w at_v at_w. one (suc n) v w at_v at_w) j
 
 -- ---- what a cell tells
 

@@ -60,7 +60,7 @@ has_part key a t fields e = by (at_name a.name key) refl e
         test false is g = absurd (let no : ⊥ = cc in no)
 
 -- what is beside the HASH value, where the table has a RANGE key
-HasBeside : List Pair → Option KeyAttr → Option Tree → Type 0
+abbrev HasBeside : List Pair → Option KeyAttr → Option Tree → Type 0
 HasBeside key None r = r ≡ None
 HasBeside key (Some a) r = (t : Tree) × (r ≡ Some t) × HasPart key a t
 

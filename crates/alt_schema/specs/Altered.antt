@@ -1,12 +1,14 @@
 -- The description of a table to which a global index is added, or from which one is taken: what it is, and what it is refused for
 -- (DynamoDB API Reference, "UpdateTable"; docs/API.md).
-use Rattle.std.specs.Prelude.{ℕ, ◌&&◌, Bool, not, map, codes, List, [], ◌∷◌, ◌++◌, Option, Some, None}
+use Rattle.std.specs.Prelude.{ℕ, ◌&&◌, Bool, not, map, codes, List, [], ◌∷◌, ◌++◌, Option, Some, None, if◌then◌else◌}
 use Rattle.std.specs.List.{filter, list_all, list_any}
 use Rattle.std.specs.Option.{option_map_or}
 use Rattle.std.specs.Str.{bytes_eq}
 use Rattle.alt_schema.specs.Described.{index_for, same_kind}
 use Rattle.alt_schema.specs.Indexes.{is_named, is_used}
 use Rattle.alt_schema.specs.Rules.{all_differ, indexes_fit, is_defined, keys_fit_together}
+use Rattle.alt_schema.specs.declared.described.SchemaFault.{SchemaFault}
+use Rattle.alt_schema.specs.declared.described.SchemaFault.TheVariants.{Refused, NoMemory}
 use Rattle.alt_schema.specs.declared.schema.Built.TheVariants.{UpTo}
 use Rattle.alt_schema.specs.declared.schema.IndexSchema.{IndexSchema}
 use Rattle.alt_schema.specs.declared.schema.KeyAttr.{KeyAttr}
@@ -16,6 +18,8 @@ use Rattle.alt_schema.specs.declared.schema.TableSchema.{TableSchema}
 use Rattle.alt_schema.specs.declared.stated.Element.{Element}
 use Rattle.alt_schema.specs.declared.stated.Stated.{Stated}
 use Rattle.alt_schema.specs.declared.stated.StatedIndex.{StatedIndex}
+use Rattle.alt_shape.specs.Refusals.{bad_key_schema, bad_index}
+use Rattle.alt_shape.specs.declared.refusal.Refusal.{Refusal}
 
 -- ---- an index more
 
@@ -110,3 +114,22 @@ indexes_fit_with d more i = indexes_fit (stated_with d more i)
 -- no global index has that name
 abbrev pub is_none_of : TableSchema → List ℕ → Bool
 is_none_of d name = not (list_any (is_named name) d.globals)
+
+-- ---- why it is refused
+
+-- keys and definitions with an index more, then the index beside the others
+abbrev pub refused_with : TableSchema → List KeyAttr → ℕ → StatedIndex → Option Refusal
+refused_with d more family i =
+    if not (definitions_fit d (with_index d more family i) more && keys_fit_with d more i)
+    then Some bad_key_schema
+    else (if not (indexes_fit_with d more i) then Some bad_index else None)
+
+-- definitions, with an index less
+abbrev pub refused_without : TableSchema → List KeyAttr → List ℕ → Option Refusal
+refused_without d more name =
+    if not (definitions_fit d (without_index d name) more) then Some bad_key_schema else None
+
+-- a fault is that refusal, or memory was refused
+abbrev pub IsFaultOf : Option Refusal → SchemaFault → Type 0
+IsFaultOf refused (Refused r) = refused ≡ Some r
+IsFaultOf refused NoMemory = Unit {0}

@@ -1,9 +1,14 @@
 //! The description of a table to which a global index is added, or from which one is taken (API Reference, "UpdateTable").
 
-ghost use Rattle.std.specs.Prelude.{◌≡◌, ◌++◌, ◌∷◌, [], true, map, Ok, Err, IfOk, OnOk, OnErr};
+ghost use Rattle.std.specs.List.{filter};
+ghost use Rattle.std.specs.Prelude.{◌≡◌, ◌++◌, map, Ok, Err, IfOk, OnOk, None, IfErr, not, List};
 ghost use Rattle.serde_json.specs.View.{members_view};
-ghost use Rattle.alt_schema.specs.Altered.{definitions_fit, definitions_with, elements_of, index_added, indexes_fit_with, keys_fit_with, stated_index, stated_with, with_index, without_index, without_named, word_of, names_of};
+ghost use Rattle.alt_schema.specs.Altered.{definitions_fit, definitions_with, elements_of, stated_index, stated_with, with_index, without_index, word_of, names_of, IsFaultOf, refused_with, refused_without};
+ghost use Rattle.alt_schema.specs.Described.{IsKnownFault};
+ghost use Rattle.alt_schema.specs.Indexes.{is_named, is_used};
+ghost use Rattle.alt_schema.specs.Rules.{is_defined};
 ghost use Rattle.alt_schema.specs.Stated.{definitions_of, index_in};
+ghost use Rattle.alt_schema.specs.declared.schema.KeyAttr.{KeyAttr};
 
 use crate::copies::{copied_index, copied_key, copied_range, copied_schema, copied_texts};
 use crate::described::{SchemaFault, index_for};
@@ -27,9 +32,16 @@ pub fn with_index(
     create: &Map<String, Value>,
     family: u32,
 ) -> Result<TableSchema, SchemaFault>
+    ensures taken { OnOk result (refused_with s.now
+        (definitions_of (members_view body.now.entries)) family
+        (index_in (members_view create.now.entries)) ≡ None) }
     ensures described { IfOk result (λ e. e ≡ with_index s.now
         (definitions_of (members_view body.now.entries)) family
         (index_in (members_view create.now.entries))) }
+    ensures cause { IfErr result (IsFaultOf (refused_with s.now
+        (definitions_of (members_view body.now.entries)) family
+        (index_in (members_view create.now.entries)))) }
+    ensures known { IfErr result IsKnownFault }
 {
     let more = definitions_of(alloc, body)?;
     let index = index_in(alloc, create)?;
@@ -55,7 +67,12 @@ pub fn without_index(
     body: &Map<String, Value>,
     name: &str,
 ) -> Result<TableSchema, SchemaFault>
+    ensures taken { OnOk result (refused_without s.now
+        (definitions_of (members_view body.now.entries)) name.now ≡ None) }
     ensures described { IfOk result (λ e. e ≡ without_index s.now name.now) }
+    ensures cause { IfErr result (IsFaultOf (refused_without s.now
+        (definitions_of (members_view body.now.entries)) name.now)) }
+    ensures known { IfErr result IsKnownFault }
 {
     let more = definitions_of(alloc, body)?;
     let later = later_without(alloc, s, name)?;
@@ -103,6 +120,8 @@ fn add_definitions(
     more: &[KeyAttr],
     those: &[KeyAttr],
 ) -> Result<(), NoMemory>
+    ensures added { OnOk result (list.new
+        ≡ list.old ++ filter (λ a. not (is_defined those.now a.name)) more.now) }
 {
     for definition in more {
         if !is_defined(those, definition.name.as_str()) {
@@ -112,7 +131,9 @@ fn add_definitions(
     Ok(())
 }
 
-fn is_defined(definitions: &[KeyAttr], name: &str) -> bool {
+fn is_defined(definitions: &[KeyAttr], name: &str) -> bool
+    ensures { result ≡ is_defined definitions.now name.now }
+{
     definitions.iter().any(|definition| definition.name.as_str() == name)
 }
 
@@ -123,6 +144,8 @@ fn stated_with(
     definitions: &[KeyAttr],
     index: StatedIndex,
 ) -> Result<Stated, NoMemory>
+    ensures stated { (more : List KeyAttr) → definitions.now ≡ definitions_with s.now more
+        → IfOk result (λ b. b ≡ stated_with s.now more index) }
 {
     let mut kept = KeyAttrList::new(alloc);
     for definition in definitions {
@@ -221,7 +244,9 @@ fn later_without(alloc: Global, s: &TableSchema, name: &str) -> Result<TableSche
 }
 
 /// The indexes of other names.
-fn others(alloc: Global, indexes: &[IndexSchema], name: &str) -> Result<IndexList, NoMemory> {
+fn others(alloc: Global, indexes: &[IndexSchema], name: &str) -> Result<IndexList, NoMemory>
+    ensures { IfOk result (λ is. is ≡ filter (λ i. not (is_named name.now i)) indexes.now) }
+{
     let mut list = IndexList::new(alloc);
     for index in indexes {
         if index.name.as_str() != name {
@@ -232,7 +257,9 @@ fn others(alloc: Global, indexes: &[IndexSchema], name: &str) -> Result<IndexLis
 }
 
 /// The definitions that a key uses.
-fn used_definitions(alloc: Global, s: &TableSchema) -> Result<KeyAttrList, NoMemory> {
+fn used_definitions(alloc: Global, s: &TableSchema) -> Result<KeyAttrList, NoMemory>
+    ensures { IfOk result (λ ds. ds ≡ filter (λ a. is_used s.now a.name) s.now.definitions) }
+{
     let mut list = KeyAttrList::new(alloc);
     for definition in s.definitions.as_slice() {
         if crate::used::is_used(s, definition.name.as_str()) {

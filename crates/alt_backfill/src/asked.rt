@@ -1,9 +1,10 @@
 //! What an UpdateTable asks of its table, where nothing refuses it.
 
-ghost use Rattle.std.specs.Prelude.{◌≡◌, true};
+ghost use Rattle.std.specs.Prelude.{◌≡◌, true, None, Some, codes, is_some, ℕ};
 ghost use Rattle.serde_json.specs.View.{members_view};
-ghost use Rattle.alt_backfill.specs.private.Asked.{IsAsked};
-ghost use Rattle.alt_machine.specs.Ops.UpdateTable.{is_none_of, of_body};
+ghost use Rattle.alt_backfill.specs.private.Asked.{IsAsked, IsAskedOf, IsTold, first_asked};
+ghost use Rattle.alt_machine.specs.Building.{building_in};
+ghost use Rattle.alt_machine.specs.Ops.UpdateTable.{is_none_of, of_body, are_single};
 ghost use Rattle.alt_request.specs.Steps.{Tested};
 
 use crate::changes::{are_single, first_asked, names_fit};
@@ -68,6 +69,10 @@ fn coming(
     create: &Map<String, Value>,
     family: u32,
 ) -> Result<Asked, Stop>
+    requires single { are_single (members_view body.now.entries) ≡ true }
+    requires first { first_asked (codes "Create") (members_view body.now.entries)
+        ≡ Some (members_view create.now.entries) }
+    ensures asked { IsAskedOf schema.now (members_view body.now.entries) family result }
 {
     let later = told(with_index(alloc, schema, body, create, family))?;
     if is_building(schema) {
@@ -86,6 +91,12 @@ fn going(
     body: &Map<String, Value>,
     gone: &Map<String, Value>,
 ) -> Result<Asked, Stop>
+    requires single { are_single (members_view body.now.entries) ≡ true }
+    requires none { first_asked (codes "Create") (members_view body.now.entries) ≡ None }
+    requires first { first_asked (codes "Delete") (members_view body.now.entries)
+        ≡ Some (members_view gone.now.entries) }
+    ensures asked { (family : ℕ) → IsAskedOf schema.now (members_view body.now.entries) family
+        result }
 {
     let name = text_at(gone, "IndexName").unwrap_or("");
     if is_none_of(schema, name) {
@@ -104,6 +115,11 @@ fn as_it_is(
     schema: &TableSchema,
     body: &Map<String, Value>,
 ) -> Result<Asked, Stop>
+    requires single { are_single (members_view body.now.entries) ≡ true }
+    requires no_create { first_asked (codes "Create") (members_view body.now.entries) ≡ None }
+    requires no_delete { first_asked (codes "Delete") (members_view body.now.entries) ≡ None }
+    ensures asked { (family : ℕ) → IsAskedOf schema.now (members_view body.now.entries) family
+        result }
 {
     let Ok(fits) = fits_definitions(alloc, schema, body) else {
         return Err(Stop::Fault(TableFault::NoMemory));
@@ -121,6 +137,7 @@ fn as_it_is(
 }
 
 fn told(schema: Result<TableSchema, SchemaFault>) -> Result<TableSchema, Stop>
+    ensures told { IsTold schema result }
 {
     match schema {
         Ok(schema) => Ok(schema),

@@ -94,14 +94,14 @@ module _ (d e : TableSchema) (hash : e.hash ≡ d.hash) (range : e.range ≡ d.r
   built_one : (a b : Built) → is_whole a ≡ false → is_whole b ≡ false → is_built_to d a ≡ true
       → is_built_to e b ≡ true → IsHeldBuilt a → IsHeldBuilt b → built_bytes d a ≡ built_bytes e b
       → a ≡ b
-  built_one Whole b no also to_a to_b held_a held_b same = absurd (let f : ⊥ = cc in f)
-  built_one (UpTo x) Whole no also to_a to_b held_a held_b same = absurd (let f : ⊥ = cc in f)
-  built_one (UpTo None) (UpTo None) no also to_a to_b held_a held_b same = refl
-  built_one (UpTo None) (UpTo (Some l)) no also to_a to_b held_a held_b same =
+  built_one Whole b not_a not_b to_a to_b held_a held_b same = absurd (let f : ⊥ = cc in f)
+  built_one (UpTo x) Whole not_a not_b to_a to_b held_a held_b same = absurd (let f : ⊥ = cc in f)
+  built_one (UpTo None) (UpTo None) not_a not_b to_a to_b held_a held_b same = refl
+  built_one (UpTo None) (UpTo (Some l)) not_a not_b to_a to_b held_a held_b same =
       absurd (let f : ⊥ = cc in f)
-  built_one (UpTo (Some k)) (UpTo None) no also to_a to_b held_a held_b same =
+  built_one (UpTo (Some k)) (UpTo None) not_a not_b to_a to_b held_a held_b same =
       absurd (let f : ⊥ = cc in f)
-  built_one (UpTo (Some k)) (UpTo (Some l)) no also to_a to_b held_a held_b same =
+  built_one (UpTo (Some k)) (UpTo (Some l)) not_a not_b to_a to_b held_a held_b same =
       let place : unwrap_or (built_place d k) [] ≡ unwrap_or (built_place e l) [] = ap (drop 1) same in
       ap (λ key. UpTo (Some key)) (one_key d k l (unwrap_or (built_place d k) []) held_a held_b
       (place_there (built_place d k) to_a)
@@ -149,7 +149,7 @@ module _ (d e : TableSchema) (is_d : IsDescription d) (held_d : IsHeld d) (built
       (description_bytes e) same
 
   told : bare d ≡ bare e
-  told = one_spelling d e is_d held_d is_e held_e cells.1.1
+  told = one_spelling d e is_d held_d is_e held_e cells.2
 
   locals : d.locals ≡ e.locals
   locals = sym (map-as_whole d.locals (all_whole d.locals built_d.locals))
@@ -196,7 +196,7 @@ module _ (d e : TableSchema) (is_d : IsDescription d) (held_d : IsHeld d) (built
 
   -- one that isn't being built is as if whole
   as_it_is : (x : IndexSchema) → is_building x ≡ false → as_whole x ≡ x
-  as_it_is x no = by x.built refl no
+  as_it_is x isnt = by x.built refl isnt
     where
       by : (b : Built) → x.built ≡ b → not (is_whole b) ≡ false → as_whole x ≡ x
       by Whole is f = λ j. record x { built = sym is j }
@@ -229,19 +229,19 @@ module _ (d e : TableSchema) (is_d : IsDescription d) (held_d : IsHeld d) (built
         ++ built_bytes e x.built)) in_e)
 
     is_held_i : IsHeldIndex i
-    is_held_i = at_rec IsHeldIndex d.globals at_d.0 i held_d.globals.1 at_d.1.0
+    is_held_i = at_rec IsHeldIndex d.globals at_d.0 i held_d.globals.1 at_d.1
 
     is_held_j : IsHeldIndex j
-    is_held_j = at_rec IsHeldIndex e.globals at_e.0 j held_e.globals.1 at_e.1.0
+    is_held_j = at_rec IsHeldIndex e.globals at_e.0 j held_e.globals.1 at_e.1
 
     one_family : i.family ≡ j.family
     one_family = cell_family i.family j.family _ _ is_held_i.family is_held_j.family bytes
 
     one_built : i.built ≡ j.built
-    one_built = built_one d e hash range same_place i.built j.built (not_whole i at_d.1.1)
-        (not_whole j at_e.1.1)
-        (at_each (λ (x : IndexSchema). is_built_to d x.built) d.globals at_d.0 i built_d.keys at_d.1.0)
-        (at_each (λ (x : IndexSchema). is_built_to e x.built) e.globals at_e.0 j built_e.keys at_e.1.0)
+    one_built = built_one d e hash range same_place i.built j.built (not_whole i at_d.2)
+        (not_whole j at_e.2)
+        (at_each (λ (x : IndexSchema). is_built_to d x.built) d.globals at_d.0 i built_d.keys at_d.1)
+        (at_each (λ (x : IndexSchema). is_built_to e x.built) e.globals at_e.0 j built_e.keys at_e.1)
         is_held_i.built is_held_j.built
         (cell_behind i.family j.family (built_bytes d i.built) (built_bytes e j.built) bytes)
 
@@ -258,14 +258,14 @@ module _ (d e : TableSchema) (is_d : IsDescription d) (held_d : IsHeld d) (built
         λ k. record (alike k) { built = up_to k }
     one_at n x y at_x at_y alike true false is_x is_y =
         let own_x : x ≡ i = only_one is_building d.globals built_d.one i in_d n x at_x is_x in
-        let own_y : y ≡ j = one_in_e n at_e.0 y j at_y at_e.1.0 (sym (ap family_in alike)
+        let own_y : y ≡ j = one_in_e n at_e.0 y j at_y at_e.1 (sym (ap family_in alike)
         ∙ ap family_in own_x ∙ one_family) in
-        absurd (false≢true (sym is_y ∙ ap is_building own_y ∙ at_e.1.1))
+        absurd (false≢true (sym is_y ∙ ap is_building own_y ∙ at_e.2))
     one_at n x y at_x at_y alike false true is_x is_y =
         let own_y : y ≡ j = only_one is_building e.globals built_e.one j in_e n y at_y is_y in
-        let own_x : x ≡ i = one_in_d n at_d.0 x i at_x at_d.1.0 (ap family_in alike
+        let own_x : x ≡ i = one_in_d n at_d.0 x i at_x at_d.1 (ap family_in alike
         ∙ ap family_in own_y ∙ sym one_family) in
-        absurd (false≢true (sym is_x ∙ ap is_building own_x ∙ at_d.1.1))
+        absurd (false≢true (sym is_x ∙ ap is_building own_x ∙ at_d.2))
 
   none_built : (x : IndexSchema) (n : ℕ) (xs : List IndexSchema) → find is_building xs ≡ None
       → slice_get xs n ≡ Some x → is_building x ≡ false
@@ -307,4 +307,4 @@ module _ (d e : TableSchema) (is_d : IsDescription d) (held_d : IsHeld d) (built
   -- Descriptions whose rows are one are one, where no two families of a table are one.
   pub one_table_row : d ≡ e
   one_table_row =
-      λ k. record (told k) { ttl = cells.1.0 k; locals = locals k; globals = globals k }
+      λ k. record (told k) { ttl = cells.1 k; locals = locals k; globals = globals k }

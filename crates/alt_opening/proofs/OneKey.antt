@@ -1,5 +1,5 @@
 -- The place of a key of a table tells the key.
-use Rattle.std.proofs.Common.{◌≡◌, refl, sym, ap, subst, ◌∙◌, ℕ, Bool, true, false, cond, List, [], ◌∷◌, Option, Some, None, option_map}
+use Rattle.std.proofs.Common.{◌≡◌, refl, sym, ap, subst, ◌∙◌, ℕ, Bool, true, false, cond, List, [], ◌∷◌, Option, Some, None, option_map, arith}
 use Rattle.std.specs.Prelude.{◌&&◌, if◌then◌else◌, option_and_then}
 use Rattle.std.specs.FinMap.Entries.{same_entries}
 use Rattle.std.specs.List.{list_all}
@@ -124,14 +124,14 @@ key_for : (key : List Pair) (h : KeyAttr) (r : Option KeyAttr) (hash : Tree) (ra
 key_for key h None hash range part beside =
     subst (IsKeyFor h.kind None hash) (sym beside) part.kind
 key_for key h (Some a) hash range part beside =
-    subst (IsKeyFor h.kind (Some a.kind) hash) (sym beside.1.0) (part.kind, beside.1.1.kind)
+    subst (IsKeyFor h.kind (Some a.kind) hash) (sym beside.1) (part.kind, beside.2.kind)
 
 -- a name that is none of a key has no value there
 absent : (test : List ℕ → Bool) (key : List Pair) (name : List ℕ)
     → list_all (λ (p : Pair). test p.0) key ≡ true → test name ≡ false → at_name name key ≡ None
-absent test [] name all no = refl
-absent test (p ∷ ps) name all no = by (eq_by_cmp text_order name p.0) refl
-    (absent test ps name (right (test p.0) _ all) no)
+absent test [] name all fails = refl
+absent test (p ∷ ps) name all fails = by (eq_by_cmp text_order name p.0) refl
+    (absent test ps name (right (test p.0) _ all) fails)
   where
     left : (a b : Bool) → (a && b) ≡ true → a ≡ true
     left true b h = refl
@@ -147,7 +147,7 @@ absent test (p ∷ ps) name all no = by (eq_by_cmp text_order name p.0) refl
     by : (b : Bool) → eq_by_cmp text_order name p.0 ≡ b → at_name name ps ≡ None
         → cond b (Some p.1) (at_name name ps) ≡ None
     by true same rest = absurd (apart (sym (left (test p.0) _ all)
-        ∙ ap test (sym (tied name p.0 same)) ∙ no))
+        ∙ ap test (sym (tied name p.0 same)) ∙ fails))
     by false other rest = rest
 
 -- Two keys of a table that have one place are one.
@@ -181,7 +181,7 @@ one_key d k l place held_k held_l at_k at_l = same_entries text_order text_total
     at_range (Some r) x y same in_k in_l a is =
         let own : r ≡ a = some r a is in
         subst (λ (c : KeyAttr). at_name c.name k ≡ at_name c.name l) own
-        (in_k.1.1.at ∙ (sym in_k.1.0 ∙ same ∙ in_l.1.0) ∙ sym in_l.1.1.at)
+        (in_k.2.at ∙ (sym in_k.1 ∙ same ∙ in_l.1) ∙ sym in_l.2.at)
 
     -- at each name of a key, and at no other is anything
     named : (q : List ℕ) (o : Option KeyAttr) → d.range ≡ o → (b : Bool)

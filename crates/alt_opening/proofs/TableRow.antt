@@ -1,5 +1,5 @@
 -- The row of a table tells its description.
-use Rattle.std.proofs.Common.{◌≡◌, ◌≢◌, refl, sym, ap, subst, ◌∙◌, ℕ, true, List, [], ◌∷◌, ◌++◌, length, get_or, Option, Some, None, arith, cond}
+use Rattle.std.proofs.Common.{◌≡◌, ◌≢◌, refl, sym, ap, subst, ◌∙◌, ℕ, true, List, [], ◌∷◌, ◌++◌, length, get_or, Option, Some, None, arith, cond, false}
 use Rattle.std.specs.List.{list_all}
 use Rattle.std.specs.Prelude.{T, codes}
 use Rattle.std.specs.FinMap.{entries, entries-from_sorted, same_entries_map}

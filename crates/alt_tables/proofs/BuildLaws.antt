@@ -186,7 +186,7 @@ module _ (s : State) (valid : IsValid s) (held : IsHeldWhole s) (name : List ℕ
   in_globals = found_at is_building d.globals i building
 
   numbered : (m : ℕ) × (index_at d (Some m) ≡ Some i)
-  numbered = behind_any d.locals d.globals in_globals.0 i in_globals.1.0
+  numbered = behind_any d.locals d.globals in_globals.0 i in_globals.1
 
   low : (1 ≤ i.family) × (i.family < s.next_family)
   low = index_within s name t is_table numbered.0 i numbered.1
@@ -271,7 +271,7 @@ module _ (s : State) (valid : IsValid s) (held : IsHeldWhole s) (name : List ℕ
     whole_other : (n : ℕ) (x : IndexSchema) → index_at d (Some n) ≡ Some x → is_building x ≡ false
         → x.family ≢ i.family
     whole_other n x at_x whole same = false≢true (sym whole
-        ∙ ap is_building (same_index n x at_x same) ∙ in_globals.1.1)
+        ∙ ap is_building (same_index n x at_x same) ∙ in_globals.2)
 
     own_index : (n : ℕ) (j : IndexSchema) → index_at e (Some n) ≡ Some j → (key : List ℕ)
         → shown (with_write l w) j.family key ≡ index_rows u j key
@@ -294,7 +294,7 @@ module _ (s : State) (valid : IsValid s) (held : IsHeldWhole s) (name : List ℕ
         by x at_x m in_x true c is =
             let it : x ≡ i = only_one is_building d.globals is_table.made.built.one i building m x in_x c in
             subst (λ (y : IndexSchema). shown (with_write l w) y.family key ≡ index_rows u y key)
-            (sym (ap (λ f. if f then record i { built = b } else i) in_globals.1.1)
+            (sym (ap (λ f. if f then record i { built = b } else i) in_globals.2)
             ∙ ap (so_far b) (sym it) ∙ is)
             (built_rows key)
         by x at_x m in_x false c is =

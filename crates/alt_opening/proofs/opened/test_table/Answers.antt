@@ -10,7 +10,7 @@ returns-else-branch-clause-none c bad d is =
     let read = c.in_ok-schema.ensures.schema in
     let same : d ≡ c.in_ok-schema.schema = one_table_row d c.in_ok-schema.schema
     is.may.good.made.whole is.may.good.held is.may.good.made.built is.may.good.differ read.0
-    read.1.0 read.1.1.0 (sym is.row ∙ read.1.1.1) in
+    read.1 read.2 (sym is.row ∙ read.3) in
     let may : IsTrue c.in_ok-may_stand.field-0 = c.in_ok-may_stand.ensures.may.1
     (subst (MayStand c.args.number c.args.family c.args.catalog.now c.args.name.now) same
     is.may) in

@@ -1,4 +1,5 @@
 pub mod Added
+pub mod Agreeing
 pub mod Altering
 pub mod Batches
 pub mod Behind
@@ -38,6 +39,7 @@ pub mod States
 pub mod Steps
 pub mod Targets
 pub mod Tests
+pub mod Timeless
 pub mod Timing
 pub mod Together
 pub mod Trimming

@@ -5,7 +5,7 @@
 #![tactic(auto)]
 
 ghost use Rattle.alt_machine.specs.Expiry.{DeletesExpired};
-ghost use Rattle.alt_machine.specs.Laws.{StepsKeepValid, OneAtom, BuildsKeepValid, PlacesLie, IndexPlacesLie, AllIndex, OlderConditions, OlderKeys, OlderUpdates};
+ghost use Rattle.alt_machine.specs.Laws.{StepsKeepValid, OneAtom, BuildsKeepValid, PlacesLie, IndexPlacesLie, AllIndex, OthersExpireNone, OlderConditions, OlderKeys, OlderUpdates};
 ghost use Rattle.alt_machine.specs.State.{start};
 ghost use Rattle.alt_machine.specs.Valid.{IsValid};
 
@@ -120,7 +120,7 @@ pub const BATCH_BYTES: u64 = 16_777_216;
 
 /// The laws of the machine: the state of an empty store is valid, each request leads from a valid state to a valid one and has one atom
 /// at most, and so does a step in which an index is built; the items of a table and of an index lie by their keys, and an index has the
-/// items of its table that have its keys; an ExpireItems deletes exactly the items that it names; the trees of members of the older
+/// items of its table that have its keys; an ExpireItems deletes exactly the items that it names, and no other request deletes one because of its time; the trees of members of the older
 /// interface mean what these ask. It does nothing.
 pub fn laws()
     ensures start { IsValid start }
@@ -131,6 +131,7 @@ pub fn laws()
     ensures index_places { IndexPlacesLie }
     ensures indexes { AllIndex }
     ensures expiry { DeletesExpired }
+    ensures others { OthersExpireNone }
     ensures older_conditions { OlderConditions }
     ensures older_keys { OlderKeys }
     ensures older_updates { OlderUpdates }

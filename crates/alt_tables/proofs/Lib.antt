@@ -13,6 +13,7 @@ pub mod DescribedShows
 pub mod Differing
 pub mod Elsewhere
 pub mod FilesLaws
+pub mod Foreseen
 pub mod FrontLaws
 pub mod FrontTrims
 pub mod Holding
@@ -24,6 +25,7 @@ pub mod LeftoverLaws
 pub mod LeftoverRows
 pub mod Making
 pub mod MakingAll
+pub mod MomentLaws
 pub mod Moving
 pub mod Noting
 pub mod Pages

@@ -1,6 +1,7 @@
 pub mod Altering
 pub mod Faults
 pub mod FilesLeft
+pub mod Foreseen
 pub mod Found
 pub mod Fronts
 pub mod Images

@@ -1,42 +1,10 @@
 -- Times that are over, by whole numbers of units.
-use Rattle.std.proofs.Common.{◌≡◌, ◌≤◌, ◌-◌, ◌+◌, ◌*◌, ◌^◌, refl, sym, ap, subst, ◌∙◌, cond, ltb, ℕ, zero, suc, ⊎_elim, inl, inr, Bool, true, false, arith, Ok, Err, Result}
-use Rattle.std.proofs.Math.IntN.{ℤ, pos, negsuc, neg_ℤ, nat_abs, suc_ℤ, ◌+ℤ◌, ◌-ℤ◌, +ℤ_assoc, +ℤ_idl, +ℤ_idr, +ℤ_invr, +ℤ-suc_ℤ, +ℤ-neg_ℤ_cancel, -ℤ-+ℤ_cancel, neg_ℤ-+ℤ}
+use Rattle.std.proofs.Common.{◌≡◌, ◌≤◌, ◌-◌, ◌+◌, ◌*◌, ◌^◌, refl, sym, ap, subst, ◌∙◌, ℕ, zero, suc, inl, inr, arith, Ok, Err, Result}
+use Rattle.std.proofs.Math.IntN.{ℤ, pos, neg_ℤ, nat_abs, ◌+ℤ◌, ◌-ℤ◌, +ℤ_assoc, +ℤ_idl, +ℤ_invr, +ℤ-neg_ℤ_cancel, neg_ℤ-+ℤ}
 use Rattle.std.proofs.Math.Nat.{add-mul}
-use Rattle.std.specs.Int.Signed.{lt_z}
-use Rattle.std.specs.Ordering.{int_cmp}
-use Rattle.std.specs.declared.cmp.Ordering.TheVariants.{Less, Equal, Greater}
 use Rattle.alt_decimal.specs.Number.{Fits, IsMagnitude, fitted_units, units_in}
 use Rattle.alt_decimal.specs.declared.fault.NumberFault.{NumberFault}
 use Rattle.alt_decimal.proofs.Fitting.{fitted_units-Fits}
-
--- ---- orders of sums
-
--- the order of the next ones is that of two numbers
-lt_suc : (a b : ℤ) → lt_z (suc_ℤ a) (suc_ℤ b) ≡ lt_z a b
-lt_suc (pos a) (pos b) = refl
-lt_suc (pos a) (negsuc zero) = refl
-lt_suc (pos a) (negsuc (suc b)) = refl
-lt_suc (negsuc zero) (pos b) = refl
-lt_suc (negsuc (suc a)) (pos b) = refl
-lt_suc (negsuc zero) (negsuc zero) = refl
-lt_suc (negsuc zero) (negsuc (suc b)) = refl
-lt_suc (negsuc (suc a)) (negsuc zero) = refl
-lt_suc (negsuc (suc a)) (negsuc (suc b)) = refl
-
--- so is that of sums with a third
-lt_add : (n : ℕ) (a b : ℤ) → lt_z (a +ℤ pos n) (b +ℤ pos n) ≡ lt_z a b
-lt_add zero a b = λ i. lt_z (+ℤ_idr a i) (+ℤ_idr b i)
-lt_add (suc n) a b =
-    (λ i. lt_z (+ℤ-suc_ℤ a (pos n) i) (+ℤ-suc_ℤ b (pos n) i))
-    ∙ lt_suc (a +ℤ pos n) (b +ℤ pos n) ∙ lt_add n a b
-
-cmp_add : (n : ℕ) (a b : ℤ) → int_cmp (a +ℤ pos n) (b +ℤ pos n) ≡ int_cmp a b
-cmp_add n a b = λ i. cond (lt_add n a b i) Less (cond (lt_add n b a i) Greater Equal)
-
--- an order of a difference is that of a sum
-pub shifted : (m z : ℤ) (n : ℕ) → int_cmp (m -ℤ pos n) z ≡ int_cmp m (z +ℤ pos n)
-shifted m z n = sym (cmp_add n (m -ℤ pos n) z)
-    ∙ ap (λ x. int_cmp x (z +ℤ pos n)) (-ℤ-+ℤ_cancel m (pos n))
 
 -- ---- moments before 1970
 
@@ -62,8 +30,8 @@ pub is_below : (n : ℕ) (zero_is count_is : ℤ) (r : Result ℤ NumberFault) �
 is_below n zero_is count_is r none some fits is =
     is ∙ (λ i. fitted_units (none i -ℤ some i)) ∙ below_zero (n * 10 ^ 167) (subst Fits some fits)
 
-pub same_ok : (x y : ℤ) → Ok {E = NumberFault} x ≡ Ok y → x ≡ y
-same_ok x y e = cc
+pub same_ok : (r : Result ℤ NumberFault) (x y : ℤ) → r ≡ Ok x → r ≡ Ok y → x ≡ y
+same_ok r x y e f = cc
 
 -- and no fault
 pub no_fault : (r : Result ℤ NumberFault) (z : ℤ) (f : NumberFault) → r ≡ Ok z → r ≡ Err f → ⊥

@@ -1,10 +1,9 @@
 -- What has expired is looked up, and deleted.
-use Rattle.std.proofs.Common.{◌≡◌, sym, ap, subst, ◌∙◌, ℕ, map, length}
+use Rattle.std.proofs.Common.{sym, subst, ◌∙◌, ℕ, map}
 use Rattle.alt_codec.specs.declared.writer.Writer.TheVariants.{Expiry}
-use Rattle.alt_disk.specs.Disk.{DiskState}
 use Rattle.alt_machine.specs.Ops.BatchWriteItem.{writes_of_all_by}
 use Rattle.alt_machine.specs.Ops.ExpireItems.{expire_items}
-use Rattle.alt_machine.specs.State.{State, Texts}
+use Rattle.alt_machine.specs.State.{Texts}
 use Rattle.alt_schema.specs.declared.schema.TableSchema.{TableSchema}
 use Rattle.alt_tables.proofs.Left.{leaves_after, leaves_reads, ready_on}
 use Rattle.alt_tables.proofs.Standing.{file_stays}
@@ -45,7 +44,7 @@ returns-in-Ok-write_all-clause-writes g c s stands =
 
 pub returns-in-Ok-write_all-clause-count : goal.returns-in-Ok-write_all-clause-count
 returns-in-Ok-write_all-clause-count g c s stands = c.len-count.ensures
-    ∙ count_is s c.args.moment c.in-Ok.changes.items (c.in-Ok.ensures.written s stands)
+    ∙ c.in-Ok.changes.ok.0 ∙ count_is s c.args.moment c.in-Ok.changes.items (c.in-Ok.ensures.written s stands)
 
 pub returns-in-Ok-write_all-clause-disk : goal.returns-in-Ok-write_all-clause-disk
 returns-in-Ok-write_all-clause-disk g c s stands =

@@ -1,13 +1,12 @@
 -- What was found stands once, and is looked up.
-use Rattle.std.proofs.Common.{◌≡◌, sym, ap, subst, ◌∙◌, ℕ, List, map}
-use Rattle.alt_disk.specs.Disk.{DiskState}
+use Rattle.std.proofs.Common.{sym, ap, subst, ◌∙◌, map}
 use Rattle.alt_machine.specs.Expiry.{gone_at}
-use Rattle.alt_machine.specs.State.{State, Texts}
+use Rattle.alt_machine.specs.State.{Texts}
 use Rattle.alt_schema.specs.declared.schema.TableSchema.{TableSchema}
 use Rattle.alt_tables.proofs.Left.{reads_then, ready_on}
 use Rattle.alt_tables.specs.Several.{AreAllApart, Every, MayWrite}
 use Rattle.alt_tables.specs.Stands.{catalog_of}
-use Rattle.alt_ttl.specs.private.Searched.{AreNamed}
+use Rattle.alt_ttl.specs.private.Searched.{AreNamed, has_twice}
 use Rattle.alt_ttl.proofs.Founds.{all_apart, may_go}
 use Rattle.alt_ttl.proofs.Looking.{keeps_then, stays_then}
 use Rattle.alt_ttl.proofs.search.deletions.Goals as goal
@@ -33,11 +32,18 @@ returns-in-Ok-find_all-clause-may g c =
 pub returns-in-Ok-find_all-clause-apart : goal.returns-in-Ok-find_all-clause-apart
 returns-in-Ok-find_all-clause-apart g c =
     subst AreAllApart (sym c.in-Ok-find_all.ensures.written)
-    (all_apart c.in-Ok.standings.items (sym c.has_twice.ensures ∙ c.if-has_twice.false))
+    (all_apart c.in-Ok.standings.items (ap has_twice (sym c.as_slice.ensures.value)
+    ∙ sym c.has_twice.ensures ∙ c.if-has_twice.false))
 
 pub returns-in-Ok-find_all-clause-found : goal.returns-in-Ok-find_all-clause-found
 returns-in-Ok-find_all-clause-found g c s stands =
     c.in-Ok-find_all.ensures.found s ((c.in-Ok.ensures.stays s).0 stands)
+
+pub returns-in-Err-find_all-clause-stays : goal.returns-in-Err-find_all-clause-stays
+returns-in-Err-find_all-clause-stays g c = stays_then (g.D.Disk.state c.args.disk.now)
+    (g.D.Disk.state c.expiring.new.disk) (g.D.Disk.state c.find_all.new.disk) c.args.tables.now
+    c.expiring.new.tables c.find_all.new.tables c.in-Ok.ensures.stays
+    c.in-Err-find_all.ensures.stays
 
 pub returns-in-Ok-find_all-clause-stays : goal.returns-in-Ok-find_all-clause-stays
 returns-in-Ok-find_all-clause-stays g c = stays_then (g.D.Disk.state c.args.disk.now)

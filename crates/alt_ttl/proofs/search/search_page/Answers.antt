@@ -1,14 +1,11 @@
 -- There are enough, or the page was the last, or its last item says where to go on.
-use Rattle.std.proofs.Common.{◌≡◌, ◌≤◌, ◌<◌, ◌++◌, [], true, sym, ap, subst, ◌∙◌, List, ℕ, None, Some, take, length, arith}
-use Rattle.std.specs.List.{last_or}
-use Rattle.std.specs.FinMap as map
+use Rattle.std.proofs.Common.{◌≤◌, ◌++◌, ◌∷◌, [], true, sym, ap, subst, ◌∙◌, List, ℕ, None, take, length, arith}
 use Rattle.alt_machine.specs.declared.Standing.{Standing}
 use Rattle.alt_machine.specs.declared.TheConstants.{MOST_EXPIRED}
 use Rattle.alt_machine.specs.Walks.{items_between}
 use Rattle.alt_ops_query.proofs.Described.{described, stored_at}
-use Rattle.alt_tables.specs.Reading.{places_between}
 use Rattle.alt_tables.specs.Stands.{catalog_of}
-use Rattle.alt_ttl.specs.private.Searched.{AreNamed, left_in, standings_of}
+use Rattle.alt_ttl.specs.private.Searched.{left_in, standings_of}
 use Rattle.alt_ttl.proofs.Founds.{taken_named}
 use Rattle.alt_ttl.proofs.Fronts.{take_few, take_full}
 use Rattle.alt_ttl.proofs.Searching.{page_last, page_none, page_on}
@@ -58,7 +55,9 @@ returns-in-Some-last-clause-left g c s t stands at =
     let out : List Standing = c.args.out.now.items in
     let items : List (List Pair) = c.rows.new.out.items in
     let list : List (List Pair) = items_between t None c.args.from None true in
-    ap (left_in name t c.args.moment c.put_expired.new.out.items) c.in_ok-behind.ensures
+    ap (left_in name t c.args.moment c.put_expired.new.out.items)
+    (c.in_ok-behind-in-Some-last.ensures
+    ∙ ap (λ (p : List ℕ). p ++ 0 ∷ []) c.as_slice.ensures.same)
     ∙ page_on name t c.args.moment
     (stored_at a c.args.tables.now s stands name t at None (λ d e. tt))
     out c.put_expired.new.out.items c.args.from 64 items

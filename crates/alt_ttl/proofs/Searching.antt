@@ -90,17 +90,19 @@ standings-placed d name moment (e ∷ es) all =
 -- every place lies from the empty one on
 from_none : (es : List Entry) → entries_between text_order (Included []) Unbounded es ≡ es
 from_none [] = refl
-from_none (e ∷ es) = by (text_order [] e.0) (not_greater e.0)
+from_none (e ∷ es) = by (text_order [] e.0) (not_greater e.0) (from_none es)
   where
     not_greater : (k : List ℕ) → is_le (text_order [] k) ≡ true
     not_greater [] = refl
     not_greater (x ∷ xs) = refl
 
-    by : (o : Ordering) → is_le o ≡ true → cond (is_le o && true) (e ∷ entries_between text_order (Included []) Unbounded es)
+    by : (o : Ordering) → is_le o ≡ true
+        → entries_between text_order (Included []) Unbounded es ≡ es
+        → cond (is_le o && true) (e ∷ entries_between text_order (Included []) Unbounded es)
         (entries_between text_order (Included []) Unbounded es) ≡ e ∷ es
-    by Less h = ap (λ l. e ∷ l) (from_none es)
-    by Equal h = ap (λ l. e ∷ l) (from_none es)
-    by Greater h = absurd (let f : ⊥ = cc in f)
+    by Less h rest = ap (λ l. e ∷ l) rest
+    by Equal h rest = ap (λ l. e ∷ l) rest
+    by Greater h rest = absurd (let f : ⊥ = cc in f)
 
 module _ (name : List ℕ) (t : Table) (moment : ℕ)
     (stored : (place : List ℕ) (item : List Pair) → finite.get t.items place ≡ Some item
@@ -201,7 +203,7 @@ none_expired name t moment none = by t.description.ttl none
         → map (λ (e : Entry). record { table = name; place = e.0 })
         (filter (λ e. option_map_or (is_over moment)
         (option_and_then (λ n. at_name n e.1) o) false) (finite.entries t.items)) ≡ []
-    by None h = ap (map (λ (e : Entry). record { table = name; place = e.0 }))
+    by None h = ap (map {B = Standing} (λ (e : Entry). record { table = name; place = e.0 }))
         (none_of (finite.entries t.items))
     by (Some n) h = absurd (let f : ⊥ = cc in f)
 
@@ -237,7 +239,8 @@ each_found P (e ∷ es) sorted found = All-cons P e es
 pub expired_all : (s : State) (moment : ℕ)
     → expired_of s moment (map (λ e. e.0) (finite.entries s.tables)) ≡ all_expired s moment
 expired_all s moment = each (finite.entries s.tables)
-    (each_found (finite.entries s.tables) (finite.entries_sorted s.tables)
+    (each_found (λ e. finite.get s.tables e.0 ≡ Some e.1) (finite.entries s.tables)
+    (finite.entries_sorted s.tables)
     (λ name t at. finite.get-entries s.tables name ∙ at))
   where
     each : (es : List (List ℕ × Table)) → All (λ e. finite.get s.tables e.0 ≡ Some e.1) es
@@ -301,11 +304,11 @@ every_of P (x ∷ xs) all = (All-head P x xs all, every_of P xs (All-tail P x xs
 every_kept : {A : Type 0} (P : A → Type 0) (p : A → Bool) (xs : List A) → Every P xs
     → Every P (filter p xs)
 every_kept P p [] h = tt
-every_kept P p (x ∷ xs) h = by (p x)
+every_kept P p (x ∷ xs) h = by (p x) (every_kept P p xs h.1)
   where
-    by : (b : Bool) → Every P (cond b (x ∷ filter p xs) (filter p xs))
-    by true = (h.0, every_kept P p xs h.1)
-    by false = every_kept P p xs h.1
+    by : (b : Bool) → Every P (filter p xs) → Every P (cond b (x ∷ filter p xs) (filter p xs))
+    by true rest = (h.0, rest)
+    by false rest = rest
 
 -- the names that are looked through are those of tables
 pub names_there : (catalog : Texts TableSchema)

@@ -1,6 +1,7 @@
 -- Times that are over, by whole numbers of units.
 use Rattle.std.proofs.Common.{◌≡◌, ◌≤◌, ◌-◌, ◌+◌, ◌*◌, ◌^◌, refl, sym, ap, subst, ◌∙◌, cond, ltb, ℕ, zero, suc, ⊎_elim, inl, inr, Bool, true, false, arith, Ok, Err, Result}
 use Rattle.std.proofs.Math.IntN.{ℤ, pos, negsuc, neg_ℤ, nat_abs, suc_ℤ, ◌+ℤ◌, ◌-ℤ◌, +ℤ_assoc, +ℤ_idl, +ℤ_idr, +ℤ_invr, +ℤ-suc_ℤ, +ℤ-neg_ℤ_cancel, -ℤ-+ℤ_cancel, neg_ℤ-+ℤ}
+use Rattle.std.proofs.Math.Dec.{leb-suc-suc, leb-suc-zero, leb-zero}
 use Rattle.std.proofs.Math.Nat.{add-mul}
 use Rattle.std.specs.Int.Signed.{lt_z}
 use Rattle.std.specs.Ordering.{int_cmp}
@@ -13,15 +14,15 @@ use Rattle.alt_decimal.proofs.Fitting.{fitted_units-Fits}
 
 -- the order of the next ones is that of two numbers
 lt_suc : (a b : ℤ) → lt_z (suc_ℤ a) (suc_ℤ b) ≡ lt_z a b
-lt_suc (pos a) (pos b) = refl
-lt_suc (pos a) (negsuc zero) = refl
+lt_suc (pos a) (pos b) = leb-suc-suc (suc a) b
+lt_suc (pos a) (negsuc zero) = leb-suc-zero (suc a)
 lt_suc (pos a) (negsuc (suc b)) = refl
-lt_suc (negsuc zero) (pos b) = refl
+lt_suc (negsuc zero) (pos b) = leb-suc-suc zero b ∙ leb-zero b
 lt_suc (negsuc (suc a)) (pos b) = refl
 lt_suc (negsuc zero) (negsuc zero) = refl
-lt_suc (negsuc zero) (negsuc (suc b)) = refl
-lt_suc (negsuc (suc a)) (negsuc zero) = refl
-lt_suc (negsuc (suc a)) (negsuc (suc b)) = refl
+lt_suc (negsuc zero) (negsuc (suc b)) = sym (leb-suc-zero (suc b))
+lt_suc (negsuc (suc a)) (negsuc zero) = sym (leb-suc-suc zero a ∙ leb-zero a)
+lt_suc (negsuc (suc a)) (negsuc (suc b)) = sym (leb-suc-suc (suc b) a)
 
 -- so is that of sums with a third
 lt_add : (n : ℕ) (a b : ℤ) → lt_z (a +ℤ pos n) (b +ℤ pos n) ≡ lt_z a b
@@ -62,8 +63,8 @@ pub is_below : (n : ℕ) (zero_is count_is : ℤ) (r : Result ℤ NumberFault) �
 is_below n zero_is count_is r none some fits is =
     is ∙ (λ i. fitted_units (none i -ℤ some i)) ∙ below_zero (n * 10 ^ 167) (subst Fits some fits)
 
-pub same_ok : (x y : ℤ) → Ok {E = NumberFault} x ≡ Ok y → x ≡ y
-same_ok x y e = cc
+pub same_ok : (r : Result ℤ NumberFault) (x y : ℤ) → r ≡ Ok x → r ≡ Ok y → x ≡ y
+same_ok r x y e f = cc
 
 -- and no fault
 pub no_fault : (r : Result ℤ NumberFault) (z : ℤ) (f : NumberFault) → r ≡ Ok z → r ≡ Err f → ⊥

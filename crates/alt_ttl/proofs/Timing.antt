@@ -1,11 +1,12 @@
 -- The refusals of an UpdateTimeToLive, step by step, and what it comes to.
-use Rattle.std.proofs.Common.{◌≡◌, refl, sym, ap, subst, ◌∙◌, ℕ, true, false, [], ◌∷◌, Some, None, Bor, Result, Ok, Err, arith}
+use Rattle.std.proofs.Common.{◌≡◌, refl, sym, ap, subst, ◌∙◌, ℕ, true, false, [], ◌∷◌, Option, Some, None, Bor, Result, Ok, Err, arith}
 use Rattle.std.specs.Prelude.{if◌then◌else◌}
 use Rattle.std.specs.Result.{IsErr, IsErrAnd}
 use Rattle.std.specs.FinMap as map
 use Rattle.serde_json.specs.Data.{Members}
+use Rattle.alt_machine.specs.Body.{body_refusals}
 use Rattle.alt_machine.specs.Members.{table_name}
-use Rattle.alt_machine.specs.Ops.UpdateTimeToLive.{is_barred, of_body, of_time, time_left, time_said, update_time_to_live, with_time}
+use Rattle.alt_machine.specs.Ops.UpdateTimeToLive.{is_barred, of_body, of_time, rules, shape, time_left, time_said, update_time_to_live, with_time}
 use Rattle.alt_machine.specs.Outcomes.{refuses, unless_refused, writes}
 use Rattle.alt_machine.specs.Refusals.{first_answer, refuse_if}
 use Rattle.alt_machine.specs.State.{State, Table, Texts, descriptions}
@@ -20,6 +21,7 @@ use Rattle.alt_request.proofs.Named.{table_found}
 use Rattle.alt_request.proofs.Reaching.{err_is}
 use Rattle.alt_schema.specs.declared.schema.TableSchema.{TableSchema}
 use Rattle.alt_shape.specs.Refusals.{bad_time_to_live}
+use Rattle.alt_shape.specs.declared.rule.Broken.{Broken}
 use Rattle.alt_ttl.specs.private.Timed.{IsTimed, MayBeTimed}
 
 -- the tests of a table that is barred, or isn't
@@ -44,6 +46,11 @@ of_free ms d s t same free =
     (ap (is_barred ms) same ∙ free)
 
 module _ (catalog : Texts TableSchema) (ms : Members) where
+  -- the tests of a body with that fault in its shape, where it has that one, are those of the operation
+  pub of_broken : (broken : Option Broken) → broken ≡ shape ms → (r : Result (Bor TableSchema) Stop)
+      → OnTable (body_refusals broken rules ms) catalog ms r → OnTable (of_body ms) catalog ms r
+  of_broken broken is r h = subst (λ b. OnTable (body_refusals b rules ms) catalog ms r) is h
+
   -- what it comes to in a table that is there
   at_table : (s : State) (t : Table) → first_answer (of_body ms) ≡ None
       → map.get s.tables (table_name ms) ≡ Some t → update_time_to_live s ms
@@ -70,7 +77,8 @@ module _ (catalog : Texts TableSchema) (ms : Members) where
   pub time_stopped : {X : Type 0} (r : Result X Stop) (stop : Stop)
       → IsErr r × IsErrAnd r (λ e. e ≡ stop) → OnTable (of_body ms) catalog ms (Err stop)
       → IsTimed catalog ms r
-  time_stopped r stop is h = subst (IsTimed catalog ms) (sym (err_is r stop is)) (stopped _ stop h)
+  time_stopped {X = X} r stop is h = subst (IsTimed catalog ms) (sym (err_is r stop is))
+      (stopped X stop h)
 
   -- it is, and that can't be done there
   pub time_barred : (X : Type 0) (d : Bor TableSchema) → OnTable (of_body ms) catalog ms (Ok d)

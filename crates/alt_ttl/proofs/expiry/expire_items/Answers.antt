@@ -1,11 +1,14 @@
 -- What has expired is looked up, and deleted.
 use Rattle.std.proofs.Common.{◌≡◌, sym, ap, subst, ◌∙◌, ℕ, List, map, Ok, Err, length}
+use Rattle.std.specs.Prelude.{codes}
+use Rattle.serde_json.specs.Data.{number, unsigned}
 use Rattle.alt_codec.specs.declared.writer.Writer.TheVariants.{Expiry}
 use Rattle.alt_disk.specs.Disk.{DiskState}
 use Rattle.alt_machine.specs.Expiry.{deletions}
 use Rattle.alt_machine.specs.Ops.BatchWriteItem.{writes_of_all_by}
 use Rattle.alt_machine.specs.Ops.ExpireItems.{expire_items, expired}
 use Rattle.alt_machine.specs.Outcomes.{writes_together}
+use Rattle.alt_machine.specs.Replies.{answers}
 use Rattle.alt_machine.specs.State.{State, Texts}
 use Rattle.alt_tables.proofs.Left.{ready_on}
 use Rattle.alt_tables.proofs.Standing.{file_stays}
@@ -28,10 +31,10 @@ returns-in_err-changes-clause-carried g c =
     let now : State → Type 0 = Stands (g.D.Disk.state c.deletions.new.disk) c.deletions.new.tables in
     subst (Carries (bounds_of c.args.tables.now).file (λ s. expire_items s c.args.moment)
     (Stands (g.D.Disk.state c.args.disk.now) c.args.tables.now) now)
-    (sym (err_is c.from_residual.result (Fault c.in_err-changes.field-0)
+    (sym (err_is c.from_residual.result (Fault c.in_err-changes.field-0.0)
     c.from_residual.ensures))
     (unfound (λ s. expire_items s c.args.moment)
-    (Stands (g.D.Disk.state c.args.disk.now) c.args.tables.now) now c.in_err-changes.field-0
+    (Stands (g.D.Disk.state c.args.disk.now) c.args.tables.now) now c.in_err-changes.field-0.0
     c.in_err-changes.ensures.fault (λ s stands. (c.in_err-changes.ensures.stays s).0 stands))
 
 pub returns-in_err-changes-clause-moves : goal.returns-in_err-changes-clause-moves
@@ -39,11 +42,11 @@ returns-in_err-changes-clause-moves g c =
     let before : DiskState = g.D.Disk.state c.args.disk.now in
     let after : DiskState = g.D.Disk.state c.deletions.new.disk in
     subst (Moves _ _ before after)
-    (sym (err_is c.from_residual.result (Fault c.in_err-changes.field-0)
+    (sym (err_is c.from_residual.result (Fault c.in_err-changes.field-0.0)
     c.from_residual.ensures))
-    (moves_reads _ c.args.tables.now before after (Err (Fault c.in_err-changes.field-0))
+    (moves_reads _ c.args.tables.now before after (Err (Fault c.in_err-changes.field-0.0))
     c.in_err-changes.ensures.disk
-    (failed_fault c.in_err-changes.field-0 _ c.in_err-changes.ensures.cause))
+    (failed_fault c.in_err-changes.field-0.0 _ c.in_err-changes.ensures.cause))
 
 pub returns-in_err-reply-clause-carried : goal.returns-in_err-reply-clause-carried
 returns-in_err-reply-clause-carried g c =
@@ -116,6 +119,8 @@ returns-clause-carried g c =
       expire_is s c.args.moment
           ∙ ap (writes_together s (deletions s c.args.moment))
           (sym (c.in_ok-reply.ensures.reply
+          ∙ ap (λ (n : ℕ). answers (codes "Expired") (number (unsigned n)))
+          (c.len.ensures ∙ c.in_ok-changes.changes.held.ok.0)
           ∙ answered_is s c.args.moment c.in_ok-changes.changes.items
           (c.in_ok-changes.ensures.written s stands))),
       subst (λ ws. AreAllMade now s ws)

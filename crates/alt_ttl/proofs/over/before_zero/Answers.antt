@@ -13,7 +13,7 @@ unreachable-requires c = no_fault c.subtract.result (units_in 0 -ℤ units_in c.
     c.subtract.ensures) c.in-Err.is
 
 pub returns : goal.returns
-returns c = same_ok c.in-Ok.time (units_in 0 -ℤ units_in c.args.count) (sym c.in-Ok.is
-    ∙ is_below c.args.count c.from_count.result c.from_count-later.result c.subtract.result
+returns c = same_ok c.subtract.result c.in-Ok.time (units_in 0 -ℤ units_in c.args.count) c.in-Ok.is
+    (is_below c.args.count c.from_count.result c.from_count-later.result c.subtract.result
     c.from_count.ensures.units c.from_count-later.ensures.units c.held.ensures.fits
     c.subtract.ensures)

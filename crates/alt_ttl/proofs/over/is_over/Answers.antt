@@ -7,5 +7,5 @@ use Rattle.alt_ttl.proofs.Times.{shifted}
 use Rattle.alt_ttl.proofs.over.is_over.Goals as goal
 
 pub returns-in-N : goal.returns-in-N
-returns-in-N c = c.is_past.ensures ∙ ap (λ o. is_lt (int_cmp c.in-N.time.now (units_in c.args.moment)) && is_le o)
-    (shifted (units_in c.args.moment) c.in-N.time.now (FIVE_YEARS * 10 ^ 167))
+returns-in-N c = c.is_past.ensures ∙ ap (λ o. is_lt (int_cmp c.in-N.time (units_in c.args.moment)) && is_le o)
+    (shifted (units_in c.args.moment) c.in-N.time (FIVE_YEARS * 10 ^ 167))

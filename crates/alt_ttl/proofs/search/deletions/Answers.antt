@@ -7,7 +7,7 @@ use Rattle.alt_schema.specs.declared.schema.TableSchema.{TableSchema}
 use Rattle.alt_tables.proofs.Left.{reads_then, ready_on}
 use Rattle.alt_tables.specs.Several.{AreAllApart, Every, MayWrite}
 use Rattle.alt_tables.specs.Stands.{catalog_of}
-use Rattle.alt_ttl.specs.private.Searched.{AreNamed}
+use Rattle.alt_ttl.specs.private.Searched.{AreNamed, has_twice}
 use Rattle.alt_ttl.proofs.Founds.{all_apart, may_go}
 use Rattle.alt_ttl.proofs.Looking.{keeps_then, stays_then}
 use Rattle.alt_ttl.proofs.search.deletions.Goals as goal
@@ -33,7 +33,8 @@ returns-in-Ok-find_all-clause-may g c =
 pub returns-in-Ok-find_all-clause-apart : goal.returns-in-Ok-find_all-clause-apart
 returns-in-Ok-find_all-clause-apart g c =
     subst AreAllApart (sym c.in-Ok-find_all.ensures.written)
-    (all_apart c.in-Ok.standings.items (sym c.has_twice.ensures ∙ c.if-has_twice.false))
+    (all_apart c.in-Ok.standings.items (ap has_twice (sym c.as_slice.ensures)
+    ∙ sym c.has_twice.ensures ∙ c.if-has_twice.false))
 
 pub returns-in-Ok-find_all-clause-found : goal.returns-in-Ok-find_all-clause-found
 returns-in-Ok-find_all-clause-found g c s stands =

@@ -46,8 +46,8 @@ search_table-requires g c =
     record {
       ready = ready_on (g.D.Disk.state c.args.disk.now) (g.D.Disk.state c.loop-name.disk)
           c.args.tables.now c.loop-name.tables so.disk.goes so.stays c.requires.ready;
-      there = subst (λ (k : Texts TableSchema). There k c.in-Some.name) (sym so.catalog.catalog)
-          there.0;
+      there = subst (λ (k : Texts TableSchema). There k c.as_str.result.now) (sym so.catalog.catalog)
+          (subst (There (catalog_of c.args.tables.now)) (sym c.as_str.ensures.same) there.0);
       few = so.few;
       named = subst (λ (k : Texts TableSchema). AreNamed k c.loop-name.out.items)
           (sym so.catalog.catalog) so.named;
@@ -64,12 +64,17 @@ loop-name-preserved g c =
     subst (Every (There (catalog_of c.args.tables.now))) c.in-Some.ensures.steps.0 so.there in
     record {
       left = λ s stands.
-          let t : IsThere s c.args.moment c.in-Some.name =
-          is_there s c.args.moment c.in-Some.name (catalog_of c.args.tables.now) stands.catalog there.0 in
-          take_step MOST_EXPIRED c.loop-name.out.items (expired_at s c.args.moment c.in-Some.name)
+          let t : IsThere s c.args.moment c.as_str.result.now =
+          is_there s c.args.moment c.as_str.result.now (catalog_of c.args.tables.now) stands.catalog
+          (subst (There (catalog_of c.args.tables.now)) (sym c.as_str.ensures.same) there.0) in
+          take_step MOST_EXPIRED c.loop-name.out.items
+          (expired_at s c.args.moment c.as_str.result.now)
           (expired_of s c.args.moment rest) c.search_table.new.out.items
           (c.in-Ok.ensures.found s t.table ((so.stays s).0 stands) t.there
           ∙ ap (λ l. take MOST_EXPIRED (c.loop-name.out.items ++ l)) (sym t.is))
+          ∙ ap (λ (n : List ℕ). take MOST_EXPIRED (c.loop-name.out.items
+          ++ (expired_at s c.args.moment n ++ expired_of s c.args.moment rest)))
+          c.as_str.ensures.same
           ∙ ap (λ l. take MOST_EXPIRED (c.loop-name.out.items ++ expired_of s c.args.moment l))
           (sym c.in-Some.ensures.steps.0) ∙ so.left s stands;
       there = there.1;

@@ -58,7 +58,7 @@ returns-in-Some-last-clause-left g c s t stands at =
     let out : List Standing = c.args.out.now.items in
     let items : List (List Pair) = c.rows.new.out.items in
     let list : List (List Pair) = items_between t None c.args.from None true in
-    ap (left_in name t c.args.moment c.put_expired.new.out.items) c.in_ok-behind.ensures
+    ap (left_in name t c.args.moment c.put_expired.new.out.items) c.in_ok-behind-in-Some-last.ensures
     ∙ page_on name t c.args.moment
     (stored_at a c.args.tables.now s stands name t at None (λ d e. tt))
     out c.put_expired.new.out.items c.args.from 64 items

@@ -19,7 +19,7 @@ use Rattle.alt_ttl.proofs.search.search_table.Goals as goal
 pub pages-init : goal.pages-init
 pages-init g c = record {
   left = λ s t stands at.
-      ap (left_in c.args.name.now t c.args.moment c.args.out.now.items) c.in_ok-new.ensures.copied
+      ap (left_in c.args.name.now t c.args.moment c.args.out.now.items) c.in_ok-from.ensures.copied
       ∙ left_first c.args.name.now t c.args.moment
       (stored_at (g.D.Disk.state c.args.disk.now) c.args.tables.now s stands c.args.name.now t at
       None (λ d e. tt)) c.args.out.now.items;

@@ -27,7 +27,7 @@ pub returns-in_default : goal.returns-in_default
 returns-in_default c = record {
   put = sym (ap (λ l. take MOST_EXPIRED (c.args.out.now.items ++ l))
       (unplaced c.args.schema.now c.args.name.now c.args.moment c.args.item.now
-      (sym c.in_default.ensures.place))
+      (sym c.in_ok-place.ensures.place ∙ c.in_default.is))
       ∙ take_whole MOST_EXPIRED c.args.out.now.items c.requires.few);
 }
 
@@ -39,7 +39,7 @@ returns c = record {
       ∙ sym (ap (λ l. take MOST_EXPIRED (c.args.out.now.items ++ l))
       (standing_by c.args.schema.now c.args.name.now c.args.moment c.args.item.now true
       (Some c.in-Some.place) (sym c.is_expired.ensures ∙ c.if-not-is_expired.false)
-      (sym c.in-Some.ensures.place))
+      (sym c.in_ok-place.ensures.place ∙ c.in-Some.is))
       ∙ take_all MOST_EXPIRED (c.args.out.now.items ++ record { table = c.args.name.now; place = c.in-Some.place } ∷ [])
       (omega (
         arith,

@@ -32,7 +32,7 @@ returns-in_err-asked-clause-carried g c =
     let stands : State → Type 0 = Stands (g.D.Disk.state c.args.disk.now) c.args.tables.now in
     subst (Carries (bounds_of c.args.tables.now).file (λ s. update_time_to_live s ms) stands stands)
     (sym (err_is c.from_residual.result c.in_err-asked.field-0.0 c.from_residual.ensures))
-    (untimed _ ms stands stands (catalog_of c.args.tables.now) (λ s h. sym h.catalog)
+    (untimed (Unit {0}) ms stands stands (catalog_of c.args.tables.now) (λ s h. sym h.catalog)
     c.in_err-asked.field-0.0 c.in_err-asked.ensures.asked (λ s h. h))
 
 pub returns-in_err-reply-clause-carried : goal.returns-in_err-reply-clause-carried
@@ -99,7 +99,7 @@ returns-in_err-asked-clause-moves g c =
     moves_stopped (λ s. update_time_to_live s ms) c.args.tables.now
     (g.D.Disk.state c.args.disk.now) c.from_residual.result c.in_err-asked.field-0.0
     c.from_residual.ensures
-    (timed_unfailed _ _ (catalog_of c.args.tables.now) ms c.in_err-asked.field-0.0
+    (timed_unfailed (Unit {0}) _ (catalog_of c.args.tables.now) ms c.in_err-asked.field-0.0
     c.in_err-asked.ensures.asked)
 
 pub returns-in_err-reply-clause-moves : goal.returns-in_err-reply-clause-moves

@@ -200,7 +200,7 @@ none_expired name t moment none = by t.description.ttl none
     none_of (e ∷ es) = none_of es
 
     by : (o : Option (List ℕ)) → is_some o ≡ false
-        → map (λ (e : Entry). record { table = name; place = e.0 })
+        → map {B = Standing} (λ (e : Entry). record { table = name; place = e.0 })
         (filter (λ e. option_map_or (is_over moment)
         (option_and_then (λ n. at_name n e.1) o) false) (finite.entries t.items)) ≡ []
     by None h = ap (map {B = Standing} (λ (e : Entry). record { table = name; place = e.0 }))

@@ -10,35 +10,6 @@ use Rattle.alt_decimal.specs.Number.{Fits, IsMagnitude, fitted_units, units_in}
 use Rattle.alt_decimal.specs.declared.fault.NumberFault.{NumberFault}
 use Rattle.alt_decimal.proofs.Fitting.{fitted_units-Fits}
 
--- ---- orders of sums
-
--- the order of the next ones is that of two numbers
-lt_suc : (a b : ℤ) → lt_z (suc_ℤ a) (suc_ℤ b) ≡ lt_z a b
-lt_suc (pos a) (pos b) = leb-suc-suc (suc a) b
-lt_suc (pos a) (negsuc zero) = leb-suc-zero (suc a)
-lt_suc (pos a) (negsuc (suc b)) = refl
-lt_suc (negsuc zero) (pos b) = leb-suc-suc zero b ∙ leb-zero b
-lt_suc (negsuc (suc a)) (pos b) = refl
-lt_suc (negsuc zero) (negsuc zero) = refl
-lt_suc (negsuc zero) (negsuc (suc b)) = sym (leb-suc-zero (suc b))
-lt_suc (negsuc (suc a)) (negsuc zero) = sym (leb-suc-suc zero a ∙ leb-zero a)
-lt_suc (negsuc (suc a)) (negsuc (suc b)) = sym (leb-suc-suc (suc b) a)
-
--- so is that of sums with a third
-lt_add : (n : ℕ) (a b : ℤ) → lt_z (a +ℤ pos n) (b +ℤ pos n) ≡ lt_z a b
-lt_add zero a b = λ i. lt_z (+ℤ_idr a i) (+ℤ_idr b i)
-lt_add (suc n) a b =
-    (λ i. lt_z (+ℤ-suc_ℤ a (pos n) i) (+ℤ-suc_ℤ b (pos n) i))
-    ∙ lt_suc (a +ℤ pos n) (b +ℤ pos n) ∙ lt_add n a b
-
-cmp_add : (n : ℕ) (a b : ℤ) → int_cmp (a +ℤ pos n) (b +ℤ pos n) ≡ int_cmp a b
-cmp_add n a b = λ i. cond (lt_add n a b i) Less (cond (lt_add n b a i) Greater Equal)
-
--- an order of a difference is that of a sum
-pub shifted : (m z : ℤ) (n : ℕ) → int_cmp (m -ℤ pos n) z ≡ int_cmp m (z +ℤ pos n)
-shifted m z n = sym (cmp_add n (m -ℤ pos n) z)
-    ∙ ap (λ x. int_cmp x (z +ℤ pos n)) (-ℤ-+ℤ_cancel m (pos n))
-
 -- ---- moments before 1970
 
 abs_neg : (m : ℕ) → nat_abs (neg_ℤ (pos m)) ≡ m

@@ -45,7 +45,7 @@ returns-in-Ok-write_all-clause-writes g c s stands =
 
 pub returns-in-Ok-write_all-clause-count : goal.returns-in-Ok-write_all-clause-count
 returns-in-Ok-write_all-clause-count g c s stands = c.len-count.ensures
-    ∙ c.in-Ok.changes.held.ok.0 ∙ count_is s c.args.moment c.in-Ok.changes.items (c.in-Ok.ensures.written s stands)
+    ∙ c.in-Ok.changes.ok.0 ∙ count_is s c.args.moment c.in-Ok.changes.items (c.in-Ok.ensures.written s stands)
 
 pub returns-in-Ok-write_all-clause-disk : goal.returns-in-Ok-write_all-clause-disk
 returns-in-Ok-write_all-clause-disk g c s stands =

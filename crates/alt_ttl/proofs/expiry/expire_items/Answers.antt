@@ -120,7 +120,7 @@ returns-clause-carried g c =
           ∙ ap (writes_together s (deletions s c.args.moment))
           (sym (c.in_ok-reply.ensures.reply
           ∙ ap (λ (n : ℕ). answers (codes "Expired") (number (unsigned n)))
-          (c.len.ensures ∙ c.in_ok-changes.changes.held.ok.0)
+          (c.len.ensures ∙ c.in_ok-changes.changes.ok.0)
           ∙ answered_is s c.args.moment c.in_ok-changes.changes.items
           (c.in_ok-changes.ensures.written s stands))),
       subst (λ ws. AreAllMade now s ws)

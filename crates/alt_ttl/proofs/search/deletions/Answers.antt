@@ -33,12 +33,18 @@ returns-in-Ok-find_all-clause-may g c =
 pub returns-in-Ok-find_all-clause-apart : goal.returns-in-Ok-find_all-clause-apart
 returns-in-Ok-find_all-clause-apart g c =
     subst AreAllApart (sym c.in-Ok-find_all.ensures.written)
-    (all_apart c.in-Ok.standings.items (ap has_twice (sym c.as_slice.ensures)
+    (all_apart c.in-Ok.standings.items (ap has_twice (sym c.as_slice.ensures.value)
     ∙ sym c.has_twice.ensures ∙ c.if-has_twice.false))
 
 pub returns-in-Ok-find_all-clause-found : goal.returns-in-Ok-find_all-clause-found
 returns-in-Ok-find_all-clause-found g c s stands =
     c.in-Ok-find_all.ensures.found s ((c.in-Ok.ensures.stays s).0 stands)
+
+pub returns-in-Err-find_all-clause-stays : goal.returns-in-Err-find_all-clause-stays
+returns-in-Err-find_all-clause-stays g c = stays_then (g.D.Disk.state c.args.disk.now)
+    (g.D.Disk.state c.expiring.new.disk) (g.D.Disk.state c.find_all.new.disk) c.args.tables.now
+    c.expiring.new.tables c.find_all.new.tables c.in-Ok.ensures.stays
+    c.in-Err-find_all.ensures.stays
 
 pub returns-in-Ok-find_all-clause-stays : goal.returns-in-Ok-find_all-clause-stays
 returns-in-Ok-find_all-clause-stays g c = stays_then (g.D.Disk.state c.args.disk.now)

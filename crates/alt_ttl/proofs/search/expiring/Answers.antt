@@ -25,10 +25,12 @@ There catalog name = map.contains_key catalog name ≡ true
 pub loop-name-init : goal.loop-name-init
 loop-name-init g c = record {
   left = λ s stands.
-      ap (λ l. take MOST_EXPIRED (l ++ expired_of s c.args.moment c.in_ok-names.names.items)) c.new-out.ensures.items
+      (λ i. take MOST_EXPIRED (c.new-out.ensures.items i
+      ++ expired_of s c.args.moment (c.into_iter-name-iterator.ensures.into_iter_gives.0 i)))
       ∙ found_all s c.args.moment stands.valid c.in_ok-names.names.items
       (c.in_ok-names.ensures.names ∙ ap (λ (k : Texts TableSchema). take MOST_TABLES (names_after [] k)) stands.catalog);
-  there = subst (Every (There (catalog_of c.args.tables.now))) (sym c.in_ok-names.ensures.names)
+  there = subst (Every (There (catalog_of c.args.tables.now)))
+      (sym (c.into_iter-name-iterator.ensures.into_iter_gives.0 ∙ c.in_ok-names.ensures.names))
       (names_there (catalog_of c.args.tables.now));
   few = omega (arith, ap length c.new-out.ensures.items);
   named = subst (AreNamed (catalog_of c.args.tables.now)) (sym c.new-out.ensures.items) tt;
@@ -87,6 +89,12 @@ loop-name-preserved g c =
           c.search_table.ensures.catalog;
       disk = reads_then a b d so.disk c.search_table.ensures.disk;
     }
+
+pub returns-in-Err-clause-stays : goal.returns-in-Err-clause-stays
+returns-in-Err-clause-stays g c = stays_then (g.D.Disk.state c.args.disk.now)
+    (g.D.Disk.state c.loop-name.disk) (g.D.Disk.state c.search_table.new.disk) c.args.tables.now
+    c.loop-name.tables c.search_table.new.tables c.loop-name.invariant.stays
+    c.search_table.ensures.stays
 
 pub returns-clause-standings : goal.returns-clause-standings
 returns-clause-standings g c s stands =

@@ -1,5 +1,5 @@
 -- There are enough, or the page was the last, or its last item says where to go on.
-use Rattle.std.proofs.Common.{◌≡◌, ◌≤◌, ◌<◌, ◌++◌, [], true, sym, ap, subst, ◌∙◌, List, ℕ, None, Some, take, length, arith}
+use Rattle.std.proofs.Common.{◌≡◌, ◌≤◌, ◌<◌, ◌++◌, ◌∷◌, [], true, sym, ap, subst, ◌∙◌, List, ℕ, None, Some, take, length, arith}
 use Rattle.std.specs.List.{last_or}
 use Rattle.std.specs.FinMap as map
 use Rattle.alt_machine.specs.declared.Standing.{Standing}
@@ -58,7 +58,9 @@ returns-in-Some-last-clause-left g c s t stands at =
     let out : List Standing = c.args.out.now.items in
     let items : List (List Pair) = c.rows.new.out.items in
     let list : List (List Pair) = items_between t None c.args.from None true in
-    ap (left_in name t c.args.moment c.put_expired.new.out.items) c.in_ok-behind-in-Some-last.ensures
+    ap (left_in name t c.args.moment c.put_expired.new.out.items)
+    (c.in_ok-behind-in-Some-last.ensures
+    ∙ ap (λ (p : List ℕ). p ++ 0 ∷ []) c.as_slice.ensures.same)
     ∙ page_on name t c.args.moment
     (stored_at a c.args.tables.now s stands name t at None (λ d e. tt))
     out c.put_expired.new.out.items c.args.from 64 items

@@ -16,6 +16,16 @@ use Rattle.alt_ttl.proofs.Looking.{keeps_none, keeps_then, stays_then}
 use Rattle.alt_ttl.proofs.Searching.{left_first, none_expired}
 use Rattle.alt_ttl.proofs.search.search_table.Goals as goal
 
+pub returns-then-not-has_time-clause-found : goal.returns-then-not-has_time-clause-found
+returns-then-not-has_time-clause-found g c s t stands at =
+    let name = c.args.name.now in
+    let known : map.get (catalog_of c.args.tables.now) name ≡ Some t.description =
+    ap (λ (k : Texts TableSchema). map.get k name) stands.catalog ∙ get-descriptions s.tables name
+    ∙ ap (option_map (λ (u : Table). u.description)) at in
+    sym (ap (λ l. take MOST_EXPIRED (c.args.out.now.items ++ l)) (none_expired name t c.args.moment
+    (sym (c.has_time.ensures t.description known) ∙ c.if-not-has_time.true))
+    ∙ take_whole MOST_EXPIRED c.args.out.now.items c.requires.few)
+
 pub pages-init : goal.pages-init
 pages-init g c = record {
   left = λ s t stands at.
@@ -64,3 +74,16 @@ pages-preserved g c =
           c.search_page.ensures.catalog;
       disk = reads_then a b d so.disk c.search_page.ensures.disk;
     }
+
+pub returns-in-Ok-None-clause-found : goal.returns-in-Ok-None-clause-found
+returns-in-Ok-None-clause-found g c s t stands at =
+    let so = c.pages.invariant in
+    subst (λ o. left_of c.args.name.now t c.args.moment c.search_page.new.out.items o
+    ≡ left_in c.args.name.now t c.args.moment c.pages.out.items c.pages.from)
+    c.in-Ok-None.field-0-is (c.in-Ok-None.ensures.left s t ((so.stays s).0 stands) at)
+    ∙ so.left s t stands at
+
+pub returns-in-Err-clause-stays : goal.returns-in-Err-clause-stays
+returns-in-Err-clause-stays g c = stays_then (g.D.Disk.state c.args.disk.now)
+    (g.D.Disk.state c.pages.disk) (g.D.Disk.state c.search_page.new.disk) c.args.tables.now
+    c.pages.tables c.search_page.new.tables c.pages.invariant.stays c.search_page.ensures.stays

@@ -7,7 +7,7 @@ use Rattle.alt_codec.specs.declared.writer.Writer.TheVariants.{Expiry}
 use Rattle.alt_disk.specs.Disk.{DiskState}
 use Rattle.alt_machine.specs.declared.Standing.{Standing}
 use Rattle.alt_machine.specs.Expiry.{deletions, expiring, gone_at}
-use Rattle.alt_machine.specs.Ops.BatchWriteItem.{Written, writes_of_all_by}
+use Rattle.alt_machine.specs.Ops.BatchWriteItem.{writes_of_all_by}
 use Rattle.alt_machine.specs.Ops.ExpireItems.{expire_items, expired}
 use Rattle.alt_machine.specs.declared.TheConstants.{NUMBERS_END}
 use Rattle.alt_machine.specs.Outcomes.{Outcome, Wants, together, writes_together}

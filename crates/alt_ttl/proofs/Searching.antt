@@ -1,7 +1,7 @@
 -- The search for expired items, table by table and page by page.
-use Rattle.std.proofs.Common.{◌≡◌, ◌≢◌, ◌<◌, ◌≤◌, refl, sym, ap, subst, ◌∙◌, cond, ℕ, zero, suc, Bool, true, false, T, List, [], ◌∷◌, ◌++◌, map, take, drop, length, Option, Some, None, All, append_assoc, append-nil, take-append-drop, is_some, arith}
+use Rattle.std.proofs.Common.{◌≡◌, ◌≢◌, ◌<◌, ◌≤◌, refl, sym, ap, subst, ◌∙◌, cond, ℕ, zero, suc, Bool, true, false, T, List, [], ◌∷◌, ◌++◌, map, take, drop, length, Option, Some, None, All, append_assoc, take-append-drop, is_some, arith}
 use Rattle.std.specs.Prelude.{if◌then◌else◌, option_and_then, ◌&&◌}
-use Rattle.std.specs.BTreeMap.Range.{entries_between, range_contains}
+use Rattle.std.specs.BTreeMap.Range.{entries_between}
 use Rattle.std.specs.FinMap as finite
 use Rattle.std.specs.FinMap.Entries.{below_all, find, is_sorted}
 use Rattle.std.specs.List.{filter, flat_map, last_or}
@@ -32,7 +32,7 @@ use Rattle.alt_schema.specs.Rules.{is_name}
 use Rattle.alt_schema.specs.declared.schema.TableSchema.{TableSchema}
 use Rattle.alt_tables.specs.Reading.{places_between}
 use Rattle.alt_tables.specs.Several.{Every}
-use Rattle.alt_ttl.specs.private.Searched.{left_in, left_of, standing_of, standings_of}
+use Rattle.alt_ttl.specs.private.Searched.{left_in, standing_of, standings_of}
 use Rattle.alt_ttl.proofs.Fronts.{take_step}
 use Rattle.alt_ttl.proofs.Founds.{every_take}
 use Rattle.alt_value.specs.Item.{at_name}

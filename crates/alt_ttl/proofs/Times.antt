@@ -1,11 +1,7 @@
 -- Times that are over, by whole numbers of units.
-use Rattle.std.proofs.Common.{◌≡◌, ◌≤◌, ◌-◌, ◌+◌, ◌*◌, ◌^◌, refl, sym, ap, subst, ◌∙◌, cond, ltb, ℕ, zero, suc, ⊎_elim, inl, inr, Bool, true, false, arith, Ok, Err, Result}
-use Rattle.std.proofs.Math.IntN.{ℤ, pos, negsuc, neg_ℤ, nat_abs, suc_ℤ, ◌+ℤ◌, ◌-ℤ◌, +ℤ_assoc, +ℤ_idl, +ℤ_idr, +ℤ_invr, +ℤ-suc_ℤ, +ℤ-neg_ℤ_cancel, -ℤ-+ℤ_cancel, neg_ℤ-+ℤ}
-use Rattle.std.proofs.Math.Dec.{leb-suc-suc, leb-suc-zero, leb-zero}
+use Rattle.std.proofs.Common.{◌≡◌, ◌≤◌, ◌-◌, ◌+◌, ◌*◌, ◌^◌, refl, sym, ap, subst, ◌∙◌, ℕ, zero, suc, inl, inr, arith, Ok, Err, Result}
+use Rattle.std.proofs.Math.IntN.{ℤ, pos, neg_ℤ, nat_abs, ◌+ℤ◌, ◌-ℤ◌, +ℤ_assoc, +ℤ_idl, +ℤ_invr, +ℤ-neg_ℤ_cancel, neg_ℤ-+ℤ}
 use Rattle.std.proofs.Math.Nat.{add-mul}
-use Rattle.std.specs.Int.Signed.{lt_z}
-use Rattle.std.specs.Ordering.{int_cmp}
-use Rattle.std.specs.declared.cmp.Ordering.TheVariants.{Less, Equal, Greater}
 use Rattle.alt_decimal.specs.Number.{Fits, IsMagnitude, fitted_units, units_in}
 use Rattle.alt_decimal.specs.declared.fault.NumberFault.{NumberFault}
 use Rattle.alt_decimal.proofs.Fitting.{fitted_units-Fits}

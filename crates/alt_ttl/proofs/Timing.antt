@@ -1,6 +1,5 @@
 -- The refusals of an UpdateTimeToLive, step by step, and what it comes to.
-use Rattle.std.proofs.Common.{◌≡◌, refl, sym, ap, subst, ◌∙◌, ℕ, true, false, [], ◌∷◌, Option, Some, None, Bor, Result, Ok, Err, arith}
-use Rattle.std.specs.Prelude.{if◌then◌else◌}
+use Rattle.std.proofs.Common.{◌≡◌, sym, ap, subst, ◌∙◌, ℕ, true, false, [], ◌∷◌, Option, Some, None, Bor, Result, Ok, Err, arith}
 use Rattle.std.specs.Result.{IsErr, IsErrAnd}
 use Rattle.std.specs.FinMap as map
 use Rattle.serde_json.specs.Data.{Members}

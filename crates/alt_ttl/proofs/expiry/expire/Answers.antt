@@ -1,10 +1,9 @@
 -- What has expired is looked up, and deleted.
-use Rattle.std.proofs.Common.{◌≡◌, sym, ap, subst, ◌∙◌, ℕ, map, length}
+use Rattle.std.proofs.Common.{sym, subst, ◌∙◌, ℕ, map}
 use Rattle.alt_codec.specs.declared.writer.Writer.TheVariants.{Expiry}
-use Rattle.alt_disk.specs.Disk.{DiskState}
 use Rattle.alt_machine.specs.Ops.BatchWriteItem.{writes_of_all_by}
 use Rattle.alt_machine.specs.Ops.ExpireItems.{expire_items}
-use Rattle.alt_machine.specs.State.{State, Texts}
+use Rattle.alt_machine.specs.State.{Texts}
 use Rattle.alt_schema.specs.declared.schema.TableSchema.{TableSchema}
 use Rattle.alt_tables.proofs.Left.{leaves_after, leaves_reads, ready_on}
 use Rattle.alt_tables.proofs.Standing.{file_stays}

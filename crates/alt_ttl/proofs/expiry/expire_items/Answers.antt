@@ -1,5 +1,5 @@
 -- What has expired is looked up, and deleted.
-use Rattle.std.proofs.Common.{◌≡◌, sym, ap, subst, ◌∙◌, ℕ, List, map, Ok, Err, length}
+use Rattle.std.proofs.Common.{sym, ap, subst, ◌∙◌, ℕ, map, Ok, Err}
 use Rattle.std.specs.Prelude.{codes}
 use Rattle.serde_json.specs.Data.{number, unsigned}
 use Rattle.alt_codec.specs.declared.writer.Writer.TheVariants.{Expiry}
@@ -22,7 +22,7 @@ use Rattle.alt_request.proofs.Reaching.{err_is}
 use Rattle.alt_schema.specs.declared.schema.TableSchema.{TableSchema}
 use Rattle.alt_shape.specs.Refusals.{Answer}
 use Rattle.alt_tables.specs.Faults.{AreAllMade, BreakOffAll}
-use Rattle.alt_tables.specs.Stands.{Stands, bounds_of, catalog_of}
+use Rattle.alt_tables.specs.Stands.{Stands, bounds_of}
 use Rattle.alt_ttl.proofs.Deleting.{answered_is, deletions_are, expire_is, leaves_is}
 use Rattle.alt_ttl.proofs.expiry.expire_items.Goals as goal
 

@@ -1,9 +1,7 @@
 -- Such a moment fits.
-use Rattle.std.proofs.Common.{◌≡◌, ◌*◌, ◌^◌, ◌∙◌, ℕ, sym, subst, ap, Result, Ok}
-use Rattle.std.proofs.Math.IntN.{ℤ, pos, ◌-ℤ◌}
-use Rattle.alt_decimal.specs.Number.{Fits, fitted_units, units_in}
-use Rattle.alt_decimal.specs.declared.fault.NumberFault.{NumberFault}
-use Rattle.alt_ttl.proofs.Times.{below_zero, is_below, no_fault, same_ok}
+use Rattle.std.proofs.Math.IntN.{◌-ℤ◌}
+use Rattle.alt_decimal.specs.Number.{units_in}
+use Rattle.alt_ttl.proofs.Times.{is_below, no_fault, same_ok}
 use Rattle.alt_ttl.proofs.over.before_zero.Goals as goal
 
 pub unreachable-requires : goal.unreachable-requires

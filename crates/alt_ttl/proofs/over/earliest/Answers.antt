@@ -1,5 +1,5 @@
 -- The moment lies behind 1970 or before.
-use Rattle.std.proofs.Common.{◌≡◌, ◌^◌, ◌∙◌, sym, arith}
+use Rattle.std.proofs.Common.{◌^◌, ◌∙◌, arith}
 use Rattle.alt_machine.specs.declared.TheConstants.{FIVE_YEARS}
 use Rattle.alt_ttl.proofs.Times.{earlier, later}
 use Rattle.alt_ttl.proofs.over.earliest.Goals as goal

@@ -1,8 +1,7 @@
 -- What was found stands once, and is looked up.
-use Rattle.std.proofs.Common.{◌≡◌, sym, ap, subst, ◌∙◌, ℕ, List, map}
-use Rattle.alt_disk.specs.Disk.{DiskState}
+use Rattle.std.proofs.Common.{sym, ap, subst, ◌∙◌, map}
 use Rattle.alt_machine.specs.Expiry.{gone_at}
-use Rattle.alt_machine.specs.State.{State, Texts}
+use Rattle.alt_machine.specs.State.{Texts}
 use Rattle.alt_schema.specs.declared.schema.TableSchema.{TableSchema}
 use Rattle.alt_tables.proofs.Left.{reads_then, ready_on}
 use Rattle.alt_tables.specs.Several.{AreAllApart, Every, MayWrite}

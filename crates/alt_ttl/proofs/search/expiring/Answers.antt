@@ -1,17 +1,15 @@
 -- One more table was looked through; at the end none is left.
-use Rattle.std.proofs.Common.{◌≡◌, ◌≤◌, ◌++◌, ◌∷◌, [], true, refl, sym, ap, subst, ◌∙◌, ℕ, List, take, length, arith}
+use Rattle.std.proofs.Common.{◌≡◌, ◌++◌, ◌∷◌, [], true, sym, ap, subst, ◌∙◌, ℕ, List, take, length, arith}
 use Rattle.std.specs.FinMap as map
 use Rattle.std.specs.Vec.Iter.{into_iter_items}
 use Rattle.alt_disk.specs.Disk.{DiskState}
-use Rattle.alt_machine.specs.declared.Standing.{Standing}
 use Rattle.alt_machine.specs.declared.TheConstants.{MOST_EXPIRED, MOST_TABLES}
-use Rattle.alt_machine.specs.Expiry.{expiring}
 use Rattle.alt_machine.specs.Ops.ListTables.{names_after}
-use Rattle.alt_machine.specs.State.{State, Texts}
+use Rattle.alt_machine.specs.State.{Texts}
 use Rattle.alt_schema.specs.declared.schema.TableSchema.{TableSchema}
 use Rattle.alt_tables.proofs.Left.{reads_nothing, reads_then, ready_on}
 use Rattle.alt_tables.specs.Several.{Every}
-use Rattle.alt_tables.specs.Stands.{Stands, catalog_of}
+use Rattle.alt_tables.specs.Stands.{catalog_of}
 use Rattle.alt_ttl.specs.private.Searched.{AreNamed}
 use Rattle.alt_ttl.proofs.Fronts.{none_ahead, take_step, take_whole}
 use Rattle.alt_ttl.proofs.Looking.{keeps_none, keeps_then, stays_then}

@@ -1,14 +1,11 @@
 -- There are enough, or the page was the last, or its last item says where to go on.
-use Rattle.std.proofs.Common.{◌≡◌, ◌≤◌, ◌<◌, ◌++◌, ◌∷◌, [], true, sym, ap, subst, ◌∙◌, List, ℕ, None, Some, take, length, arith}
-use Rattle.std.specs.List.{last_or}
-use Rattle.std.specs.FinMap as map
+use Rattle.std.proofs.Common.{◌≤◌, ◌++◌, ◌∷◌, [], true, sym, ap, subst, ◌∙◌, List, ℕ, None, take, length, arith}
 use Rattle.alt_machine.specs.declared.Standing.{Standing}
 use Rattle.alt_machine.specs.declared.TheConstants.{MOST_EXPIRED}
 use Rattle.alt_machine.specs.Walks.{items_between}
 use Rattle.alt_ops_query.proofs.Described.{described, stored_at}
-use Rattle.alt_tables.specs.Reading.{places_between}
 use Rattle.alt_tables.specs.Stands.{catalog_of}
-use Rattle.alt_ttl.specs.private.Searched.{AreNamed, left_in, standings_of}
+use Rattle.alt_ttl.specs.private.Searched.{left_in, standings_of}
 use Rattle.alt_ttl.proofs.Founds.{taken_named}
 use Rattle.alt_ttl.proofs.Fronts.{take_few, take_full}
 use Rattle.alt_ttl.proofs.Searching.{page_last, page_none, page_on}

@@ -1,15 +1,14 @@
 -- A page more was looked through, or the last one; or the table's items have no time.
-use Rattle.std.proofs.Common.{◌≡◌, ◌++◌, [], true, refl, sym, ap, subst, ◌∙◌, List, None, Some, option_map, take}
+use Rattle.std.proofs.Common.{◌≡◌, ◌++◌, true, sym, ap, subst, ◌∙◌, None, Some, option_map, take}
 use Rattle.std.specs.FinMap as map
 use Rattle.alt_disk.specs.Disk.{DiskState}
-use Rattle.alt_machine.specs.declared.Standing.{Standing}
 use Rattle.alt_machine.specs.declared.TheConstants.{MOST_EXPIRED}
-use Rattle.alt_machine.specs.State.{State, Table, Texts}
+use Rattle.alt_machine.specs.State.{Table, Texts}
 use Rattle.alt_machine.proofs.Descriptions.{get-descriptions}
 use Rattle.alt_ops_query.proofs.Described.{stored_at}
 use Rattle.alt_schema.specs.declared.schema.TableSchema.{TableSchema}
 use Rattle.alt_tables.proofs.Left.{reads_nothing, reads_then, ready_on}
-use Rattle.alt_tables.specs.Stands.{Stands, catalog_of}
+use Rattle.alt_tables.specs.Stands.{catalog_of}
 use Rattle.alt_ttl.specs.private.Searched.{AreNamed, left_in, left_of}
 use Rattle.alt_ttl.proofs.Fronts.{take_whole}
 use Rattle.alt_ttl.proofs.Looking.{keeps_none, keeps_then, stays_then}

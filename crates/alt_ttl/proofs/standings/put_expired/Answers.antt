@@ -1,5 +1,5 @@
 -- One more is put; at the end nothing is left.
-use Rattle.std.proofs.Common.{◌≡◌, ◌≤◌, ◌++◌, ◌∷◌, sym, ap, subst, ◌∙◌, List, take, length}
+use Rattle.std.proofs.Common.{◌≤◌, ◌++◌, sym, ap, subst, ◌∙◌, List, take, length}
 use Rattle.std.specs.Vec.Iter.{into_iter_items}
 use Rattle.alt_machine.specs.declared.Standing.{Standing}
 use Rattle.alt_machine.specs.declared.TheConstants.{MOST_EXPIRED}

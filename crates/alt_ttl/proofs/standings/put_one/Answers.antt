@@ -1,5 +1,5 @@
 -- There are enough, or the item hasn't expired or has no place, or one more is put.
-use Rattle.std.proofs.Common.{◌≡◌, ◌++◌, ◌∷◌, [], true, false, refl, sym, ap, ◌∙◌, Bool, List, ℕ, take, length, Option, None, Some, arith}
+use Rattle.std.proofs.Common.{◌++◌, ◌∷◌, [], true, false, refl, sym, ap, ◌∙◌, take, Some, arith}
 use Rattle.std.proofs.lemmas.List.{length-append, take_all}
 use Rattle.alt_machine.specs.declared.Standing.{Standing}
 use Rattle.alt_machine.specs.declared.TheConstants.{MOST_EXPIRED}

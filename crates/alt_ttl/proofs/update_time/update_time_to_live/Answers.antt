@@ -1,5 +1,5 @@
 -- The request is refused, or the table has that attribute and what was said is answered.
-use Rattle.std.proofs.Common.{◌≡◌, sym, ap, subst, ◌∙◌, ℕ, List, [], ◌∷◌, Option, is_some}
+use Rattle.std.proofs.Common.{sym, ap, subst, ◌∙◌, ℕ, List, [], ◌∷◌, Option, is_some}
 use Rattle.std.specs.FinMap as map
 use Rattle.std.specs.Prelude.{codes}
 use Rattle.serde_json.specs.Data.{Members}

@@ -1,11 +1,11 @@
 -- An operation that is built is carried out, a put by its own way.
-use Rattle.std.proofs.Common.{Option, Some, IsTrue, sym, subst, ap, ◌∙◌}
+use Rattle.std.proofs.Common.{Option, Some, sym, subst, ap, ◌∙◌}
 use Rattle.std.proofs.lemmas.Bool.{false≢true}
 use Rattle.alt_machine.specs.declared.Operation.{Operation}
 use Rattle.alt_machine.specs.Step.{step}
 use Rattle.alt_request.specs.Carried.{Carries, Moves}
 use Rattle.alt_tables.specs.Stands.{Stands, bounds_of}
-use Rattle.alt_dispatch.specs.Reading.{OnlyReads, is_read}
+use Rattle.alt_dispatch.specs.Reading.{OnlyReads}
 use Rattle.alt_tables.proofs.Left.{reads_nothing}
 use Rattle.alt_dispatch.proofs.answers.respond.Goals as goal
 

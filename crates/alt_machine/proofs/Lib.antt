@@ -29,6 +29,7 @@ pub mod States
 pub mod Steps
 pub mod Targets
 pub mod Tests
+pub mod Timeless
 pub mod Timing
 pub mod Together
 pub mod Trimming

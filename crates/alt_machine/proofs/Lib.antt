@@ -1,3 +1,4 @@
+pub mod Agreeing
 pub mod Batches
 pub mod Behind
 pub mod Building

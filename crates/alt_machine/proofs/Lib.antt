@@ -1,3 +1,4 @@
+pub mod Agreeing
 pub mod Batches
 pub mod Behind
 pub mod Building
@@ -29,6 +30,7 @@ pub mod States
 pub mod Steps
 pub mod Targets
 pub mod Tests
+pub mod Timeless
 pub mod Timing
 pub mod Together
 pub mod Trimming

@@ -21,20 +21,20 @@ use Rattle.alt_value.specs.Tree.{Pair}
 module _ (tests : List (Option Answer)) (texts : Texts) (s : State) (ms : Members)
     (go : Expressions → Option (List Pair) → Table → Option ℕ → Outcome) where
   -- behind each of the steps
-  abbrev expressed : Option (List Pair) → Table → Option ℕ → Expressions → Outcome
+  abbrev pub expressed : Option (List Pair) → Table → Option ℕ → Expressions → Outcome
   expressed start t index said = go said start t index
 
-  abbrev of_index : Given → Option (List Pair) → Table → Option ℕ → Outcome
+  abbrev pub of_index : Given → Option (List Pair) → Table → Option ℕ → Outcome
   of_index g start t index = with_found (expressions texts t.description ms g)
       (expressed start t index)
 
-  abbrev in_table : Given → Option (List Pair) → Table → Outcome
+  abbrev pub in_table : Given → Option (List Pair) → Table → Outcome
   in_table g start t = with_found (index_asked t.description ms) (of_index g start t)
 
-  abbrev of_start : Given → Option (List Pair) → Outcome
+  abbrev pub of_start : Given → Option (List Pair) → Outcome
   of_start g start = with_found (table_at s ms) (in_table g start)
 
-  abbrev of_words : Given → Outcome
+  abbrev pub of_words : Given → Outcome
   of_words g = with_found (start_given texts ms) (of_start g)
 
   -- an operation on a list is refused as its first test says

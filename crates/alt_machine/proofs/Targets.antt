@@ -43,20 +43,20 @@ module _ (tests : List (Option Answer)) (s : State) (ms : Members) (go : Table �
 module _ (tests : List (Option Answer)) (sought : Sought) (texts : Texts) (s : State) (ms : Members)
     (go : Expressions → List Pair → Table → List ℕ → Outcome) where
   -- behind each of the steps
-  abbrev placed : List Pair → Table → Expressions → List ℕ → Outcome
+  abbrev pub placed : List Pair → Table → Expressions → List ℕ → Outcome
   placed item t said at = unless_refused (of_length t.description item) (go said item t at)
 
-  abbrev expressed : List Pair → Table → Expressions → Outcome
+  abbrev pub expressed : List Pair → Table → Expressions → Outcome
   expressed item t said = with_found (or_refused bad_key (place_in sought t.description item))
       (placed item t said)
 
-  abbrev in_table : List Pair → Given → Table → Outcome
+  abbrev pub in_table : List Pair → Given → Table → Outcome
   in_table item g t = with_found (expressions texts t.description ms g) (expressed item t)
 
-  abbrev of_words : List Pair → Given → Outcome
+  abbrev pub of_words : List Pair → Given → Outcome
   of_words item g = with_found (table_at s ms) (in_table item g)
 
-  abbrev of_item : List Pair → Outcome
+  abbrev pub of_item : List Pair → Outcome
   of_item item = with_found (words_given texts ms) (of_words item)
 
   -- an operation on an item is refused as its first test says

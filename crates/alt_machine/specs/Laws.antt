@@ -1,6 +1,8 @@
 -- What is proved of the machine itself.
-use Rattle.std.specs.Prelude.{◌≡◌, ◌≤◌, ℕ, Bool, false, not, List, length, map as each, take, Option, Some, None, option_and_then}
+use Rattle.std.specs.Prelude.{◌≡◌, ◌≢◌, ◌≤◌, ℕ, Bool, false, not, List, [], length, map as each, take, Option, Some, None, option_and_then, option_map, All, Contains}
 use Rattle.std.specs.FinMap as map
+use Rattle.std.specs.Option.{option_map_or}
+use Rattle.alt_codec.specs.declared.writer.Writer.TheVariants.{Expiry}
 use Rattle.alt_expr.specs.KeyForm.{Key, ask_of}
 use Rattle.alt_expr.specs.Pages.{passes}
 use Rattle.alt_expr.specs.UpdateLanguage.{target}
@@ -15,13 +17,14 @@ use Rattle.alt_legacy.specs.declared.entry.Entry.{Entry}
 use Rattle.alt_machine.specs.Conditional as conditional
 use Rattle.alt_machine.specs.Conditional.{seen}
 use Rattle.alt_machine.specs.declared.Operation.{Operation}
+use Rattle.alt_machine.specs.declared.Operation.TheVariants.{ExpireItems}
 use Rattle.alt_machine.specs.Indexed.{index_place, index_entry, index_items}
 use Rattle.alt_machine.specs.Keys.{key_place}
 use Rattle.alt_machine.specs.Older.{some_actions}
 use Rattle.alt_machine.specs.Ops.UpdateItem.{makes_none}
-use Rattle.alt_machine.specs.Outcomes.{state_after}
+use Rattle.alt_machine.specs.Outcomes.{last_state, state_after}
 use Rattle.alt_machine.specs.Sources.{index_at}
-use Rattle.alt_machine.specs.State.{State, Table}
+use Rattle.alt_machine.specs.State.{State, Table, Texts, Change}
 use Rattle.alt_machine.specs.Step.{step}
 use Rattle.alt_machine.specs.Valid.{IsValid, IsHeldState}
 use Rattle.alt_machine.specs.Wanted.{lack_among}
@@ -72,6 +75,28 @@ abbrev pub AllIndex : Type 0
 AllIndex = (s : State) (name : List ℕ) (t : Table) (number : ℕ) (i : IndexSchema) → IsValid s
     → IsHeldState s → map.get s.tables name ≡ Some t
     → index_at t.description (Some number) ≡ Some i → Indexes t i
+
+-- ---- time to live
+
+-- the items of a table, where it is there
+abbrev pub items_of : State → List ℕ → Option (Texts (List Pair))
+items_of s name = option_map (λ t. t.items) (map.get s.tables name)
+
+-- its changes
+abbrev pub changes_of : State → List ℕ → List Change
+changes_of s name = option_map_or (λ t. t.changes) (map.get s.tables name) []
+
+-- No request but an ExpireItems deletes an item because of its time: the items that it leaves are the same at any moment, and each change
+-- that is told to be of time to live was there before it.
+pub record OthersExpireNone : Type 0 where
+  pub items : (s : State) (op : Option Operation) (body : List ℕ) (m n : ℕ) (name : List ℕ)
+      → op ≢ Some ExpireItems
+      → items_of (last_state s (step s op body m).atoms) name
+      ≡ items_of (last_state s (step s op body n).atoms) name
+  pub changes : (s : State) (op : Option Operation) (body : List ℕ) (moment : ℕ) (name : List ℕ)
+      → op ≢ Some ExpireItems
+      → All (λ (c : Change). c.by ≡ Expiry → Contains (changes_of s name) c)
+      (changes_of (last_state s (step s op body moment).atoms) name)
 
 -- ---- members of the older interface
 

@@ -5,7 +5,7 @@
 #![tactic(auto)]
 
 ghost use Rattle.alt_machine.specs.Expiry.{DeletesExpired};
-ghost use Rattle.alt_machine.specs.Laws.{StepsKeepValid, OneAtom, PlacesLie, IndexPlacesLie, AllIndex, OlderConditions, OlderKeys, OlderUpdates};
+ghost use Rattle.alt_machine.specs.Laws.{StepsKeepValid, OneAtom, PlacesLie, IndexPlacesLie, AllIndex, OthersExpireNone, OlderConditions, OlderKeys, OlderUpdates};
 ghost use Rattle.alt_machine.specs.State.{start};
 ghost use Rattle.alt_machine.specs.Valid.{IsValid};
 
@@ -116,7 +116,8 @@ pub const BATCH_BYTES: u64 = 16_777_216;
 
 /// The laws of the machine: the state of an empty store is valid, each request leads from a valid state to a valid one and has one atom
 /// at most, the items of a table and of an index lie by their keys, and an index has the items of its table that have its keys; an
-/// ExpireItems deletes exactly the items that it names; the trees of members of the older interface mean what these ask. It does nothing.
+/// ExpireItems deletes exactly the items that it names, and no other request deletes one because of its time; the trees of members of the
+/// older interface mean what these ask. It does nothing.
 pub fn laws()
     ensures start { IsValid start }
     ensures steps { StepsKeepValid }
@@ -125,6 +126,7 @@ pub fn laws()
     ensures index_places { IndexPlacesLie }
     ensures indexes { AllIndex }
     ensures expiry { DeletesExpired }
+    ensures others { OthersExpireNone }
     ensures older_conditions { OlderConditions }
     ensures older_keys { OlderKeys }
     ensures older_updates { OlderUpdates }

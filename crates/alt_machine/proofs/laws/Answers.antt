@@ -6,6 +6,7 @@ use Rattle.alt_machine.proofs.OlderMeaning.{older_conditions, older_updates}
 use Rattle.alt_machine.proofs.Placed.{places_lie}
 use Rattle.alt_machine.proofs.States.{start_valid}
 use Rattle.alt_machine.proofs.Steps.{one_atom, step_valid}
+use Rattle.alt_machine.proofs.Timeless.{others_expire_none}
 use Rattle.alt_machine.proofs.laws.Goals as goal
 
 pub returns-clause-start : goal.returns-clause-start
@@ -28,6 +29,9 @@ returns-clause-indexes c = all_index
 
 pub returns-clause-expiry : goal.returns-clause-expiry
 returns-clause-expiry c = deletes_expired
+
+pub returns-clause-others : goal.returns-clause-others
+returns-clause-others c = others_expire_none
 
 pub returns-clause-older_conditions : goal.returns-clause-older_conditions
 returns-clause-older_conditions c = older_conditions

@@ -2,7 +2,7 @@
 use Rattle.std.proofs.Common.{◌≡◌, ◌<◌, ◌≤◌, ◌^◌, ◌⊎◌, inl, inr, refl, sym, ap, subst, ◌∙◌, ℕ, Bool, true, false, List, Option, Some, None, IsTrue, is_some, arith}
 use Rattle.std.specs.Option.{option_map_or}
 use Rattle.std.specs.Prelude.{◌↔◌}
-use Rattle.alt_layout.specs.Layout.{Layout, shown}
+use Rattle.alt_layout.specs.Layout.{Layout}
 use Rattle.alt_machine.specs.Same.{is_same}
 use Rattle.alt_machine.specs.State.{Change}
 use Rattle.alt_machine.specs.Valid.{IsChange, WasStored}

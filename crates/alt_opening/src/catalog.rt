@@ -3,7 +3,7 @@
 ghost use Rattle.std.specs.Prelude.{◌≡◌, ◌≢◌, ◌<◌, ◌≤◌, ◌==◌, ◌||◌, ◌↔◌, ◌∷◌, [], ℕ, List, T, false, None, Some, OnOk, OnErr, IfOk, IfErr, IfSome, option_map, length, map as each, slice_get, slice_index_or, slice_set, vec_len};
 ghost use Rattle.std.specs.FinMap as map;
 ghost use Rattle.std.specs.FinMap.Entries.{is_sorted};
-ghost use Rattle.std.specs.List.{HoldsAt, list_any};
+ghost use Rattle.std.specs.List.{HoldsAt, list_any, remove};
 ghost use Rattle.std.specs.List.Sorted.{IsPartitionPoint};
 ghost use Rattle.std.specs.declared.cmp.Ordering.TheVariants.{Less, Greater};
 ghost use Rattle.alt_machine.specs.Ops.ListTables.{names_after};
@@ -110,9 +110,7 @@ impl Catalog {
         ensures rest { self.new ≡ map.remove self.old name.now }
     {
         match seek(&self.entries, name) {
-            Ok(i) => {
-                self.entries.remove(i);
-            }
+            Ok(i) => take_out(&mut self.entries, i),
             Err(_) => {}
         }
     }
@@ -153,6 +151,14 @@ impl Catalog {
         self.entries
             .get(least_above(self.entries.as_slice(), family))
     }
+}
+
+/// Takes the table at a place out.
+fn take_out(entries: &mut Vec<TableSchema>, i: usize)
+    requires { i < vec_len entries.old }
+    ensures { entries.new.items ≡ remove entries.old.items i }
+{
+    entries.remove(i);
 }
 
 /// Gives the table at a place that attribute for time to live, or none.

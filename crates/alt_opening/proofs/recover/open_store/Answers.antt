@@ -1,5 +1,5 @@
 -- The engine reads as the files are, and its rows are those of a state, or none's.
-use Rattle.std.proofs.Common.{◌≤◌, ◌+◌, refl, sym, ap, subst, ◌∙◌, IsTrue, arith}
+use Rattle.std.proofs.Common.{refl, sym, ap, subst, ◌∙◌, IsTrue, arith}
 use Rattle.alt_disk.proofs.Runs.{tells_of, trusted_on}
 use Rattle.alt_engine.specs.InHand.{Bounds, last_form_of, next_file_of}
 use Rattle.alt_hand.proofs.SegmentFiles.{files_made-few}

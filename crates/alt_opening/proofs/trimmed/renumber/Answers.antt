@@ -1,7 +1,6 @@
 -- What was known of the table gives way to the number.
-use Rattle.std.proofs.Common.{◌≡◌, ◌∙◌, sym, ap, subst, List, Result, Ok, Err, OnOk}
+use Rattle.std.proofs.Common.{◌∙◌, sym, ap, subst, Result, Ok, Err, OnOk}
 use Rattle.alt_opening.specs.Trimmed.{IsRenumbered, with_number}
-use Rattle.alt_opening.specs.declared.trimmed.Trimmed.{Trimmed}
 use Rattle.alt_opening.proofs.TrimmedLaws.{number-instead}
 use Rattle.alt_opening.proofs.trimmed.renumber.Goals as goal
 

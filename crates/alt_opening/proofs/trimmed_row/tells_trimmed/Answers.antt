@@ -1,5 +1,5 @@
 -- The one column has the bytes of a number.
-use Rattle.std.proofs.Common.{rules, false, arith}
+use Rattle.std.proofs.Common.{rules, arith}
 use Rattle.std.proofs.lemmas.Bool.{false≢true}
 use Rattle.alt_opening.proofs.TrimmedRow.{no_bytes, tells_it, tells_none}
 use Rattle.alt_opening.proofs.trimmed_row.tells_trimmed.Goals as goal

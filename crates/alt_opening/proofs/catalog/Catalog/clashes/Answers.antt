@@ -1,6 +1,6 @@
 -- No entry of the list clashes exactly where no table of the map does.
-use Rattle.std.proofs.Common.{◌≡◌, subst, ◌∙◌, ap, ℕ, List, ◌||◌, false}
-use Rattle.std.specs.Prelude.{◌↔◌, ◌≢◌, ◌==◌, Some}
+use Rattle.std.proofs.Common.{◌≡◌, subst, ◌∙◌, ap, ℕ, List, false}
+use Rattle.std.specs.Prelude.{◌↔◌, Some}
 use Rattle.std.specs.List.{list_any}
 use Rattle.std.specs.FinMap as map
 use Rattle.alt_machine.specs.State.{Texts}

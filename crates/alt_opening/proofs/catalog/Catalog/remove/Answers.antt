@@ -10,15 +10,15 @@ use Rattle.alt_opening.proofs.catalog.Catalog.remove.Goals as goal
 pub invariant_of-self : goal.invariant_of-self
 invariant_of-self c = (
   (removed c.args.name.now c.self.inside.entries.items c.in-Ok.i c.self.invariant.0
-      c.in-Ok.ensures.within c.in-Ok.ensures.named _ c.remove.ensures.items).0,
-  All-same HasOwnFamilies _ (remove c.self.inside.entries.items c.in-Ok.i) c.remove.ensures.items
+      c.in-Ok.ensures.within c.in-Ok.ensures.named _ c.take_out.ensures).0,
+  All-same HasOwnFamilies _ (remove c.self.inside.entries.items c.in-Ok.i) c.take_out.ensures
       (All-remove HasOwnFamilies c.self.inside.entries.items c.in-Ok.i c.self.invariant.1),
 )
 
 pub returns-in-Ok : goal.returns-in-Ok
 returns-in-Ok c = record {
   rest = (removed c.args.name.now c.self.inside.entries.items c.in-Ok.i c.self.invariant.0
-      c.in-Ok.ensures.within c.in-Ok.ensures.named _ c.remove.ensures.items).1
+      c.in-Ok.ensures.within c.in-Ok.ensures.named _ c.take_out.ensures).1
       ∙ ap (λ m. map.remove m c.args.name.now) c.self.view_is;
 }
 

@@ -137,7 +137,7 @@ broken_well next (Serve per count) fault s b c never idle h = ⊎_elim
     (λ x. never None x.1)
     (λ x. ⊎_elim
     (λ one. ⊎_elim (λ y. never _ y) (λ y. idle _ y.0) one.2.some.wants)
-    (λ one. never _ one.2.cause)
+    (λ one. ⊎_elim (λ y. never _ y) (λ y. idle _ y.1) one.2.cause)
     x)
     h.holds.0.some
 broken_well next (Trial seed count) fault s b c never idle h = ⊎_elim (λ x. never _ x)

@@ -1,8 +1,9 @@
-"""Real requests of boto3 against a server on the loopback address, and of the AWS CLI where it is installed: python3 checks/clients.py PORT."""
+"""Real requests of boto3, and of the AWS CLI where it is installed, against a server on the loopback address.
+
+python3 checks/clients.py PORT
+"""
 
 import json
-import os
-import subprocess
 import sys
 import threading
 import time
@@ -12,6 +13,7 @@ import boto3
 from boto3.dynamodb.conditions import Attr, Key
 from botocore.config import Config
 from botocore.exceptions import ClientError
+from cli import dynamodb, version_of_cli
 
 PORT = int(sys.argv[1])
 SETTINGS = dict(
@@ -366,49 +368,26 @@ pass_64()
 wants("without a time to live all stay", left(), sorted([*STAYING, "over"]))
 
 
-def cli(*words):
-    """The status of a call of the AWS CLI, and what it printed: JSON, or the message of an error."""
-    run = subprocess.run(
-        ["aws", "dynamodb", *words, "--output", "json", "--endpoint-url", SETTINGS["endpoint_url"]],
-        env=dict(
-            os.environ,
-            AWS_ACCESS_KEY_ID="any",
-            AWS_SECRET_ACCESS_KEY="any",
-            AWS_DEFAULT_REGION="local",
-            AWS_CONFIG_FILE=os.devnull,
-            AWS_PAGER="",
-        ),
-        capture_output=True,
-        text=True,
-        timeout=120,
-    )
-    return run.returncode, json.loads(run.stdout or "{}") if run.returncode == 0 else run.stderr
-
-
-def cli_version():
-    try:
-        run = subprocess.run(["aws", "--version"], capture_output=True, text=True, timeout=120)
-    except OSError:
-        return None
-    return (run.stdout or run.stderr).split()[0] if run.returncode == 0 else None
+def cli(name, *words):
+    return dynamodb(SETTINGS["endpoint_url"], name, "--table-name", "Timed", *words)
 
 
 def cli_sees_expiry():
-    named = ("--table-name", "Timed")
-    update = ("update-time-to-live", *named, "--time-to-live-specification", "Enabled=true,AttributeName=until")
-    wants("the CLI finds none", cli("describe-time-to-live", *named), (0, {"TimeToLiveDescription": {"TimeToLiveStatus": "DISABLED"}}))
+    off = {"TimeToLiveDescription": {"TimeToLiveStatus": "DISABLED"}}
+    update = ("update-time-to-live", "--time-to-live-specification", "Enabled=true,AttributeName=until")
+    wants("the CLI finds no time to live", cli("describe-time-to-live"), (0, off))
     wants("the CLI sets it", cli(*update), (0, {"TimeToLiveSpecification": ON}))
     status, said = cli(*update)
     wants("and not twice", status != 0 and "ValidationException" in said, True)
-    wants("the CLI describes it", cli("describe-time-to-live", *named), (0, {"TimeToLiveDescription": DESCRIBED}))
+    wants("the CLI describes it", cli("describe-time-to-live"), (0, {"TimeToLiveDescription": DESCRIBED}))
     item = {"k": {"S": "over by the CLI"}, "until": {"N": str(now - 60)}}
-    wants("the CLI puts an item", cli("put-item", *named, "--item", json.dumps(item))[0], 0)
+    wants("the CLI puts an item", cli("put-item", "--item", json.dumps(item))[0], 0)
     pass_64()
-    status, said = cli("scan", *named)
+    status, said = cli("scan")
     wants("the CLI sees what stays", status == 0 and sorted(item["k"]["S"] for item in said["Items"]), STAYING)
 
 
-version = cli_version()
+version = version_of_cli()
 if version:
     cli_sees_expiry()
 else:

@@ -147,7 +147,13 @@ fn items_go_by_the_names_of_tables_and_then_by_places(rt: HostRuntime) {
     let said = of_two_tables(alloc, 10).and_then(|disk| shown(
         alloc,
         disk,
-        &[EXPIRE, r#"Scan {"TableName":"Rng","ProjectionExpression":"r"}"#, COUNT, EXPIRE, COUNT],
+        &[
+            EXPIRE,
+            r#"Scan {"TableName":"Rng","ProjectionExpression":"r"}"#,
+            COUNT,
+            EXPIRE,
+            COUNT,
+        ],
     ));
     let wanted: &[u8] =
         b"200 {\"Expired\":25}\n200 {\"Count\":1,\"Items\":[{\"r\":{\"N\":\"25\"}}],\"ScannedCount\":1}\n200 {\"Count\":10,\"ScannedCount\":10}\n200 {\"Expired\":11}\n200 {\"Count\":0,\"ScannedCount\":0}\n";
@@ -156,14 +162,8 @@ fn items_go_by_the_names_of_tables_and_then_by_places(rt: HostRuntime) {
 
 /// What is shown of a table with an index and a stream of which two items of three went.
 static LEFT: [(&str, &[u8]); 3] = [
-    (
-        r#"Scan {"TableName":"Rng"}"#,
-        b"200 ",
-    ),
-    (
-        r#"Scan {"TableName":"Rng","IndexName":"Gix"}"#,
-        b"200 ",
-    ),
+    (r#"Scan {"TableName":"Rng"}"#, b"200 "),
+    (r#"Scan {"TableName":"Rng","IndexName":"Gix"}"#, b"200 "),
     (
         r#"GetRecords {"ShardIterator":"arn:aws:dynamodb:local:000000000000:table/Rng/stream/000000000000000000001|000000000000000000004"}"#,
         b"200 ",
@@ -177,7 +177,11 @@ fn items_go_with_their_index_rows_and_a_record_of_who_deleted_them(rt: HostRunti
         let said = fresh(alloc)
             .and_then(|disk| behind(alloc, disk, &[CREATE, TIME, OVER_1, PUT_2, OVER_3, EXPIRE]))
             .and_then(|disk| shown(alloc, disk, &[*line]));
-        assert!(rt; said.is_some_and(|said| said.as_slice() == *wanted), "{}", *line);
+        assert!(rt;
+            said.is_some_and(|said| said.as_slice() == *wanted),
+            "{}",
+            *line
+        );
     }
 }
 

@@ -162,11 +162,17 @@ fn items_go_by_the_names_of_tables_and_then_by_places(rt: HostRuntime) {
 
 /// What is shown of a table with an index and a stream of which two items of three went.
 static LEFT: [(&str, &[u8]); 3] = [
-    (r#"Scan {"TableName":"Rng"}"#, b"200 "),
-    (r#"Scan {"TableName":"Rng","IndexName":"Gix"}"#, b"200 "),
     (
-        r#"GetRecords {"ShardIterator":"arn:aws:dynamodb:local:000000000000:table/Rng/stream/000000000000000000001|000000000000000000004"}"#,
-        b"200 ",
+        r#"Scan {"TableName":"Rng"}"#,
+        b"200 {\"Count\":1,\"Items\":[{\"g\":{\"S\":\"x\"},\"k\":{\"S\":\"a\"},\"r\":{\"N\":\"2\"}}],\"ScannedCount\":1}\n",
+    ),
+    (
+        r#"Scan {"TableName":"Rng","IndexName":"Gix"}"#,
+        b"200 {\"Count\":1,\"Items\":[{\"g\":{\"S\":\"x\"},\"k\":{\"S\":\"a\"},\"r\":{\"N\":\"2\"}}],\"ScannedCount\":1}\n",
+    ),
+    (
+        r#"GetRecords {"ShardIterator":"arn:aws:dynamodb:local:000000000000:table/Rng/stream/000000000000000000001|000000000000000000006"}"#,
+        b"200 {\"NextShardIterator\":\"arn:aws:dynamodb:local:000000000000:table/Rng/stream/000000000000000000001|000000000000000000008\",\"Records\":[{\"awsRegion\":\"local\",\"dynamodb\":{\"ApproximateCreationDateTime\":1700000000,\"Keys\":{\"k\":{\"S\":\"a\"},\"r\":{\"N\":\"1\"}},\"SequenceNumber\":\"000000000000000000006\",\"SizeBytes\":5,\"StreamViewType\":\"NEW_IMAGE\"},\"eventID\":\"000000000000000000006\",\"eventName\":\"REMOVE\",\"eventSource\":\"aws:dynamodb\",\"eventVersion\":\"1.1\",\"userIdentity\":{\"PrincipalId\":\"dynamodb.amazonaws.com\",\"Type\":\"Service\"}},{\"awsRegion\":\"local\",\"dynamodb\":{\"ApproximateCreationDateTime\":1700000000,\"Keys\":{\"k\":{\"S\":\"a\"},\"r\":{\"N\":\"3\"}},\"SequenceNumber\":\"000000000000000000007\",\"SizeBytes\":5,\"StreamViewType\":\"NEW_IMAGE\"},\"eventID\":\"000000000000000000007\",\"eventName\":\"REMOVE\",\"eventSource\":\"aws:dynamodb\",\"eventVersion\":\"1.1\",\"userIdentity\":{\"PrincipalId\":\"dynamodb.amazonaws.com\",\"Type\":\"Service\"}}]}\n",
     ),
 ];
 

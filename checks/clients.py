@@ -1,13 +1,19 @@
-"""Real requests of boto3 against a server on the loopback address: python3 checks/clients.py PORT."""
+"""Real requests of boto3, and of the AWS CLI where it is installed, against a server on the loopback address.
 
+python3 checks/clients.py PORT
+"""
+
+import json
 import sys
 import threading
+import time
 from decimal import Decimal
 
 import boto3
 from boto3.dynamodb.conditions import Attr, Key
 from botocore.config import Config
 from botocore.exceptions import ClientError
+from cli import dynamodb, version_of_cli
 
 PORT = int(sys.argv[1])
 SETTINGS = dict(
@@ -302,7 +308,93 @@ wants(
 )
 client.get_waiter("table_not_exists").wait(TableName="Abc")
 
+# Time to live. Each request is a connection here (PER is 1), and behind every 64th one the server deletes what is over.
+client.create_table(
+    TableName="Timed",
+    KeySchema=[{"AttributeName": "k", "KeyType": "HASH"}],
+    AttributeDefinitions=[{"AttributeName": "k", "AttributeType": "S"}],
+    BillingMode="PAY_PER_REQUEST",
+    StreamSpecification={"StreamEnabled": True, "StreamViewType": "OLD_IMAGE"},
+)
+arn = client.describe_table(TableName="Timed")["Table"]["LatestStreamArn"]
+timed = boto3.resource("dynamodb", **SETTINGS).Table("Timed")
+ON = {"AttributeName": "until", "Enabled": True}
+DESCRIBED = {"AttributeName": "until", "TimeToLiveStatus": "ENABLED"}
+SERVICE = {"PrincipalId": "dynamodb.amazonaws.com", "Type": "Service"}
+FIVE_YEARS = 157_680_000
+
+
+def set_time(specification):
+    return client.update_time_to_live(TableName="Timed", TimeToLiveSpecification=specification)
+
+
+def described():
+    return client.describe_time_to_live(TableName="Timed")["TimeToLiveDescription"]
+
+
+def pass_64():
+    """64 connections, of which one has a number that is a multiple of 64."""
+    for _ in range(64):
+        client.list_tables(Limit=1)
+
+
+def left():
+    return sorted(item["k"] for item in timed.scan()["Items"])
+
+
+wants("no time to live yet", described(), {"TimeToLiveStatus": "DISABLED"})
+wants("update_time_to_live", set_time(ON)["TimeToLiveSpecification"], ON)
+wants("a second one", error_of(set_time, specification=ON), "ValidationException")
+wants("describe_time_to_live", described(), DESCRIBED)
+now = int(time.time())
+times = {"over": now - 60, "of six years ago": now - FIVE_YEARS - 60, "to come": now + 3600, "a text": str(now - 60)}
+for name, until in times.items():
+    timed.put_item(Item={"k": name, "until": until})
+timed.put_item(Item={"k": "none"})
+pass_64()
+STAYING = ["a text", "none", "of six years ago", "to come"]
+wants("items that stay", left(), STAYING)
+records, _ = follow(place(ShardIteratorType="TRIM_HORIZON"), 100)
+wants(
+    "records of the item that went",
+    [(r["eventName"], r.get("userIdentity")) for r in records if r["dynamodb"]["Keys"]["k"]["S"] == "over"],
+    [("INSERT", None), ("REMOVE", SERVICE)],
+)
+wants("no others went", len(records), 6)
+OFF = {"AttributeName": "until", "Enabled": False}
+wants("update_time_to_live to none", set_time(OFF)["TimeToLiveSpecification"], OFF)
+timed.put_item(Item={"k": "over", "until": now - 60})
+pass_64()
+wants("without a time to live all stay", left(), sorted([*STAYING, "over"]))
+
+
+def cli(name, *words):
+    return dynamodb(SETTINGS["endpoint_url"], name, "--table-name", "Timed", *words)
+
+
+def cli_sees_expiry():
+    off = {"TimeToLiveDescription": {"TimeToLiveStatus": "DISABLED"}}
+    update = ("update-time-to-live", "--time-to-live-specification", "Enabled=true,AttributeName=until")
+    wants("the CLI finds no time to live", cli("describe-time-to-live"), (0, off))
+    wants("the CLI sets it", cli(*update), (0, {"TimeToLiveSpecification": ON}))
+    status, said = cli(*update)
+    wants("and not twice", status != 0 and "ValidationException" in said, True)
+    wants("the CLI describes it", cli("describe-time-to-live"), (0, {"TimeToLiveDescription": DESCRIBED}))
+    item = {"k": {"S": "over by the CLI"}, "until": {"N": str(now - 60)}}
+    wants("the CLI puts an item", cli("put-item", "--item", json.dumps(item))[0], 0)
+    pass_64()
+    status, said = cli("scan")
+    wants("the CLI sees what stays", status == 0 and sorted(item["k"]["S"] for item in said["Items"]), STAYING)
+
+
+version = version_of_cli()
+if version:
+    cli_sees_expiry()
+else:
+    print("clients: the AWS CLI is not installed, and its part was skipped")
+client.delete_table(TableName="Timed")
+
 for failure in failures:
     print("clients:", failure)
-print(f"clients: boto3 {boto3.__version__}, {len(failures)} failures")
+print(f"clients: boto3 {boto3.__version__}, {version or 'no AWS CLI'}, {len(failures)} failures")
 sys.exit(1 if failures else 0)

@@ -5,6 +5,7 @@ ghost use Rattle.alt_shell.specs.Log.{talks};
 ghost use Rattle.alt_shell.specs.Memory.{shell_state};
 
 use super::over::{behind, ended, fresh, left_now, shell_over, shown};
+use super::script::{CREATE, EXPIRE, OVER_1, OVER_3, PUT_2, TIME};
 use alt_disk::MemoryDisk;
 use alt_shell::MemoryShell;
 use std::alloc::Global;
@@ -16,8 +17,6 @@ static TIMED: &str =
     r#"UpdateTimeToLive {"TableName":"Tab","TimeToLiveSpecification":{"AttributeName":"x","Enabled":true}}"#;
 
 static NONE: &[u8] = b"200 {\"Expired\":0}\n";
-
-static EXPIRE: &str = "ExpireItems {}";
 
 static SCAN: &str = r#"Scan {"TableName":"Tab"}"#;
 
@@ -128,6 +127,68 @@ fn twenty_five_expire_at_once(rt: HostRuntime) {
     let wanted: &[u8] =
         b"200 {\"Expired\":25}\n200 {\"Expired\":5}\n200 {\"Expired\":0}\n200 {\"Count\":0,\"ScannedCount\":0}\n";
     assert!(rt; said.is_some_and(|said| said.as_slice() == wanted));
+}
+
+// A disk with so many items in the table whose time is over, and 26 in the table Rng, all of one HASH value.
+fn of_two_tables(alloc: Global, count: usize) -> Option<MemoryDisk> {
+    let mut disk = behind(alloc, expired(alloc, count)?, &[CREATE, TIME])?;
+    for number in 0..26 {
+        let put = format!(in alloc;
+            "PutItem {{\"TableName\":\"Rng\",\"Item\":{{\"k\":{{\"S\":\"a\"}},\"r\":{{\"N\":\"{number}\"}},\"x\":{{\"N\":\"1699999999\"}}}}}}"
+        ).ok()?;
+        disk = behind(alloc, disk, &[put.as_str()])?;
+    }
+    Some(disk)
+}
+
+#[test]
+fn items_go_by_the_names_of_tables_and_then_by_places(rt: HostRuntime) {
+    let alloc = rt.alloc();
+    let said = of_two_tables(alloc, 10).and_then(|disk| shown(
+        alloc,
+        disk,
+        &[
+            EXPIRE,
+            r#"Scan {"TableName":"Rng","ProjectionExpression":"r"}"#,
+            COUNT,
+            EXPIRE,
+            COUNT,
+        ],
+    ));
+    let wanted: &[u8] =
+        b"200 {\"Expired\":25}\n200 {\"Count\":1,\"Items\":[{\"r\":{\"N\":\"25\"}}],\"ScannedCount\":1}\n200 {\"Count\":10,\"ScannedCount\":10}\n200 {\"Expired\":11}\n200 {\"Count\":0,\"ScannedCount\":0}\n";
+    assert!(rt; said.is_some_and(|said| said.as_slice() == wanted));
+}
+
+/// What is shown of a table with an index and a stream of which two items of three went.
+static LEFT: [(&str, &[u8]); 3] = [
+    (
+        r#"Scan {"TableName":"Rng"}"#,
+        b"200 {\"Count\":1,\"Items\":[{\"g\":{\"S\":\"x\"},\"k\":{\"S\":\"a\"},\"r\":{\"N\":\"2\"}}],\"ScannedCount\":1}\n",
+    ),
+    (
+        r#"Scan {"TableName":"Rng","IndexName":"Gix"}"#,
+        b"200 {\"Count\":1,\"Items\":[{\"g\":{\"S\":\"x\"},\"k\":{\"S\":\"a\"},\"r\":{\"N\":\"2\"}}],\"ScannedCount\":1}\n",
+    ),
+    (
+        r#"GetRecords {"ShardIterator":"arn:aws:dynamodb:local:000000000000:table/Rng/stream/000000000000000000001|000000000000000000006"}"#,
+        b"200 {\"NextShardIterator\":\"arn:aws:dynamodb:local:000000000000:table/Rng/stream/000000000000000000001|000000000000000000008\",\"Records\":[{\"awsRegion\":\"local\",\"dynamodb\":{\"ApproximateCreationDateTime\":1700000000,\"Keys\":{\"k\":{\"S\":\"a\"},\"r\":{\"N\":\"1\"}},\"SequenceNumber\":\"000000000000000000006\",\"SizeBytes\":5,\"StreamViewType\":\"NEW_IMAGE\"},\"eventID\":\"000000000000000000006\",\"eventName\":\"REMOVE\",\"eventSource\":\"aws:dynamodb\",\"eventVersion\":\"1.1\",\"userIdentity\":{\"PrincipalId\":\"dynamodb.amazonaws.com\",\"Type\":\"Service\"}},{\"awsRegion\":\"local\",\"dynamodb\":{\"ApproximateCreationDateTime\":1700000000,\"Keys\":{\"k\":{\"S\":\"a\"},\"r\":{\"N\":\"3\"}},\"SequenceNumber\":\"000000000000000000007\",\"SizeBytes\":5,\"StreamViewType\":\"NEW_IMAGE\"},\"eventID\":\"000000000000000000007\",\"eventName\":\"REMOVE\",\"eventSource\":\"aws:dynamodb\",\"eventVersion\":\"1.1\",\"userIdentity\":{\"PrincipalId\":\"dynamodb.amazonaws.com\",\"Type\":\"Service\"}}]}\n",
+    ),
+];
+
+#[test]
+fn items_go_with_their_index_rows_and_a_record_of_who_deleted_them(rt: HostRuntime) {
+    let alloc = rt.alloc();
+    for (line, wanted) in &LEFT {
+        let said = fresh(alloc)
+            .and_then(|disk| behind(alloc, disk, &[CREATE, TIME, OVER_1, PUT_2, OVER_3, EXPIRE]))
+            .and_then(|disk| shown(alloc, disk, &[*line]));
+        assert!(rt;
+            said.is_some_and(|said| said.as_slice() == *wanted),
+            "{}",
+            *line
+        );
+    }
 }
 
 // How many items are left of so many whose time is over, behind a run that serves so many connections, on the last of which a request comes

@@ -29,6 +29,18 @@ pub(super) const DELETE_1: &str =
 pub(super) const DELETE_2: &str =
     r#"DeleteItem {"TableName":"Rng","Key":{"k":{"S":"a"},"r":{"N":"2"}}}"#;
 
+/// An attribute for time to live, and items with a time that is over.
+pub(super) const TIME: &str =
+    r#"UpdateTimeToLive {"TableName":"Rng","TimeToLiveSpecification":{"AttributeName":"x","Enabled":true}}"#;
+
+pub(super) const OVER_1: &str =
+    r#"PutItem {"TableName":"Rng","Item":{"k":{"S":"a"},"r":{"N":"1"},"g":{"S":"x"},"x":{"N":"1699999999"}}}"#;
+
+pub(super) const OVER_3: &str =
+    r#"PutItem {"TableName":"Rng","Item":{"k":{"S":"a"},"r":{"N":"3"},"g":{"S":"x"},"x":{"N":"1699999999"}}}"#;
+
+pub(super) const EXPIRE: &str = "ExpireItems {}";
+
 pub(super) const BATCH: &str =
     r#"BatchWriteItem {"RequestItems":{"Rng":[{"PutRequest":{"Item":{"k":{"S":"a"},"r":{"N":"2"},"g":{"S":"x"}}}},{"PutRequest":{"Item":{"k":{"S":"a"},"r":{"N":"3"},"g":{"S":"x"}}}},{"DeleteRequest":{"Key":{"k":{"S":"a"},"r":{"N":"1"}}}}]}}"#;
 
@@ -70,6 +82,17 @@ pub(super) static UNDER_WAY: Script<'static> = Script {
     ],
 };
 
+/// Items whose time is over, from memory and from a file, and one that stays.
+pub(super) static EXPIRING: Script<'static> = Script {
+    kept: &[],
+    before: &[],
+    lines: &[
+        CREATE, TIME, OVER_1, PUT_2, "@flush", OVER_3, EXPIRE, "@flush", "@merge", PUT_4,
+    ],
+    writes: &[CREATE, TIME, OVER_1, PUT_2, OVER_3, EXPIRE, PUT_4],
+    behind: &[0, 1, 2, 3, 4, 4, 5, 6, 6, 6, 7],
+};
+
 /// The disk on which a script runs.
 pub(super) fn begun(alloc: Global, script: &Script) -> Option<MemoryDisk> {
     if script.kept.is_empty() {
@@ -84,11 +107,12 @@ pub(super) fn begun(alloc: Global, script: &Script) -> Option<MemoryDisk> {
     disk.stopped(now, &[]).ok()
 }
 
-/// The table, its index and all records of its stream are read.
-static SHOW: [&str; 3] = [
+/// The table, its index and all records of its stream are read, and its time to live is.
+static SHOW: [&str; 4] = [
     r#"Scan {"TableName":"Rng"}"#,
     r#"Scan {"TableName":"Rng","IndexName":"Gix"}"#,
     r#"GetRecords {"ShardIterator":"arn:aws:dynamodb:local:000000000000:table/Rng/stream/000000000000000000001|000000000000000000002"}"#,
+    r#"DescribeTimeToLive {"TableName":"Rng"}"#,
 ];
 
 /// What the table, its index and its stream show of the store on a disk.

@@ -1,7 +1,7 @@
 //! Runs that are stopped at each moment, and runs in which each call fails: of the disk, of standard input and of standard output.
 
 use super::over::{REPLAY, ended, left, replayed, shell_over};
-use super::script::{EACH, Script, begun, choices, view, views};
+use super::script::{EACH, EXPIRING, Script, begun, choices, view, views};
 use alt_disk::MemoryDisk;
 use alt_shell::MemoryShell;
 use std::alloc::Global;
@@ -113,5 +113,11 @@ pub(super) fn stops(alloc: Global, script: &Script, least: u64) -> Option<Option
 #[test]
 fn a_stop_or_a_failure_leaves_what_was_answered(rt: HostRuntime) {
     let found = stops(rt.alloc(), &EACH, 100);
+    assert!(rt; found == Some(None), "{found:?}");
+}
+
+#[test]
+fn a_stop_or_a_failure_leaves_all_that_expire_at_once_or_none(rt: HostRuntime) {
+    let found = stops(rt.alloc(), &EXPIRING, 100);
     assert!(rt; found == Some(None), "{found:?}");
 }

@@ -8,10 +8,11 @@ use Rattle.serde_json.specs.Data.{Data, Items, item, Members, no_members, member
 use Rattle.serde_json.specs.Written.{has_float, items_have_float, members_have_float}
 use Rattle.alt_codec.specs.Writing.{json_of_pairs}
 use Rattle.alt_codec.proofs.Plain.{pairs_plain}
-use Rattle.alt_shape.specs.Body.{items_json, members_json, part_json}
+use Rattle.alt_shape.specs.Body.{items_json, members_json, part_json, tables_json}
 use Rattle.alt_shape.specs.declared.body.Member.{Member}
 use Rattle.alt_shape.specs.declared.body.Part.{Part}
 use Rattle.alt_shape.specs.declared.body.Part.TheVariants as part
+use Rattle.alt_shape.specs.declared.body.TableItems.{TableItems}
 use Rattle.alt_value.specs.Tree.{Pair}
 
 -- where neither of two has one, none of them has
@@ -62,12 +63,19 @@ items_plain [] = refl
 items_plain (i ∷ items) = items_have_float-item (json_of_pairs i) (items_json items)
     (pairs_plain i) (items_plain items)
 
+-- tables
+pub tables_plain : (ts : List TableItems) → members_have_float (tables_json ts) ≡ false
+tables_plain [] = refl
+tables_plain (t ∷ ts) = no_float_either (items_have_float (items_json t.items.items))
+    (members_have_float (tables_json ts)) (items_plain t.items.items) (tables_plain ts)
+
 -- the value of a member
 part_plain : (p : Part) → has_float (part_json p) ≡ false
 part_plain (part.Text text) = refl
 part_plain (part.Count n) = refl
 part_plain (part.Item i) = pairs_plain i
 part_plain (part.Items is) = items_plain is.items
+part_plain (part.Tables ts) = tables_plain ts.items
 
 -- the members
 pub members_plain : (ms : List Member) → members_have_float (members_json ms) ≡ false

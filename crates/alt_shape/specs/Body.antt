@@ -9,11 +9,17 @@ use Rattle.alt_shape.specs.declared.body.Body.TheVariants as body
 use Rattle.alt_shape.specs.declared.body.Member.{Member}
 use Rattle.alt_shape.specs.declared.body.Part.{Part}
 use Rattle.alt_shape.specs.declared.body.Part.TheVariants as part
+use Rattle.alt_shape.specs.declared.body.TableItems.{TableItems}
 
 -- the items of a list, each as the object of its names
 abbrev pub items_json : List (List Pair) → Items
 items_json [] = no_items
 items_json (i ∷ is) = item (json_of_pairs i) (items_json is)
+
+-- tables in their order, each with the list of its items
+abbrev pub tables_json : List TableItems → Members
+tables_json [] = no_members
+tables_json (t ∷ ts) = member t.table (array (items_json t.items.items)) (tables_json ts)
 
 -- the value of a member
 abbrev pub part_json : Part → Data
@@ -21,6 +27,7 @@ part_json (part.Text text) = string text.now
 part_json (part.Count n) = number (unsigned n)
 part_json (part.Item i) = json_of_pairs i
 part_json (part.Items is) = array (items_json is.items)
+part_json (part.Tables ts) = object (tables_json ts.items)
 
 -- members in their order
 abbrev pub members_json : List Member → Members

@@ -12,7 +12,7 @@ mod refusal;
 mod rule;
 pub mod tables;
 
-pub use body::{Body, Member, Part};
+pub use body::{Body, Member, Part, TableItems};
 pub use checking::{check, given};
 pub use fields::{array_at, object_at, text_at, truth_at, whole_at};
 pub use refusal::{Refusal, Reply, refuse, refuse_with};

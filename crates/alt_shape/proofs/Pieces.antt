@@ -42,7 +42,7 @@ tables_closed (t ∷ ts) =
     ∙ ap (λ xs. table_tokens t ++ xs) (tables_closed ts)
 
 -- an opened bracket, the pieces and a closed one, behind what stood there
-in_brackets : (old more : List Token) (left right : Token)
+pub in_brackets : (old more : List Token) (left right : Token)
     → ((old ++ left ∷ []) ++ more) ++ right ∷ [] ≡ old ++ left ∷ (more ++ right ∷ [])
 in_brackets old more left right =
     append_assoc (old ++ left ∷ []) more (right ∷ [])

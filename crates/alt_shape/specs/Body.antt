@@ -4,6 +4,7 @@ use Rattle.serde_json.specs.Data.{Data, string, number, unsigned, array, object,
 use Rattle.serde_json.specs.View.{view}
 use Rattle.alt_codec.specs.Writing.{json_of_pairs}
 use Rattle.alt_value.specs.Tree.{Pair}
+use Rattle.alt_shape.specs.Objects.{objects_json}
 use Rattle.alt_shape.specs.declared.body.Body.{Body}
 use Rattle.alt_shape.specs.declared.body.Body.TheVariants as body
 use Rattle.alt_shape.specs.declared.body.Member.{Member}
@@ -28,6 +29,7 @@ part_json (part.Count n) = number (unsigned n)
 part_json (part.Item i) = json_of_pairs i
 part_json (part.Items is) = array (items_json is.items)
 part_json (part.Tables ts) = object (tables_json ts.items)
+part_json (part.Objects os) = array (objects_json os.items)
 
 -- members in their order
 abbrev pub members_json : List Member → Members

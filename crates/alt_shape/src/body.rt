@@ -8,6 +8,7 @@ ghost use Rattle.json.specs.Tree.{json_tokens};
 ghost use Rattle.alt_shape.specs.Body.{body_json, items_json, members_json, part_json, tables_json};
 ghost use Rattle.alt_shape.specs.Pieces.{item_tokens, member_tokens, table_tokens};
 
+use crate::object::{Object, write_list};
 use alt_base::NoMemory;
 use alt_codec::write_item;
 use alt_value::{Item, Text};
@@ -40,6 +41,8 @@ pub enum Part {
     Items(Vec<Item>),
     /// An object of these tables, in this order: their names are to rise by their bytes too.
     Tables(Vec<TableItems>),
+    /// A list of these objects.
+    Objects(Vec<Object>),
 }
 
 /// A table with items of it.
@@ -100,6 +103,7 @@ fn write_part(alloc: Global, out: &mut Writer, part: &Part) -> Result<(), NoMemo
         Part::Item(item) => write_item(alloc, out, item),
         Part::Items(items) => write_array(alloc, out, items.as_slice()),
         Part::Tables(tables) => write_object(alloc, out, tables.as_slice()),
+        Part::Objects(objects) => write_list(alloc, out, objects.as_slice()),
     }
 }
 

@@ -110,6 +110,7 @@ objects_plain (o ∷ os) = items_have_float-item (object (entries_json o.entries
 -- the value of a member
 part_plain : (p : Part) → has_float (part_json p) ≡ false
 part_plain (part.Text text) = refl
+part_plain (part.Owned text) = refl
 part_plain (part.Count n) = refl
 part_plain (part.Item i) = pairs_plain i
 part_plain (part.Items is) = items_plain is.items

@@ -1,5 +1,5 @@
 -- What the body of a reply says, as JSON.
-use Rattle.std.specs.Prelude.{List, [], ◌∷◌}
+use Rattle.std.specs.Prelude.{List, [], ◌∷◌, string_bytes}
 use Rattle.serde_json.specs.Data.{Data, string, number, unsigned, array, object, Items, no_items, item, Members, no_members, member}
 use Rattle.serde_json.specs.View.{view}
 use Rattle.alt_codec.specs.Writing.{json_of_pairs}
@@ -25,6 +25,7 @@ tables_json (t ∷ ts) = member t.table (array (items_json t.items.items)) (tabl
 -- the value of a member
 abbrev pub part_json : Part → Data
 part_json (part.Text text) = string text.now
+part_json (part.Owned text) = string (string_bytes text)
 part_json (part.Count n) = number (unsigned n)
 part_json (part.Item i) = json_of_pairs i
 part_json (part.Items is) = array (items_json is.items)

@@ -36,6 +36,7 @@ pub struct Member {
 #[derive(Drop)]
 pub enum Part {
     Text(&'static str),
+    Owned(String),
     Count(u64),
     Item(Item),
     Items(Vec<Item>),
@@ -99,6 +100,7 @@ fn write_part(alloc: Global, out: &mut Writer, part: &Part) -> Result<(), NoMemo
 {
     match part {
         Part::Text(text) => Ok(out.string(text)?),
+        Part::Owned(text) => Ok(out.string(text.as_str())?),
         Part::Count(number) => Ok(out.u64(*number)?),
         Part::Item(item) => write_item(alloc, out, item),
         Part::Items(items) => write_array(alloc, out, items.as_slice()),

@@ -1,10 +1,13 @@
 -- Tables with their items, put one after another: where their names rise, they stand in that order.
 use Rattle.std.proofs.Common.{◌≡◌, ◌<◌, refl, sym, ap, ◌∙◌, subst, ℕ, zero, suc, ◌+◌, ◌&&◌, ◌||◌, Bool, true, false, List, [], ◌∷◌, map, length, drop, get_or, Ordering, Less, Equal, Greater, ordering_reverse, nat_cmp, add-one, arith}
+use Rattle.std.specs.Prelude.{String}
+use Rattle.std.specs.declared.alloc.Global.{Global}
 use Rattle.std.specs.Cmp.Lexicographic.{slice_cmp}
 use Rattle.std.specs.Ordering.{is_lt, match_ordering}
 use Rattle.std.proofs.lemmas.Cmp.{nat_list_cmp_total}
 use Rattle.serde_json.specs.Data.{Data, array, item, Members, no_members, member, put}
-use Rattle.serde_json.specs.View.{items_of}
+use Rattle.serde_json.specs.View.{items_of, members_view}
+use Rattle.serde_json.specs.declared.value.Value.{Value}
 use Rattle.serde_json.specs.Written.{members_have_float}
 use Rattle.alt_codec.specs.Writing.{json_of_pairs}
 use Rattle.alt_ops_batch.specs.private.Readings.{responses_of, rises}
@@ -132,3 +135,9 @@ rising name ms (t ∷ ts) behind e =
 pub all_rising : (ts : List TableItems) → rises [] ts ≡ true
     → responses_of no_members ts ≡ tables_json ts
 all_rising ts e = rising [] no_members ts (λ k less. tt) e
+
+-- nothing in a map is no member
+pub empty_members : (es : List (String Global × Value)) → length es ≡ 0
+    → members_view es ≡ no_members
+empty_members [] e = refl
+empty_members (x ∷ es) e = absurd (omega (arith, e))

@@ -1,6 +1,6 @@
 //! What a BatchGetItem answers: the items, and the keys that it didn't read, as they may be asked for again.
 
-ghost use Rattle.std.specs.Prelude.{◌≡◌, [], false, IfOk, IfErr, OnOk, codes, map, option_and_then, option_map};
+ghost use Rattle.std.specs.Prelude.{◌≡◌, [], true, false, IfOk, IfErr, OnOk, codes, map, option_and_then, option_map};
 ghost use Rattle.serde_json.specs.Data.{array, boolean, no_members, object, put, string};
 ghost use Rattle.serde_json.specs.Find.{as_bool, as_str};
 ghost use Rattle.serde_json.specs.View.{view, items_view, members_view};
@@ -10,7 +10,7 @@ ghost use Rattle.alt_machine.specs.Ops.BatchGetItem as machine;
 ghost use Rattle.alt_machine.specs.Ops.BatchGetItem.{attributes_member};
 ghost use Rattle.alt_machine.specs.Ops.GetItem.{parts};
 ghost use Rattle.alt_ops_batch.specs.private.Names.{ArePlain};
-ghost use Rattle.alt_ops_batch.specs.private.Readings.{IsPlainRead, name_left, read_so, reply_of, responses_of, rises};
+ghost use Rattle.alt_ops_batch.specs.private.Readings.{IsPlainRead, IsWhole, name_left, read_so, reply_of, responses_of, rises};
 ghost use Rattle.alt_request.specs.Steps.{IsMemory};
 ghost use Rattle.alt_schema.specs.Json.{put_if};
 ghost use Rattle.alt_shape.specs.Body.{body_json, items_json, tables_json};
@@ -40,10 +40,20 @@ pub(crate) fn read_reply(alloc: Global, read: Read) -> Result<Reply, Stop>
         unprocessed,
         ..
     } = read;
-    if unprocessed.is_empty() && rise(&responses) {
+    if is_whole(&responses, &unprocessed) {
         return Ok(whole_reply(alloc, responses)?);
     }
     Ok(tree_reply(alloc, &responses, unprocessed)?)
+}
+
+/// Whether no keys are left, and the tables may stand in their order.
+fn is_whole(responses: &[TableItems], unprocessed: &Map<String, Value>) -> bool
+    ensures whole { result ≡ true → IsWhole responses.now (members_view unprocessed.now.entries) }
+{
+    if !unprocessed.is_empty() {
+        return false;
+    }
+    rise(responses)
 }
 
 /// Whether the names of tables rise. They do in the order of a request.
@@ -85,6 +95,7 @@ fn whole_reply(alloc: Global, responses: Vec<TableItems>) -> Result<Reply, NoMem
 }
 
 /// The reply as a tree.
+#[tactic(auto, using(crate::proofs::Tables::responses_plain))]
 fn tree_reply(
     alloc: Global,
     responses: &[TableItems],

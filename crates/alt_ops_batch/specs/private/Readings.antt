@@ -1,9 +1,9 @@
 -- What a BatchGetItem has read, as the machine has it.
-use Rattle.std.specs.Prelude.{◌≡◌, ℕ, ◌+◌, ◌≤◌, ◌&&◌, Bool, true, false, List, [], ◌∷◌, ◌++◌, codes, length, map, drop, nat_cmp, sum_by, Option, Result, Ok, Err}
+use Rattle.std.specs.Prelude.{◌≡◌, ℕ, ◌+◌, ◌≤◌, ◌&&◌, Bool, true, false, List, [], ◌∷◌, ◌++◌, codes, length, map, drop, sum_by, Option, Result, Ok, Err}
 use Rattle.std.specs.Cmp.Lexicographic.{slice_cmp}
 use Rattle.std.specs.FinMap as finite
 use Rattle.std.specs.List.{cons_option, filter_map}
-use Rattle.std.specs.Ordering.{is_lt}
+use Rattle.std.specs.Ordering.{is_lt, nat_cmp}
 use Rattle.serde_json.specs.Data.{Data, array, object, Members, no_members, member, put}
 use Rattle.serde_json.specs.View.{view, items_of, items_view, members_view}
 use Rattle.serde_json.specs.Written.{items_have_float, members_have_float}
@@ -21,7 +21,7 @@ use Rattle.alt_request.specs.Carried.{WhereFailed}
 use Rattle.alt_request.specs.declared.stop.Stop.{Stop}
 use Rattle.alt_request.specs.declared.stop.Stop.TheVariants.{Refused, Fault}
 use Rattle.alt_ops_batch.specs.declared.asked_reads.TableReads.{TableReads}
-use Rattle.alt_shape.specs.Body.{items_json}
+use Rattle.alt_shape.specs.Body.{items_json, tables_json}
 use Rattle.alt_shape.specs.Refusals.{Answer, answered}
 use Rattle.alt_shape.specs.declared.body.TableItems.{TableItems}
 use Rattle.alt_schema.specs.declared.schema.TableSchema.{TableSchema}
@@ -103,6 +103,11 @@ pub record IsPlainTaken (taken : Taken) : Type 0 where
 abbrev pub name_left : List ℕ → Members → List Data → Members → Members
 name_left name body [] ms = ms
 name_left name body (d ∷ ds) ms = put name (keys_object body (array (items_of (d ∷ ds)))) ms
+
+-- No keys are left, and the tables, put one after another, stand in their order.
+pub record IsWhole (responses : List TableItems) (unprocessed : Members) : Type 0 where
+  pub ordered : responses_of no_members responses ≡ tables_json responses
+  pub empty : unprocessed ≡ no_members
 
 -- the reply with these tables
 abbrev pub reply_of : Members → Members → Answer

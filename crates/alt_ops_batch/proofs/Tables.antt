@@ -6,11 +6,12 @@ use Rattle.std.specs.Cmp.Lexicographic.{slice_cmp}
 use Rattle.std.specs.Ordering.{is_lt, match_ordering}
 use Rattle.std.proofs.lemmas.Cmp.{nat_list_cmp_total}
 use Rattle.serde_json.specs.Data.{Data, array, item, Members, no_members, member, put}
-use Rattle.serde_json.specs.View.{items_of, members_view}
+use Rattle.serde_json.specs.View.{members_view}
 use Rattle.serde_json.specs.declared.value.Value.{Value}
 use Rattle.serde_json.specs.Written.{members_have_float}
 use Rattle.alt_codec.specs.Writing.{json_of_pairs}
 use Rattle.alt_ops_batch.specs.private.Readings.{responses_of, rises}
+use Rattle.alt_schema.specs.Json.{items_by}
 use Rattle.alt_shape.proofs.Plain.{items_plain, members_have_float-put}
 use Rattle.alt_shape.specs.Body.{items_json, tables_json}
 use Rattle.alt_shape.specs.declared.body.TableItems.{TableItems}
@@ -19,7 +20,7 @@ use Rattle.alt_value.specs.Tree.{Pair}
 -- ---- items
 
 -- items as JSON, one by one
-pub items_each : (is : List (List Pair)) → items_json is ≡ items_of (map json_of_pairs is)
+pub items_each : (is : List (List Pair)) → items_json is ≡ items_by json_of_pairs is
 items_each [] = refl
 items_each (i ∷ is) = ap (λ ds. item (json_of_pairs i) ds) (items_each is)
 

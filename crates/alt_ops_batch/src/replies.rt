@@ -144,7 +144,6 @@ fn put_table(
     Ok(())
 }
 
-#[tactic(auto, using(crate::proofs::Tables::items_each))]
 fn items_tree(alloc: Global, items: &[Item]) -> Result<Vec<Value>, NoMemory>
     ensures { IfOk result (λ v. items_view v.items ≡ items_json items.now) }
 {

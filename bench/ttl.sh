@@ -1,7 +1,7 @@
 #!/usr/bin/env bash
 # What time to live costs, over the built program: the instructions of a put of an item of some 360 bytes into a table with a time to live beside the
-# same put into one without; of an ExpireItems that deletes nothing, and of one that deletes 25 items beside 25 DeleteItems of them, in a table of COUNT
-# other items. Then bench/expiring.py: the same in seconds, how often such a table is walked while 10,000 of its items expire, and memory.
+# same put into one without; of an ExpireItems that deletes nothing, of one that deletes 25 items beside 25 DeleteItems of them, and of the first one behind
+# an opening, in a table of COUNT items. Then bench/expiring.py: the same in seconds, how often such a table is walked while 10,000 of its items expire, and memory.
 # Not part of the gate. Usage: bench/ttl.sh [COUNT], 100,000 items unless said.
 set -eu
 # shellcheck source=bench/lines.sh
@@ -39,24 +39,30 @@ for first in 1000 0; do
   echo "100 puts $what: $one instructions; with a time to live: $other, $(ratio "$other" "$one") of them" # at most 1.1 is wanted
 done
 
-# 25 items whose time is over, far apart among the others.
-apart=$((count / 25))
+# 50 items whose time is over, far apart among the others. The first ExpireItems behind an opening makes the list of what is due next by a walk over
+# all items; the second deletes by the list, and so do those that find nothing.
+apart=$((count / 50))
 {
   made Ttl
   lives Ttl
   puts Ttl 0 "$count" "$later"
-  seq 0 "$apart" $((24 * apart)) | awk -v line="PutItem {\"TableName\":\"Ttl\",\"Item\":$(timed "$over")}\n" '{ printf line, $1 }'
+  seq 0 "$apart" $((49 * apart)) | awk -v line="PutItem {\"TableName\":\"Ttl\",\"Item\":$(timed "$over")}\n" '{ printf line, $1 }'
 } | filled
 opened=$(counted "$out/none.lines")
 seq 0 "$apart" $((24 * apart)) | awk -v line="DeleteItem {\"TableName\":\"Ttl\",\"Key\":$order_key}\n" '{ printf line, $1 }' >"$out/deletes.lines"
-echo 'ExpireItems {}' >"$out/expire.lines"
-printf 'ExpireItems {}\nExpireItems {}\n' >"$out/twice.lines"
+for times in 1 2 3 103; do
+  for ((i = 0; i < times; i++)); do echo 'ExpireItems {}'; done >"$out/expire$times.lines"
+done
 deletes=$(cost deletes)
-expire=$(cost expire)
-grep -q '^200 {"Expired":25}$' "$out/said"
-none=$(($(cost twice) - expire))
-grep -q '^200 {"Expired":0}$' "$out/said"
+first=$(cost expire1)
+second=$(cost expire2)
+grep -q -x '200 {"Expired":25}' <(tail -n 1 "$out/said")
+third=$(cost expire3)
+none=$((($(cost expire103) - third) / 100))
+grep -q -x '200 {"Expired":0}' <(tail -n 1 "$out/said")
+expire=$((second - first))
 echo "an ExpireItems that deletes nothing among $count items: $none instructions"
-echo "25 DeleteItems: $deletes instructions; an ExpireItems that deletes the 25 among $count items: $expire, $(ratio "$expire" "$deletes") of them" # at most 1.2
+echo "25 DeleteItems: $deletes instructions; an ExpireItems that deletes 25 among $count items: $expire, $(ratio "$expire" "$deletes") of them" # at most 1.2
+echo "the first one behind an opening, which makes the list: $((first - expire)) instructions more, $(((first - expire) / count)) an item"
 rm -rf "$out/store" "$out/filled"
 python3 bench/expiring.py "$program" "$count"

@@ -1,9 +1,9 @@
 -- A log in hand, and the disk on which its file lies.
-use Rattle.std.specs.Prelude.{◌≡◌, ◌≢◌, ◌⊎◌, ◌<◌, ◌^◌, ℕ, List, [], ◌∷◌, ◌++◌, length, get_or, Option, Some}
+use Rattle.std.specs.Prelude.{◌≡◌, ◌≢◌, ◌⊎◌, ◌<◌, ◌+◌, ◌-◌, ◌^◌, ◌==◌, if◌then◌else◌, ℕ, true, IsTrue, List, [], ◌∷◌, ◌++◌, length, get_or, take, drop, Option, Some}
 use Rattle.std.specs.Vec.{vec_capacity}
 use Rattle.std.specs.List.{AllByRecursion}
 use Rattle.alt_disk.specs.Fates.{Fits, synced, wrote}
-use Rattle.alt_disk.specs.Disk.{DiskState, IsSettled, now}
+use Rattle.alt_disk.specs.Disk.{DiskState, IsSettled, ReadCall, contents, now}
 use Rattle.alt_gatelog.specs.Log.{framed, log_front, log_bytes, gates_from, IsShortEntry}
 use Rattle.alt_gatelog.specs.declared.form.Form.{Form}
 use Rattle.alt_gatelog.specs.declared.gatelog.GateLog.{GateLog}
@@ -23,6 +23,32 @@ count_of log = length log.places.items
 -- the place of an entry's gate
 abbrev pub place_of : GateLog → ℕ → ℕ
 place_of log i = get_or log.places.items i 0
+
+-- the place behind an entry: the next gate's
+abbrev pub end_of : GateLog → ℕ → ℕ
+end_of log i = if i + 1 == count_of log then log.gate else place_of log (i + 1)
+
+-- the place of its bytes, behind its gate and its length
+abbrev pub bytes_place : GateLog → ℕ → ℕ
+bytes_place log i = place_of log i + 9
+
+-- and how many these are
+abbrev pub length_of : GateLog → ℕ → ℕ
+length_of log i = end_of log i - bytes_place log i
+
+-- Bytes that were read for an entry: as many as it has, by one read that answered, which asked for them all. Where the disk tells
+-- what it has they are those that stand there, whatever else the file has.
+pub record IsEntryRead (old new : DiskState) (log : GateLog) (i : ℕ) (bytes : List ℕ) : Type 0 where
+  pub size : length bytes ≡ length_of log i
+  pub read : ReadCall old new (file_of log) (bytes_place log i) (length_of log i) true
+  pub there : IsTrue old.tells
+      → bytes ≡ take (length_of log i) (drop (bytes_place log i) (contents old (file_of log)))
+
+-- a list has become longer by such bytes
+pub record HasRead (old new : DiskState) (log : GateLog) (i : ℕ) (before after : List ℕ) : Type 0 where
+  pub bytes : List ℕ
+  pub added : after ≡ before ++ bytes
+  pub read : IsEntryRead old new log i bytes
 
 -- bytes that are a gated log of these entries, with the closed gate and the entries' gates at these places
 pub record LogAs (form : Form) (bytes : List ℕ) (at : ℕ) (places : List ℕ)

@@ -25,12 +25,12 @@ pub struct GateLog {
 }
 
 impl GateLog {
-    ghost use Rattle.std.specs.Prelude.{ℕ, List, [], ◌∷◌, ◌++◌, None, Some, IfOk, IfErr, OnOk, OnErr, IsErrOf, IsTrue, ⊤, length, get_or, ◌+◌, ◌==◌, if◌then◌else◌};
+    ghost use Rattle.std.specs.Prelude.{ℕ, List, [], ◌∷◌, ◌++◌, None, Some, IfOk, IfErr, OnOk, OnErr, IsErrOf, IsTrue, ⊤, length, get_or, ◌+◌};
     ghost use Rattle.alt_base.specs.Counts.{Rose};
     ghost use Rattle.alt_disk.specs.Disk.{DiskState, IsTrusted, Goes, contents};
     ghost use Rattle.alt_disk.specs.Runs.{Run, Quiet};
     ghost use Rattle.alt_gatelog.specs.Log.{log_bytes, log_after, gate_place, BeforeOrAfter, ExplainsLog};
-    ghost use Rattle.alt_gatelog.specs.InHand.{file_of, form_of, count_of, place_of, HasPlace, IsFramed, Reads, SameLog, Stands};
+    ghost use Rattle.alt_gatelog.specs.InHand.{file_of, form_of, count_of, end_of, HasPlace, HasRead, IsFramed, Reads, SameLog, Stands};
     ghost use Rattle.alt_gatelog.specs.Parse.{HasNoLog, IsNoDamage, IsDamageAt};
 
     /// Makes an empty log of a form in a missing file, which then has nine bytes.
@@ -203,7 +203,8 @@ impl GateLog {
         }
     }
 
-    /// Adds the bytes of an entry to `out`, which an error leaves as it was. It reads no other entry.
+    /// Adds the bytes of an entry to `out`, which an error leaves as it was. It reads no other entry. They are as many as the entry
+    /// has, by one read that gave them all, whatever the file has.
     pub fn entry<D: Disk>(
         &mut self,
         disk: &mut D,
@@ -214,6 +215,8 @@ impl GateLog {
         ensures ok { OnOk result (IsTrue (D.state disk.old).tells → (entries : List (List ℕ))
             → Reads (D.state disk.old) self.old entries
             → out.new.items ≡ out.old.items ++ get_or entries i []) }
+        ensures given { OnOk result (HasRead (D.state disk.old) (D.state disk.new) self.old i
+            out.old.items out.new.items) }
         ensures err { OnErr result (out.new.items ≡ out.old.items) }
         ensures undamaged { IsTrue (D.state disk.old).tells → (entries : List (List ℕ))
             → Reads (D.state disk.old) self.old entries → IfErr result IsNoDamage }
@@ -255,8 +258,7 @@ impl GateLog {
     // The place of the gate behind an entry.
     fn next_gate(&self, i: usize) -> u64
         requires { i < count_of self.now }
-        ensures next { result ≡ (if i + 1 == count_of self.now then self.now.gate
-            else place_of self.now (i + 1)) }
+        ensures next { result ≡ end_of self.now i }
         ensures bound { result < 2 ^ 62 }
     {
         if i + 1 == self.places.len() {

@@ -1,18 +1,19 @@
 //! Reads a log, gate by gate: the header, and nine bytes at the place of each gate.
 
-ghost use Rattle.std.specs.Prelude.{◌≡◌, ◌≤◌, ◌+◌, ◌-◌, ◌^◌, ◌<◌, ℕ, List, IfOk, IfErr, IsErrOf, IsTrue, length, take};
+ghost use Rattle.std.specs.Prelude.{◌≡◌, ◌≤◌, ◌+◌, ◌-◌, ◌^◌, ◌<◌, ℕ, List, IfOk, IfErr, IfSome, IfNone, OnOk, OnErr, IsErrOf, IsTrue, is_ok, length, take};
 ghost use Rattle.alt_base.specs.Counts.{Rose};
-ghost use Rattle.alt_disk.specs.Disk.{Goes, contents};
+ghost use Rattle.alt_disk.specs.Disk.{Goes, ReadCall, contents};
 ghost use Rattle.alt_disk.specs.Runs.{Quiet};
 ghost use Rattle.alt_gatelog.specs.Log.{header, ExplainsLog};
 ghost use Rattle.alt_gatelog.specs.InHand.{file_of, form_of, IsReadAs};
 ghost use Rattle.alt_gatelog.specs.Parse.{GateIs, HasRoom, IsCutAt, HasNoHeader};
+ghost use Rattle.alt_gatelog.specs.declared.form.Form as forms;
 
 use crate::fault::LogFault;
 use crate::form::{Form, form_of_header};
 use crate::frame::{Gate, gate_of};
 use crate::gatelog::GateLog;
-use alt_disk::Disk;
+use alt_disk::{Disk, Failed};
 use std::alloc::Global;
 
 /// The size of a file that begins with a header, and the form that it names.
@@ -36,12 +37,28 @@ pub(crate) fn size_of_log<D: Disk>(disk: &mut D, f: u32) -> Result<(u64, Form), 
     if size < 8 {
         return Err(LogFault::Damaged { file: f, at: 0 });
     }
-    let mut head = [0u8; 8];
-    let count = disk.read(f, 0, &mut head)?;
-    match form_of_header(&head[..count]) {
+    match form_at(disk, f)? {
         Some(form) => Ok((size, form)),
         None => Err(LogFault::Damaged { file: f, at: 0 }),
     }
+}
+
+// The form that a file's header names, however long the file is; none where it begins with no header.
+fn form_at<D: Disk>(disk: &mut D, f: u32) -> Result<Option<Form>, Failed>
+    ensures some { IsTrue (D.state disk.old).tells → IfOk result (λ o. IfSome o (λ form.
+        take 8 (contents (D.state disk.old) f) ≡ header form)) }
+    ensures none { IsTrue (D.state disk.old).tells → IfOk result (λ o. IfNone o
+        ((form : forms.Form) → take 8 (contents (D.state disk.old) f) ≡ header form → ⊥)) }
+    ensures read { ReadCall (D.state disk.old) (D.state disk.new) f 0 8 (is_ok result) }
+    ensures quiet { IsTrue (D.state disk.old).tells
+        → Quiet (D.state disk.old) (D.state disk.new) }
+    ensures goes { Goes (D.state disk.old) (D.state disk.new) }
+    ensures cause { OnErr result (Rose (D.state disk.old).faults (D.state disk.new).faults) }
+    ensures well { OnOk result ((D.state disk.new).faults ≡ (D.state disk.old).faults) }
+{
+    let mut head = [0u8; 8];
+    let count = disk.read(f, 0, &mut head)?;
+    Ok(form_of_header(&head[..count]))
 }
 
 /// What stands at a gate's place in a file of this size.

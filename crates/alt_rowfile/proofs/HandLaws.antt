@@ -6,18 +6,21 @@ use Rattle.std.specs.Int.{w64, to_be_bytes}
 use Rattle.std.specs.FinMap.Entries.{is_sorted}
 use Rattle.std.proofs.lemmas.List.{append-nil, drop_at, drop_all, drop-drop, length-drop, reverse-append, reverse-reverse}
 use Rattle.alt_fields.specs.Field.{field}
-use Rattle.alt_fields.proofs.Apart.{field-apart, all_append, all_back, all_front, flat_map_snoc}
+use Rattle.alt_fields.proofs.Apart.{all_append, all_back, all_front, flat_map_snoc}
 use Rattle.alt_cells.specs.Keys.{key_cmp}
 use Rattle.alt_cells.specs.Walks.{Gives, turned}
 use Rattle.alt_rowfile.specs.Cut.{IsFrom, IsCut, IsPassed}
 use Rattle.alt_rowfile.specs.Decoding.{AreRows, NoRows}
 use Rattle.alt_rowfile.specs.Format.{Entry, entry_bytes, rows_bytes, block_bytes, IsHeldEntry, IsHeldBlock}
+use Rattle.alt_rowfile.specs.Given.{IsBegunAt, IsBegunIn, IsPassedBy}
+use Rattle.alt_rowfile.specs.Given.IsAhead.{at_end, stays}
 use Rattle.alt_rowfile.specs.Holding.{StandAt, AreRowsAt, IsCutIn, IsCutBlock, IsInHand}
 use Rattle.alt_rowfile.specs.Picking.{Piece, piece_bytes, IsShortPiece}
 use Rattle.alt_rowfile.specs.declared.hand.Hand.{Hand}
 use Rattle.alt_rowfile.proofs.BlockLaws.{sorted_back}
 use Rattle.alt_rowfile.proofs.CutLaws.{from_first}
 use Rattle.alt_rowfile.proofs.DecodeLaws.{rest_of}
+use Rattle.alt_rowfile.proofs.LoadLaws.{block_content}
 use Rattle.alt_rowfile.proofs.OneFile.{entry-apart, entry_some}
 use Rattle.alt_rowfile.proofs.PickLaws.{piece-apart, piece_some, length-piece, sealed, sealed_rows, sealed_bytes}
 
@@ -301,19 +304,69 @@ module _ (bytes all rest : List ℕ) (to : Option (List ℕ)) (places : List ℕ
       cut_of (Some key) xs ys passed last =
           (passed, subst (AllByRecursion (IsFrom key)) (sym last) tt)
 
+  -- whatever the bytes are, a walk begins where the next one isn't passed
+  pub begun_there : (front : List ℕ) (p : Piece) (behind : List ℕ) (place : ℕ)
+      → bytes ≡ front ++ all → IsShortPiece p → rest ≡ piece_bytes p ++ behind
+      → (IsPassed to p.0 → ⊥) → place ≡ length bytes - length rest
+      → IsPassedBy bytes all to places place
+  begun_there front p behind place whole short there ahead at = record {
+    pieces = so.pieces;
+    rest = rest;
+    short = so.short;
+    is = so.is;
+    passed = so.passed;
+    ahead = stays p behind short there ahead;
+    before = so.at front whole;
+    behind = rest_at bytes all rest front so.pieces place so.is whole at;
+  }
+
+  -- or where none is left
+  pub begun_end : (front : List ℕ) (place : ℕ) → bytes ≡ front ++ all → length rest ≡ 0
+      → place ≡ length bytes → IsPassedBy bytes all to places place
+  begun_end front place whole none at = record {
+    pieces = so.pieces;
+    rest = rest;
+    short = so.short;
+    is = so.is;
+    passed = so.passed;
+    ahead = at_end (nil_of rest none);
+    before = so.at front whole;
+    behind = drop_all place bytes (omega (arith, at)) ∙ sym (nil_of rest none);
+  }
+
 -- ---- a block
 
+-- upwards from no key it begins with all that the field holds
+pub begun_front : (bytes all places : List ℕ) (place : ℕ) → bytes ≡ field all → places ≡ []
+    → place ≡ length bytes - length all → IsBegunIn bytes places place None true
+begun_front bytes all places place is none at =
+    let front = to_be_bytes w64 (length all) in
+    record {
+      rows = all;
+      is = is;
+      begun = (
+        none,
+        ap (drop place) is
+            ∙ drop_at front all place (omega (arith, at, ap length is, length-append front all)),
+      );
+    }
+
+-- and else where pieces are passed
+pub begun_by : {V E : Type 0} (r : Result (Option V) E) (places : V → List ℕ) (place : V → ℕ)
+    (bytes all : List ℕ) (from : Option (List ℕ)) (forward : Bool) → bytes ≡ field all
+    → IfOk r (λ o. IfSome o (λ v. IsBegunAt bytes all (places v) (place v) from forward))
+    → IfOk r (λ o. IfSome o (λ v. IsBegunIn bytes (places v) (place v) from forward))
+begun_by (Ok (Some v)) places place bytes all from forward is b =
+    record { rows = all; is = is; begun = b }
+begun_by (Ok None) places place bytes all from forward is b = b
+begun_by (Err e) places place bytes all from forward is b = b
+
 -- what the field of a block holds are its rows' bytes, and they stand at its end
-pub block_front : (bytes block behind : List ℕ) (b : List Entry) → IsHeldBlock b
-    → bytes ≡ block_bytes b → length block < 2 ^ 64 → bytes ≡ field block ++ behind
+pub block_front : (bytes block : List ℕ) (b : List Entry) → IsHeldBlock b
+    → bytes ≡ block_bytes b → length block < 2 ^ 64 → bytes ≡ field block
     → (block ≡ rows_bytes b) × (bytes ≡ to_be_bytes w64 (length block) ++ block)
-unfolding block_bytes
-block_front bytes block behind b held is short there =
-    let p = field-apart block (rows_bytes b) behind [] short held.1 (sym there ∙ is
-    ∙ sym (append-nil (field (rows_bytes b)))) in (
-      p.0,
-      there ∙ ap (λ (l : List ℕ). field block ++ l) p.1 ∙ append-nil (field block),
-    )
+block_front bytes block b held is short there =
+    (block_content bytes block b held is short there, there)
 
 -- with no key upwards a walk begins at its front
 pub cut_front : (bytes front all places : List ℕ) (place : ℕ) (b : List Entry) → places ≡ []

@@ -18,3 +18,4 @@ pub mod SeekLaws
 pub mod StreamLaws
 pub mod WalkCalls
 pub mod PickLaws
+pub mod GivenLaws

@@ -198,18 +198,16 @@ loaded_at bytes marks end i rows is less =
 
 -- the bytes of a block are a field
 pub no_block_field : (bytes : List ℕ) (b : List Entry) → IsHeldBlock b → bytes ≡ block_bytes b
-    → ((s x : List ℕ) → length s < 2 ^ 64 → bytes ≡ field s ++ x → ⊥) → ⊥
+    → ((s : List ℕ) → length s < 2 ^ 64 → bytes ≡ field s → ⊥) → ⊥
 unfolding block_bytes
-no_block_field bytes b held is none =
-    none (rows_bytes b) [] held.1 (is ∙ sym (append-nil (field (rows_bytes b))))
+no_block_field bytes b held is none = none (rows_bytes b) held.1 is
 
 -- what the field holds are the block's rows
-pub block_content : (bytes block behind : List ℕ) (b : List Entry) → IsHeldBlock b
-    → bytes ≡ block_bytes b → length block < 2 ^ 64 → bytes ≡ field block ++ behind
-    → block ≡ rows_bytes b
+pub block_content : (bytes block : List ℕ) (b : List Entry) → IsHeldBlock b
+    → bytes ≡ block_bytes b → length block < 2 ^ 64 → bytes ≡ field block → block ≡ rows_bytes b
 unfolding block_bytes
-block_content bytes block behind b held is short there =
-    (field-apart block (rows_bytes b) behind [] short held.1 (sym there ∙ is
+block_content bytes block b held is short there =
+    (field-apart block (rows_bytes b) [] [] short held.1 (append-nil (field block) ∙ sym there ∙ is
     ∙ sym (append-nil (field (rows_bytes b))))).0
 
 -- a block that stands at its place, where so many bytes are read there

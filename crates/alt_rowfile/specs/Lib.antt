@@ -14,3 +14,4 @@ pub mod Cut
 pub mod Walking
 pub mod Damage
 pub mod Picking
+pub mod Given

@@ -8,9 +8,10 @@ ghost use Rattle.alt_cells.specs.Walks.{Gives};
 ghost use Rattle.alt_rowfile.specs.Cut.{IsPassed};
 ghost use Rattle.alt_rowfile.specs.Decoding.{AreRows, NoRows};
 ghost use Rattle.alt_rowfile.specs.Format.{Entry, entry_bytes, rows_bytes, block_bytes, IsHeldEntry, IsHeldBlock};
+ghost use Rattle.alt_rowfile.specs.Given.{IsBegun, IsBegunIn, IsPassedBy};
 ghost use Rattle.alt_rowfile.specs.Holding.{IsCutBlock, IsCutIn, IsInHand, IsUnread, StandAt};
 
-use crate::decode::{take_entry, take_field};
+use crate::decode::{take_entry, whole_field};
 use crate::pick::take_piece;
 use alt_base::NoMemory;
 use alt_cells::RowCells;
@@ -50,6 +51,9 @@ impl Hand {
             IsCutBlock hand (option_copied from.entry) forward b)) }
         ensures none { (b : List Entry) → IsHeldBlock b → T (is_sorted key_cmp b)
             → bytes.items ≡ block_bytes b → IfOk result (λ o. IfNone o ⊥) }
+        ensures given { IfOk result (λ o. IfSome o (λ hand. hand.bytes.items ≡ bytes.items)) }
+        ensures begun { IfOk result (λ o. IfSome o (λ hand.
+            IsBegun hand (option_copied from.entry) forward)) }
     {
         match cut_in(alloc, &bytes, from, forward)? {
             Some((before, at)) => Ok(Some(Hand { bytes, before, at })),
@@ -131,9 +135,11 @@ fn cut_in(
         IsCutIn bytes.now p.0.items p.1 (option_copied from.entry) forward b)) }
     ensures none { (b : List Entry) → IsHeldBlock b → T (is_sorted key_cmp b)
         → bytes.now ≡ block_bytes b → IfOk result (λ o. IfNone o ⊥) }
+    ensures begun { IfOk result (λ o. IfSome o (λ p.
+        IsBegunIn bytes.now p.0.items p.1 (option_copied from.entry) forward)) }
 {
-    match take_field(bytes) {
-        Some((rows, _)) => match from {
+    match whole_field(bytes) {
+        Some(rows) => match from {
             Some(key) => pass(alloc, bytes, rows, Some(key)),
             None => {
                 if forward {
@@ -159,6 +165,8 @@ fn pass(
     ensures passed { (front : List ℕ) (b : List Entry) → AreRows b → all.now ≡ rows_bytes b
         → bytes.now ≡ front ++ all.now → IfOk result (λ o. IfSome o (λ p.
         IsCutIn bytes.now p.0.items p.1 (option_copied to.entry) false b)) }
+    ensures begun { (front : List ℕ) → bytes.now ≡ front ++ all.now → IfOk result (λ o. IfSome o
+        (λ p. IsPassedBy bytes.now all.now (option_copied to.entry) p.0.items p.1)) }
     ensures none { IfOk result (λ o. IfNone o (NoRows all.now)) }
 {
     let mut places = Vec::new(alloc);

@@ -11,12 +11,13 @@ ghost use Rattle.alt_cells.specs.Keys.{key_cmp};
 ghost use Rattle.alt_cells.specs.Walks.{IsDamaged};
 ghost use Rattle.alt_rowfile.specs.Format.{Entry, block_bytes, IsHeldBlock};
 ghost use Rattle.alt_rowfile.specs.Damage.{IsDamageIn};
+ghost use Rattle.alt_rowfile.specs.Given.{AreRead, IsBegun, IsFoundIn, IsRowRead};
 ghost use Rattle.alt_rowfile.specs.Holding.{IsCutBlock};
 ghost use Rattle.alt_rowfile.specs.InHand.{Reads, count_of, file_of};
 ghost use Rattle.alt_rowfile.specs.Loading.{next_place, LoadedAt};
 ghost use Rattle.alt_rowfile.specs.Reading.{ReadsAtMostABlock, place_of};
 
-use crate::decode::{decode, take_field};
+use crate::decode::{decode, whole_field};
 use crate::hand::Hand;
 use crate::pick::pick;
 use crate::pieces::bytes_at;
@@ -42,6 +43,8 @@ pub(crate) fn load<D: Disk>(
     ensures undamaged { IsTrue (D.state disk.old).tells
         → (rows : List Entry) → Reads (D.state disk.old) file.now rows
         → IfErr result (λ fault. IsDamaged fault → ⊥) }
+    ensures given { IfOk result (λ hand. AreRead (D.state disk.old) file.now i hand.bytes.items) }
+    ensures begun { IfOk result (λ hand. IsBegun hand (option_copied from.entry) forward) }
     ensures damage { IfErr result (IsDamageIn (D.state disk.old) file.now) }
     ensures quiet { IsTrue (D.state disk.old).tells
         → Quiet (D.state disk.old) (D.state disk.new) }
@@ -101,6 +104,7 @@ pub(crate) fn load_row<D: Disk>(
     ensures row { IsTrue (D.state disk.old).tells
         → (rows : List Entry) (reads : Reads (D.state disk.old) file.now rows)
         → IfOk result (λ row. row ≡ find key_cmp key.now (get_or reads.as_file.blocks i [])) }
+    ensures given { IfOk result (IsRowRead (D.state disk.old) file.now i key.now) }
     ensures undamaged { IsTrue (D.state disk.old).tells
         → (rows : List Entry) → Reads (D.state disk.old) file.now rows
         → IfErr result (λ fault. IsDamaged fault → ⊥) }
@@ -131,6 +135,7 @@ fn block_at<D: Disk>(file: &RowFile, disk: &mut D, i: usize) -> Result<Vec<u8>, 
     ensures bytes { IsTrue (D.state disk.old).tells → (b : List Entry)
         → LoadedAt (contents (D.state disk.old) (file_of file.now)) file.now.marks.items
         file.now.end i b → IfOk result (λ v. v.items ≡ block_bytes b) }
+    ensures given { IfOk result (λ v. AreRead (D.state disk.old) file.now i v.items) }
     ensures undamaged { IsTrue (D.state disk.old).tells
         → (rows : List Entry) → Reads (D.state disk.old) file.now rows
         → IfErr result (λ fault. IsDamaged fault → ⊥) }
@@ -172,8 +177,8 @@ fn are_rows(alloc: Global, bytes: &[u8]) -> Result<bool, NoMemory>
     ensures { (b : List Entry) → IsHeldBlock b → T (is_sorted key_cmp b)
         → bytes.now ≡ block_bytes b → IfOk result (λ are. are ≡ true) }
 {
-    match take_field(bytes) {
-        Some((block, _)) => {
+    match whole_field(bytes) {
+        Some(block) => {
             let decoded = decode(alloc, block)?;
             Ok(decoded.is_some())
         }
@@ -188,9 +193,10 @@ fn row_at(alloc: Global, bytes: &[u8], key: &[u8]) -> Result<Option<Option<RowCe
         → IfOk result (λ o. IfSome o (λ row. row ≡ find key_cmp key.now b)) }
     ensures none { (b : List Entry) → IsHeldBlock b → T (is_sorted key_cmp b)
         → bytes.now ≡ block_bytes b → IfOk result (λ o. IfNone o ⊥) }
+    ensures found { IfOk result (λ o. IfSome o (IsFoundIn bytes.now key.now)) }
 {
-    match take_field(bytes) {
-        Some((block, _)) => pick(alloc, block, key),
+    match whole_field(bytes) {
+        Some(block) => pick(alloc, block, key),
         None => Ok(None),
     }
 }

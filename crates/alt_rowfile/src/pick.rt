@@ -9,7 +9,7 @@ ghost use Rattle.alt_cells.specs.Keys.{key_cmp};
 ghost use Rattle.alt_rowfile.specs.Blocks.{IsAbove};
 ghost use Rattle.alt_rowfile.specs.Decoding.{AreRows, NoRows};
 ghost use Rattle.alt_rowfile.specs.Format.{Entry, rows_bytes};
-ghost use Rattle.alt_rowfile.specs.Picking.{Piece, piece_bytes, IsShortPiece, HasPieces, NoPieces, Picks};
+ghost use Rattle.alt_rowfile.specs.Picking.{Piece, piece_bytes, IsShortPiece, HasPieces, IsPicked, NoPieces, Picks};
 
 use crate::decode::take_field;
 use alt_base::NoMemory;
@@ -26,6 +26,7 @@ pub(crate) fn pick(
     ensures row { (rows : List Entry) → AreRows rows → bytes.now ≡ rows_bytes rows
         → IfOk result (λ o. IfSome o (λ row. row ≡ find key_cmp key.now rows)) }
     ensures tested { IfOk result (λ o. IfSome o (λ row. HasPieces bytes.now)) }
+    ensures found { IfOk result (λ o. IfSome o (IsPicked bytes.now key.now)) }
     ensures none { IfOk result (λ o. IfNone o (NoRows bytes.now)) }
 {
     match bytes_at_key(bytes, key) {

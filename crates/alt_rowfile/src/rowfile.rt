@@ -29,6 +29,7 @@ impl RowFile {
     ghost use Rattle.alt_disk.specs.Runs.{Quiet};
     ghost use Rattle.alt_rowfile.specs.Format.{Entry};
     ghost use Rattle.alt_rowfile.specs.Damage.{IsDamageIn};
+    ghost use Rattle.alt_rowfile.specs.Given.{IsRowGiven};
     ghost use Rattle.alt_rowfile.specs.InHand.{Reads, file_of};
     ghost use Rattle.alt_rowfile.specs.Reading.{ReadsAtMostABlock};
     ghost use Rattle.alt_rowfile.specs.Summaries.{any_tombstone, latest_of};
@@ -62,6 +63,8 @@ impl RowFile {
         ensures row { IsTrue (D.state disk.old).tells → (rows : List Entry)
             → Reads (D.state disk.old) self.now rows
             → IfOk result (λ row. row ≡ find key_cmp key.now rows) }
+        ensures given { IfOk result
+            (IsRowGiven (D.state disk.old) (D.state disk.new) self.now key.now) }
         ensures undamaged { IsTrue (D.state disk.old).tells → (rows : List Entry)
             → Reads (D.state disk.old) self.now rows → IfErr result (λ fault. IsDamaged fault → ⊥) }
         ensures damage { IfErr result (IsDamageIn (D.state disk.old) self.now) }

@@ -8,6 +8,7 @@ ghost use Rattle.alt_disk.specs.Runs.{Quiet};
 ghost use Rattle.alt_cells.specs.Walks.{IsDamaged};
 ghost use Rattle.alt_rowfile.specs.Format.{Entry};
 ghost use Rattle.alt_rowfile.specs.Damage.{IsDamageIn};
+ghost use Rattle.alt_rowfile.specs.Given.{IsSought};
 ghost use Rattle.alt_rowfile.specs.InHand.{Reads};
 ghost use Rattle.alt_rowfile.specs.Reading.{ReadsAtMostABlock};
 ghost use Rattle.alt_rowfile.specs.Walking.{IsLeft, list_from};
@@ -31,6 +32,8 @@ pub(crate) fn start<D: Disk>(
         → (rows : List Entry) → Reads (D.state disk.old) file.now rows
         → IfOk result (λ p. IsLeft (D.state disk.new) file.now forward p.0 p.1
         (list_from rows (option_copied from.entry) forward)) }
+    ensures given { IfOk result (λ p. IsSought (D.state disk.old) (D.state disk.new) file.now
+        (option_copied from.entry) forward p.1) }
     ensures undamaged { IsTrue (D.state disk.old).tells
         → (rows : List Entry) → Reads (D.state disk.old) file.now rows
         → IfErr result (λ fault. IsDamaged fault → ⊥) }
@@ -69,6 +72,8 @@ fn start_at<D: Disk>(
         → (rows : List Entry) → Reads (D.state disk.old) file.now rows
         → IfOk result (λ p. IsLeft (D.state disk.new) file.now forward p.0 p.1
         (list_from rows (Some key.now) forward)) }
+    ensures given { IfOk result (λ p. IsSought (D.state disk.old) (D.state disk.new) file.now
+        (Some key.now) forward p.1) }
     ensures undamaged { IsTrue (D.state disk.old).tells
         → (rows : List Entry) → Reads (D.state disk.old) file.now rows
         → IfErr result (λ fault. IsDamaged fault → ⊥) }

@@ -6,6 +6,7 @@ ghost use Rattle.alt_disk.specs.Disk.{Goes};
 ghost use Rattle.alt_disk.specs.Runs.{Quiet};
 ghost use Rattle.alt_cells.specs.Walks.{Gives, IsDamaged, RowList, answered_by};
 ghost use Rattle.alt_rowfile.specs.Damage.{IsDamageIn};
+ghost use Rattle.alt_rowfile.specs.Given.{IsSought};
 ghost use Rattle.alt_rowfile.specs.Format.{Entry};
 ghost use Rattle.alt_rowfile.specs.Holding.{IsInHand};
 ghost use Rattle.alt_rowfile.specs.InHand.{Reads, count_of};
@@ -52,6 +53,8 @@ impl<'a, D: Disk> RowSource<D> for RowFileWalk<'a> {
             → (rows : RowMap) → walk_holds (D.state disk.old) self.old rows
             → OnOk result (walk_left (D.state disk.new) self.new
             (rows_from rows (option_copied from.entry) forward)) }
+        ensures given { OnOk result (IsSought (D.state disk.old) (D.state disk.new)
+            (walk_file self.old) (option_copied from.entry) forward self.new.hand) }
         ensures keeps { Keeps walk_holds walk_reads (D.state disk.old) (D.state disk.new)
             self.old self.new }
         ensures reads { (D.state disk.new).reads ≤ (D.state disk.old).reads + walk_width self.old }

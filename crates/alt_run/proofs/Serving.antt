@@ -99,6 +99,13 @@ breaks_for fault next now s t ls done begun es fs ms ns low p why =
         last = w.last;
         asks = w.asks;
         enough = same ∙ w.enough;
+        before = turns s ls ms ++ w.before;
+        turn = w.turn;
+        parts = ap (λ xs. turns s xs (ms ++ ns)) (append_assoc ls done begun)
+            ∙ turns_both s t t ls (done ++ begun) es fs ms ns p
+            ∙ ap (λ (us : List Turn). turns s ls ms ++ us) w.parts
+            ∙ sym (append_assoc (turns s ls ms) w.before (w.turn ∷ []));
+        writes = w.writes;
       })) (λ (w : IsWorking t done begun fs ns). inr (record {
         line = w.line;
         last = w.last;
@@ -542,18 +549,22 @@ unsaid old new s l t ms fault next b why =
 -- since it lacks what it wants or there is no memory
 pub turn_unsaid : (old new : DiskState) (s : State) (l : Asked) (t : Turn) (ms : List ℕ)
     (fault : RunFault) (next : ℕ) → requests (l ∷ []) ≡ 1 → tasks (l ∷ []) ≡ 1
-    → Begins old new s l t ms → IsAnswerFault next t.lacks fault
+    → Begins old new s l t ms → IsAnswerFault next t.lacks t.atoms fault
     → Stretch old new (BreaksAtHand fault next s (l ∷ []))
 turn_unsaid old new s l t ms fault next asks task b cause =
     unsaid old new s l t ms fault next b (⊎_elim
     (λ (lack : IsCausedBy t.lacks fault). lacked next s l t ms fault [] b.one lack)
-    (λ (last : (t.lacks ≡ None) × IsFileFault next fault). inr (
-      file_more fault next (next + tasks (l ∷ []) * most_files) (omega (arith, task)) last.1,
+    (λ (last : (t.lacks ≡ None) × (1 ≤ length t.atoms) × IsFileFault next fault). inr (
+      file_more fault next (next + tasks (l ∷ []) * most_files) (omega (arith, task)) last.2,
       inl (record {
         line = l;
         last = refl;
         asks = asks;
         enough = ap wanted b.one ∙ ap (λ w. or_next w None) last.0;
+        before = [];
+        turn = t;
+        parts = b.one;
+        writes = last.1;
       }),
     )) cause)
 

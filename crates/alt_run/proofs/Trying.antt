@@ -186,7 +186,8 @@ module _ (a b : DiskState) (s : State) (name body : List ℕ)
     (leaves : AtEach a b (λ _ image. IsUncut image s (carried_out s name body trial_moment).atoms)) where
   -- it broke off
   pub one_broke : (fault : RunFault) (next : ℕ)
-      → IsAnswerFault next (wanted_by s (outcome_of s name body trial_moment)) fault
+      → IsAnswerFault next (wanted_by s (outcome_of s name body trial_moment))
+      (outcome_of s name body trial_moment).atoms fault
       → CountedSome fault next s (request name body ∷ []) a b
   one_broke fault next cause = record {
     begun = request name body ∷ [];
@@ -194,12 +195,12 @@ module _ (a b : DiskState) (s : State) (name body : List ℕ)
     lines = refl;
     wants = ⊎_elim
         (λ (lack : IsCausedBy lacks fault). inl (lacked_alone fault lacks lack))
-        (λ (last : (lacks ≡ None) × IsFileFault next fault). inr (
-          file_more fault next (next + 1 * most_files) (omega arith) last.1,
+        (λ (last : (lacks ≡ None) × (1 ≤ length atoms) × IsFileFault next fault). inr (
+          file_more fault next (next + 1 * most_files) (omega arith) last.2,
           ap (λ w. or_next w None) last.0,
           omega arith,
         ))
-        (answer_first next _ _ fault (none_lacked (left_by s name body trial_moment)) cause);
+        (answer_first next _ _ atoms fault (none_lacked (left_by s name body trial_moment)) cause);
     leaves = leaves-weaker a b
         (λ _ image. IsUncut image s (carried_out s name body trial_moment).atoms)
         (λ _ image. StandsBehind image s (one_turn s name body) [])
@@ -208,6 +209,9 @@ module _ (a b : DiskState) (s : State) (name body : List ℕ)
     where
       lacks : Option Lack
       lacks = (carried_out s name body trial_moment).lacks
+
+      atoms : List State
+      atoms = (carried_out s name body trial_moment).atoms
 
 -- it was carried out, and its reply counted
 module _ (a b c : DiskState) (s : State) (name body : List ℕ)

@@ -51,7 +51,8 @@ pub(crate) fn reply_text<D: Disk>(
         (wanted s (outcome_of s name.now body.now moment) ≡ None) }
     ensures cause { (s : State) → Stands (D.state disk.old) tables.old s → IfErr result
         (IsAnswerFault (bounds_of tables.old).file
-        (wanted s (outcome_of s name.now body.now moment))) }
+        (wanted s (outcome_of s name.now body.now moment))
+        (outcome_of s name.now body.now moment).atoms) }
     ensures device { IsErrOf result Failed
         → Rose (D.state disk.old).faults (D.state disk.new).faults }
     ensures limits { bounds_of tables.new ≡ bounds_of tables.old }

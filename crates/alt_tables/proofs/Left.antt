@@ -52,6 +52,7 @@ stands_quiet a b t s tells honest quiet stands = record {
   fronts = λ m rows. stands.fronts m (subst (λ l. HasRows a t l)
       (one_layout_in_hand b t.engine stands.rows.layout m
       (stays_quiet a b t.engine stands.rows.layout stands.rows.is quiet) rows) stands.rows.is);
+  due = stands.due;
   valid = stands.valid;
 }
 

@@ -10,6 +10,7 @@ pub mod ChangePages
 pub mod Differing
 pub mod Elsewhere
 pub mod FilesLaws
+pub mod Foreseen
 pub mod FrontLaws
 pub mod FrontTrims
 pub mod Holding
@@ -21,6 +22,7 @@ pub mod LeftoverLaws
 pub mod LeftoverRows
 pub mod Making
 pub mod MakingAll
+pub mod MomentLaws
 pub mod Moving
 pub mod Noting
 pub mod Pages

@@ -35,15 +35,17 @@ use Rattle.alt_opening.specs.StateRows.{catalog_family}
 use Rattle.alt_opening.specs.Trimmed.{AreTrimmedOf, IsRenumbered, number_at, without}
 use Rattle.alt_opening.proofs.Engine.{one_layout_in_hand, stands_past}
 use Rattle.alt_opening.proofs.TrimmedLaws.{trimmed-new, trimmed-put, trimmed-remove}
+use Rattle.alt_tables.specs.Foreseen.{Foresees, ForeseesWrite}
 use Rattle.alt_tables.specs.Fronts.{AreFronts, IsFront, front_at, without_front}
 use Rattle.alt_tables.specs.Leftovers.{leftovers}
-use Rattle.alt_tables.specs.Stands.{HasRows, Stands, catalog_of, fronts_of, number_of, trimmed_of}
+use Rattle.alt_tables.specs.Stands.{HasRows, Stands, catalog_of, due_of, fronts_of, number_of, trimmed_of}
 use Rattle.alt_tables.specs.RowChanges.{Turns, changed_rows, write_changes, creation_changes, drop_changes}
 use Rattle.alt_tables.specs.private.Trims.{IsNoted, IsTrim}
 use Rattle.alt_tables.specs.declared.fronts.Front.{Front}
 use Rattle.alt_tables.specs.declared.trimming.Trim.{Trim}
 use Rattle.alt_tables.proofs.ChangeLaws.{AreOthers}
 use Rattle.alt_tables.proofs.Elsewhere.{shown_elsewhere, write_others}
+use Rattle.alt_tables.proofs.Foreseen.{foresees_gone, foresees_new, foresees_written}
 use Rattle.alt_tables.proofs.FrontLaws.{fronts_alike, fronts_gone, fronts_new, fronts_put}
 use Rattle.alt_tables.proofs.FrontTrims.{front_stays, front_then, left_then, leftovers_then, trimmed_then}
 use Rattle.alt_tables.proofs.StreamShows.{stream_family}
@@ -227,8 +229,9 @@ module _ (before : DiskState) (old : Tables) (s : State) (t : Table) (stands : S
         → new.catalog ≡ old.catalog → new.live ≡ old.live → new.family ≡ old.family
         → IsRenumbered name r.number (trimmed_of old) (trimmed_of new)
         → IsNoted d name moment r (fronts_of old) (fronts_of new)
+        → ForeseesWrite (catalog_of old) name place to (due_of old) → new.due ≡ old.due
         → number_of new ≡ number_of old + 1 → Stands now new after
-    item_stands now new holds valid rows distinct catalog live family trimmed noted next = record {
+    item_stands now new holds valid rows distinct catalog live family trimmed noted told due next = record {
       catalog = catalog ∙ stands.catalog ∙ sym (descriptions-stay s.tables name t table_after at refl);
       number = next ∙ ap (λ n. n + 1) stands.number;
       family = family ∙ stands.family;
@@ -240,6 +243,9 @@ module _ (before : DiskState) (old : Tables) (s : State) (t : Table) (stands : S
       rows = holds;
       fronts = fronts_of_rows now new (changed_rows stands.rows.layout batch) after.tables rows
           (fronts_then distinct (fronts_of new) noted);
+      due = subst (Foresees after.tables) (sym due) (foresees_written s.tables name old.due
+          stands.due s.next_number moment writer t place to at
+          (told t.description (known before old s name t stands at)));
       valid = valid;
     }
 
@@ -288,12 +294,12 @@ module _ (before : DiskState) (old : Tables) (s : State) (stands : Stands before
       → new.catalog ≡ map.remove old.catalog name
       → new.live ≡ without_all (families_of d) old.live → new.family ≡ old.family
       → trimmed_of new ≡ without name (trimmed_of old)
-      → fronts_of new ≡ without_front name (fronts_of old)
+      → fronts_of new ≡ without_front name (fronts_of old) → new.due ≡ old.due
       → number_of new ≡ number_of old + 1
       → (batch : List RowChange) → batch ≡ drop_changes d → T (is_distinct batch)
       → HasRows now new (changed_rows stands.rows.layout batch)
       → Stands now new (without_table s name)
-  drop_stands name d now new described holds valid catalog live family trimmed fronts number batch is
+  drop_stands name d now new described holds valid catalog live family trimmed fronts due number batch is
       distinct rows = record {
         catalog = catalog ∙ ap (λ (m : Texts TableSchema). map.remove m name) stands.catalog
             ∙ sym (descriptions-remove s.tables name);
@@ -317,6 +323,8 @@ module _ (before : DiskState) (old : Tables) (s : State) (stands : Stands before
             (sym fronts)
             (fronts_gone (changed_rows stands.rows.layout batch) s.tables name (fronts_of old)
             (catalog_fronts batch distinct (subst OfCatalog (sym is) (refl, tt)))));
+        due = subst (Foresees (map.remove s.tables name)) (sym due)
+            (foresees_gone s.tables name old.due stands.due);
         valid = valid;
       }
 
@@ -346,11 +354,11 @@ module _ (before : DiskState) (old : Tables) (s : State) (stands : Stands before
         → IsValid (with_table s d) → new.catalog ≡ map.insert old.catalog d.name d
         → new.live ≡ with_all (families_of d) old.live
         → new.family ≡ old.family + length (families_of d) → new.trimmed ≡ old.trimmed
-        → new.fronts ≡ old.fronts → number_of new ≡ number_of old + 1
+        → new.fronts ≡ old.fronts → new.due ≡ old.due → number_of new ≡ number_of old + 1
         → (next : ℕ) (batch : List RowChange) → batch ≡ creation_changes old.family next d
         → T (is_distinct batch) → HasRows now new (changed_rows stands.rows.layout batch)
         → Stands now new (with_table s d)
-    table_stands now new holds valid catalog live families trimmed fronts numbers next batch is
+    table_stands now new holds valid catalog live families trimmed fronts due numbers next batch is
         distinct rows = record {
           catalog = catalog ∙ ap (λ (m : Texts TableSchema). map.insert m d.name d) stands.catalog
               ∙ sym (descriptions-insert s.tables d.name (new_table d));
@@ -370,6 +378,8 @@ module _ (before : DiskState) (old : Tables) (s : State) (stands : Stands before
               (fronts_new (changed_rows stands.rows.layout batch) s.tables d.name (fronts_of old)
               (catalog_fronts batch distinct (subst OfCatalog (sym is) (refl, (refl, tt))))
               (new_table d) (absent before old s d.name stands free)));
+          due = subst (Foresees (map.insert s.tables d.name (new_table d))) (sym due)
+              (foresees_new s.tables d.name old.due stands.due d);
           valid = valid;
         }
 

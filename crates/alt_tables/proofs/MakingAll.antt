@@ -11,14 +11,16 @@ use Rattle.alt_machine.specs.Outcomes.{last_state, together}
 use Rattle.alt_machine.specs.State.{State, Texts}
 use Rattle.alt_opening.specs.Opened.{Holds}
 use Rattle.alt_schema.specs.declared.schema.TableSchema.{TableSchema}
+use Rattle.alt_tables.specs.Foreseen.{Foresees, ForeseesWritten}
 use Rattle.alt_tables.specs.Images.{Leaves}
 use Rattle.alt_tables.specs.Several.{AreAllApart, Every, IsFound, MayWrite, batches_of, with_batches, written_at}
-use Rattle.alt_tables.specs.Stands.{HasRows, Keeps, Stands, catalog_of, fronts_of, number_of, trimmed_of}
+use Rattle.alt_tables.specs.Stands.{HasRows, Keeps, Stands, catalog_of, due_of, fronts_of, number_of, trimmed_of}
 use Rattle.alt_tables.specs.declared.several.ItemChange.{ItemChange}
 use Rattle.alt_tables.specs.declared.several.Staged.{Staged}
 use Rattle.alt_tables.specs.declared.tables.Tables.{Tables}
 use Rattle.alt_tables.specs.private.Staging.{AreKnown, Differs, IsStaged, differing_of}
 use Rattle.alt_tables.proofs.Differing.{all_differ, apart_differing, count_differing, every_at, every_differing, every_written, rows_differing, writes_differing}
+use Rattle.alt_tables.proofs.Foreseen.{foresees_all, foresees_on}
 use Rattle.alt_tables.proofs.Left.{leaves_after}
 use Rattle.alt_tables.proofs.Staged.{stand_behind, together_last}
 use Rattle.alt_tables.proofs.Standing.{rows_kept, stands_kept}
@@ -114,10 +116,14 @@ module _ (a m : DiskState) (old mid known : Tables) (keeps : Keeps a m old mid)
         → HasRows b new (with_batches stands.rows.layout staged.batches.items)
         → new.catalog ≡ mid.catalog → new.live ≡ mid.live → new.family ≡ mid.family
         → new.trimmed ≡ known.trimmed → new.fronts ≡ known.fronts
+        → Every (ForeseesWritten (catalog_of old) (due_of mid)) ws → new.due ≡ mid.due
         → number_of new ≡ number_of known + length staged.batches.items → Stands b new last
-    stand_then noted holds rows catalog live family trimmed fronts number =
+    stand_then noted holds rows catalog live family trimmed fronts told due number =
         stand_behind a b old new s last stands moment staged.notes.items staged.batches.items
-        are.ahead (noted_then noted trimmed fronts) holds rows (catalog ∙ keeps.catalog)
+        are.ahead (noted_then noted trimmed fronts)
+        (subst (Foresees last.tables) (sym due) (foresees_all (catalog_of old) mid.due s moment
+        writer ws stands.catalog told (foresees_on s.tables old.due mid.due keeps.due stands.due)))
+        holds rows (catalog ∙ keeps.catalog)
         (live ∙ keeps.live) (family ∙ keeps.family)
         (number ∙ ap (λ n. n + length staged.batches.items)
         (ap (λ (e : Engine). next_of e) engine ∙ keeps.number))

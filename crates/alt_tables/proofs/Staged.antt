@@ -5,6 +5,8 @@ use Rattle.alt_cells.specs.Batches.{is_distinct}
 use Rattle.alt_cells.specs.declared.batch.RowChange.{RowChange}
 use Rattle.alt_disk.specs.Disk.{DiskState}
 use Rattle.alt_codec.specs.declared.writer.Writer.{Writer}
+use Rattle.alt_due.specs.Due.{KeepsKnown}
+use Rattle.alt_due.specs.declared.due.Due.{Due}
 use Rattle.alt_layout.specs.Layout.{Layout}
 use Rattle.alt_machine.specs.declared.TheConstants.{NUMBERS_END}
 use Rattle.alt_machine.specs.Ops.BatchWriteItem.{Written, writes_of_by, writes_of_all_by}
@@ -18,11 +20,12 @@ use Rattle.alt_opening.specs.Opened.{Holds}
 use Rattle.alt_opening.proofs.Engine.{one_layout_in_hand, stands_past}
 use Rattle.alt_opening.proofs.OneState.{some}
 use Rattle.alt_schema.specs.declared.schema.TableSchema.{TableSchema}
+use Rattle.alt_tables.specs.Foreseen.{Foresees, ForeseesWritten}
 use Rattle.alt_tables.specs.Fronts.{AreFronts}
 use Rattle.alt_tables.specs.Leftovers.{lowest_left}
 use Rattle.alt_tables.specs.RowChanges.{write_changes}
 use Rattle.alt_tables.specs.Several.{AreAllApart, AreDistinct, Every, IsFound, MayWrite, batch_of, batches_of, with_batches, written_at}
-use Rattle.alt_tables.specs.Stands.{HasRows, Keeps, Stands, catalog_of, fronts_of, number_of, trimmed_of}
+use Rattle.alt_tables.specs.Stands.{HasRows, Keeps, Stands, catalog_of, due_of, fronts_of, number_of, trimmed_of}
 use Rattle.alt_tables.specs.declared.several.ItemChange.{ItemChange}
 use Rattle.alt_tables.specs.declared.several.Noted.{Noted}
 use Rattle.alt_tables.specs.declared.several.Staged.{Staged}
@@ -33,6 +36,7 @@ use Rattle.alt_tables.specs.private.Trims.{IsWithin}
 use Rattle.alt_tables.proofs.Ahead.{none_ahead, one_ahead}
 use Rattle.alt_tables.proofs.Batches.{with_batches-append}
 use Rattle.alt_tables.proofs.Differing.{differ_one, differ_rows, stay_found}
+use Rattle.alt_tables.proofs.Foreseen.{written_on}
 use Rattle.alt_tables.proofs.FrontTrims.{trimmed_then}
 use Rattle.alt_tables.proofs.Noting.{fronts_all, trimmed_all}
 use Rattle.alt_tables.proofs.Standing.{keeps_nothing, keeps_then, known, rows_kept, stands_kept, still_live}
@@ -232,6 +236,9 @@ pub record IsStaging (a : DiskState) (old : Tables) (b : DiskState) (now : Table
   pub distinct : AreDistinct staged.batches.items
   pub count : length staged.batches.items + length rest ≡ length all
   pub notes : AreNotes (catalog_of old) (number_of old) staged.notes.items
+  pub told : (due : Due) → KeepsKnown (due_of now) due
+      → Every (ForeseesWritten (catalog_of old) due) (each written_at rest)
+      → Every (ForeseesWritten (catalog_of old) due) (each written_at all)
   pub so : (s : State) (l : Layout) → Stands a old s → HasRows a old l
       → AreUnderWay l s moment writer all rest staged.notes.items staged.batches.items
 
@@ -251,6 +258,7 @@ staging_none a old moment writer all rest staged same empty none may apart diffe
       distinct = subst AreDistinct (sym empty) tt;
       count = let e : length staged.batches.items ≡ 0 = ap length empty in omega (arith, e);
       notes = subst (AreNotes (catalog_of old) (number_of old)) (sym none) tt;
+      told = λ due keeps h. h;
       so = λ s l stands rows. subst (λ bs. AreUnderWay l s moment writer all all
           staged.notes.items bs) (sym empty)
           (subst (λ ns. AreUnderWay l s moment writer all all ns []) (sym none)
@@ -266,8 +274,9 @@ pub staging_more : (a b d : DiskState) (old now new : Tables) (moment : ℕ) (wr
     → IsFound r c → IsStagedOn l s moment writer c r x y)
     → AreDistinct y.batches.items → length y.batches.items ≡ length x.batches.items + 1
     → AreNotes (catalog_of now) (number_of now) y.notes.items
+    → ForeseesWritten (catalog_of now) (due_of new) (written_at c)
     → IsStaging a old d new moment writer all rest y
-staging_more a b d old now new moment writer all rest c x y so keeps on distinct count notes = record {
+staging_more a b d old now new moment writer all rest c x y so keeps on distinct count notes told = record {
   keeps = keeps_then a b d old now new so.keeps keeps;
   may = so.may.1;
   apart = so.apart.1;
@@ -277,6 +286,13 @@ staging_more a b d old now new moment writer all rest c x y so keeps on distinct
   notes = subst (λ n. AreNotes (catalog_of old) n y.notes.items) so.keeps.number
       (subst (λ (m : Texts TableSchema). AreNotes m (number_of now) y.notes.items)
       so.keeps.catalog notes);
+  told = λ due on h. so.told due
+      (λ moment spot knows. on moment spot (keeps.due moment spot knows)) (
+        written_on (catalog_of old) new.due due on (written_at c)
+            (subst (λ (m : Texts TableSchema). ForeseesWritten m (due_of new) (written_at c))
+            so.keeps.catalog told),
+        h,
+      );
   so = λ s l stands rows.
       let under = so.so s l stands rows in
       staged_more l s moment writer all rest c x y under so.apart so.differ.0
@@ -291,7 +307,7 @@ module _ (a b : DiskState) (old new : Tables) (s r : State) (stands : Stands a o
     (notes : List Noted) (batches : List (List RowChange))
     (ahead : IsAhead stands.rows.layout s moment notes batches r)
     (noted : AreKnown (catalog_of old) moment notes (trimmed_of old) (trimmed_of new)
-    (fronts_of old) (fronts_of new)) where
+    (fronts_of old) (fronts_of new)) (due : Foresees r.tables (due_of new)) where
   changes_of : (u : State) → IsValid u → (q : List ℕ) (t : Table) → map.get u.tables q ≡ Some t
       → (k : ℕ) × AreChanges t.description k t.trimmed t.changes
   changes_of u valid q t at = (u.next_number, (valid.tables q t at).changes)
@@ -320,6 +336,7 @@ module _ (a b : DiskState) (old new : Tables) (s r : State) (stands : Stands a o
         (λ q t at. known a old s q t stands at) (trimmed_of old) (trimmed_of new) (fronts_of old)
         (fronts_of new) noted (changes_of r ahead.turns.valid) (changes_of s stands.valid)
         (stands.fronts stands.rows.layout stands.rows.is));
+    due = due;
     valid = ahead.turns.valid;
   }
 

@@ -6,6 +6,7 @@ use Rattle.std.specs.FinMap as map
 use Rattle.alt_cells.specs.Changes.{Columns}
 use Rattle.alt_disk.specs.Disk.{DiskState, Goes, IsTrusted}
 use Rattle.alt_disk.proofs.Calls.{goes_refl, goes_on}
+use Rattle.alt_due.specs.Due.{KeepsKnown}
 use Rattle.alt_disk.proofs.Runs.{quiet_start, quiet_then, trusted_on, trusted_back, tells_of}
 use Rattle.alt_engine.specs.InHand.{Bounds, Reads as EngineReads, Stands as EngineStands}
 use Rattle.alt_engine.specs.Opened.{StaysOn}
@@ -135,7 +136,7 @@ still_trimmed tables t u trimmed are name =
 
 module _ (old new : DiskState) (t u : Tables) (catalog : u.catalog ≡ t.catalog)
     (live : u.live ≡ t.live) (family : u.family ≡ t.family) (trimmed : u.trimmed ≡ t.trimmed)
-    (fronts : u.fronts ≡ t.fronts) (goes : Goes old new)
+    (fronts : u.fronts ≡ t.fronts) (due : KeepsKnown t.due u.due) (goes : Goes old new)
     (same : IsTrue old.tells → StaysOn old new t.engine u.engine) where
   -- the tables stand for what they stood for
   stays_on : (s : State) → Stands old t s → Stands new u s
@@ -157,6 +158,8 @@ module _ (old new : DiskState) (t u : Tables) (catalog : u.catalog ≡ t.catalog
             (stands.fronts m (subst (λ l. EngineStands old t.engine l)
             (one_layout_in_hand new u.engine stands.rows.layout m
             (on.stands stands.rows.layout stands.rows.is) rows) stands.rows.is));
+        due = λ name place v item at there moment fits over.
+            due moment _ (stands.due name place v item at there moment fits over);
         valid = stands.valid;
       }
 
@@ -175,11 +178,11 @@ module _ (old new : DiskState) (t u : Tables) (keeps : Keeps old new t u) where
   -- the tables stand for what they stood for
   pub stays_kept : AreReady old t → (s : State) → Stands old t s ↔ Stands new u s
   stays_kept = stays old new t u keeps.catalog keeps.live keeps.family keeps.trimmed keeps.fronts
-      keeps.reads.goes keeps.same
+      keeps.due keeps.reads.goes keeps.same
 
   pub stands_kept : (s : State) → Stands old t s → Stands new u s
   stands_kept = stays_on old new t u keeps.catalog keeps.live keeps.family keeps.trimmed
-      keeps.fronts keeps.reads.goes keeps.same
+      keeps.fronts keeps.due keeps.reads.goes keeps.same
 
   -- they are ready
   pub ready_kept : AreReady old t → AreReady new u
@@ -199,6 +202,7 @@ keeps_then a b c t u v first then = record {
   family = then.family ∙ first.family;
   trimmed = then.trimmed ∙ first.trimmed;
   fronts = then.fronts ∙ first.fronts;
+  due = λ moment spot knows. then.due moment spot (first.due moment spot knows);
   limits = then.limits ∙ first.limits;
   number = then.number ∙ first.number;
   reads = record {
@@ -216,6 +220,11 @@ keeps_then a b c t u v first then = record {
       };
 }
 
+-- and one that makes no call of the disk behind it
+pub keeps_on : (a b : DiskState) (t u v : Tables) → Keeps a b t u
+    → ((disk : DiskState) → Keeps disk disk u v) → Keeps a b t v
+keeps_on a b t u v first then = keeps_then a b b t u v first (then b)
+
 -- no call keeps everything
 pub keeps_nothing : (a : DiskState) (t : Tables) → Keeps a a t t
 keeps_nothing a t = record {
@@ -224,6 +233,7 @@ keeps_nothing a t = record {
   family = refl;
   trimmed = refl;
   fronts = refl;
+  due = λ moment spot knows. knows;
   limits = refl;
   number = refl;
   reads = record { goes = goes_refl a; quiet = λ tells. quiet_start a };

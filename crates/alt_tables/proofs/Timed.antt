@@ -1,11 +1,12 @@
 -- The write that gives a table another attribute for time to live, or none: what it leaves is what the machine's leaves.
-use Rattle.std.proofs.Common.{◌≡◌, refl, sym, ap, subst, ◌∙◌, ℕ, ◌+◌, ◌<◌, Bool, true, false, cond, T, List, Option, Some, arith}
+use Rattle.std.proofs.Common.{◌≡◌, refl, sym, ap, subst, ◌∙◌, ℕ, ◌+◌, ◌<◌, Bool, true, false, cond, T, List, Option, Some, None, arith}
 use Rattle.std.specs.FinMap as map
 use Rattle.std.specs.Option.{option_map_or}
 use Rattle.std.specs.Ordering.{eq_by_cmp}
 use Rattle.alt_cells.specs.Batches.{is_distinct}
 use Rattle.alt_cells.specs.declared.batch.RowChange.{RowChange}
 use Rattle.alt_disk.specs.Disk.{DiskState}
+use Rattle.alt_due.specs.declared.due.Due.{Due}
 use Rattle.alt_layout.specs.Layout.{Layout}
 use Rattle.alt_machine.specs.declared.TheConstants.{NUMBERS_END}
 use Rattle.alt_machine.specs.Ops.UpdateTimeToLive.{timed, with_time}
@@ -20,11 +21,14 @@ use Rattle.alt_opening.proofs.LiveLaws.{live_alike}
 use Rattle.alt_opening.proofs.OneState.{some}
 use Rattle.alt_opening.proofs.Ties.{tied}
 use Rattle.alt_opening.proofs.TrimmedLaws.{trimmed-stay}
+use Rattle.alt_tables.specs.Foreseen.{Foresees}
 use Rattle.alt_tables.specs.Fronts.{AreFronts, IsFront}
 use Rattle.alt_tables.specs.RowChanges.{Turns, changed_rows, time_changes}
 use Rattle.alt_tables.specs.Stands.{HasRows, Stands, catalog_of, fronts_of, number_of, trimmed_of}
 use Rattle.alt_tables.specs.declared.fronts.Front.{Front}
 use Rattle.alt_tables.specs.declared.tables.Tables.{Tables}
+use Rattle.alt_tables.specs.private.Foretold.{IsTold}
+use Rattle.alt_tables.proofs.Foreseen.{foresees_nothing, foresees_untimed}
 use Rattle.alt_tables.proofs.Making.{OfCatalog, catalog_fronts, fronts_of_rows}
 use Rattle.alt_tables.proofs.Standing.{descriptions-insert, known, still_live, still_trimmed}
 use Rattle.alt_tables.proofs.TimeLaws.{time_turns}
@@ -54,6 +58,16 @@ fronts_timed l tables known name t ttl at are q f told =
           (some _ _ (sym at_v ∙ ap (map.get tables) (tied q name tie) ∙ at)) front),
     )
     by v at_v front false tie is = (v, is ∙ at_v, front)
+
+-- the list of the items that are due next knows of them behind it
+foresees_timed : (tables : Texts Table) (name : List ℕ) (t : Table) (old new : Due)
+    → Foresees tables old → (ttl : Option (List ℕ)) → IsTold ttl old new
+    → Foresees (map.insert tables name (timed ttl t)) new
+foresees_timed tables name t old new knows None told =
+    subst (Foresees (map.insert tables name (timed None t))) (sym (told.none refl))
+    (foresees_untimed tables name old knows t)
+foresees_timed tables name t old new knows (Some own) told =
+    foresees_nothing (map.insert tables name (timed (Some own) t)) new (told.some own refl)
 
 -- where a table is described there, the catalog has it with that time to live
 pub given_time : (m n : Texts TableSchema) (name : List ℕ) (d : TableSchema)
@@ -85,10 +99,11 @@ module _ (before : DiskState) (old : Tables) (s : State) (stands : Stands before
       → IsValid (with_time s name t ttl)
       → new.catalog ≡ map.insert old.catalog name (record d { ttl = ttl })
       → new.live ≡ old.live → new.family ≡ old.family → new.trimmed ≡ old.trimmed
-      → new.fronts ≡ old.fronts → number_of new ≡ number_of old + 1 → T (is_distinct batch)
+      → new.fronts ≡ old.fronts → IsTold ttl old.due new.due
+      → number_of new ≡ number_of old + 1 → T (is_distinct batch)
       → HasRows now new (changed_rows stands.rows.layout batch)
       → Stands now new (with_time s name t ttl)
-  time_stands now new holds valid catalog live family trimmed fronts number distinct rows = record {
+  time_stands now new holds valid catalog live family trimmed fronts told number distinct rows = record {
     catalog = catalog
         ∙ ap (λ (m : Texts TableSchema). map.insert m name (record d { ttl = ttl })) stands.catalog
         ∙ ap (λ (e : TableSchema). map.insert (descriptions s.tables) name (record e { ttl = ttl }))
@@ -109,5 +124,6 @@ module _ (before : DiskState) (old : Tables) (s : State) (stands : Stands before
         (fronts_timed (changed_rows stands.rows.layout batch) s.tables (fronts_of old) name t ttl at
         (catalog_fronts before old s stands batch distinct
         (subst OfCatalog (sym is) (refl, tt)))));
+    due = foresees_timed s.tables name t old.due new.due stands.due ttl told;
     valid = valid;
   }

@@ -35,6 +35,7 @@ use Rattle.alt_tables.specs.declared.faults.TableFault.{TableFault}
 use Rattle.alt_tables.specs.Images.{StandAt}
 use Rattle.alt_tables.specs.Merged.{IsMergedFor}
 use Rattle.alt_opening.proofs.Engine.{one_layout_in_hand}
+use Rattle.alt_tables.specs.Foreseen.{Foresees}
 use Rattle.alt_tables.specs.Fronts.{AreFronts}
 use Rattle.alt_tables.specs.Stands.{Stands, fronts_of, live_of, number_of}
 use Rattle.alt_tables.specs.declared.tables.Tables.{Tables}
@@ -101,11 +102,11 @@ module _ (old new : DiskState) (t : Tables) (s : State) (stands : Stands old t s
 
   -- and the tables stand for it after work that is done
   pub worked_stands : (u : Tables) → Goes old new → u.catalog ≡ t.catalog → u.live ≡ t.live
-      → u.family ≡ t.family → u.trimmed ≡ t.trimmed → u.fronts ≡ t.fronts
+      → u.family ≡ t.family → u.trimmed ≡ t.trimmed → u.fronts ≡ t.fronts → u.due ≡ t.due
       → number_of u ≡ number_of t
       → (m : Layout) × EngineStands new u.engine m × Works live stands.rows.layout m
       → Stands new u s
-  worked_stands u goes catalog lives family trimmed fronts number after = record {
+  worked_stands u goes catalog lives family trimmed fronts due number after = record {
     catalog = catalog ∙ stands.catalog;
     number = number ∙ stands.number;
     family = family ∙ stands.family;
@@ -126,6 +127,7 @@ module _ (old new : DiskState) (t : Tables) (s : State) (stands : Stands old t s
         (family_live s live live_state name v at family (stream_family v.description family stream)))
         (subst (λ known. AreFronts stands.rows.layout s.tables known.items) (sym fronts)
         (stands.fronts stands.rows.layout stands.rows.is)));
+    due = subst (Foresees s.tables) (sym due) stands.due;
     valid = stands.valid;
   }
 

@@ -1,5 +1,6 @@
 pub mod Faults
 pub mod FilesLeft
+pub mod Foreseen
 pub mod Found
 pub mod Fronts
 pub mod Images

@@ -2,6 +2,8 @@
 use Rattle.std.specs.Prelude.{◌≡◌, ℕ, List}
 use Rattle.alt_disk.specs.Disk.{DiskState, IsTrusted, Goes}
 use Rattle.alt_disk.specs.Runs.{Quiet}
+use Rattle.alt_due.specs.Due.{KeepsKnown}
+use Rattle.alt_due.specs.declared.due.Due.{Due}
 use Rattle.std.specs.Prelude.{IsTrue}
 use Rattle.alt_engine.specs.Opened.{StaysOn}
 use Rattle.alt_engine.specs.InHand.{Bounds, Stands as EngineStands, next_of, bounds_of as engine_bounds, limits_of as engine_limits}
@@ -14,6 +16,7 @@ use Rattle.alt_opening.specs.Live.{AreLiveIn}
 use Rattle.alt_opening.specs.Opened.{Holds}
 use Rattle.alt_opening.specs.Trimmed.{AreTrimmedOf}
 use Rattle.alt_opening.specs.declared.trimmed.Trimmed.{Trimmed}
+use Rattle.alt_tables.specs.Foreseen.{Foresees}
 use Rattle.alt_tables.specs.Fronts.{AreFronts}
 use Rattle.alt_tables.specs.declared.fronts.Front.{Front}
 use Rattle.alt_tables.specs.declared.tables.Tables.{Tables}
@@ -39,6 +42,10 @@ trimmed_of t = t.trimmed.items
 -- the fronts of streams
 abbrev pub fronts_of : Tables → List Front
 fronts_of t = t.fronts.items
+
+-- the items that are due next
+abbrev pub due_of : Tables → Due
+due_of t = t.due
 
 -- the families that are live, in the order of their numbers
 abbrev pub live_of : Tables → List ℕ
@@ -73,8 +80,8 @@ abbrev pub HasRows : DiskState → Tables → Layout → Type 0
 HasRows disk t l = EngineStands disk t.engine l
 
 -- The tables and the disk beneath them stand for a valid state of the machine: it has the tables that are known, what was trimmed of their
--- changes, and the next number and the next family, and its rows are those on the disk. Live are the families of its tables, and the fronts
--- that are known are those of its streams.
+-- changes, and the next number and the next family, and its rows are those on the disk. Live are the families of its tables, the fronts
+-- that are known are those of its streams, and the list of the items that are due next knows of each of its items.
 pub record Stands (disk : DiskState) (t : Tables) (s : State) : Type 0 where
   pub catalog : catalog_of t ≡ descriptions s.tables
   pub number : number_of t ≡ s.next_number
@@ -83,6 +90,7 @@ pub record Stands (disk : DiskState) (t : Tables) (s : State) : Type 0 where
   pub trimmed : AreTrimmedOf s.tables (trimmed_of t)
   pub rows : Holds disk t.engine s
   pub fronts : (l : Layout) → HasRows disk t l → AreFronts l s.tables (fronts_of t)
+  pub due : Foresees s.tables (due_of t)
   pub valid : IsValid s
 
 -- On a disk that tells its contents and keeps what was synced the tables stand for a state: after a call that failed they don't, and
@@ -97,13 +105,14 @@ pub record Reads (old new : DiskState) : Type 0 where
   pub goes : Goes old new
   pub quiet : IsTrue old.tells → Quiet old new
 
--- It leaves what is known of the tables, and the rows beneath them.
+-- It leaves what is known of the tables, and the rows beneath them; of the items that are due next more may be known.
 pub record Keeps (old new : DiskState) (t u : Tables) : Type 0 where
   pub catalog : u.catalog ≡ t.catalog
   pub live : u.live ≡ t.live
   pub family : u.family ≡ t.family
   pub trimmed : u.trimmed ≡ t.trimmed
   pub fronts : u.fronts ≡ t.fronts
+  pub due : KeepsKnown t.due u.due
   pub limits : bounds_of u ≡ bounds_of t
   pub number : number_of u ≡ number_of t
   pub reads : Reads old new

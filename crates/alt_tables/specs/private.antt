@@ -1,4 +1,5 @@
 -- What private contracts alone cite: nobody who believes the promises of this crate has to read it.
+pub mod Foretold
 pub mod Pages
 pub mod Staging
 pub mod Trims

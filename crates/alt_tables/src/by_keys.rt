@@ -1,11 +1,11 @@
 //! Writes of several items at one moment by their keys: one entry of the log.
 
-ghost use Rattle.std.specs.Prelude.{◌≡◌, ◌<◌, ◌≤◌, ◌^◌, [], length, map as each, ℕ, List, Ok, IfOk, IfErr, OnOk, IsErrOf};
+ghost use Rattle.std.specs.Prelude.{◌≡◌, ◌<◌, ◌≤◌, ◌^◌, [], length, map as each, ℕ, List, None, Ok, IfOk, IfErr, OnOk, IsErrOf};
 ghost use Rattle.std.specs.FinMap as map;
 ghost use Rattle.alt_base.specs.Counts.{Rose};
 ghost use Rattle.alt_disk.specs.Disk.{Goes};
 ghost use Rattle.alt_layout.specs.Layout.{Layout};
-ghost use Rattle.alt_machine.specs.Ops.BatchWriteItem.{writes_of_all};
+ghost use Rattle.alt_machine.specs.Ops.BatchWriteItem.{writes_of_all, writes_of_all_by};
 ghost use Rattle.alt_machine.specs.Outcomes.{together};
 ghost use Rattle.alt_machine.specs.State.{State, descriptions};
 ghost use Rattle.alt_tables.specs.Faults.{WritesAll};
@@ -75,6 +75,57 @@ impl Tables {
         };
         match self.write_all(disk, changes, moment, Writer::User) {
             Ok(count) => Ok(count as u32),
+            Err(fault) => Err(fault),
+        }
+    }
+
+    /// Leaves no item at each of these keys, since its time is over: as `write_items` does where each `new` is absent, but that a stream
+    /// names time to live as who deleted them.
+    pub fn expire<D: Disk>(
+        &mut self,
+        disk: &mut D,
+        writes: &[ItemWrite],
+        moment: u64,
+    ) -> Result<u32, TableFault>
+        requires ready { AreReady (D.state disk.old) self.old }
+        requires may { Every (MayWriteKey (catalog_of self.old)) writes.now }
+        requires old { (s : State) → Stands (D.state disk.old) self.old s
+            → Every (WasThere s) writes.now }
+        requires apart { AreAllApart (each (written_in (catalog_of self.old)) writes.now) }
+        requires gone { Every (λ w. w.new ≡ None) writes.now }
+        requires few { length writes.now < 2 ^ 32 }
+        ensures writes { (s : State) → Stands (D.state disk.old) self.old s
+            → WritesAll (bounds_of self.old).file (Stands (D.state disk.new) self.new) s
+            (writes_of_all_by s moment Writer.Expiry
+            (each (written_in (catalog_of self.old)) writes.now)) result }
+        ensures count { (s : State) → Stands (D.state disk.old) self.old s
+            → IfOk result (λ n. n ≡ length (writes_of_all_by s moment Writer.Expiry
+            (each (written_in (catalog_of self.old)) writes.now))) }
+        ensures disk { (s : State) → Stands (D.state disk.old) self.old s
+            → Leaves (D.state disk.old) (D.state disk.new) s (together s
+            (writes_of_all_by s moment Writer.Expiry
+            (each (written_in (catalog_of self.old)) writes.now))) }
+        // The one entry has the row changes of each of them, as a write by itself would have them behind those before it.
+        ensures rows { OnOk result ((s : State) (l : Layout)
+            → Stands (D.state disk.old) self.old s → HasRows (D.state disk.old) self.old l
+            → HasRows (D.state disk.new) self.new (with_batches l
+            (batches_of l s moment Writer.Expiry
+            (each (written_in (catalog_of self.old)) writes.now)))) }
+        ensures no_memory { IsErrOf result TableFault.NoMemory
+            → Reads (D.state disk.old) (D.state disk.new) }
+        ensures goes { Goes (D.state disk.old) (D.state disk.new) }
+        ensures unchanged { result ≡ Ok 0 → D.state disk.new ≡ D.state disk.old }
+        ensures catalog { catalog_of self.new ≡ catalog_of self.old }
+        ensures limits { bounds_of self.new ≡ bounds_of self.old }
+        ensures cause { IsErrOf result TableFault.Failed
+            → Rose (D.state disk.old).faults (D.state disk.new).faults }
+    {
+        let changes = match self.placed_all(writes) {
+            Ok(changes) => changes,
+            Err(fault) => return Err(fault),
+        };
+        match self.write_all(disk, changes, moment, Writer::Expiry) {
+            Ok(gone) => Ok(gone as u32),
             Err(fault) => Err(fault),
         }
     }

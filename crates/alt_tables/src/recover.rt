@@ -13,6 +13,7 @@ ghost use Rattle.alt_tables.specs.Stands.{Stands, bounds_of, limits_of};
 
 use crate::tables::Tables;
 use alt_disk::Disk;
+use alt_due::Due;
 use alt_engine::Limits;
 use alt_opening::{OpenFault, Store, open_store};
 use std::alloc::Global;
@@ -80,6 +81,7 @@ impl Tables {
                 family,
                 trimmed,
                 fronts: Vec::new(alloc),
+                due: Due::new(alloc),
             }),
             Err(_) => Err(OpenFault::NoMemory),
         }

@@ -17,6 +17,7 @@ ghost use Rattle.alt_opening.specs.Trimmed.{IsRenumbered, number_at};
 ghost use Rattle.alt_schema.specs.declared.schema.TableSchema.{TableSchema};
 ghost use Rattle.alt_opening.specs.Families.{HasOwnFamilies};
 ghost use Rattle.alt_tables.specs.Faults.{IsFindFault, IsUnspent, Writes};
+ghost use Rattle.alt_tables.specs.Foreseen.{ForeseesWrite};
 ghost use Rattle.alt_tables.specs.Found.{IsFoundIn, number_taken};
 ghost use Rattle.alt_tables.specs.Images.{Leaves};
 ghost use Rattle.alt_views.specs.IndexRows.{index_changes};
@@ -24,7 +25,7 @@ ghost use Rattle.alt_views.specs.ItemRows.{IsReadItem, item_columns};
 ghost use Rattle.alt_tables.specs.Leftovers.{leftovers, lowest_left};
 ghost use Rattle.alt_tables.specs.RowChanges.{changed_rows, item_changes, write_changes};
 ghost use Rattle.alt_tables.specs.private.Trims.{CanTrim, IsNoted, IsTrim, IsWithin, IsWrittenAs};
-ghost use Rattle.alt_tables.specs.Stands.{AreReady, HasRows, Reads, Stands, KeepsCatalog, catalog_of, fronts_of, bounds_of, number_of, trimmed_of};
+ghost use Rattle.alt_tables.specs.Stands.{AreReady, HasRows, Reads, Stands, KeepsCatalog, catalog_of, due_of, fronts_of, bounds_of, number_of, trimmed_of};
 ghost use Rattle.alt_value.specs.Tree.{Pair};
 ghost use Rattle.alt_value.specs.Values.{IsItemOfValues};
 
@@ -156,6 +157,7 @@ impl Tables {
             Ok(trim) => trim,
             Err(fault) => return Err(fault),
         };
+        self.foretell(table, found.place.as_slice(), &new);
         self.write_trimmed(disk, table, found, new, moment, trim)
     }
 
@@ -185,6 +187,8 @@ impl Tables {
         requires within { (d : TableSchema) → map.get (catalog_of self.old) table.now ≡ Some d
             → IsSome d.stream_family
             → IsWithin (number_at table.now (trimmed_of self.old)) (number_of self.old) trim }
+        requires foretold { ForeseesWrite (catalog_of self.old) table.now found.place new
+            (due_of self.old) }
         ensures writes { (s : State) (t : Table) → Stands (D.state disk.old) self.old s
             → map.get s.tables table.now ≡ Some t
             → Writes (bounds_of self.old).file (Stands (D.state disk.new) self.new) a_number s
@@ -241,7 +245,8 @@ impl Tables {
             → OnOk result (IsNoted d table.now moment trim.now (fronts_of self.old)
             (fronts_of self.new)) }
         ensures kept { (self.new.engine ≡ self.old.engine) × (self.new.catalog ≡ self.old.catalog)
-            × (self.new.live ≡ self.old.live) × (self.new.family ≡ self.old.family) }
+            × (self.new.live ≡ self.old.live) × (self.new.family ≡ self.old.family)
+            × (self.new.due ≡ self.old.due) }
     {
         renumber(self.alloc, &mut self.trimmed, table, trim.number)?;
         let Some(schema) = self.catalog.get(table) else {

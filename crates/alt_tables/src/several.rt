@@ -15,10 +15,11 @@ ghost use Rattle.alt_machine.specs.Valid.{IsStored, IsValid};
 ghost use Rattle.alt_opening.specs.Opened.{Holds};
 ghost use Rattle.alt_schema.specs.declared.schema.TableSchema.{TableSchema};
 ghost use Rattle.alt_tables.specs.Faults.{IsFindFault, IsUnspent, WritesAll};
+ghost use Rattle.alt_tables.specs.Foreseen.{ForeseesWritten};
 ghost use Rattle.alt_tables.specs.Images.{Leaves};
 ghost use Rattle.alt_tables.specs.RowChanges.{item_changes, write_changes};
 ghost use Rattle.alt_tables.specs.Several.{AreAllApart, AreDistinct, Every, IsFound, MayWrite, TurnsAll, batches_of, with_batches, written_at};
-ghost use Rattle.alt_tables.specs.Stands.{AreReady, HasRows, Keeps, Reads, Stands, catalog_of, fronts_of, bounds_of, number_of, trimmed_of};
+ghost use Rattle.alt_tables.specs.Stands.{AreReady, HasRows, Keeps, Reads, Stands, catalog_of, due_of, fronts_of, bounds_of, number_of, trimmed_of};
 ghost use Rattle.alt_tables.specs.private.Staging.{AreKnown, AreNotes, Differs, IsAgain, IsAhead, IsBehind, IsStaged, IsStagedOn, IsTouched, differing_of, note_at};
 ghost use Rattle.alt_tables.specs.private.Trims.{IsTrim, IsWithin};
 ghost use Rattle.alt_value.specs.Values.{IsItemOfValues};
@@ -147,6 +148,8 @@ impl Tables {
         ensures count { IfOk result (λ r. length r.batches.items ≡ length changes.items) }
         ensures notes { IfOk result (λ r.
             AreNotes (catalog_of self.old) (number_of self.old) r.notes.items) }
+        ensures foretold { OnOk result (Every (ForeseesWritten (catalog_of self.old)
+            (due_of self.new)) (each written_at changes.items)) }
         ensures keeps { Keeps (D.state disk.old) (D.state disk.new) self.old self.new }
         ensures fault { (s : State) → Stands (D.state disk.old) self.old s
             → IfErr result IsFindFault }
@@ -192,6 +195,8 @@ impl Tables {
             ≡ length staged.old.batches.items + 1) }
         ensures notes { OnOk result (AreNotes (catalog_of self.old) (number_of self.old)
             staged.new.notes.items) }
+        ensures foretold { OnOk result (ForeseesWritten (catalog_of self.old) (due_of self.new)
+            (written_at change)) }
         ensures keeps { Keeps (D.state disk.old) (D.state disk.new) self.old self.new }
         ensures fault { (s r : State) (l : Layout) → Stands (D.state disk.old) self.old s
             → HasRows (D.state disk.old) self.old l
@@ -206,6 +211,7 @@ impl Tables {
             Ok(read) => read,
             Err(fault) => return Err(fault),
         };
+        self.foretell(table.as_str(), found.place.as_slice(), &new);
         let count = staged.batches.len();
         let batch = self.batch(
             table.as_str(),
@@ -365,7 +371,8 @@ impl Tables {
             (trimmed_of self.old) (trimmed_of self.new) (fronts_of self.old)
             (fronts_of self.new)) }
         ensures kept { (self.new.engine ≡ self.old.engine) × (self.new.catalog ≡ self.old.catalog)
-            × (self.new.live ≡ self.old.live) × (self.new.family ≡ self.old.family) }
+            × (self.new.live ≡ self.old.live) × (self.new.family ≡ self.old.family)
+            × (self.new.due ≡ self.old.due) }
     {
         let mut notes = notes;
         while let Some(note) = notes.pop() {

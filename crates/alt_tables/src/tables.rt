@@ -26,10 +26,12 @@ ghost use Rattle.alt_opening.specs.Opened.{Holds};
 ghost use Rattle.alt_opening.specs.Trimmed.{number_at};
 
 use crate::faults::TableFault;
+use crate::foresight::forget_for;
 use crate::fronts::{Front, forget_front};
 use alt_base::NoMemory;
 use alt_cells::{Batch, RowChange};
 use alt_disk::Disk;
+use alt_due::Due;
 use alt_engine::Engine;
 use alt_fields::Bytes;
 use alt_machine::{FAMILIES_END, MOST_FAMILIES, MOST_TABLES, NUMBERS_END};
@@ -52,6 +54,7 @@ pub struct Tables {
     pub(crate) family: u32,
     pub(crate) trimmed: Vec<Trimmed>,
     pub(crate) fronts: Vec<Front>,
+    pub(crate) due: Due,
 }
 
 impl Tables {
@@ -232,6 +235,7 @@ impl Tables {
         let batch = timing(self.alloc, schema, ttl.as_ref())?;
         match self.make(disk, &batch) {
             Ok(_) => {
+                forget_for(&mut self.due, &ttl);
                 self.catalog.set_ttl(table, ttl);
                 Ok(())
             }
@@ -255,7 +259,7 @@ impl Tables {
         ensures distinct { OnOk result (T (is_distinct batch.now)) }
         ensures kept { (self.new.catalog ≡ self.old.catalog) × (self.new.live ≡ self.old.live)
             × (self.new.family ≡ self.old.family) × (self.new.trimmed ≡ self.old.trimmed)
-            × (self.new.fronts ≡ self.old.fronts) }
+            × (self.new.fronts ≡ self.old.fronts) × (self.new.due ≡ self.old.due) }
         ensures limits { bounds_of self.new ≡ bounds_of self.old }
         ensures fault { IfErr result IsFindFault }
         ensures no_memory { IsErrOf result TableFault.NoMemory
@@ -296,7 +300,7 @@ impl Tables {
             ≡ number_of self.old + length batches.now) }
         ensures kept { (self.new.catalog ≡ self.old.catalog) × (self.new.live ≡ self.old.live)
             × (self.new.family ≡ self.old.family) × (self.new.trimmed ≡ self.old.trimmed)
-            × (self.new.fronts ≡ self.old.fronts) }
+            × (self.new.fronts ≡ self.old.fronts) × (self.new.due ≡ self.old.due) }
         ensures limits { bounds_of self.new ≡ bounds_of self.old }
         ensures fault { IfErr result IsFindFault }
         ensures no_memory { IsErrOf result TableFault.NoMemory

@@ -1,5 +1,5 @@
 -- A request that was carried out, or has no answer.
-use Rattle.std.proofs.Common.{◌≡◌, ◌≤◌, ◌⊎◌, ⊎_elim, inl, inr, ℕ, zero, suc, List, [], ◌∷◌, length, Option, None, Some, option_map, ap, subst, sym, arith}
+use Rattle.std.proofs.Common.{◌≡◌, ◌≤◌, ⊎_elim, inl, inr, ℕ, zero, suc, List, [], ◌∷◌, length, Option, None, Some, option_map, ap, subst, sym, arith}
 use Rattle.alt_disk.specs.Disk.{DiskState}
 use Rattle.alt_machine.specs.Outcomes.{Outcome, state_after}
 use Rattle.alt_machine.specs.State.{State}
@@ -14,7 +14,7 @@ use Rattle.alt_tables.specs.Stands.{Stands}
 use Rattle.alt_tables.specs.declared.faults.TableFault.{TableFault}
 use Rattle.alt_tables.specs.declared.faults.TableFault.TheVariants.{Spent, Damaged, BadRow, Failed, NoMemory}
 use Rattle.alt_faults.specs.Faults.{OnlySpent}
-use Rattle.alt_talks.specs.Faults.{IsAnswerFault, IsCausedBy, IsFileFault, told_by_run}
+use Rattle.alt_talks.specs.Faults.{IsAnswerFault, told_by_run}
 use Rattle.alt_talks.specs.declared.fault.RunFault.{RunFault}
 use Rattle.alt_tables.specs.declared.tables.Tables.{Tables}
 use Rattle.alt_tables.proofs.Left.{leaves_images}
@@ -61,32 +61,21 @@ among_leaves a b tables s atoms stands leaves trusted =
       each = p.each;
     }
 
--- what broke off some writes: a lack, or, where there are any and they lack nothing, that of a file
-pub caused_writing : (file : ℕ) (now : State → Type 0) (s : State) (outcome : Outcome)
-    (given : TableFault) (fault : RunFault) → told_by_run fault ≡ told_by_tables given
+-- what broke off a request is why it has no answer: a lack, or, where it writes anything and lacks nothing, that of a file
+pub caused : (file : ℕ) (now : State → Type 0) (s : State) (outcome : Outcome) (given : TableFault)
+    (fault : RunFault) → told_by_run fault ≡ told_by_tables given
     → BreakOff file now outcome.wants s outcome.atoms given
-    → IsCausedBy (wanted s outcome) fault
-    ⊎ ((wanted s outcome ≡ None) × (1 ≤ length outcome.atoms) × IsFileFault file fault)
-caused_writing file now s outcome (Spent n) fault same h = ⊎_elim
+    → IsAnswerFault file (wanted s outcome) outcome.atoms fault
+caused file now s outcome (Spent n) fault same h = ⊎_elim
     (λ (lacks : lack_among outcome.wants s outcome.atoms ≡ Some (record { number = n; before = h.0 })).
     inl (subst (OnlySpent (Lacks s outcome)) (sym same)
     (ap (option_map (λ (l : Lack). l.number)) lacks)))
     (λ (last : (h.0 ≡ 0) × (lack_among outcome.wants s outcome.atoms ≡ None)
     × WantFile file outcome.atoms n).
     inr (last.1, last.2.0, subst (OnlySpent (IsLastFile file)) (sym same) last.2.1)) h.1
-caused_writing file now s outcome (Damaged f at) fault same h = absurd h
-caused_writing file now s outcome (BadRow family key) fault same h = absurd h
-caused_writing file now s outcome Failed fault same h =
+caused file now s outcome (Damaged f at) fault same h = absurd h
+caused file now s outcome (BadRow family key) fault same h = absurd h
+caused file now s outcome Failed fault same h =
     inl (subst (OnlySpent (Lacks s outcome)) (sym same) tt)
-caused_writing file now s outcome NoMemory fault same h =
+caused file now s outcome NoMemory fault same h =
     inl (subst (OnlySpent (Lacks s outcome)) (sym same) tt)
-
--- what broke off a request is why it has no answer
-pub caused : (file : ℕ) (now : State → Type 0) (s : State) (outcome : Outcome) (given : TableFault)
-    (fault : RunFault) → told_by_run fault ≡ told_by_tables given
-    → BreakOff file now outcome.wants s outcome.atoms given
-    → IsAnswerFault file (wanted s outcome) fault
-caused file now s outcome given fault same h = ⊎_elim
-    (λ (lacks : IsCausedBy (wanted s outcome) fault). inl lacks)
-    (λ (last : (wanted s outcome ≡ None) × (1 ≤ length outcome.atoms) × IsFileFault file fault).
-    inr (last.0, last.2)) (caused_writing file now s outcome given fault same h)

@@ -8,11 +8,11 @@ use Rattle.alt_shell.specs.Log.{Log, said_in, says_failed}
 use Rattle.alt_talks.specs.Faults.{IsCausedBy, IsFileFault, reach}
 use Rattle.alt_talks.specs.Stretches.{SaidOf, Does, DoesSome, IsWorking, IsWriting, BreaksFor}
 use Rattle.alt_talks.specs.Talks.{Turn, asked, Request, Rules, has_refused}
-use Rattle.alt_talks.specs.TalkTexts.{text, asks, wanted}
+use Rattle.alt_talks.specs.TalkTexts.{text, after, asks, wanted}
 use Rattle.alt_talks.specs.declared.fault.RunFault.{RunFault}
 use Rattle.alt_talks.proofs.FileFaults.{file_more, reach_then, reach_wider}
 use Rattle.alt_talks.proofs.Stretching.{said_in-append}
-use Rattle.alt_talks.proofs.TalkFolds.{asks-append, text-append, wanted-append}
+use Rattle.alt_talks.proofs.TalkFolds.{after-append, asks-append, text-append, wanted-append}
 use Rattle.alt_talks.proofs.TalkIdle.{exact_count}
 use Rattle.alt_talks.proofs.TalkLogs.{broken-append, or-assoc}
 
@@ -108,6 +108,12 @@ module _ (r : Rules) (fault : RunFault) (next : ℕ) (s t : State) (m n : Bool) 
             let x = length-append ms ns in let y = asks-append ts (w.before ++ last) in
             let z = told in let k = w.count in omega (arith, same, x, y, z, k);
         enough = sym same_wanted ∙ w.enough;
+        first = ms ++ w.first;
+        moment = w.moment;
+        moments = ap (λ (ls : List ℕ). ms ++ ls) w.moments ∙ sym (append_assoc ms w.first (w.moment ∷ []));
+        writes = subst (λ (v : State). 1 ≤ length (r.atoms v w.request w.moment))
+            (ap (λ v. after r v w.before w.first) a.state ∙ sym (after-append r s ts w.before ms w.first told))
+            w.writes;
       }
 
   pub breaks_behind : BreaksFor r fault (reach next ms) t n us fs ns

@@ -21,7 +21,7 @@ use Rattle.alt_talks.specs.Stops.{Image, IsAmong}
 use Rattle.alt_talks.specs.Turns.{or_next}
 use Rattle.alt_talks.specs.Works.{Follows}
 use Rattle.alt_talks.specs.declared.fault.RunFault.{RunFault}
-use Rattle.alt_talks.proofs.Answering.{among_leaves, caused_writing}
+use Rattle.alt_talks.proofs.Answering.{among_leaves, caused}
 use Rattle.alt_talks.proofs.Owning.{cause_first, follows_none}
 use Rattle.alt_talks.proofs.Stopping.{last_state-append, leaves-weaker, spans_two}
 
@@ -168,7 +168,7 @@ module _ (a b c : DiskState) (t u : Tables) (moment most left : ℕ) (s : State)
       fault h)))
       (λ (h : (wanted so.to (expire_items so.to moment) ≡ None) × (1 ≤ length atoms)
       × IsFileFault file fault). inr (some h.1, h.2))
-      (caused_writing file (Stands c u) so.to (expire_items so.to moment) given fault same broke)
+      (caused file (Stands c u) so.to (expire_items so.to moment) given fault same broke)
     where
       some : 1 ≤ length atoms → 1 ≤ length (expiries most moment s).atoms
       some few = subst (λ (xs : List State). 1 ≤ length xs) (sym so.atoms)

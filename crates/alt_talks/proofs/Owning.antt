@@ -1,5 +1,5 @@
 -- What the server does by itself: nothing but work behind a request, and behind every 64th connection it deletes expired items.
-use Rattle.std.proofs.Common.{◌≡◌, ◌==◌, ◌%◌, ap, inl, inr, ℕ, Bool, true, false, [], Option, Some, None, option_map, refl}
+use Rattle.std.proofs.Common.{◌≡◌, ◌==◌, ◌%◌, ap, inl, inr, ℕ, Bool, true, false, List, [], Option, Some, None, option_map, refl}
 use Rattle.std.specs.Prelude.{if◌then◌else◌}
 use Rattle.std.specs.Option.{option_map_or}
 use Rattle.alt_disk.specs.Disk.{DiskState}
@@ -86,10 +86,10 @@ cause_first None b fault h =
     (λ d no. no) (told_by_run fault) h
 
 -- and it has no answer for what is lacked, where the server lacks nothing behind it
-pub answer_first : (file : ℕ) (a b : Option Lack) (fault : RunFault) → b ≡ None
-    → IsAnswerFault file a fault → IsAnswerFault file (or_next a b) fault
-answer_first file a b fault none (inl h) = inl (cause_first a b fault h)
-answer_first file a b fault none (inr h) = inr (enough_both a b h.0 none, h.1)
+pub answer_first : (file : ℕ) (a b : Option Lack) (atoms : List State) (fault : RunFault) → b ≡ None
+    → IsAnswerFault file a atoms fault → IsAnswerFault file (or_next a b) atoms fault
+answer_first file a b atoms fault none (inl h) = inl (cause_first a b fault h)
+answer_first file a b atoms fault none (inr h) = inr (enough_both a b h.0 none, h.1, h.2)
 
 -- and so is what the server lacks behind one that lacks nothing
 pub cause_behind : (a b : Option Lack) (fault : RunFault) → a ≡ None → IsCausedBy b fault

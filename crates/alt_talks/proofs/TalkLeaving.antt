@@ -181,7 +181,7 @@ module _ (r : Rules) (w : Lawful r) (a b c d : DiskState) (s : State) (m n : Boo
 -- or it broke off
 pub asked_some_on : (r : Rules) (w : Lawful r) (a b : DiskState) (s : State) (m : Bool) (q : Request)
     (moment : ℕ) (fault : RunFault) (next : ℕ) → Asked r a b s q moment
-    → IsAnswerFault next (r.wants s q moment) fault
+    → IsAnswerFault next (r.wants s q moment) (r.atoms s q moment) fault
     → Stretch a b (AnswersSomeOn r fault next s m (asked q ∷ []))
 asked_some_on r w a b s m q moment fault next front cause =
     told_alone a b {R = AnswersSomeOn r fault next s m (asked q ∷ [])} moment front.silent front.told

@@ -234,11 +234,11 @@ answers_some_none r next s m ts = record { some = record { said = (text r s ts [
 
 -- why a request has no answer is why it broke off
 asked_breaks : (r : Rules) (fault : RunFault) (next : ℕ) (s : State) (m : Bool) (q : Request) (at : ℕ)
-    → IsAnswerFault next (r.wants s q at) fault → BreaksFor r fault next s m (asked q ∷ []) [] (at ∷ [])
+    → IsAnswerFault next (r.wants s q at) (r.atoms s q at) fault → BreaksFor r fault next s m (asked q ∷ []) [] (at ∷ [])
 asked_breaks r fault next s m q at (inl w) =
     inl (subst (λ v. IsCausedBy v fault) (alone (r.wants s q at)) w)
 asked_breaks r fault next s m q at (inr last) = inr (
-  file_more fault next (reach next (at ∷ [])) (omega arith) last.1,
+  file_more fault next (reach next (at ∷ [])) (omega arith) last.2,
   inl (record {
     before = [];
     request = q;
@@ -246,11 +246,15 @@ asked_breaks r fault next s m q at (inr last) = inr (
     parts = refl;
     count = refl;
     enough = sym (alone (r.wants s q at)) ∙ last.0;
+    first = [];
+    moment = at;
+    moments = refl;
+    writes = last.1;
   }),
 )
 
 pub some_asked : (r : Rules) (fault : RunFault) (next : ℕ) (s : State) (m : Bool) (q : Request) (at : ℕ) (es : Log) (ms : List ℕ)
-    → Clocked at es ms → IsAnswerFault next (r.wants s q at) fault → AnswersSome r fault next s m (asked q ∷ []) es ms
+    → Clocked at es ms → IsAnswerFault next (r.wants s q at) (r.atoms s q at) fault → AnswersSome r fault next s m (asked q ∷ []) es ms
 some_asked r fault next s m q at es ms t w =
     let none = t.nothing in let one = t.one in
     subst (λ (fs : Log). AnswersSome r fault next s m (asked q ∷ []) fs ms) (sym none)

@@ -1,6 +1,7 @@
 -- Why requests have no answer, and why work between them breaks off.
 use Rattle.std.specs.Prelude.{◌≡◌, ◌⊎◌, ◌≤◌, ◌+◌, ◌-◌, ◌*◌, ◌^◌, ℕ, List, length, Option, Some, None, option_map}
 use Rattle.alt_faults.specs.Faults.{Fault, failed, no_memory, spent, damaged, bad_bytes, bad_digest, bad_row, OnlySpent}
+use Rattle.alt_machine.specs.State.{State}
 use Rattle.alt_machine.specs.Wanted.{Lack}
 use Rattle.alt_tables.specs.FilesLeft.{most_files}
 use Rattle.alt_talks.specs.declared.fault.RunFault.{RunFault}
@@ -27,11 +28,11 @@ abbrev pub IsFileFault : ℕ → RunFault → Type 0
 IsFileFault reach fault = OnlySpent (λ number. (number ≡ 2 ^ 32 - 1) × (2 ^ 32 ≤ reach))
     (told_by_run fault)
 
--- Why a request has no answer, where this is the first file that work makes before it: so, or else, where it lacks neither a number nor a family,
--- the segment that its write makes wants file 2^32 - 1.
-abbrev pub IsAnswerFault : ℕ → Option Lack → RunFault → Type 0
-IsAnswerFault file lack fault =
-    IsCausedBy lack fault ⊎ ((lack ≡ None) × IsFileFault file fault)
+-- Why a request has no answer that makes these writes, where this is the first file that work makes before it: so, or else, where it lacks
+-- neither a number nor a family, the segment that its first write makes wants file 2^32 - 1, and so it writes something.
+abbrev pub IsAnswerFault : ℕ → Option Lack → List State → RunFault → Type 0
+IsAnswerFault file lack atoms fault =
+    IsCausedBy lack fault ⊎ ((lack ≡ None) × (1 ≤ length atoms) × IsFileFault file fault)
 
 -- How far the numbers of files reach from this one on where a task, with a write before it, takes as many as it does at most at each of these
 -- moments.

@@ -104,7 +104,8 @@ pub(crate) fn response<D: Disk>(
     ensures enough { (s : State) → Stands (D.state disk.old) tables.old s → OnOk result
         (wanted s (outcome_of s (asking target.now body.now close) moment) ≡ None) }
     ensures cause { (s : State) → Stands (D.state disk.old) tables.old s → IfErr result
-        (IsAnswerFault (bounds_of tables.old).file (wanted s (outcome_of s (asking target.now body.now close) moment))) }
+        (IsAnswerFault (bounds_of tables.old).file (wanted s (outcome_of s (asking target.now body.now close) moment))
+        (outcome_of s (asking target.now body.now close) moment).atoms) }
     ensures device { IsErrOf result Failed
         → Rose (D.state disk.old).faults (D.state disk.new).faults }
     ensures limits { bounds_of tables.new ≡ bounds_of tables.old }

@@ -1,7 +1,11 @@
 pub mod Deleting
+pub mod Foretelling
 pub mod Founds
 pub mod Fronts
 pub mod Looking
+pub mod Ordered
+pub mod Ripening
 pub mod Searching
+pub mod Surveying
 pub mod Times
 pub mod Timing

@@ -88,7 +88,7 @@ standings-placed d name moment (e ∷ es) all =
 -- ---- a table
 
 -- every place lies from the empty one on
-from_none : (es : List Entry) → entries_between text_order (Included []) Unbounded es ≡ es
+pub from_none : (es : List Entry) → entries_between text_order (Included []) Unbounded es ≡ es
 from_none [] = refl
 from_none (e ∷ es) = by (text_order [] e.0) (not_greater e.0) (from_none es)
   where
@@ -219,7 +219,7 @@ abbrev pub expired_of : State → ℕ → List (List ℕ) → List Standing
 expired_of s moment names = flat_map (expired_at s moment) names
 
 -- what holds of each that is found holds of each entry
-each_found : {X : Type 0} (P : List ℕ × X → Type 0) (es : List (List ℕ × X)) → T (is_sorted text_order es)
+pub each_found : {X : Type 0} (P : List ℕ × X → Type 0) (es : List (List ℕ × X)) → T (is_sorted text_order es)
     → ((name : List ℕ) (t : X) → find text_order name es ≡ Some t → P (name, t)) → All P es
 each_found P [] sorted found = All-nil P
 each_found P (e ∷ es) sorted found = All-cons P e es

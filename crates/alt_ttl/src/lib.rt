@@ -4,10 +4,13 @@
 
 mod describe_time;
 mod expiry;
+mod foresight;
 mod over;
 mod replies;
 mod search;
+mod settling;
 mod standings;
+mod survey;
 mod update_time;
 
 pub use describe_time::describe_time_to_live;

@@ -14,6 +14,7 @@ ghost use Rattle.alt_tables.specs.Several.{AreAllApart, Every, IsFound, MayWrite
 ghost use Rattle.alt_tables.specs.Stands.{AreReady, KeepsCatalog, Reads, Stands, catalog_of};
 ghost use Rattle.alt_ttl.specs.private.Searched.{AreNamed, left_in, left_of};
 
+use crate::foresight::foreseen;
 use crate::standings::{has_twice, put_expired};
 use alt_base::NoMemory;
 use alt_disk::Disk;
@@ -25,7 +26,7 @@ use alt_value::Text;
 use std::alloc::Global;
 
 /// The most items that are read at once.
-const PAGE: u32 = 64;
+pub(crate) const PAGE: u32 = 64;
 
 /// The deletions of the first expired items, with what stands at their places.
 pub(crate) fn deletions<D: Disk>(
@@ -65,8 +66,35 @@ pub(crate) fn deletions<D: Disk>(
     }
 }
 
-/// Where the first expired items stand.
+/// Where the first expired items stand: by the list of those that are due next, and else by a search.
 fn expiring<D: Disk>(
+    alloc: Global,
+    tables: &mut Tables,
+    disk: &mut D,
+    moment: u64,
+) -> Result<Vec<Standing>, TableFault>
+    requires ready { AreReady (D.state disk.old) tables.old }
+    ensures standings { (s : State) → Stands (D.state disk.old) tables.old s
+        → IfOk result (λ v. v.items ≡ expiring s moment) }
+    ensures named { IfOk result (λ v. AreNamed (catalog_of tables.old) v.items) }
+    ensures stays { (s : State) → Stands (D.state disk.old) tables.old s ↔ Stands
+        (D.state disk.new) tables.new s }
+    ensures catalog { KeepsCatalog tables.old tables.new }
+    ensures fault { (s : State) → Stands (D.state disk.old) tables.old s
+        → IfErr result IsFindFault }
+    ensures disk { Reads (D.state disk.old) (D.state disk.new) }
+    ensures cause { IsErrOf result TableFault.Failed
+        → Rose (D.state disk.old).faults (D.state disk.new).faults }
+{
+    match foreseen(alloc, tables, disk, moment) {
+        Ok(Some(standings)) => Ok(standings),
+        Ok(None) => searched(alloc, tables, disk, moment),
+        Err(fault) => Err(fault),
+    }
+}
+
+/// The same by a search.
+fn searched<D: Disk>(
     alloc: Global,
     tables: &mut Tables,
     disk: &mut D,
@@ -97,7 +125,7 @@ fn expiring<D: Disk>(
 }
 
 /// The names of the tables, each found from the one before.
-fn names(alloc: Global, tables: &Tables) -> Result<Vec<Text>, NoMemory>
+pub(crate) fn names(alloc: Global, tables: &Tables) -> Result<Vec<Text>, NoMemory>
     ensures names { IfOk result (λ v. v.items
         ≡ take MOST_TABLES (names_after [] (catalog_of tables.now))) }
 {
@@ -155,7 +183,7 @@ fn search_table<D: Disk>(
 }
 
 /// Whether the items of a table that is there have a time to live.
-fn has_time(tables: &Tables, name: &str) -> bool
+pub(crate) fn has_time(tables: &Tables, name: &str) -> bool
     requires there { map.contains_key (catalog_of tables.now) name.now ≡ true }
     ensures { (d : TableSchema) → map.get (catalog_of tables.now) name.now ≡ Some d
         → result ≡ is_some d.ttl }
@@ -219,7 +247,7 @@ fn search_page<D: Disk>(
 }
 
 /// The first bytes behind a place.
-fn behind(alloc: Global, place: &[u8]) -> Result<Bytes, NoMemory>
+pub(crate) fn behind(alloc: Global, place: &[u8]) -> Result<Bytes, NoMemory>
     ensures { IfOk result (λ next. next ≡ place.now ++ 0 ∷ []) }
 {
     let mut next = Vec::from_slice(alloc, place)?;

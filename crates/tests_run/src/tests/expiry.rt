@@ -103,7 +103,10 @@ fn expired(alloc: Global, count: usize) -> Option<MemoryDisk> {
     lines.push(String::from_str(alloc, TABLE).ok()?).ok()?;
     lines.push(String::from_str(alloc, TIMED).ok()?).ok()?;
     let mut first = 0;
-    while first < count {
+    for _ in 0..count {
+        if first >= count {
+            break;
+        }
         let rest = count - first;
         let size = if rest < 25 { rest } else { 25 };
         lines.push(puts(alloc, first, size)?).ok()?;

@@ -10,7 +10,7 @@ returns-in_ok-decoded-in-Some c = λ b held sorted is.
     c.is_some.ensures
     ∙ some_there c.in_ok-decoded-in-Some.decoded
     (λ (none : NoRows c.in-Some.block.now). none b (held.0, sorted)
-    (block_content c.args.bytes.now c.in-Some.block.now c.in-Some.field-0-1.now b held is f.0 f.1))
+    (block_content c.args.bytes.now c.in-Some.block.now b held is f.0 f.1))
     c.in_ok-decoded-in-Some.ensures.none
 
 pub returns-in-None : goal.returns-in-None

@@ -1,5 +1,5 @@
 -- Where the file ends before the block does, no rows' bytes stand there.
-use Rattle.std.proofs.Common.{◌≡◌, ◌∙◌, ◌-◌, [], ap, refl, sym, subst, ℕ}
+use Rattle.std.proofs.Common.{◌≡◌, ◌∙◌, ◌-◌, [], ap, refl, sym, subst, ℕ, take, drop}
 use Rattle.std.proofs.lemmas.List.{get_or_read}
 use Rattle.alt_disk.specs.Disk.{DiskState, contents}
 use Rattle.alt_rowfile.specs.Damage.{IsDamageIn}
@@ -52,3 +52,23 @@ returns-in-Ok-None-clause-undamaged g c = λ told rows reads damaged.
     (has_bytes (contents s file.file) marks file.end i
     (here s file.file marks file.end i rows reads c.requires)
     (at_place s file.file marks file.end i rows reads c.requires) at n is_at is_n))
+
+pub returns-in-Ok-Some-clause-given : goal.returns-in-Ok-Some-clause-given
+returns-in-Ok-Some-clause-given g c =
+    let s : DiskState = g.D.Disk.state c.args.disk.now in
+    let file = c.args.file.now in
+    let marks = file.marks.items in
+    let i = c.args.i in
+    let at = c.index.result.now.0 in
+    let n = c.saturating_sub-count.result in
+    let is_at : at ≡ place_at marks i =
+    ap (λ (m : Mark). m.0)
+    (get_or_read marks i c.index.result.now c.requires c.index.ensures (0, [])) in
+    let is_n : n ≡ next_place marks file.end i - place_at marks i = c.saturating_sub-count.ensures
+    ∙ (λ j. c.next_place-next.ensures j - is_at j) in
+    record {
+      within = c.requires;
+      size = (rw c.in-Ok-Some.field-0-is at c.in-Ok-Some.ensures.size) ∙ is_n;
+      there = λ told. (rw c.in-Ok-Some.field-0-is at (c.in-Ok-Some.ensures.bytes told))
+          ∙ (λ j. take (is_n j) (drop (is_at j) (contents s file.file)));
+    }

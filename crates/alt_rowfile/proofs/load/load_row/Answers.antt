@@ -1,6 +1,7 @@
 -- The bytes of the block are those of its rows, or damaged.
-use Rattle.std.proofs.Common.{◌∙◌}
+use Rattle.std.proofs.Common.{List, ℕ, ◌∙◌, subst}
 use Rattle.alt_disk.specs.Disk.{DiskState}
+use Rattle.alt_rowfile.specs.Given.{IsFoundIn}
 use Rattle.alt_rowfile.proofs.LoadLaws.{here, at_place}
 use Rattle.alt_rowfile.proofs.load.load_row.Goals as goal
 
@@ -23,3 +24,11 @@ returns-in-Ok-None-clause-undamaged g c = λ told rows reads damaged.
     rw c.in-Ok-None.field-0-is at
     (c.in-Ok-None.ensures.none b loaded.held loaded.rising
     (c.deref.ensures.value ∙ c.in-Ok.ensures.bytes told b loaded))
+
+pub returns-in-Ok-Some-clause-given : goal.returns-in-Ok-Some-clause-given
+returns-in-Ok-Some-clause-given g c = record {
+  bytes = c.in-Ok.bytes.items;
+  read = c.in-Ok.ensures.given;
+  found = subst (λ (l : List ℕ). IsFoundIn l c.args.key.now c.in-Ok-Some.row) c.deref.ensures.value
+      (rw c.in-Ok-Some.field-0-is at c.in-Ok-Some.ensures.found);
+}

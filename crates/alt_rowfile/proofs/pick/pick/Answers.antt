@@ -1,5 +1,5 @@
 -- The row of the bytes that were found.
-use Rattle.std.proofs.Common.{Err, ap}
+use Rattle.std.proofs.Common.{Err, Some, None, ap}
 use Rattle.alt_rowfile.proofs.PickLaws.{picked_is, picked_none, no_pieces_no_rows, no_row_at_key}
 use Rattle.alt_rowfile.proofs.pick.pick.Goals as goal
 
@@ -22,3 +22,17 @@ returns-in-Some-None-clause-row c = λ rows are is.
 
 pub returns-in-None-clause-none : goal.returns-in-None-clause-none
 returns-in-None-clause-none c = no_pieces_no_rows c.args.bytes.now c.in-None.ensures.none
+
+pub returns-in-Ok-clause-found : goal.returns-in-Ok-clause-found
+returns-in-Ok-clause-found c = record {
+  found = Some c.in-Some-Some.row.now;
+  picks = rw c.in-Some-Some.field-0-is at c.in-Some-Some.ensures.some;
+  row_is = c.in-Ok.ensures.row;
+}
+
+pub returns-in-Some-None-clause-found : goal.returns-in-Some-None-clause-found
+returns-in-Some-None-clause-found c = record {
+  found = None;
+  picks = rw c.in-Some-None.field-0-is at c.in-Some-None.ensures.some;
+  row_is = tt;
+}

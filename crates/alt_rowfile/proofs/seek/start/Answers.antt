@@ -1,5 +1,5 @@
 -- From a key on, or all.
-use Rattle.std.proofs.Common.{◌∙◌, sym, refl, arith}
+use Rattle.std.proofs.Common.{inl, ◌∙◌, sym, refl, arith}
 use Rattle.std.proofs.lemmas.Bool.{false≢true}
 use Rattle.alt_disk.specs.Disk.{DiskState}
 use Rattle.alt_rowfile.specs.Walking.{list_from}
@@ -31,3 +31,12 @@ returns-else-forward-clause-left g c = λ told rows reads.
     (left_all s c.args.file.now rows reads forward c.len.result
     (λ up. absurd (false≢true (sym c.if-forward.false ∙ up)))
     (λ down. omega (arith, c.len.ensures, c.args.file.now.marks.ok))))
+
+pub returns-in-Some-clause-given : goal.returns-in-Some-clause-given
+returns-in-Some-clause-given g c = rw c.in-Some.is c.start_at.ensures.given
+
+pub returns-then-forward-clause-given : goal.returns-then-forward-clause-given
+returns-then-forward-clause-given g c = inl (refl, λ way. c.empty-hand.ensures way)
+
+pub returns-else-forward-clause-given : goal.returns-else-forward-clause-given
+returns-else-forward-clause-given g c = inl (refl, λ way. c.empty-hand.ensures way)

@@ -1,5 +1,5 @@
 -- The block at which the key is.
-use Rattle.std.proofs.Common.{◌-◌, ◌<◌, ◌∙◌, sym, subst, arith, refl, length, List, Some}
+use Rattle.std.proofs.Common.{inl, inr, ◌-◌, ◌<◌, ◌∙◌, sym, subst, arith, refl, length, List, Some}
 use Rattle.std.proofs.lemmas.Bool.{false≢true}
 use Rattle.alt_disk.specs.Disk.{DiskState}
 use Rattle.alt_rowfile.specs.Format.{Mark}
@@ -58,3 +58,14 @@ returns-else-forward-clause-left g c = λ told rows reads.
     (omega (arith, c.if-count-eq0.false))
     c.in-Ok.hand c.args.forward (n - 1) (c.in-Ok.ensures.block told b loaded) loaded.held.0
     (λ up. absurd (false≢true (sym c.if-forward.false ∙ up))) (λ down. refl)
+
+pub returns-then-count-eq0-clause-given : goal.returns-then-count-eq0-clause-given
+returns-then-count-eq0-clause-given g c = inl (refl, λ way. c.empty.ensures way)
+
+pub returns-then-forward-clause-given : goal.returns-then-forward-clause-given
+returns-then-forward-clause-given g c =
+    inr (c.blocks_up_to-count.result - 1, c.in-Ok.ensures.given, c.in-Ok.ensures.begun)
+
+pub returns-else-forward-clause-given : goal.returns-else-forward-clause-given
+returns-else-forward-clause-given g c =
+    inr (c.blocks_up_to-count.result - 1, c.in-Ok.ensures.given, c.in-Ok.ensures.begun)

@@ -38,7 +38,7 @@ returns-clause-cause g c = λ s stands.
     let body = c.args.body.now in
     let moment = c.args.moment in
     subst (λ (o : Option Operation). IsAnswerFault (bounds_of c.args.tables.now).file
-    (wanted s (step s o body moment)) fault)
+    (wanted s (step s o body moment)) (step s o body moment).atoms fault)
     c.operation_named.ensures.named
     (caused (bounds_of c.args.tables.now).file (Stands (g.D.Disk.state c.answer.new.disk) c.answer.new.tables) s
     (step s c.operation_named.result body moment) c.in-Err.fault fault c.from.ensures

@@ -37,7 +37,7 @@ returns-in-Err-clause-served g c = λ s stands.
     (begins old mid new s c.args.name.now c.args.body.now m c.now-moment.ensures.call
     c.now-moment.ensures.log c.now-moment.ensures.told c.in-Err.ensures.goes
     (c.in-Err.ensures.leaves s here))
-    (answer_first _ _ _ c.in-Err.fault
+    (answer_first _ _ _ _ c.in-Err.fault
     (none_lacked (left_by s c.args.name.now c.args.body.now m)) (c.in-Err.ensures.cause s here))
 
 pub returns-in-Err-say-clause-served : goal.returns-in-Err-say-clause-served

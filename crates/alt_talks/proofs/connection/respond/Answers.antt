@@ -143,9 +143,13 @@ returns-in-Err-clause-answered g c = λ s stands.
     (sym (rules-atoms s q at)) (c.in-Err.ensures.leaves s here)) in
     asked_some_on rules lawful old done s m q at c.in-Err.fault
     (bounds_of c.args.tables.now).file front
-    (subst (λ (l : Option Lack). IsAnswerFault (bounds_of c.args.tables.now).file l c.in-Err.fault)
+    (subst (λ (atoms : List State). IsAnswerFault (bounds_of c.args.tables.now).file (rules.wants s q at)
+    atoms c.in-Err.fault)
+    (sym (rules-atoms s q at))
+    (subst (λ (l : Option Lack). IsAnswerFault (bounds_of c.args.tables.now).file l
+    (outcome_of s q at).atoms c.in-Err.fault)
     (sym (rules-wants s q at))
-    (answer_first _ _ _ c.in-Err.fault (none_lacked (left_by s q at)) (c.in-Err.ensures.cause s here)))
+    (answer_first _ _ _ _ c.in-Err.fault (none_lacked (left_by s q at)) (c.in-Err.ensures.cause s here))))
 
 pub returns-in-Ok-follow-clause-none : goal.returns-in-Ok-follow-clause-none
 returns-in-Ok-follow-clause-none g c =

@@ -36,7 +36,7 @@ pub returns-clause-cause : goal.returns-clause-cause
 returns-clause-cause g c = λ s stands.
     let fault = c.from.result in
     subst (λ (o : Option Operation). IsAnswerFault (bounds_of c.args.tables.now).file
-    (wanted s (step s o c.args.body.now c.args.moment)) fault)
+    (wanted s (step s o c.args.body.now c.args.moment)) (step s o c.args.body.now c.args.moment).atoms fault)
     c.operation_in.ensures
     (caused (bounds_of c.args.tables.now).file (Stands (g.D.Disk.state c.answer.new.disk) c.answer.new.tables) s
     (step s c.operation_in.result c.args.body.now c.args.moment) c.in-Err.fault fault

@@ -1,104 +1,16 @@
--- One more table was looked through; at the end none is left.
-use Rattle.std.proofs.Common.{◌≡◌, ◌++◌, ◌∷◌, [], true, sym, ap, subst, ◌∙◌, ℕ, List, take, length, arith}
-use Rattle.std.specs.FinMap as map
-use Rattle.std.specs.Vec.Iter.{into_iter_items}
-use Rattle.alt_disk.specs.Disk.{DiskState}
-use Rattle.alt_machine.specs.declared.TheConstants.{MOST_EXPIRED, MOST_TABLES}
-use Rattle.alt_machine.specs.Ops.ListTables.{names_after}
-use Rattle.alt_machine.specs.State.{Texts}
-use Rattle.alt_schema.specs.declared.schema.TableSchema.{TableSchema}
-use Rattle.alt_tables.proofs.Left.{reads_nothing, reads_then, ready_on}
-use Rattle.alt_tables.specs.Several.{Every}
-use Rattle.alt_tables.specs.Stands.{catalog_of}
-use Rattle.alt_ttl.specs.private.Searched.{AreNamed}
-use Rattle.alt_ttl.proofs.Fronts.{none_ahead, take_step, take_whole}
-use Rattle.alt_ttl.proofs.Looking.{keeps_none, keeps_then, stays_then}
-use Rattle.alt_ttl.proofs.Searching.{IsThere, expired_at, expired_of, found_all, is_there, names_there}
+-- What the list doesn't tell is searched.
+use Rattle.alt_tables.proofs.Left.{ready_on}
+use Rattle.alt_ttl.proofs.Looking.{stays_then}
 use Rattle.alt_ttl.proofs.search.expiring.Goals as goal
 
--- a name is one of a table
-abbrev There : Texts TableSchema → List ℕ → Type 0
-There catalog name = map.contains_key catalog name ≡ true
-
-pub loop-name-init : goal.loop-name-init
-loop-name-init g c = record {
-  left = λ s stands.
-      (λ i. take MOST_EXPIRED (c.new-out.ensures.items i
-      ++ expired_of s c.args.moment (c.into_iter-name-iterator.ensures.into_iter_gives.0 i)))
-      ∙ found_all s c.args.moment stands.valid c.in_ok-names.names.items
-      (c.in_ok-names.ensures.names ∙ ap (λ (k : Texts TableSchema). take MOST_TABLES (names_after [] k)) stands.catalog);
-  there = subst (Every (There (catalog_of c.args.tables.now)))
-      (sym (c.into_iter-name-iterator.ensures.into_iter_gives.0 ∙ c.in_ok-names.ensures.names))
-      (names_there (catalog_of c.args.tables.now));
-  few = omega (arith, ap length c.new-out.ensures.items);
-  named = subst (AreNamed (catalog_of c.args.tables.now)) (sym c.new-out.ensures.items) tt;
-  stays = λ s. (λ stands. stands, λ stands. stands);
-  catalog = keeps_none c.args.tables.now;
-  disk = reads_nothing (g.D.Disk.state c.args.disk.now);
+pub searched-requires : goal.searched-requires
+searched-requires g c = record {
+  ready = ready_on (g.D.Disk.state c.args.disk.now) (g.D.Disk.state c.foreseen.new.disk)
+      c.args.tables.now c.foreseen.new.tables c.foreseen.ensures.disk.goes
+      c.foreseen.ensures.stays c.requires.ready;
 }
 
-pub search_table-requires : goal.search_table-requires
-search_table-requires g c =
-    let so = c.loop-name.invariant in
-    let there : Every (There (catalog_of c.args.tables.now))
-    (c.in-Some.name ∷ into_iter_items c.next.new.self) =
-    subst (Every (There (catalog_of c.args.tables.now))) c.in-Some.ensures.steps.0 so.there in
-    record {
-      ready = ready_on (g.D.Disk.state c.args.disk.now) (g.D.Disk.state c.loop-name.disk)
-          c.args.tables.now c.loop-name.tables so.disk.goes so.stays c.requires.ready;
-      there = subst (λ (k : Texts TableSchema). There k c.as_str.result.now) (sym so.catalog.catalog)
-          (subst (There (catalog_of c.args.tables.now)) (sym c.as_str.ensures.same) there.0);
-      few = so.few;
-      named = subst (λ (k : Texts TableSchema). AreNamed k c.loop-name.out.items)
-          (sym so.catalog.catalog) so.named;
-    }
-
-pub loop-name-preserved : goal.loop-name-preserved
-loop-name-preserved g c =
-    let so = c.loop-name.invariant in
-    let a : DiskState = g.D.Disk.state c.args.disk.now in
-    let b : DiskState = g.D.Disk.state c.loop-name.disk in
-    let d : DiskState = g.D.Disk.state c.search_table.new.disk in
-    let rest = into_iter_items c.next.new.self in
-    let there : Every (There (catalog_of c.args.tables.now)) (c.in-Some.name ∷ rest) =
-    subst (Every (There (catalog_of c.args.tables.now))) c.in-Some.ensures.steps.0 so.there in
-    record {
-      left = λ s stands.
-          let t : IsThere s c.args.moment c.as_str.result.now =
-          is_there s c.args.moment c.as_str.result.now (catalog_of c.args.tables.now) stands.catalog
-          (subst (There (catalog_of c.args.tables.now)) (sym c.as_str.ensures.same) there.0) in
-          take_step MOST_EXPIRED c.loop-name.out.items
-          (expired_at s c.args.moment c.as_str.result.now)
-          (expired_of s c.args.moment rest) c.search_table.new.out.items
-          (c.in-Ok.ensures.found s t.table ((so.stays s).0 stands) t.there
-          ∙ ap (λ l. take MOST_EXPIRED (c.loop-name.out.items ++ l)) (sym t.is))
-          ∙ ap (λ (n : List ℕ). take MOST_EXPIRED (c.loop-name.out.items
-          ++ (expired_at s c.args.moment n ++ expired_of s c.args.moment rest)))
-          c.as_str.ensures.same
-          ∙ ap (λ l. take MOST_EXPIRED (c.loop-name.out.items ++ expired_of s c.args.moment l))
-          (sym c.in-Some.ensures.steps.0) ∙ so.left s stands;
-      there = there.1;
-      few = c.in-Ok.ensures.few;
-      named = subst (λ (k : Texts TableSchema). AreNamed k c.search_table.new.out.items)
-          so.catalog.catalog c.in-Ok.ensures.named;
-      stays = stays_then a b d c.args.tables.now c.loop-name.tables c.search_table.new.tables
-          so.stays c.search_table.ensures.stays;
-      catalog = keeps_then c.args.tables.now c.loop-name.tables c.search_table.new.tables so.catalog
-          c.search_table.ensures.catalog;
-      disk = reads_then a b d so.disk c.search_table.ensures.disk;
-    }
-
-pub returns-in-Err-clause-stays : goal.returns-in-Err-clause-stays
-returns-in-Err-clause-stays g c = stays_then (g.D.Disk.state c.args.disk.now)
-    (g.D.Disk.state c.loop-name.disk) (g.D.Disk.state c.search_table.new.disk) c.args.tables.now
-    c.loop-name.tables c.search_table.new.tables c.loop-name.invariant.stays
-    c.search_table.ensures.stays
-
-pub returns-clause-standings : goal.returns-clause-standings
-returns-clause-standings g c s stands =
-    let so = c.loop-name.invariant in
-    sym (take_whole MOST_EXPIRED c.loop-name.out.items so.few)
-    ∙ ap (λ l. take MOST_EXPIRED (c.loop-name.out.items ++ expired_of s c.args.moment l))
-    (sym (none_ahead (into_iter_items c.loop-name.name-iterator)
-    (sym c.loop-name.name-iterator.rest.ok.0 ∙ c.in-None.ensures.steps.0)))
-    ∙ so.left s stands
+pub returns-in-Ok-None-clause-stays : goal.returns-in-Ok-None-clause-stays
+returns-in-Ok-None-clause-stays g c = stays_then (g.D.Disk.state c.args.disk.now)
+    (g.D.Disk.state c.foreseen.new.disk) (g.D.Disk.state c.searched.new.disk) c.args.tables.now
+    c.foreseen.new.tables c.searched.new.tables c.foreseen.ensures.stays c.searched.ensures.stays

@@ -7,7 +7,7 @@ use Rattle.alt_machine.specs.declared.Standing.{Standing}
 use Rattle.alt_machine.specs.State.{Texts}
 use Rattle.alt_schema.specs.declared.schema.TableSchema.{TableSchema}
 use Rattle.alt_tables.proofs.Left.{ready_on}
-use Rattle.alt_ttl.proofs.Looking.{AreFound, found_one}
+use Rattle.alt_ttl.proofs.Looking.{AreFound, found_one, stays_then}
 use Rattle.alt_ttl.proofs.search.find_all.Goals as goal
 
 pub find-requires : goal.find-requires
@@ -45,3 +45,13 @@ loop-standing-preserved g c =
     c.in_ok-find.ensures.disk
     c.in_ok-find.ensures.stays c.in_ok-find.ensures.catalog c.in_ok-find.ensures.written
     c.in_ok-find.ensures.found)
+
+pub returns-in_err-find-clause-stays : goal.returns-in_err-find-clause-stays
+returns-in_err-find-clause-stays g c = stays_then (g.D.Disk.state c.args.disk.now)
+    (g.D.Disk.state c.loop-standing.disk) (g.D.Disk.state c.find.new.disk) c.args.tables.now
+    c.loop-standing.tables c.find.new.tables c.loop-standing.invariant.stays c.find.ensures.stays
+
+pub returns-in_err-push-clause-stays : goal.returns-in_err-push-clause-stays
+returns-in_err-push-clause-stays g c = stays_then (g.D.Disk.state c.args.disk.now)
+    (g.D.Disk.state c.loop-standing.disk) (g.D.Disk.state c.find.new.disk) c.args.tables.now
+    c.loop-standing.tables c.find.new.tables c.loop-standing.invariant.stays c.find.ensures.stays

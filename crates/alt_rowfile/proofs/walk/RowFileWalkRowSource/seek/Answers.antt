@@ -31,3 +31,6 @@ returns-in-Err-clause-fails g c =
     (g.D.Disk.state c.start.new.disk)
     c.args.self.now c.in-Err.stop c.in-Err.ensures.cause c.in-Err.ensures.undamaged
     c.in-Err.ensures.damage
+
+pub returns-in-Ok-clause-given : goal.returns-in-Ok-clause-given
+returns-in-Ok-clause-given g c = c.in-Ok.ensures.given

@@ -1,5 +1,5 @@
 -- What the write takes from the front of the stream is read, and then one write is made where what is there differs.
-use Rattle.std.proofs.Common.{◌≡◌, ◌<◌, ◌^◌, refl, sym, ap, ◌∙◌, ℕ, List, [], ◌∷◌, Option, Some, subst, arith, IfOk}
+use Rattle.std.proofs.Common.{◌≡◌, ◌<◌, ◌^◌, refl, sym, ap, ◌∙◌, ℕ, List, [], ◌∷◌, Option, Some, subst, arith, IfOk, IfSome}
 use Rattle.std.specs.FinMap as map
 use Rattle.std.specs.Prelude.{IsSome, drop}
 use Rattle.alt_cells.specs.declared.batch.RowChange.{RowChange}
@@ -16,11 +16,12 @@ use Rattle.alt_machine.proofs.Lacks.{has_number, lacks_number}
 use Rattle.alt_opening.specs.Trimmed.{number_at}
 use Rattle.alt_schema.specs.declared.schema.TableSchema.{TableSchema}
 use Rattle.alt_tables.specs.Faults.{BreakOff, Writes}
+use Rattle.alt_tables.specs.Foreseen.{ForeseesItem}
 use Rattle.alt_tables.specs.Found.{number_taken}
 use Rattle.alt_tables.specs.Images.{Leaves}
 use Rattle.alt_tables.specs.Leftovers.{leftovers, lowest_left}
 use Rattle.alt_tables.specs.RowChanges.{changed_rows, write_changes}
-use Rattle.alt_tables.specs.Stands.{HasRows, Reads, Stands, bounds_of, catalog_of, number_of, trimmed_of}
+use Rattle.alt_tables.specs.Stands.{HasRows, Reads, Stands, bounds_of, catalog_of, due_of, number_of, trimmed_of}
 use Rattle.alt_tables.specs.declared.faults.TableFault.TheVariants.{Spent}
 use Rattle.alt_tables.specs.declared.tables.Tables.{Tables}
 use Rattle.alt_tables.specs.declared.trimming.Trim.{Trim}
@@ -28,7 +29,7 @@ use Rattle.alt_tables.specs.private.Trims.{IsWithin, IsWrittenAs}
 use Rattle.alt_tables.proofs.Holding.{leaves_quiet}
 use Rattle.alt_tables.proofs.Left.{leaves_after, leaves_reads}
 use Rattle.alt_tables.proofs.Making.{broke, item_differs, spent, spent_file}
-use Rattle.alt_tables.proofs.Standing.{ready_kept, rows_kept, stands_kept, stays_kept, there}
+use Rattle.alt_tables.proofs.Standing.{keeps_on, ready_kept, rows_kept, stands_kept, stays_kept, there}
 use Rattle.alt_tables.proofs.Trimmed.{made_is, made_leftovers, ok_both, rows_back}
 use Rattle.alt_tables.proofs.tables.Tables.write.Goals as goal
 
@@ -109,52 +110,82 @@ returns-in-Err-clause-disk g c s t stands at =
 
 pub write_trimmed-requires-clause-ready : goal.write_trimmed-requires-clause-ready
 write_trimmed-requires-clause-ready g c = ready_kept (g.D.Disk.state c.args.disk.now)
-    (g.D.Disk.state c.trim.new.disk) c.args.self.now c.trim.new.self c.trim.ensures.keeps
+    (g.D.Disk.state c.trim.new.disk) c.args.self.now c.foretell.new.self (keeps_on (g.D.Disk.state c.args.disk.now) (g.D.Disk.state c.trim.new.disk)
+    c.args.self.now c.trim.new.self c.foretell.new.self c.trim.ensures.keeps
+    c.foretell.ensures.keeps)
     c.requires.ready
 
 pub write_trimmed-requires-clause-there : goal.write_trimmed-requires-clause-there
 write_trimmed-requires-clause-there g c =
-    ap (λ m. map.contains_key m c.args.table.now) c.trim.ensures.keeps.catalog ∙ c.requires.there
+    ap (λ m. map.contains_key m c.args.table.now) (keeps_on (g.D.Disk.state c.args.disk.now) (g.D.Disk.state c.trim.new.disk)
+    c.args.self.now c.trim.new.self c.foretell.new.self c.trim.ensures.keeps
+    c.foretell.ensures.keeps).catalog ∙ c.requires.there
 
 pub write_trimmed-requires-clause-found : goal.write_trimmed-requires-clause-found
 write_trimmed-requires-clause-found g c s stands = c.requires.found s
     ((stays_kept (g.D.Disk.state c.args.disk.now) (g.D.Disk.state c.trim.new.disk)
-    c.args.self.now c.trim.new.self c.trim.ensures.keeps c.requires.ready s).1 stands)
+    c.args.self.now c.foretell.new.self (keeps_on (g.D.Disk.state c.args.disk.now) (g.D.Disk.state c.trim.new.disk)
+    c.args.self.now c.trim.new.self c.foretell.new.self c.trim.ensures.keeps
+    c.foretell.ensures.keeps) c.requires.ready s).1 stands)
 
 pub write_trimmed-requires-clause-new : goal.write_trimmed-requires-clause-new
 write_trimmed-requires-clause-new g c s stands d there = c.requires.new s
     ((stays_kept (g.D.Disk.state c.args.disk.now) (g.D.Disk.state c.trim.new.disk)
-    c.args.self.now c.trim.new.self c.trim.ensures.keeps c.requires.ready s).1 stands) d
-    (ap (λ m. map.get m c.args.table.now) (sym c.trim.ensures.keeps.catalog) ∙ there)
+    c.args.self.now c.foretell.new.self (keeps_on (g.D.Disk.state c.args.disk.now) (g.D.Disk.state c.trim.new.disk)
+    c.args.self.now c.trim.new.self c.foretell.new.self c.trim.ensures.keeps
+    c.foretell.ensures.keeps) c.requires.ready s).1 stands) d
+    (ap (λ m. map.get m c.args.table.now) (sym (keeps_on (g.D.Disk.state c.args.disk.now) (g.D.Disk.state c.trim.new.disk)
+    c.args.self.now c.trim.new.self c.foretell.new.self c.trim.ensures.keeps
+    c.foretell.ensures.keeps).catalog) ∙ there)
 
 pub write_trimmed-requires-clause-room : goal.write_trimmed-requires-clause-room
 write_trimmed-requires-clause-room g c = omega (
   arith,
-  c.trim.ensures.keeps.number,
+  (keeps_on (g.D.Disk.state c.args.disk.now) (g.D.Disk.state c.trim.new.disk)
+      c.args.self.now c.trim.new.self c.foretell.new.self c.trim.ensures.keeps
+      c.foretell.ensures.keeps).number,
   c.next_number-number.ensures.next,
   c.if-number-ge-NUMBERS_END.false,
 )
 
 pub write_trimmed-requires-clause-file : goal.write_trimmed-requires-clause-file
 write_trimmed-requires-clause-file g c = subst (λ (b : Bounds). b.file < 2 ^ 32)
-    (sym c.trim.ensures.keeps.limits) (c.in_default.ensures.none refl)
+    (sym (keeps_on (g.D.Disk.state c.args.disk.now) (g.D.Disk.state c.trim.new.disk)
+    c.args.self.now c.trim.new.self c.foretell.new.self c.trim.ensures.keeps
+    c.foretell.ensures.keeps).limits) (c.in_default.ensures.none refl)
 
 pub write_trimmed-requires-clause-trim : goal.write_trimmed-requires-clause-trim
 write_trimmed-requires-clause-trim g c s t l stands at rows =
     let before = (stays_kept (g.D.Disk.state c.args.disk.now) (g.D.Disk.state c.trim.new.disk)
-    c.args.self.now c.trim.new.self c.trim.ensures.keeps c.requires.ready s).1 stands in
+    c.args.self.now c.foretell.new.self (keeps_on (g.D.Disk.state c.args.disk.now) (g.D.Disk.state c.trim.new.disk)
+    c.args.self.now c.trim.new.self c.foretell.new.self c.trim.ensures.keeps
+    c.foretell.ensures.keeps) c.requires.ready s).1 stands in
     c.in-Ok.ensures.trim s t l before at
     (rows_back (g.D.Disk.state c.args.disk.now) (g.D.Disk.state c.trim.new.disk)
-    c.args.self.now c.trim.new.self c.trim.ensures.keeps s before l rows)
+    c.args.self.now c.foretell.new.self (keeps_on (g.D.Disk.state c.args.disk.now) (g.D.Disk.state c.trim.new.disk)
+    c.args.self.now c.trim.new.self c.foretell.new.self c.trim.ensures.keeps
+    c.foretell.ensures.keeps) s before l rows)
 
 pub write_trimmed-requires-clause-within : goal.write_trimmed-requires-clause-within
 write_trimmed-requires-clause-within g c d there has =
-    subst (λ (known : _). IsWithin (number_at c.args.table.now known) (number_of c.trim.new.self)
-    c.in-Ok.trim) (ap (λ v. v.items) (sym c.trim.ensures.keeps.trimmed))
+    subst (λ (known : _). IsWithin (number_at c.args.table.now known) (number_of c.foretell.new.self)
+    c.in-Ok.trim) (ap (λ v. v.items) (sym (keeps_on (g.D.Disk.state c.args.disk.now) (g.D.Disk.state c.trim.new.disk)
+    c.args.self.now c.trim.new.self c.foretell.new.self c.trim.ensures.keeps
+    c.foretell.ensures.keeps).trimmed))
     (subst (λ n. IsWithin (number_at c.args.table.now (trimmed_of c.args.self.now)) n c.in-Ok.trim)
-    (sym c.trim.ensures.keeps.number)
+    (sym (keeps_on (g.D.Disk.state c.args.disk.now) (g.D.Disk.state c.trim.new.disk)
+    c.args.self.now c.trim.new.self c.foretell.new.self c.trim.ensures.keeps
+    c.foretell.ensures.keeps).number)
     (c.in-Ok.ensures.within d
-    (ap (λ m. map.get m c.args.table.now) (sym c.trim.ensures.keeps.catalog) ∙ there) has))
+    (ap (λ m. map.get m c.args.table.now) (sym (keeps_on (g.D.Disk.state c.args.disk.now) (g.D.Disk.state c.trim.new.disk)
+    c.args.self.now c.trim.new.self c.foretell.new.self c.trim.ensures.keeps
+    c.foretell.ensures.keeps).catalog) ∙ there) has))
+
+pub write_trimmed-requires-clause-foretold : goal.write_trimmed-requires-clause-foretold
+write_trimmed-requires-clause-foretold g c d at =
+    subst (λ p. IfSome c.args.new (ForeseesItem d c.args.table.now p (due_of c.foretell.new.self)))
+    c.as_slice.ensures.same (c.foretell.ensures.known d (ap (λ m. map.get m c.args.table.now)
+    (sym (c.foretell.ensures.keeps (g.D.Disk.state c.trim.new.disk)).catalog) ∙ at))
 
 -- ---- what it leaves
 
@@ -169,10 +200,14 @@ returns-clause-writes g c s t stands at =
     (subst (λ (b : Bounds). Writes b.file
     (Stands (g.D.Disk.state c.write_trimmed.new.disk) c.write_trimmed.new.self) a_number s
     (after_item s c.args.moment c.args.table.now t c.args.found.place c.args.new ∷ [])
-    c.write_trimmed.result) c.trim.ensures.keeps.limits
+    c.write_trimmed.result) (keeps_on (g.D.Disk.state c.args.disk.now) (g.D.Disk.state c.trim.new.disk)
+    c.args.self.now c.trim.new.self c.foretell.new.self c.trim.ensures.keeps
+    c.foretell.ensures.keeps).limits
     (c.write_trimmed.ensures.writes s t
     (stands_kept (g.D.Disk.state c.args.disk.now) (g.D.Disk.state c.trim.new.disk)
-    c.args.self.now c.trim.new.self c.trim.ensures.keeps s stands) at))
+    c.args.self.now c.foretell.new.self (keeps_on (g.D.Disk.state c.args.disk.now) (g.D.Disk.state c.trim.new.disk)
+    c.args.self.now c.trim.new.self c.foretell.new.self c.trim.ensures.keeps
+    c.foretell.ensures.keeps) s stands) at))
 
 pub returns-clause-number : goal.returns-clause-number
 returns-clause-number g c s t stands at =
@@ -181,7 +216,9 @@ returns-clause-number g c s t stands at =
     (sym (item_differs (g.D.Disk.state c.args.disk.now) c.args.self.now s t stands
     c.args.moment User c.args.table.now c.args.found.place c.args.found.item c.args.new at
     (c.requires.found s stands t at) (sym c.if-same.ensures)))
-    (subst (λ k. IfOk c.write_trimmed.result (λ n. n ≡ Some k)) c.trim.ensures.keeps.number
+    (subst (λ k. IfOk c.write_trimmed.result (λ n. n ≡ Some k)) (keeps_on (g.D.Disk.state c.args.disk.now) (g.D.Disk.state c.trim.new.disk)
+    c.args.self.now c.trim.new.self c.foretell.new.self c.trim.ensures.keeps
+    c.foretell.ensures.keeps).number
     c.write_trimmed.ensures.number)
 
 pub returns-clause-disk : goal.returns-clause-disk
@@ -194,10 +231,14 @@ returns-clause-disk g c s t stands at =
     (leaves_after (g.D.Disk.state c.args.disk.now) (g.D.Disk.state c.trim.new.disk)
     (g.D.Disk.state c.write_trimmed.new.disk) c.args.self.now s
     (after_item s c.args.moment c.args.table.now t c.args.found.place c.args.new ∷ [])
-    c.trim.ensures.keeps.reads stands
+    (keeps_on (g.D.Disk.state c.args.disk.now) (g.D.Disk.state c.trim.new.disk)
+    c.args.self.now c.trim.new.self c.foretell.new.self c.trim.ensures.keeps
+    c.foretell.ensures.keeps).reads stands
     (c.write_trimmed.ensures.disk s t
     (stands_kept (g.D.Disk.state c.args.disk.now) (g.D.Disk.state c.trim.new.disk)
-    c.args.self.now c.trim.new.self c.trim.ensures.keeps s stands) at))
+    c.args.self.now c.foretell.new.self (keeps_on (g.D.Disk.state c.args.disk.now) (g.D.Disk.state c.trim.new.disk)
+    c.args.self.now c.trim.new.self c.foretell.new.self c.trim.ensures.keeps
+    c.foretell.ensures.keeps) s stands) at))
 
 pub returns-clause-rows : goal.returns-clause-rows
 returns-clause-rows g c =
@@ -205,7 +246,7 @@ returns-clause-rows g c =
     let m : DiskState = g.D.Disk.state c.trim.new.disk in
     let b : DiskState = g.D.Disk.state c.write_trimmed.new.disk in
     let old : Tables = c.args.self.now in
-    let mid : Tables = c.trim.new.self in
+    let mid : Tables = c.foretell.new.self in
     let new : Tables = c.write_trimmed.new.self in
     let name : List ℕ = c.args.table.now in
     let r : Trim = c.in-Ok.trim in
@@ -214,8 +255,12 @@ returns-clause-rows g c =
     r.leftovers.items in
     let in_old : (d : TableSchema) → changes d (number_of mid) (number_at name (trimmed_of mid))
     ≡ changes d (number_of old) (number_at name (trimmed_of old)) =
-    λ d i. changes d (c.trim.ensures.keeps.number i)
-    (number_at name (c.trim.ensures.keeps.trimmed i).items) in
+    λ d i. changes d ((keeps_on (g.D.Disk.state c.args.disk.now) (g.D.Disk.state c.trim.new.disk)
+    c.args.self.now c.trim.new.self c.foretell.new.self c.trim.ensures.keeps
+    c.foretell.ensures.keeps).number i)
+    (number_at name ((keeps_on (g.D.Disk.state c.args.disk.now) (g.D.Disk.state c.trim.new.disk)
+    c.args.self.now c.trim.new.self c.foretell.new.self c.trim.ensures.keeps
+    c.foretell.ensures.keeps).trimmed i).items) in
     ok_both (λ (n : Option ℕ). IsTrusted m → (d : TableSchema) (l : Layout)
     → map.get (catalog_of mid) name ≡ Some d → HasRows m mid l
     → IsWrittenAs b new l (changes d (number_of mid) (number_at name (trimmed_of mid))))
@@ -235,9 +280,15 @@ returns-clause-rows g c =
     c.args.new at (c.requires.found s stands t at) r
     (λ x has. c.in-Ok.ensures.trim s t x stands at has) d there_d (sym c.if-same.ensures)
     (number_at name (trimmed_of new)) after l rows_l)
-    (rows (trusted_on a m c.trim.ensures.keeps.reads.goes trusted) d l
-    (ap (λ x. map.get x name) c.trim.ensures.keeps.catalog ∙ there_d)
-    (rows_kept a m old mid c.trim.ensures.keeps trusted l rows_l)).rows)
+    (rows (trusted_on a m (keeps_on (g.D.Disk.state c.args.disk.now) (g.D.Disk.state c.trim.new.disk)
+    c.args.self.now c.trim.new.self c.foretell.new.self c.trim.ensures.keeps
+    c.foretell.ensures.keeps).reads.goes trusted) d l
+    (ap (λ x. map.get x name) (keeps_on (g.D.Disk.state c.args.disk.now) (g.D.Disk.state c.trim.new.disk)
+    c.args.self.now c.trim.new.self c.foretell.new.self c.trim.ensures.keeps
+    c.foretell.ensures.keeps).catalog ∙ there_d)
+    (rows_kept a m old mid (keeps_on (g.D.Disk.state c.args.disk.now) (g.D.Disk.state c.trim.new.disk)
+    c.args.self.now c.trim.new.self c.foretell.new.self c.trim.ensures.keeps
+    c.foretell.ensures.keeps) trusted l rows_l)).rows)
 
 pub returns-clause-leftovers : goal.returns-clause-leftovers
 returns-clause-leftovers g c =
@@ -245,7 +296,7 @@ returns-clause-leftovers g c =
     let m : DiskState = g.D.Disk.state c.trim.new.disk in
     let b : DiskState = g.D.Disk.state c.write_trimmed.new.disk in
     let old : Tables = c.args.self.now in
-    let mid : Tables = c.trim.new.self in
+    let mid : Tables = c.foretell.new.self in
     let new : Tables = c.write_trimmed.new.self in
     let name : List ℕ = c.args.table.now in
     let r : Trim = c.in-Ok.trim in
@@ -254,8 +305,12 @@ returns-clause-leftovers g c =
     r.leftovers.items in
     let in_old : (d : TableSchema) → changes d (number_of mid) (number_at name (trimmed_of mid))
     ≡ changes d (number_of old) (number_at name (trimmed_of old)) =
-    λ d i. changes d (c.trim.ensures.keeps.number i)
-    (number_at name (c.trim.ensures.keeps.trimmed i).items) in
+    λ d i. changes d ((keeps_on (g.D.Disk.state c.args.disk.now) (g.D.Disk.state c.trim.new.disk)
+    c.args.self.now c.trim.new.self c.foretell.new.self c.trim.ensures.keeps
+    c.foretell.ensures.keeps).number i)
+    (number_at name ((keeps_on (g.D.Disk.state c.args.disk.now) (g.D.Disk.state c.trim.new.disk)
+    c.args.self.now c.trim.new.self c.foretell.new.self c.trim.ensures.keeps
+    c.foretell.ensures.keeps).trimmed i).items) in
     ok_both (λ (n : Option ℕ). IsTrusted m → (d : TableSchema) (l : Layout)
     → map.get (catalog_of mid) name ≡ Some d → HasRows m mid l
     → IsWrittenAs b new l (changes d (number_of mid) (number_at name (trimmed_of mid))))
@@ -270,9 +325,15 @@ returns-clause-leftovers g c =
     let (t, at, same) = there a old s name d stands there_d in
     let written : IsWrittenAs b new l (changes d (number_of old) (number_at name (trimmed_of old))) =
     subst (IsWrittenAs b new l) (in_old d)
-    (rows (trusted_on a m c.trim.ensures.keeps.reads.goes trusted) d l
-    (ap (λ x. map.get x name) c.trim.ensures.keeps.catalog ∙ there_d)
-    (rows_kept a m old mid c.trim.ensures.keeps trusted l rows_l)) in
+    (rows (trusted_on a m (keeps_on (g.D.Disk.state c.args.disk.now) (g.D.Disk.state c.trim.new.disk)
+    c.args.self.now c.trim.new.self c.foretell.new.self c.trim.ensures.keeps
+    c.foretell.ensures.keeps).reads.goes trusted) d l
+    (ap (λ x. map.get x name) (keeps_on (g.D.Disk.state c.args.disk.now) (g.D.Disk.state c.trim.new.disk)
+    c.args.self.now c.trim.new.self c.foretell.new.self c.trim.ensures.keeps
+    c.foretell.ensures.keeps).catalog ∙ there_d)
+    (rows_kept a m old mid (keeps_on (g.D.Disk.state c.args.disk.now) (g.D.Disk.state c.trim.new.disk)
+    c.args.self.now c.trim.new.self c.foretell.new.self c.trim.ensures.keeps
+    c.foretell.ensures.keeps) trusted l rows_l)) in
     made_leftovers a b old new s t stands c.args.moment User name c.args.found.place
     c.args.found.item
     c.args.new at (c.requires.found s stands t at) r
@@ -284,4 +345,16 @@ returns-clause-leftovers g c =
 pub returns-clause-no_memory : goal.returns-clause-no_memory
 returns-clause-no_memory g c none =
     subst (λ (d : DiskState). Reads (g.D.Disk.state c.args.disk.now) d)
-    (sym (c.write_trimmed.ensures.no_memory none)) c.trim.ensures.keeps.reads
+    (sym (c.write_trimmed.ensures.no_memory none)) (keeps_on (g.D.Disk.state c.args.disk.now) (g.D.Disk.state c.trim.new.disk)
+    c.args.self.now c.trim.new.self c.foretell.new.self c.trim.ensures.keeps
+    c.foretell.ensures.keeps).reads
+
+pub returns-clause-catalog : goal.returns-clause-catalog
+returns-clause-catalog g c = c.write_trimmed.ensures.catalog ∙ (keeps_on (g.D.Disk.state c.args.disk.now) (g.D.Disk.state c.trim.new.disk)
+    c.args.self.now c.trim.new.self c.foretell.new.self c.trim.ensures.keeps
+    c.foretell.ensures.keeps).catalog
+
+pub returns-clause-limits : goal.returns-clause-limits
+returns-clause-limits g c = c.write_trimmed.ensures.limits ∙ (keeps_on (g.D.Disk.state c.args.disk.now) (g.D.Disk.state c.trim.new.disk)
+    c.args.self.now c.trim.new.self c.foretell.new.self c.trim.ensures.keeps
+    c.foretell.ensures.keeps).limits

@@ -10,7 +10,7 @@ use Rattle.alt_tables.specs.Several.{Every}
 use Rattle.alt_tables.specs.Stands.{KeepsCatalog, Reads, Stands, catalog_of}
 use Rattle.alt_ttl.specs.private.Searched.{AreNamed}
 use Rattle.alt_ttl.proofs.Searching.{expired_of}
-use Rattle.alt_ttl.proofs.search.expiring.Given as goal
+use Rattle.alt_ttl.proofs.search.searched.Given as goal
 
 abbrev pub invariant-loop-name : goal.invariant-loop-name
 invariant-loop-name g l = record {

@@ -1,0 +1,4 @@
+pub mod Known
+pub mod Next
+pub mod Nothing
+pub mod Orders

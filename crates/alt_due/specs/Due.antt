@@ -1,5 +1,8 @@
 -- What a list of the items that are due next covers, lists and knows.
 use Rattle.std.specs.Prelude.{◌≡◌, ◌+◌, ◌<◌, ◌≤◌, ◌⊎◌, ℕ, Bool, true, false, ◌&&◌, IsTrue, Option, Some, None}
+use Rattle.std.specs.declared.ops.Bound.{Bound}
+use Rattle.std.specs.declared.ops.Bound.TheVariants.{Excluded, Unbounded}
+use Rattle.std.specs.BTreeMap.Range.{is_from_start}
 use Rattle.std.specs.BTreeSet.{btree_set_len, contains}
 use Rattle.std.specs.Ordering.{is_le, is_lt, nat_cmp}
 use Rattle.alt_due.specs.declared.due.Due.{Due}
@@ -61,14 +64,26 @@ IsReady d spot = IsTrue (contains spot_cmp d.ready spot && is_before d.end spot)
 abbrev pub IsRipe : ℕ → Due → Type 0
 IsRipe moment d = (first : ℕ) (spot : Spot) → Waits d first spot → moment < first
 
--- it knows that nothing is due at the moment
+-- it covers the moment at each place
+abbrev pub CoversAll : Due → ℕ → Type 0
+CoversAll d moment = (spot : Spot) → IsTrue (covers d moment spot)
+
+-- it lists no place at the moment
+abbrev pub ListsNone : Due → ℕ → Type 0
+ListsNone d moment = (spot : Spot) → Lists d moment spot → ⊥
+
+-- it knows of no place at the moment, so that nothing is due then
 abbrev pub NoneDue : Due → ℕ → Type 0
 NoneDue d moment = (spot : Spot) → Knows d moment spot → ⊥
 
--- a place is behind another one, where there is one
+-- behind a place, where there is one
+abbrev pub behind : Option Spot → Bound Spot
+behind None = Unbounded
+behind (Some after) = Excluded after
+
+-- a place is behind another one
 abbrev pub is_behind : Option Spot → Spot → Bool
-is_behind None spot = true
-is_behind (Some after) spot = is_lt (spot_cmp after spot)
+is_behind after spot = is_from_start spot_cmp (behind after) spot
 
 -- the first place that is ready behind a place, or that there is none
 abbrev pub FindsNext : Due → Option Spot → Option Spot → Type 0

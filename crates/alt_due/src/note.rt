@@ -71,8 +71,9 @@ impl Due {
             return;
         }
         self.make_room();
-        if self.add(table, place, first).is_err() {
-            self.forget();
+        match self.add(table, place, first) {
+            Ok(()) => {}
+            Err(NoMemory) => self.forget(),
         }
     }
 

@@ -3,7 +3,7 @@
 ghost use Rattle.std.specs.Prelude.{◌≡◌, ◌≤◌, ◌↔◌, IsTrue};
 ghost use Rattle.std.specs.Option.{option_copied};
 ghost use Rattle.alt_due.specs.declared.due.TheConstants.{BOUND};
-ghost use Rattle.alt_due.specs.Due.{listed, is_before, is_within, IsRipe, NoneDue};
+ghost use Rattle.alt_due.specs.Due.{listed, is_before, is_within, CoversAll, ListsNone, IsRipe, NoneDue};
 ghost use Rattle.alt_due.specs.Order.{spot_of};
 
 use crate::due::Due;
@@ -43,7 +43,21 @@ impl Due {
     pub fn due_none(&self, moment: u64) -> bool
         ensures { IsTrue result ↔ NoneDue self.now moment }
     {
-        self.covers(moment) && self.end.is_none() && self.ready.is_empty() && self.is_ripe(moment)
+        self.covers_all(moment) && self.lists_none(moment)
+    }
+
+    /// Whether it covers a moment at each place.
+    fn covers_all(&self, moment: u64) -> bool
+        ensures { IsTrue result ↔ CoversAll self.now moment }
+    {
+        self.end.is_none() && self.covers(moment)
+    }
+
+    /// Whether it lists no place at a moment.
+    fn lists_none(&self, moment: u64) -> bool
+        ensures { IsTrue result ↔ ListsNone self.now moment }
+    {
+        self.ready.is_empty() && self.is_ripe(moment)
     }
 
     /// Whether a place is before the end.

@@ -3,7 +3,8 @@
 ghost use Rattle.std.specs.Prelude.{◌≡◌, ◌<◌, ℕ, false, OnOk, IfOk, IsTrue};
 ghost use Rattle.std.specs.BTreeSet.{btree_set_len};
 ghost use Rattle.std.specs.Option.{option_copied};
-ghost use Rattle.alt_due.specs.Due.{is_within, KeepsKnown, KeepsOthers, FindsNext, IsRipe};
+ghost use Rattle.std.specs.Range.Bound.{bound_map};
+ghost use Rattle.alt_due.specs.Due.{is_within, behind, KeepsKnown, KeepsOthers, FindsNext, IsRipe};
 
 use crate::due::Due;
 use crate::spot::Spot;
@@ -21,22 +22,20 @@ impl Due {
             return false;
         }
         self.since = moment;
-        if self.ripen(moment).is_err() {
-            self.forget();
-            return false;
+        match self.ripen(moment) {
+            Ok(()) => true,
+            Err(NoMemory) => {
+                self.forget();
+                false
+            }
         }
-        true
     }
 
     /// The first place that is ready, behind that one where one is given.
     pub fn next(&self, after: Option<&Spot>) -> Option<&Spot>
         ensures { FindsNext self.now (option_copied after.entry) (option_copied result) }
     {
-        let start = match after {
-            Some(spot) => Bound::Excluded(spot),
-            None => Bound::Unbounded,
-        };
-        let found = self.ready.range((start, Bound::Unbounded)).next()?;
+        let found = self.ready.range((start(after), Bound::Unbounded)).next()?;
         if self.is_before_end(found.table.as_str(), found.place.as_slice()) {
             Some(found)
         } else {
@@ -81,5 +80,15 @@ impl Due {
             self.ready.insert(term.at)?;
         }
         Ok(true)
+    }
+}
+
+/// Where a walk goes on behind a place.
+fn start(after: Option<&Spot>) -> Bound<&Spot>
+    ensures { bound_map (λ s. s.now) result.entry ≡ behind (option_copied after.entry) }
+{
+    match after {
+        Some(spot) => Bound::Excluded(spot),
+        None => Bound::Unbounded,
     }
 }

@@ -6,25 +6,20 @@ use Rattle.std.specs.declared.cmp.Ordering.TheVariants.{Less, Equal, Greater}
 use Rattle.std.specs.BTreeSet.{BTreeSet, contains}
 use Rattle.std.specs.List.{list_any}
 use Rattle.std.specs.BTreeMap.{is_at}
-use Rattle.std.specs.Cmp.{first_so, second_so, tied_itself}
-use Rattle.std.specs.Ordering.{is_eq, is_lt}
+use Rattle.std.specs.Cmp.{first_so, second_so, tied_itself, upto, nat_cmp_total}
+use Rattle.std.specs.Ordering.{is_eq, is_lt, is_le, is_gt, nat_cmp}
 use Rattle.alt_due.specs.declared.due.Due.{Due}
 use Rattle.alt_due.specs.declared.spot.Spot.{Spot}
 use Rattle.alt_due.specs.declared.spot.Term.{Term}
-use Rattle.alt_due.specs.Due.{is_before, is_within, covers, Waits, Lists, Knows, IsReady, IsRipe, CoversAll, ListsNone, NoneDue}
+use Rattle.alt_due.specs.Due.{is_before, is_within, covers, Waits, Lists, Knows, IsReady, IsRipe, CoversNothing, CoversAll, ListsNone, NoneDue}
 use Rattle.alt_due.specs.Order.{spot_cmp, spot_total, term_of, term_cmp}
 use Rattle.alt_due.proofs.Orders.{not_before, spots_apart, places_apart}
-
--- each of two cases in other words
-pub cases_as : {A B C D : Type 0} → (A → B) → (C → D) → A ⊎ C → B ⊎ D
-cases_as f g (inl a) = inl (f a)
-cases_as f g (inr c) = inr (g c)
 
 -- both tests hold
 pub both : (a b : Bool) → a ≡ true → b ≡ true → (a && b) ≡ true
 both a b p q = (λ i. p i && b) ∙ q
 
-less : (o : Ordering) → is_lt o ≡ true → o ≡ Less
+pub less : (o : Ordering) → is_lt o ≡ true → o ≡ Less
 less Less e = refl
 less Equal e = cc
 less Greater e = cc
@@ -65,6 +60,33 @@ pub end_apart : (end : Option Spot) (x y : Spot) → is_before end x ≡ false
     → is_before end y ≡ true → x ≡ y → ⊥
 end_apart end x y p q e = true≢false (sym q ∙ sym (ap (is_before end) e) ∙ p)
 
+-- where nothing is covered all is known
+pub all_known : (d : Due) (moment : ℕ) (spot : Spot) → CoversNothing d → Knows d moment spot
+all_known d moment spot none covered = absurd (true≢false (sym (first_so (is_within d moment)
+    (is_before d.end spot) covered) ∙ none moment))
+
+-- what stands at the end or behind it is known
+pub known_behind : (d : Due) (moment : ℕ) (spot : Spot) → is_before d.end spot ≡ false
+    → Knows d moment spot
+known_behind d moment spot behind covered = absurd (true≢false (sym (second_so (is_within d moment)
+    (is_before d.end spot) covered) ∙ behind))
+
+-- a later moment that is covered from there on is covered
+pub later_within : (since moment later : ℕ) → is_le (nat_cmp since moment) ≡ true
+    → is_le (nat_cmp moment later) ≡ true → is_le (nat_cmp since later) ≡ true
+later_within since moment later p q = up (nat_cmp since later) (upto nat_cmp_total since moment later
+    (down (nat_cmp since moment) p) (down (nat_cmp moment later) q))
+  where
+    down : (o : Ordering) → is_le o ≡ true → is_gt o ≡ false
+    down Less e = refl
+    down Equal e = refl
+    down Greater e = cc
+
+    up : (o : Ordering) → is_gt o ≡ false → is_le o ≡ true
+    up Less e = refl
+    up Equal e = refl
+    up Greater e = cc
+
 -- what is known at a moment that is covered, before the end, is ready, where nothing that waits is due
 pub ripe_ready : (d : Due) (moment : ℕ) (spot : Spot) → IsRipe moment d
     → IsTrue (is_within d moment) → Knows d moment spot → IsTrue (is_before d.end spot)
@@ -75,18 +97,3 @@ ripe_ready d moment spot ripe within known before =
     shown : Lists d moment spot → IsReady d spot
     shown (inl r) = both (contains spot_cmp d.ready spot) (is_before d.end spot) r before
     shown (inr w) = absurd (omega (arith, w.1, ripe w.0 spot w.2))
-
--- nothing is due exactly where all is covered and nothing is listed
-pub none_due : (d : Due) (moment : ℕ) → CoversAll d moment → ListsNone d moment
-    → NoneDue d moment
-none_due d moment all none spot known = none spot (known (all spot))
-
-pub due_covers : (d : Due) (moment : ℕ) → NoneDue d moment → CoversAll d moment
-due_covers d moment none spot = elim (covers d moment spot) as
-    (λ b. covers d moment spot ≡ b → b ≡ true) [
-      | true ↦ λ p. refl
-      | false ↦ λ p. absurd (none spot (λ h. absurd (true≢false (sym h ∙ p))))
-    ] refl
-
-pub due_lists : (d : Due) (moment : ℕ) → NoneDue d moment → ListsNone d moment
-due_lists d moment none spot listed = none spot (λ h. listed)

@@ -1,2 +1,4 @@
-pub mod Orders
 pub mod Known
+pub mod Next
+pub mod Nothing
+pub mod Orders

@@ -52,9 +52,9 @@ abbrev pub KeepsOthers : Spot → Due → Due → Type 0
 KeepsOthers dropped old new = (moment : ℕ) (spot : Spot) → (spot ≡ dropped → ⊥)
     → Knows old moment spot → Knows new moment spot
 
--- it covers nothing, and so knows of each place
+-- it covers no moment, and so knows of each place
 abbrev pub CoversNothing : Due → Type 0
-CoversNothing d = (moment : ℕ) (spot : Spot) → covers d moment spot ≡ false
+CoversNothing d = (moment : ℕ) → is_within d moment ≡ false
 
 -- a place is ready, before the end
 abbrev pub IsReady : Due → Spot → Type 0

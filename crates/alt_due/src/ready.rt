@@ -85,7 +85,7 @@ impl Due {
 
 /// Where a walk goes on behind a place.
 fn start(after: Option<&Spot>) -> Bound<&Spot>
-    ensures { bound_map (λ s. s.now) result.entry ≡ behind (option_copied after.entry) }
+    ensures { bound_map (λ s. s.now) result ≡ behind (option_copied after.entry) }
 {
     match after {
         Some(spot) => Bound::Excluded(spot),

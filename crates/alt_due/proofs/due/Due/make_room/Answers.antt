@@ -1,9 +1,10 @@
 -- What is covered still isn't the entry that was dropped.
 use Rattle.std.proofs.Common.{◌≡◌, false, true, Some, sym, ◌∙◌}
 use Rattle.std.specs.Cmp.{first_so, second_so}
+use Rattle.std.proofs.Math.Logic.{⊎_map}
 use Rattle.alt_due.specs.Due.{is_before, is_within}
 use Rattle.alt_due.specs.Order.{spot_of}
-use Rattle.alt_due.proofs.Known.{both, before_before, before_apart, cases_as, end_apart, waits_as}
+use Rattle.alt_due.proofs.Known.{both, before_before, before_apart, end_apart, waits_as}
 use Rattle.alt_due.proofs.Orders.{spots_apart}
 use Rattle.alt_due.proofs.due.Due.make_room.Goals as goal
 
@@ -16,7 +17,7 @@ returns-then-is_before_end-clause-keeps c moment spot known covered =
     let inside : is_before due.end last ≡ true = sym ((λ i. is_before due.end
         (spot_of (c.as_str.ensures.same i) (c.as_slice.ensures.same i)))) ∙ sym c.is_before_end.ensures
         ∙ c.if-is_before_end.true in
-    cases_as (λ r. c.in-Some-pop_last.ensures.updates.2 spot (before_apart spot last before) ∙ r)
+    ⊎_map (λ r. c.in-Some-pop_last.ensures.updates.2 spot (before_apart spot last before) ∙ r)
     (waits_as due.waiting c.pop_last.new.self moment spot c.in_default.ensures.unchanged)
     (known (both within (is_before due.end spot)
     (first_so within (is_before (Some last) spot) covered)
@@ -30,7 +31,7 @@ returns-in-Some-pop_last-clause-keeps c moment spot known covered =
     let outside : is_before due.end last ≡ false = sym ((λ i. is_before due.end
         (spot_of (c.as_str.ensures.same i) (c.as_slice.ensures.same i)))) ∙ sym c.is_before_end.ensures
         ∙ c.if-is_before_end.false in
-    cases_as (λ r. c.in-Some-pop_last.ensures.updates.2 spot
+    ⊎_map (λ r. c.in-Some-pop_last.ensures.updates.2 spot
     (spots_apart last spot (end_apart due.end last spot outside before)) ∙ r)
     (waits_as due.waiting c.pop_last.new.self moment spot c.in_default.ensures.unchanged)
     (known covered)

@@ -1,9 +1,10 @@
 -- A place that isn't before the end isn't covered.
 use Rattle.std.proofs.Common.{◌≡◌, false, sym, ◌∙◌}
 use Rattle.std.specs.Cmp.{second_so}
+use Rattle.std.proofs.Math.Logic.{⊎_map}
 use Rattle.alt_due.specs.Due.{is_before, is_within}
 use Rattle.alt_due.specs.Order.{spot_of}
-use Rattle.alt_due.proofs.Known.{cases_as, end_apart, waits_but}
+use Rattle.alt_due.proofs.Known.{end_apart, waits_but}
 use Rattle.alt_due.proofs.due.Due.ripen_first.Goals as goal
 
 pub returns-else-is_before_end-clause-keeps : goal.returns-else-is_before_end-clause-keeps
@@ -14,5 +15,5 @@ returns-else-is_before_end-clause-keeps c moment spot known covered =
     let outside : is_before due.end gone.at ≡ false = sym ((λ i. is_before due.end
         (spot_of (c.as_str.ensures.same i) (c.as_slice.ensures.same i)))) ∙ sym c.is_before_end.ensures
         ∙ c.if-is_before_end.false in
-    cases_as (λ r. r) (waits_but due.waiting c.pop_first.new.self moment spot gone
+    ⊎_map (λ r. r) (waits_but due.waiting c.pop_first.new.self moment spot gone
     c.in-Some.ensures.updates.2 (end_apart due.end gone.at spot outside before)) (known covered)

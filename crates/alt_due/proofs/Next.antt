@@ -65,11 +65,12 @@ module _ (d : Due) (after : Option Spot) (range : List Spot)
       → is_before d.end first ≡ true → FindsNext d after (Some first)
   found first rest e before =
       let there = subst (λ r. IfSome (slice_get r 0)
-          (λ k. IsInRange spot_cmp (behind after) Unbounded k × IsTrue (contains spot_cmp d.ready k)))
-          e is.1 in
-      (both (contains spot_cmp d.ready first) (is_before d.end first) there.1 before,
-       is_from after first there.0,
-       λ spot ready behind. not_less first spot (no_later first rest e spot ready behind))
+      (λ k. IsInRange spot_cmp (behind after) Unbounded k × IsTrue (contains spot_cmp d.ready k)))
+      e is.1 in (
+        both (contains spot_cmp d.ready first) (is_before d.end first) there.1 before,
+        is_from after first there.0,
+        λ spot ready behind. not_less first spot (no_later first rest e spot ready behind),
+      )
 
   pub past : (first : Spot) (rest : List Spot) → range ≡ first ∷ rest
       → is_before d.end first ≡ false → FindsNext d after None

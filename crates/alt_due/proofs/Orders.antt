@@ -37,10 +37,10 @@ term_exact x y e =
 apart_by : {K : Type 0} (R : K → K → Ordering) → IsAntisymmetric R → (x y : K)
     → (x ≡ y → ⊥) → is_eq (R x y) ≡ false
 apart_by R exact x y other = elim (R x y) as (λ r. R x y ≡ r → is_eq r ≡ false) [
-      | Less ↦ λ p. refl
-      | Equal ↦ λ p. absurd (other (exact x y p))
-      | Greater ↦ λ p. refl
-    ] refl
+  | Less ↦ λ p. refl
+  | Equal ↦ λ p. absurd (other (exact x y p))
+  | Greater ↦ λ p. refl
+] refl
 
 pub spots_apart : (x y : Spot) → (x ≡ y → ⊥) → is_eq (spot_cmp x y) ≡ false
 spots_apart = apart_by spot_cmp spot_exact

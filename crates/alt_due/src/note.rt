@@ -80,6 +80,7 @@ impl Due {
     /// Drops the last entry where there is no room for one more, and covers only what comes before that one.
     fn make_room(&mut self)
         ensures room { listed self.new < BOUND }
+        ensures stays { listed self.old < BOUND → self.new ≡ self.old }
         ensures keeps { KeepsKnown self.old self.new }
         ensures ripe { (moment : ℕ) → IsRipe moment self.old → IsRipe moment self.new }
         ensures since { self.new.since ≡ self.old.since }
@@ -106,6 +107,8 @@ impl Due {
         ensures ripe { OnOk result ((moment : ℕ) → moment < first → IsRipe moment self.old
             → IsRipe moment self.new) }
         ensures since { self.new.since ≡ self.old.since }
+        ensures until { self.new.until ≡ self.old.until }
+        ensures end { self.new.end ≡ self.old.end }
     {
         let at = Spot {
             table: Text::new(self.alloc, table)?,

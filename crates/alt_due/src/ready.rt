@@ -1,10 +1,11 @@
 //! The items that are due by now: how they come to be ready, and how one goes through them.
 
 ghost use Rattle.std.specs.Prelude.{◌≡◌, ◌<◌, ℕ, false, OnOk, IfOk, IsTrue};
-ghost use Rattle.std.specs.BTreeSet.{btree_set_len};
+ghost use Rattle.std.specs.BTreeSet.{btree_set_len, contains};
 ghost use Rattle.std.specs.Option.{option_copied};
 ghost use Rattle.std.specs.Range.Bound.{bound_map};
 ghost use Rattle.alt_due.specs.Due.{is_within, behind, KeepsKnown, KeepsOthers, FindsNext, IsRipe};
+ghost use Rattle.alt_due.specs.Order.{spot_cmp};
 
 use crate::due::Due;
 use crate::spot::Spot;
@@ -45,9 +46,12 @@ impl Due {
 
     /// Drops a place that is ready and whose item isn't due.
     pub fn drop_ready(&mut self, spot: &Spot)
+        ensures dropped { contains spot_cmp self.new.ready spot.now ≡ false }
         ensures keeps { KeepsOthers spot.now self.old self.new }
         ensures ripe { (moment : ℕ) → IsRipe moment self.old → IsRipe moment self.new }
         ensures since { self.new.since ≡ self.old.since }
+        ensures until { self.new.until ≡ self.old.until }
+        ensures end { self.new.end ≡ self.old.end }
     {
         self.ready.remove(spot);
     }
@@ -56,7 +60,9 @@ impl Due {
     fn ripen(&mut self, moment: u64) -> Result<(), NoMemory>
         ensures ripe { OnOk result (IsRipe moment self.new) }
         ensures keeps { OnOk result (KeepsKnown self.old self.new) }
-        ensures within { is_within self.new moment ≡ is_within self.old moment }
+        ensures since { self.new.since ≡ self.old.since }
+        ensures until { self.new.until ≡ self.old.until }
+        ensures end { self.new.end ≡ self.old.end }
     {
         while self.ripen_first(moment)? {}
         Ok(())
@@ -68,7 +74,9 @@ impl Due {
         ensures fewer { IfOk result (λ more. IsTrue more
             → btree_set_len self.new.waiting < btree_set_len self.old.waiting) }
         ensures keeps { OnOk result (KeepsKnown self.old self.new) }
-        ensures within { is_within self.new moment ≡ is_within self.old moment }
+        ensures since { self.new.since ≡ self.old.since }
+        ensures until { self.new.until ≡ self.old.until }
+        ensures end { self.new.end ≡ self.old.end }
     {
         if self.is_ripe(moment) {
             return Ok(false);

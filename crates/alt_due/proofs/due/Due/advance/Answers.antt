@@ -15,7 +15,7 @@ returns-in-Ok-clause-keeps c moment spot known =
     let late = is_lt (nat_cmp moment due.until) in
     let before = is_before due.end spot in
     let since = first_so (is_le (nat_cmp due.since now)) (is_lt (nat_cmp now due.until))
-        (sym c.if-not-covers.ensures) in
+    (sym c.if-not-covers.ensures) in
     c.in-Ok.ensures.keeps moment spot (λ covered.
     let within = first_so (early && late) before covered in
     known (both (is_within due moment) before (both (is_le (nat_cmp due.since moment)) late

@@ -15,8 +15,8 @@ returns-then-is_before_end-clause-keeps c moment spot known covered =
     let within = is_within due moment in
     let before = second_so within (is_before (Some last) spot) covered in
     let inside : is_before due.end last ≡ true = sym ((λ i. is_before due.end
-        (spot_of (c.as_str.ensures.same i) (c.as_slice.ensures.same i)))) ∙ sym c.is_before_end.ensures
-        ∙ c.if-is_before_end.true in
+    (spot_of (c.as_str.ensures.same i) (c.as_slice.ensures.same i)))) ∙ sym c.is_before_end.ensures
+    ∙ c.if-is_before_end.true in
     ⊎_map (λ r. c.in-Some-pop_last.ensures.updates.2 spot (before_apart spot last before) ∙ r)
     (waits_as due.waiting c.pop_last.new.self moment spot c.in_default.ensures.unchanged)
     (known (both within (is_before due.end spot)
@@ -29,8 +29,8 @@ returns-in-Some-pop_last-clause-keeps c moment spot known covered =
     let last = spot_of c.in-Some-pop_last.spot.table c.in-Some-pop_last.spot.place in
     let before = second_so (is_within due moment) (is_before due.end spot) covered in
     let outside : is_before due.end last ≡ false = sym ((λ i. is_before due.end
-        (spot_of (c.as_str.ensures.same i) (c.as_slice.ensures.same i)))) ∙ sym c.is_before_end.ensures
-        ∙ c.if-is_before_end.false in
+    (spot_of (c.as_str.ensures.same i) (c.as_slice.ensures.same i)))) ∙ sym c.is_before_end.ensures
+    ∙ c.if-is_before_end.false in
     ⊎_map (λ r. c.in-Some-pop_last.ensures.updates.2 spot
     (spots_apart last spot (end_apart due.end last spot outside before)) ∙ r)
     (waits_as due.waiting c.pop_last.new.self moment spot c.in_default.ensures.unchanged)

@@ -14,8 +14,8 @@ returns-then-is_before_end c =
     let first = c.in_ok-found.found.now in
     let range = c.range.result in
     let inside : is_before due.end first ≡ true = sym ((λ i. is_before due.end
-        (spot_of (c.as_str.ensures.same i) (c.as_slice.ensures.same i)))) ∙ sym c.is_before_end.ensures
-        ∙ c.if-is_before_end.true in
+    (spot_of (c.as_str.ensures.same i) (c.as_slice.ensures.same i)))) ∙ sym c.is_before_end.ensures
+    ∙ c.if-is_before_end.true in
     found due (option_copied c.args.after) range (subst (λ from.
     IsKeyRangeOf spot_cmp from Unbounded due.ready range) c.start.ensures
     (c.range.ensures.in_range tt)) first c.next.new.self c.in_ok-found.ensures.steps inside
@@ -26,8 +26,8 @@ returns-else-is_before_end c =
     let first = c.in_ok-found.found.now in
     let range = c.range.result in
     let outside : is_before due.end first ≡ false = sym ((λ i. is_before due.end
-        (spot_of (c.as_str.ensures.same i) (c.as_slice.ensures.same i)))) ∙ sym c.is_before_end.ensures
-        ∙ c.if-is_before_end.false in
+    (spot_of (c.as_str.ensures.same i) (c.as_slice.ensures.same i)))) ∙ sym c.is_before_end.ensures
+    ∙ c.if-is_before_end.false in
     past due (option_copied c.args.after) range (subst (λ from.
     IsKeyRangeOf spot_cmp from Unbounded due.ready range) c.start.ensures
     (c.range.ensures.in_range tt)) first c.next.new.self c.in_ok-found.ensures.steps outside

@@ -13,7 +13,7 @@ returns-else-is_before_end-clause-keeps c moment spot known covered =
     let gone = c.in-Some.term in
     let before = second_so (is_within due moment) (is_before due.end spot) covered in
     let outside : is_before due.end gone.at ≡ false = sym ((λ i. is_before due.end
-        (spot_of (c.as_str.ensures.same i) (c.as_slice.ensures.same i)))) ∙ sym c.is_before_end.ensures
-        ∙ c.if-is_before_end.false in
+    (spot_of (c.as_str.ensures.same i) (c.as_slice.ensures.same i)))) ∙ sym c.is_before_end.ensures
+    ∙ c.if-is_before_end.false in
     ⊎_map (λ r. r) (waits_but due.waiting c.pop_first.new.self moment spot gone
     c.in-Some.ensures.updates.2 (end_apart due.end gone.at spot outside before)) (known covered)

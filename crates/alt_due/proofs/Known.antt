@@ -1,17 +1,17 @@
 -- What is known stays known where fewer moments and places are covered and the others stay listed.
-use Rattle.std.proofs.Common.{◌≡◌, ℕ, ◌<◌, ◌≤◌, Bool, true, false, List, [], ◌∷◌, length, Option, Some, None, refl, sym, ap, subst, ◌∙◌, arith, inl, inr, true≢false}
-use Rattle.std.specs.Prelude.{◌⊎◌, ◌&&◌, ◌||◌, IsTrue}
+use Rattle.std.proofs.Common.{◌≡◌, ℕ, ◌≤◌, Bool, true, false, Option, Some, None, refl, sym, ap, ◌∙◌, arith, inl, inr, true≢false}
+use Rattle.std.specs.Prelude.{◌&&◌, IsTrue}
 use Rattle.std.specs.declared.cmp.Ordering.{Ordering}
 use Rattle.std.specs.declared.cmp.Ordering.TheVariants.{Less, Equal, Greater}
 use Rattle.std.specs.BTreeSet.{BTreeSet, contains}
 use Rattle.std.specs.List.{list_any}
 use Rattle.std.specs.BTreeMap.{is_at}
-use Rattle.std.specs.Cmp.{first_so, second_so, tied_itself, upto, nat_cmp_total}
+use Rattle.std.specs.Cmp.{first_so, second_so, upto, nat_cmp_total}
 use Rattle.std.specs.Ordering.{is_eq, is_lt, is_le, is_gt, nat_cmp}
 use Rattle.alt_due.specs.declared.due.Due.{Due}
 use Rattle.alt_due.specs.declared.spot.Spot.{Spot}
 use Rattle.alt_due.specs.declared.spot.Term.{Term}
-use Rattle.alt_due.specs.Due.{is_before, is_within, covers, Waits, Lists, Knows, IsReady, IsRipe, CoversNothing, CoversAll, ListsNone, NoneDue}
+use Rattle.alt_due.specs.Due.{is_before, is_within, Lists, Knows, IsReady, IsRipe, CoversNothing}
 use Rattle.alt_due.specs.Order.{spot_cmp, spot_total, term_of, term_cmp}
 use Rattle.alt_due.proofs.Orders.{not_before, spots_apart, places_apart}
 

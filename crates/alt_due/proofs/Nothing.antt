@@ -1,15 +1,14 @@
 -- Nothing is due exactly where all is covered and nothing is listed.
-use Rattle.std.proofs.Common.{◌≡◌, ℕ, ◌<◌, ◌≤◌, Bool, true, false, List, [], ◌∷◌, length, Option, Some, None, refl, sym, ap, ◌∙◌, arith, inl, inr, true≢false}
-use Rattle.std.specs.Prelude.{◌⊎◌, ◌||◌, IsTrue, is_some}
+use Rattle.std.proofs.Common.{◌≡◌, ℕ, Bool, true, false, List, [], ◌∷◌, length, Option, Some, None, refl, sym, ap, ◌∙◌, arith, inl, inr, true≢false}
+use Rattle.std.specs.Prelude.{◌||◌, is_some}
 use Rattle.std.proofs.Math.Nat.{lt_of_not-le}
-use Rattle.std.specs.BTreeSet.{contains}
 use Rattle.std.specs.BTreeMap.{is_at}
 use Rattle.std.specs.List.{list_any}
 use Rattle.std.specs.Cmp.{second_so, tied_itself}
 use Rattle.std.specs.Ordering.{is_eq}
 use Rattle.alt_due.specs.declared.due.Due.{Due}
 use Rattle.alt_due.specs.declared.spot.Spot.{Spot}
-use Rattle.alt_due.specs.Due.{is_before, is_within, covers, Lists, Knows, IsRipe, CoversAll, ListsNone, NoneDue}
+use Rattle.alt_due.specs.Due.{is_before, is_within, covers, IsRipe, CoversAll, ListsNone, NoneDue}
 use Rattle.alt_due.specs.Order.{spot_cmp, spot_total}
 use Rattle.alt_due.proofs.Known.{both}
 use Rattle.alt_due.proofs.Orders.{not_before}

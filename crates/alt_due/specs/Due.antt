@@ -7,11 +7,21 @@ use Rattle.std.specs.BTreeSet.{btree_set_len, contains}
 use Rattle.std.specs.Ordering.{is_le, is_lt, nat_cmp}
 use Rattle.alt_due.specs.declared.due.Due.{Due}
 use Rattle.alt_due.specs.declared.spot.Spot.{Spot}
+use Rattle.alt_due.specs.declared.due.TheConstants.{BOUND, MOST_BYTES}
 use Rattle.alt_due.specs.Order.{spot_cmp, term_of, term_cmp}
+use Rattle.alt_due.specs.Size.{waiting_bytes, ready_bytes}
 
 -- how many entries it has
 abbrev pub listed : Due → ℕ
 listed d = btree_set_len d.waiting + btree_set_len d.ready
+
+-- how many bytes they take
+abbrev pub taken : Due → ℕ
+taken d = waiting_bytes d.waiting + ready_bytes d.ready
+
+-- there is room for an entry of so many bytes
+abbrev pub HasRoom : ℕ → Due → Type 0
+HasRoom size d = (listed d < BOUND) × (taken d + size ≤ MOST_BYTES)
 
 -- a place is before the end; with no end each is
 abbrev pub is_before : Option Spot → Spot → Bool

@@ -7,5 +7,5 @@ mod reads;
 mod ready;
 mod spot;
 
-pub use due::{BOUND, Due};
+pub use due::{BOUND, Due, MOST_BYTES};
 pub use spot::{Spot, Term};

@@ -1,12 +1,13 @@
 //! A list is begun and forgotten, and takes note of items. Where it has no room for one more, or no memory, it covers less.
 
-ghost use Rattle.std.specs.Prelude.{◌≡◌, ◌<◌, ◌-◌, ◌^◌, ℕ, false, None, OnOk};
-ghost use Rattle.alt_due.specs.declared.due.TheConstants.{BOUND};
-ghost use Rattle.alt_due.specs.Due.{listed, KnowsFrom, KeepsKnown, CoversNothing, IsRipe};
+ghost use Rattle.std.specs.Prelude.{◌≡◌, ◌<◌, ◌≤◌, ◌-◌, ◌^◌, ℕ, false, None, OnOk};
+ghost use Rattle.alt_due.specs.declared.due.TheConstants.{MOST_BYTES};
+ghost use Rattle.alt_due.specs.Due.{listed, HasRoom, KnowsFrom, KeepsKnown, CoversNothing, IsRipe};
 ghost use Rattle.alt_due.specs.Order.{spot_of};
+ghost use Rattle.alt_due.specs.Size.{size as size_of};
 
-use crate::due::{BOUND, Due};
-use crate::spot::{Spot, Term};
+use crate::due::{Due, MOST_BYTES};
+use crate::spot::{Spot, Term, size};
 use alt_base::NoMemory;
 use alt_fields::Bytes;
 use alt_value::Text;
@@ -26,6 +27,7 @@ impl Due {
             end: None,
             waiting: BTreeSet::new(alloc),
             ready: BTreeSet::new(alloc),
+            bytes: 0,
         }
     }
 
@@ -43,6 +45,7 @@ impl Due {
             end: None,
             waiting: BTreeSet::new(alloc),
             ready: BTreeSet::new(alloc),
+            bytes: 0,
         }
     }
 
@@ -56,6 +59,7 @@ impl Due {
         self.end = None;
         self.waiting.clear();
         self.ready.clear();
+        self.bytes = 0;
     }
 
     /// Notes that the item at a place is due from a moment on.
@@ -70,29 +74,46 @@ impl Due {
         if !self.reaches(table, place, first) {
             return;
         }
-        self.make_room();
+        let size = size(table, place);
+        if size > MOST_BYTES {
+            self.forget();
+            return;
+        }
+        self.make_room(size);
         match self.add(table, place, first) {
             Ok(()) => {}
             Err(NoMemory) => self.forget(),
         }
     }
 
-    /// Drops the last entry where there is no room for one more, and covers only what comes before that one.
-    fn make_room(&mut self)
-        ensures room { listed self.new < BOUND }
-        ensures stays { listed self.old < BOUND → self.new ≡ self.old }
+    /// Drops the last entries until there is room for one more of so many bytes, and covers only what comes before those.
+    fn make_room(&mut self, size: usize)
+        requires { size ≤ MOST_BYTES }
+        ensures room { HasRoom size self.new }
+        ensures stays { HasRoom size self.old → self.new ≡ self.old }
         ensures keeps { KeepsKnown self.old self.new }
         ensures ripe { (moment : ℕ) → IsRipe moment self.old → IsRipe moment self.new }
         ensures since { self.new.since ≡ self.old.since }
     {
-        if self.count() < BOUND {
-            return;
+        while !self.has_room(size) {
+            self.drop_last();
         }
+    }
+
+    /// Drops the last entry, and covers only what comes before that one.
+    fn drop_last(&mut self)
+        ensures fewer { 0 < listed self.old → listed self.new < listed self.old }
+        ensures keeps { KeepsKnown self.old self.new }
+        ensures ripe { (moment : ℕ) → IsRipe moment self.old → IsRipe moment self.new }
+        ensures since { self.new.since ≡ self.old.since }
+    {
         if let Some(term) = self.waiting.pop_last() {
+            self.bytes -= term.at.size();
             if term.first < self.until {
                 self.until = term.first;
             }
         } else if let Some(spot) = self.ready.pop_last() {
+            self.bytes -= spot.size();
             if self.is_before_end(spot.table.as_str(), spot.place.as_slice()) {
                 self.end = Some(spot);
             }
@@ -101,7 +122,7 @@ impl Due {
 
     /// Adds an entry.
     fn add(&mut self, table: &str, place: &[u8], first: u64) -> Result<(), NoMemory>
-        requires room { listed self.old < BOUND }
+        requires room { HasRoom (size_of (spot_of table.now place.now)) self.old }
         ensures known { OnOk result (KnowsFrom first (spot_of table.now place.now) self.new) }
         ensures keeps { OnOk result (KeepsKnown self.old self.new) }
         ensures ripe { OnOk result ((moment : ℕ) → moment < first → IsRipe moment self.old
@@ -114,10 +135,13 @@ impl Due {
             table: Text::new(self.alloc, table)?,
             place: Bytes::new(self.alloc, place)?,
         };
-        if first <= self.since {
-            self.ready.insert(at)?;
+        let added = if first <= self.since {
+            self.ready.insert(at)?
         } else {
-            self.waiting.insert(Term { first, at })?;
+            self.waiting.insert(Term { first, at })?
+        };
+        if added {
+            self.bytes += size(table, place);
         }
         Ok(())
     }

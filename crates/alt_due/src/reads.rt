@@ -2,11 +2,11 @@
 
 ghost use Rattle.std.specs.Prelude.{◌≡◌, ◌≤◌, ◌↔◌, IsTrue};
 ghost use Rattle.std.specs.Option.{option_copied};
-ghost use Rattle.alt_due.specs.declared.due.TheConstants.{BOUND};
-ghost use Rattle.alt_due.specs.Due.{listed, is_before, is_within, CoversAll, ListsNone, IsRipe, NoneDue};
+ghost use Rattle.alt_due.specs.declared.due.TheConstants.{BOUND, MOST_BYTES};
+ghost use Rattle.alt_due.specs.Due.{listed, taken, HasRoom, is_before, is_within, CoversAll, ListsNone, IsRipe, NoneDue};
 ghost use Rattle.alt_due.specs.Order.{spot_of};
 
-use crate::due::Due;
+use crate::due::{BOUND, Due, MOST_BYTES};
 use crate::spot::{Spot, order};
 
 impl Due {
@@ -37,6 +37,22 @@ impl Due {
         ensures few { result ≤ BOUND }
     {
         self.waiting.len() + self.ready.len()
+    }
+
+    /// How many bytes the names and places of its entries have.
+    pub fn bytes(&self) -> usize
+        ensures count { result ≡ taken self.now }
+        ensures few { result ≤ MOST_BYTES }
+    {
+        self.bytes
+    }
+
+    /// Whether there is room for an entry of so many bytes.
+    pub(crate) fn has_room(&self, size: usize) -> bool
+        requires { size ≤ MOST_BYTES }
+        ensures { IsTrue result ↔ HasRoom size self.now }
+    {
+        self.count() < BOUND && self.bytes <= MOST_BYTES - size
     }
 
     /// Whether it tells, without a walk through it, that nothing is due at a moment.

@@ -53,7 +53,9 @@ impl Due {
         ensures until { self.new.until ≡ self.old.until }
         ensures end { self.new.end ≡ self.old.end }
     {
-        self.ready.remove(spot);
+        if let Some(gone) = self.ready.take(spot) {
+            self.bytes -= gone.size();
+        }
     }
 
     /// Makes ready all that is due by a moment.
@@ -84,8 +86,13 @@ impl Due {
         let Some(term) = self.waiting.pop_first() else {
             return Ok(false);
         };
+        let size = term.at.size();
+        self.bytes -= size;
         if self.is_before_end(term.at.table.as_str(), term.at.place.as_slice()) {
-            self.ready.insert(term.at)?;
+            let added = self.ready.insert(term.at)?;
+            if added {
+                self.bytes += size;
+            }
         }
         Ok(true)
     }

@@ -2,6 +2,7 @@
 
 ghost use Rattle.std.specs.Prelude.{◌≡◌};
 ghost use Rattle.alt_due.specs.Order.{spot_of, spot_cmp as order_of_spots};
+ghost use Rattle.alt_due.specs.Size.{size as size_of};
 
 use alt_fields::Bytes;
 use alt_value::Text;
@@ -19,6 +20,22 @@ pub struct Spot {
 pub struct Term {
     pub first: u64,
     pub at: Spot,
+}
+
+impl Spot {
+    /// How many bytes its name and its place have.
+    pub(crate) fn size(&self) -> usize
+        ensures { result ≡ size_of self.now }
+    {
+        size(self.table.as_str(), self.place.as_slice())
+    }
+}
+
+/// How many bytes a table's name and a place have.
+pub(crate) fn size(table: &str, place: &[u8]) -> usize
+    ensures { result ≡ size_of (spot_of table.now place.now) }
+{
+    table.len() + place.len()
 }
 
 /// How a place of a table stands to another.

@@ -6,7 +6,7 @@ use Rattle.alt_due.specs.Due.{is_before, is_within}
 use Rattle.alt_due.specs.Order.{spot_of}
 use Rattle.alt_due.proofs.Known.{both, before_before, before_apart, end_apart, waits_as}
 use Rattle.alt_due.proofs.Orders.{spots_apart}
-use Rattle.alt_due.proofs.due.Due.make_room.Goals as goal
+use Rattle.alt_due.proofs.due.Due.drop_last.Goals as goal
 
 pub returns-then-is_before_end-clause-keeps : goal.returns-then-is_before_end-clause-keeps
 returns-then-is_before_end-clause-keeps c moment spot known covered =

@@ -19,6 +19,7 @@ use Rattle.alt_due.proofs.Orders.{not_before, spots_apart, places_apart}
 pub both : (a b : Bool) → a ≡ true → b ≡ true → (a && b) ≡ true
 both a b p q = (λ i. p i && b) ∙ q
 
+-- what is less is so as an order says it
 pub less : (o : Ordering) → is_lt o ≡ true → o ≡ Less
 less Less e = refl
 less Equal e = cc

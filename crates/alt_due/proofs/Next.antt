@@ -31,6 +31,7 @@ is_from : (after : Option Spot) (spot : Spot) → IsInRange spot_cmp (behind aft
 is_from None spot p = refl
 is_from (Some after) spot p = ap is_lt p.0
 
+-- what isn't later comes first when the two are turned round
 turned : (o : Ordering) → is_gt o ≡ false → is_lt (ordering_reverse o) ≡ false
 turned Less p = refl
 turned Equal p = refl

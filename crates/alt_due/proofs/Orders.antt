@@ -16,9 +16,11 @@ ties Less s e = cc
 ties Equal s e = (refl, e)
 ties Greater s e = cc
 
+-- only equal texts tie
 text_exact : IsAntisymmetric text_order
 text_exact = slice_cmp-IsAntisymmetric nat_cmp-IsAntisymmetric
 
+-- only equal places tie
 pub spot_exact : IsAntisymmetric spot_cmp
 spot_exact x y e =
     let both = ties (text_order x.table y.table) (text_order x.place y.place) e in
@@ -26,6 +28,7 @@ spot_exact x y e =
     let place = text_exact x.place y.place both.1 in
     λ i. record { table = table i; place = place i }
 
+-- and only equal terms
 pub term_exact : IsAntisymmetric term_cmp
 term_exact x y e =
     let both = ties (nat_cmp x.first y.first) (spot_cmp x.at y.at) e in
@@ -42,6 +45,7 @@ apart_by R exact x y other = elim (R x y) as (λ r. R x y ≡ r → is_eq r ≡ 
   | Greater ↦ λ p. refl
 ] refl
 
+-- two places don't tie
 pub spots_apart : (x y : Spot) → (x ≡ y → ⊥) → is_eq (spot_cmp x y) ≡ false
 spots_apart = apart_by spot_cmp spot_exact
 

@@ -24,10 +24,11 @@ term_of first at = record { first = first; at = at }
 abbrev pub term_cmp : Term → Term → Ordering
 term_cmp = then_cmp (on (λ t. t.first) nat_cmp) (on (λ t. t.at) spot_cmp)
 
--- both are total
+-- the order of places is total
 pub spot_total : IsTotalOrder spot_cmp
 spot_total = then_total (on_total (λ s. s.table) nat_list_cmp_total)
     (on_total (λ s. s.place) nat_list_cmp_total)
 
+-- and so is that of terms
 pub term_total : IsTotalOrder term_cmp
 term_total = then_total (on_total (λ t. t.first) nat_cmp_total) (on_total (λ t. t.at) spot_total)

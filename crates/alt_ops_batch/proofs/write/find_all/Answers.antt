@@ -45,3 +45,15 @@ loop-member-preserved g c =
     c.in-Some.member c.loop-member.changes.items c.in_ok-find.field-0 so c.in_ok-find.ensures.disk
     c.in_ok-find.ensures.stays c.in_ok-find.ensures.catalog c.in_ok-find.ensures.written
     c.in_ok-find.ensures.found)
+
+pub returns-in_err-find-clause-stays : goal.returns-in_err-find-clause-stays
+returns-in_err-find-clause-stays g c s =
+    let before = c.loop-member.invariant.stays s in
+    let behind = c.in_err-find.ensures.stays s in
+    (λ stands. behind.0 (before.0 stands), λ stands. before.1 (behind.1 stands))
+
+pub returns-in_err-push-clause-stays : goal.returns-in_err-push-clause-stays
+returns-in_err-push-clause-stays g c s =
+    let before = c.loop-member.invariant.stays s in
+    let behind = c.in_ok-find.ensures.stays s in
+    (λ stands. behind.0 (before.0 stands), λ stands. before.1 (behind.1 stands))

@@ -85,6 +85,7 @@ held-as_whole (i ∷ is) h = (
     hash = h.0.hash;
     range = h.0.range;
     projection = h.0.projection;
+    built = tt;
   },
   held-as_whole is h.1,
 )

@@ -4,10 +4,12 @@ pub mod Differ
 pub mod Labels
 pub mod Walks
 pub mod NamedLemmas
-pub mod Used
+pub mod InUse
 pub mod NewDescriptions
 pub mod Plain
 pub mod Shown
+pub mod Copied
+pub mod AlteredLaws
 pub mod Wholes
 pub mod Fields
 pub mod WholeLists

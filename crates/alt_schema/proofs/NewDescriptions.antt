@@ -102,7 +102,7 @@ kind_found (d ∷ ds) name h =
     ]) h
 
 -- the keys of a good key schema are defined ones
-keys_found : (ds : List KeyAttr) (keys : List Element) → is_key_schema keys ≡ true
+pub keys_found : (ds : List KeyAttr) (keys : List Element) → is_key_schema keys ≡ true
     → list_all (λ e. is_defined ds e.name) keys ≡ true
     → keys_defined ds (hash_of ds keys) (range_of ds keys) ≡ true
 keys_found ds [] s d = cc

@@ -1,11 +1,13 @@
 -- A description as it is shown has no float.
-use Rattle.std.proofs.Common.{◌≡◌, refl, sym, ap, ◌∙◌, ℕ, false, List, [], ◌∷◌, Option, Some, None, option_map, codes, Result, Ok, Err, IfOk}
-use Rattle.serde_json.specs.Data.{Data, string, array, Members}
+use Rattle.std.proofs.Common.{◌≡◌, refl, sym, ap, ◌∙◌, ℕ, true, false, List, [], ◌∷◌, Option, Some, None, option_map, codes, Result, Ok, Err, IfOk}
+use Rattle.serde_json.specs.Data.{Data, boolean, string, array, Members}
 use Rattle.serde_json.specs.View.{view}
 use Rattle.serde_json.specs.declared.value.Value.{Value}
 use Rattle.serde_json.specs.Written.{has_float, items_have_float, members_have_float}
 use Rattle.alt_base.specs.declared.memory.NoMemory.{NoMemory}
-use Rattle.alt_schema.specs.Json.{label, stream_arn, items_by, array_if_any, member_if, definition_json, key_schema_json, projection_json, local_json, global_json, specification_json, description_json}
+use Rattle.alt_schema.specs.Json.{backfilling, label, stream_arn, items_by, array_if_any, member_if, definition_json, key_schema_json, projection_json, local_json, global_json, specification_json, description_json}
+use Rattle.alt_schema.specs.declared.schema.Built.{Built}
+use Rattle.alt_schema.specs.declared.schema.Built.TheVariants.{Whole, UpTo}
 use Rattle.alt_schema.specs.declared.schema.KeyAttr.{KeyAttr}
 use Rattle.alt_schema.specs.declared.schema.Projection.{Projection}
 use Rattle.alt_schema.specs.declared.schema.Projection.TheVariants.{All, KeysOnly, Include}
@@ -60,9 +62,16 @@ local_plain : (table : List ℕ) (i : IndexSchema) → has_float (local_json tab
 local_plain table i = neither _ _ (key_schema_plain i.hash i.range)
     (neither _ false (projection_plain i.projection) refl)
 
+built_plain : (b : Built) (d : Data) → backfilling b ≡ Some d → has_float d ≡ false
+built_plain Whole d e = cc
+built_plain (UpTo key) d e =
+    let is : boolean true ≡ d = cc in
+    ap has_float (sym is)
+
 global_plain : (table : List ℕ) (i : IndexSchema) → has_float (global_json table i) ≡ false
-global_plain table i = neither _ _ (key_schema_plain i.hash i.range)
-    (neither _ false (projection_plain i.projection) refl)
+global_plain table i = member_plain (codes "Backfilling") _ _ (built_plain i.built)
+    (neither _ _ (key_schema_plain i.hash i.range)
+    (neither _ false (projection_plain i.projection) refl))
 
 description_plain : (s : TableSchema) (status : List ℕ) → has_float (description_json s status)
     ≡ false

@@ -11,7 +11,7 @@ items_of-map : {A : Type 0} (shown : A → Data) (xs : List A) → items_of (map
 items_of-map shown [] = refl
 items_of-map shown (x ∷ xs) = ap (λ ds. item (shown x) ds) (items_of-map shown xs)
 
-take_all : {A : Type 0} (xs : List A) (i : ℕ) → length xs ≤ i → take i xs ≡ xs
+pub take_all : {A : Type 0} (xs : List A) (i : ℕ) → length xs ≤ i → take i xs ≡ xs
 take_all [] zero h = refl
 take_all [] (suc i) h = refl
 take_all (x ∷ xs) zero h = absurd (omega arith)
@@ -23,7 +23,8 @@ take_suc [] i x h at = absurd (omega arith)
 take_suc (y ∷ xs) zero x h at = ap (λ z. z ∷ []) (sym at)
 take_suc (y ∷ xs) (suc i) x h at = ap (λ zs. y ∷ zs) (take_suc xs i x (omega arith) at)
 
-take_more : {A : Type 0} (xs : List A) (i : ℕ) (x : A) → i < length xs → x ≡ get_or xs i x
+-- one element more is the last of those taken
+pub take_more : {A : Type 0} (xs : List A) (i : ℕ) (x : A) → i < length xs → x ≡ get_or xs i x
     → take (i + 1) xs ≡ take i xs ++ x ∷ []
 take_more xs i x h at = ap (λ n. take n xs) (add-one i) ∙ take_suc xs i x h at
 

@@ -584,6 +584,7 @@ index_held ds b i r small e =
       hash = t3.1.0;
       range = where_held ds p4.x t4.1;
       projection = projection_held p4.mid p5.x p5.mid m4 p5.first;
+      built = tt;
     })
 
 -- an index that is read is a right one

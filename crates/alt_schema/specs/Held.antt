@@ -7,10 +7,13 @@ use Rattle.alt_fields.specs.declared.bytes.BytesFault.TheVariants.{Bad, NoMemory
 use Rattle.alt_schema.specs.Bare.{bare}
 use Rattle.alt_schema.specs.Described.{IsDescription}
 use Rattle.alt_schema.specs.Format.{description_bytes}
+use Rattle.alt_schema.specs.declared.schema.Built.{Built}
+use Rattle.alt_schema.specs.declared.schema.Built.TheVariants.{Whole, UpTo}
 use Rattle.alt_schema.specs.declared.schema.Projection.{Projection}
 use Rattle.alt_schema.specs.declared.schema.Projection.TheVariants.{All, KeysOnly, Include}
 use Rattle.alt_schema.specs.declared.schema.IndexSchema.{IndexSchema}
 use Rattle.alt_schema.specs.declared.schema.TableSchema.{TableSchema}
+use Rattle.alt_value.specs.Values.{IsItemOfValues}
 
 -- a text of the program: UTF-8, of a length that 8 bytes tell
 abbrev pub IsHeldText : List ℕ → Type 0
@@ -31,6 +34,11 @@ IsHeldProjection All = Unit {0}
 IsHeldProjection KeysOnly = Unit {0}
 IsHeldProjection (Include names) = IsHeldList names
 
+-- the key up to which it is built is an item that a program can hold
+abbrev pub IsHeldBuilt : Built → Type 0
+IsHeldBuilt Whole = Unit {0}
+IsHeldBuilt (UpTo key) = Where IsItemOfValues key
+
 -- an index of such texts, with a family of 4 bytes
 pub record IsHeldIndex (i : IndexSchema) : Type 0 where
   pub name : IsHeldText i.name
@@ -38,6 +46,7 @@ pub record IsHeldIndex (i : IndexSchema) : Type 0 where
   pub hash : IsHeldText i.hash.name
   pub range : Where (λ k. IsHeldText k.name) i.range
   pub projection : IsHeldProjection i.projection
+  pub built : IsHeldBuilt i.built
 
 -- a description as the program can hold it: texts are UTF-8, and numbers, lengths and counts fit
 pub record IsHeld (s : TableSchema) : Type 0 where

@@ -1,7 +1,8 @@
 -- What an item's row in an index is, and which items an index takes (DynamoDB Developer Guide, "Using Global Secondary
 -- Indexes", "Attribute projections").
-use Rattle.std.specs.Prelude.{ℕ, Bool, true, false, ◌&&◌, ◌||◌, nat_lt, nat_le, if◌then◌else◌, List, ◌++◌, length, Option, Some, None, is_some}
+use Rattle.std.specs.Prelude.{ℕ, Bool, true, false, ◌&&◌, ◌||◌, nat_lt, nat_le, if◌then◌else◌, List, ◌++◌, length, Option, Some, None}
 use Rattle.std.specs.List.{list_any, list_all}
+use Rattle.std.specs.Option.{option_map_or}
 use Rattle.std.specs.Str.{bytes_eq}
 use Rattle.std.specs.FinMap.Entries.{where_key}
 use Rattle.alt_value.specs.Members.{text_order}
@@ -9,6 +10,7 @@ use Rattle.alt_value.specs.Tree.{Tree, S_tree, N_tree, B_tree, Pair}
 use Rattle.alt_value.specs.Item.{at_name}
 use Rattle.alt_value.specs.declared.kind.KeyKind.{KeyKind}
 use Rattle.alt_value.specs.declared.kind.KeyKind.TheVariants.{S, N, B}
+use Rattle.alt_schema.specs.Bare.{is_whole}
 use Rattle.alt_schema.specs.declared.schema.KeyAttr.{KeyAttr}
 use Rattle.alt_schema.specs.declared.schema.Projection.{Projection}
 use Rattle.alt_schema.specs.declared.schema.Projection.TheVariants.{All, KeysOnly, Include}
@@ -23,6 +25,10 @@ indexes s = s.locals ++ s.globals
 abbrev pub is_named : List ℕ → IndexSchema → Bool
 is_named name index = bytes_eq index.name name
 
+-- whether it has that name and can be read, since it is whole
+abbrev pub is_read_as : List ℕ → IndexSchema → Bool
+is_read_as name index = is_named name index && is_whole index.built
+
 -- whether a name is one of those
 abbrev pub stands_in : List (List ℕ) → List ℕ → Bool
 stands_in names name = list_any (λ other. bytes_eq other name) names
@@ -34,13 +40,33 @@ of_range test without (Some range) = test range
 
 -- ---- which items are in an index
 
--- the item has the key attribute
-abbrev pub has_part : List Pair → KeyAttr → Bool
-has_part item key = is_some (at_name key.name item)
+-- the bytes of a key: some, and not too many
+abbrev pub is_key_length : ℕ → ℕ → Bool
+is_key_length most n = nat_lt 0 n && nat_le n most
 
--- the item has all key attributes of the index
+-- whether a value can be a key of that kind
+abbrev pub is_key_value : ℕ → KeyKind → Tree → Bool
+is_key_value most S (S_tree text) = is_key_length most (length text)
+is_key_value most N (N_tree number) = true
+is_key_value most B (B_tree bytes) = is_key_length most (length bytes)
+is_key_value most kind other = false
+
+-- the longest HASH and RANGE keys, in bytes (Developer Guide, "Service, account, and table quotas")
+abbrev pub longest_hash : ℕ
+longest_hash = 2048
+
+-- and the longest RANGE key
+abbrev pub longest_range : ℕ
+longest_range = 1024
+
+-- the item has the key attribute, with a value that can be such a key
+abbrev pub has_part : ℕ → List Pair → KeyAttr → Bool
+has_part most item key = option_map_or (is_key_value most key.kind) (at_name key.name item) false
+
+-- the item has all key attributes of the index, each with a value that can be such a key
 abbrev pub is_in_index : IndexSchema → List Pair → Bool
-is_in_index index item = has_part item index.hash && of_range (has_part item) true index.range
+is_in_index index item = has_part longest_hash item index.hash
+    && of_range (has_part longest_range item) true index.range
 
 -- ---- what the index keeps of them
 
@@ -51,6 +77,11 @@ has_key_name name key = bytes_eq key.name name
 -- whether an attribute of that name is a key of these
 abbrev pub is_key : KeyAttr → Option KeyAttr → List ℕ → Bool
 is_key hash range name = has_key_name name hash || of_range (has_key_name name) false range
+
+-- whether it is one of the table or of an index
+abbrev pub is_used : TableSchema → List ℕ → Bool
+is_used d name = is_key d.hash d.range name
+    || list_any (λ i. is_key i.hash i.range name) (indexes d)
 
 -- whether a projection names the attribute
 abbrev pub is_included : Projection → List ℕ → Bool
@@ -71,18 +102,7 @@ cut s index item = where_key text_order (is_projected s index) item
 abbrev pub index_row : TableSchema → List Pair → IndexSchema → Option (List Pair)
 index_row s item index = if is_in_index index item then Some (cut s index item) else None
 
--- ---- whether index keys are keys
-
--- the bytes of a key: some, and not too many
-abbrev pub is_key_length : ℕ → ℕ → Bool
-is_key_length most n = nat_lt 0 n && nat_le n most
-
--- whether a value can be a key of that kind
-abbrev pub is_key_value : ℕ → KeyKind → Tree → Bool
-is_key_value most S (S_tree text) = is_key_length most (length text)
-is_key_value most N (N_tree number) = true
-is_key_value most B (B_tree bytes) = is_key_length most (length bytes)
-is_key_value most kind other = false
+-- ---- whether an item's index keys are keys
 
 -- no value, or one that can be a key of that kind
 abbrev pub is_key_or_none : ℕ → KeyKind → Option Tree → Bool
@@ -92,14 +112,6 @@ is_key_or_none most kind (Some value) = is_key_value most kind value
 -- where the item has a key attribute, its value can be a key
 abbrev pub part_fits : ℕ → List Pair → KeyAttr → Bool
 part_fits most item key = is_key_or_none most key.kind (at_name key.name item)
-
--- the longest HASH and RANGE keys, in bytes (Developer Guide, "Service, account, and table quotas")
-abbrev pub longest_hash : ℕ
-longest_hash = 2048
-
--- and the longest RANGE key
-abbrev pub longest_range : ℕ
-longest_range = 1024
 
 -- each key attribute of the index that the item has can be a key
 abbrev pub index_fits : List Pair → IndexSchema → Bool

@@ -5,6 +5,8 @@ use Rattle.std.specs.Prelude.{ℕ, ◌-◌, true, List, [], ◌∷◌, ◌++◌,
 use Rattle.serde_json.specs.Data.{Data, number, unsigned, boolean, string, array, object, Items, no_items, item, Members, no_members, member, put}
 use Rattle.alt_value.specs.declared.kind.KeyKind.{KeyKind}
 use Rattle.alt_value.specs.declared.kind.KeyKind.TheVariants.{S, N, B}
+use Rattle.alt_schema.specs.declared.schema.Built.{Built}
+use Rattle.alt_schema.specs.declared.schema.Built.TheVariants.{Whole, UpTo}
 use Rattle.alt_schema.specs.declared.schema.KeyAttr.{KeyAttr}
 use Rattle.alt_schema.specs.declared.schema.Projection.{Projection}
 use Rattle.alt_schema.specs.declared.schema.Projection.TheVariants.{All, KeysOnly, Include}
@@ -98,14 +100,25 @@ index_members table i =
 abbrev pub local_json : List ℕ → IndexSchema → Data
 local_json table i = object (index_members table i)
 
+-- it is true of an index that is being built, and isn't shown of one that is whole
+abbrev pub backfilling : Built → Option Data
+backfilling Whole = None
+backfilling (UpTo key) = Some (boolean true)
+
+-- the word for how far an index is built
+abbrev pub status_word : Built → List ℕ
+status_word Whole = codes "ACTIVE"
+status_word (UpTo key) = codes "CREATING"
+
 -- a global index has a status too
 abbrev pub global_json : List ℕ → IndexSchema → Data
-global_json table i =
-    object (member (codes "IndexArn") (string (index_arn table i.name))
+global_json table i = object (
+    member_if (codes "Backfilling") (backfilling i.built)
+    (member (codes "IndexArn") (string (index_arn table i.name))
     (member (codes "IndexName") (string i.name)
-    (member (codes "IndexStatus") (string (codes "ACTIVE"))
+    (member (codes "IndexStatus") (string (status_word i.built))
     (member (codes "KeySchema") (key_schema_json i.hash i.range)
-    (member (codes "Projection") (projection_json i.projection) no_members)))))
+    (member (codes "Projection") (projection_json i.projection) no_members))))))
 
 -- the word for what a stream shows
 abbrev pub view_word : View → List ℕ

@@ -1,3 +1,4 @@
+pub mod Altered
 pub mod Bare
 pub mod Described
 pub mod Format
@@ -8,4 +9,5 @@ pub mod Named
 pub mod Parts
 pub mod Places
 pub mod Rules
+pub mod SoFar
 pub mod Stated

@@ -8,6 +8,7 @@ ghost use Rattle.serde_json.specs.View.{members_view};
 ghost use Rattle.alt_schema.specs.Described.{kind_in, key_attr, hash_of, range_of, projection_for, index_for, indexes_from, described_by, description_of, HasCause, IsKnownFault, IsNew};
 ghost use Rattle.alt_schema.specs.Rules.{refusal_of, refused_for};
 
+use crate::copies::copied_texts;
 use crate::reading::stated_of_json;
 use crate::rules::refused_for;
 use crate::stated::{Element, Stated, StatedIndex};
@@ -171,7 +172,7 @@ fn indexes_from(
     Ok(list)
 }
 
-fn index_for(
+pub(crate) fn index_for(
     alloc: Global,
     definitions: &[KeyAttr],
     family: u32,
@@ -198,18 +199,8 @@ fn projection_for(
     ensures { IfOk result (λ p. p ≡ projection_for word.now names.now) }
 {
     match names {
-        Some(names) => Ok(Projection::Include(copy(alloc, names.as_slice())?)),
+        Some(names) => Ok(Projection::Include(copied_texts(alloc, names.as_slice())?)),
         None if word == "ALL" => Ok(Projection::All),
         None => Ok(Projection::KeysOnly),
     }
-}
-
-fn copy(alloc: Global, names: &[Text]) -> Result<TextList, NoMemory>
-    ensures { IfOk result (λ ns. ns ≡ names.now) }
-{
-    let mut list = TextList::new(alloc);
-    for name in names {
-        list.push(name.copy()?)?;
-    }
-    Ok(list)
 }

@@ -4,9 +4,9 @@ ghost use Rattle.std.specs.Prelude.{◌≡◌, false, option_map, string_bytes, 
 ghost use Rattle.serde_json.specs.Data.{array, string};
 ghost use Rattle.serde_json.specs.View.{view, items_view, members_view};
 ghost use Rattle.serde_json.specs.Written.{has_float};
-ghost use Rattle.alt_schema.specs.Json.{label, table_arn, index_arn, stream_arn, items_by, array_if_any, kind_word, definition_json, key_json, key_schema_json, projection_json, index_members, local_json, global_json, view_word, specification_json, put_if, lasting_members, with_stream, with_stream_members, description_json};
+ghost use Rattle.alt_schema.specs.Json.{label, table_arn, index_arn, stream_arn, items_by, array_if_any, kind_word, definition_json, key_json, key_schema_json, projection_json, index_members, local_json, backfilling, status_word, global_json, view_word, specification_json, put_if, lasting_members, with_stream, with_stream_members, description_json};
 
-use crate::{IndexSchema, KeyAttr, Projection, TableSchema, View};
+use crate::{Built, IndexSchema, KeyAttr, Projection, TableSchema, View};
 use alt_base::NoMemory;
 use alt_value::{KeyKind, Text};
 use serde_json::{Map, Value, json};
@@ -318,9 +318,34 @@ fn global_json(alloc: Global, table: &str, index: &IndexSchema) -> Result<Value,
     ensures { IfOk result (λ v. view v ≡ global_json table.now index.now) }
 {
     let mut members = index_members(alloc, table, index)?;
-    let status = text_json(alloc, "ACTIVE")?;
+    let status = text_json(alloc, status_word(&index.built))?;
     serde_json::put(&mut members, alloc, "IndexStatus", status)?;
+    put_if(
+        alloc,
+        &mut members,
+        "Backfilling",
+        backfilling(&index.built),
+    )?;
     Ok(Value::Object(members))
+}
+
+/// It is true of an index that is being built, and isn't shown of one that is whole.
+fn backfilling(built: &Built) -> Option<Value>
+    ensures { option_map view result ≡ backfilling built.now }
+{
+    match built {
+        Built::Whole => None,
+        Built::UpTo(_) => Some(Value::Bool(true)),
+    }
+}
+
+fn status_word(built: &Built) -> &'static str
+    ensures { result.now ≡ status_word built.now }
+{
+    match built {
+        Built::Whole => "ACTIVE",
+        Built::UpTo(_) => "CREATING",
+    }
 }
 
 fn specification_json(alloc: Global, shows: View) -> Result<Value, NoMemory>

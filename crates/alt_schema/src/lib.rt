@@ -5,7 +5,9 @@
 //! them; `bytes` writes and reads them.
 #![tactic(auto)]
 
+mod altered;
 mod bytes;
+mod copies;
 mod described;
 mod json;
 mod lists;
@@ -14,10 +16,13 @@ mod reading;
 mod rules;
 mod schema;
 mod stated;
+mod used;
 
+pub use altered::{fits_definitions, with_index, without_index};
 pub use bytes::format::schema_bytes;
 pub use bytes::holding::held;
 pub use bytes::parsing::schema_of_bytes;
+pub use copies::{built_copy, copied_schema, with_built};
 pub use described::{SchemaFault, schema_of_json};
 pub use json::{json_of_schema, label, stream_arn, view_word};
 pub use lists::{IndexList, KeyAttrList, TextList};

@@ -82,7 +82,10 @@ fn element_in(alloc: Global, members: &Map<String, Value>) -> Result<Element, No
     })
 }
 
-fn definitions_of(alloc: Global, owner: &Map<String, Value>) -> Result<KeyAttrList, NoMemory>
+pub(crate) fn definitions_of(
+    alloc: Global,
+    owner: &Map<String, Value>,
+) -> Result<KeyAttrList, NoMemory>
     ensures { IfOk result (λ ds. ds ≡ definitions_of (members_view owner.now.entries)) }
 {
     match field!(owner, "AttributeDefinitions": array) {
@@ -166,7 +169,7 @@ fn push_index(alloc: Global, list: &mut StatedIndexList, value: &Value) -> Resul
     }
 }
 
-fn index_in(alloc: Global, members: &Map<String, Value>) -> Result<StatedIndex, NoMemory>
+pub(crate) fn index_in(alloc: Global, members: &Map<String, Value>) -> Result<StatedIndex, NoMemory>
     ensures { IfOk result (λ i. i ≡ index_in (members_view members.now.entries)) }
 {
     let projection = field!(members, "Projection": object);

@@ -79,7 +79,7 @@ fn is_name_byte(b: u8) -> bool
 
 // ---- key schemas and definitions
 
-fn keys_fit_together(alloc: Global, b: &Stated) -> Result<bool, NoMemory>
+pub(crate) fn keys_fit_together(alloc: Global, b: &Stated) -> Result<bool, NoMemory>
     ensures { IfOk result (λ fit. fit ≡ keys_fit_together b.now) }
 {
     if all_key_schemas(b) {
@@ -225,7 +225,7 @@ fn add_name<'b>(used: &mut Kinds<'b>, kinds: &Kinds<'b>, name: &'b str) -> Resul
 
 // ---- indexes
 
-fn indexes_fit(b: &Stated) -> bool
+pub(crate) fn indexes_fit(b: &Stated) -> bool
     ensures { result ≡ indexes_fit b.now }
 {
     let locals = b.locals.as_slice();

@@ -1,5 +1,8 @@
 //! The description of a table and of its indexes, as plain records.
 
+ghost use Rattle.std.specs.Prelude.{◌≡◌};
+ghost use Rattle.alt_schema.specs.Bare.{is_whole};
+
 use crate::{IndexList, KeyAttrList, TextList};
 use alt_value::{Item, KeyKind, Text};
 
@@ -34,6 +37,18 @@ pub enum Projection {
 pub enum Built {
     Whole,
     UpTo(Option<Item>),
+}
+
+impl Built {
+    /// Whether it is built of every item.
+    pub fn is_whole(&self) -> bool
+        ensures whole { result ≡ is_whole self.now }
+    {
+        match self {
+            Built::Whole => true,
+            Built::UpTo(_) => false,
+        }
+    }
 }
 
 /// An index: its name, its key, what it keeps, the family of its rows, and how far it is built.

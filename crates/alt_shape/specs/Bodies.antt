@@ -126,6 +126,26 @@ create_table ms = first_of (
     in_array (codes "GlobalSecondaryIndexes") (in_items (object_fault secondary_index)) ms ∷
     in_object (codes "StreamSpecification") stream_specification ms ∷ [])
 
+-- a change of an index: one that comes, as CreateTable has it, one whose throughput changes, or one that goes, by its name
+abbrev pub index_update : Members → Option Broken
+index_update ms = first_of (
+    first_unmet (
+    optional (codes "Create") an_object ∷
+    optional (codes "Update") an_object ∷
+    optional (codes "Delete") an_object ∷ []) ms ∷
+    in_object (codes "Create") secondary_index ms ∷
+    in_object (codes "Delete") (first_unmet (required (codes "IndexName") a_text ∷ [])) ms ∷ [])
+
+-- UpdateTable names a table, and may define attributes and change indexes
+unfoldable pub update_table : Members → Option Broken
+update_table ms = first_of (
+    first_unmet (
+    required (codes "TableName") a_text ∷
+    optional (codes "AttributeDefinitions") an_array ∷
+    optional (codes "GlobalSecondaryIndexUpdates") an_array ∷ []) ms ∷
+    in_array (codes "AttributeDefinitions") (in_items (object_fault attribute_definition)) ms ∷
+    in_array (codes "GlobalSecondaryIndexUpdates") (in_items (object_fault index_update)) ms ∷ [])
+
 -- DescribeTable names a table
 unfoldable pub describe_table : Members → Option Broken
 describe_table = first_unmet (required (codes "TableName") a_text ∷ [])

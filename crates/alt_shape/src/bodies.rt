@@ -25,6 +25,16 @@ pub fn create_table(body: &Map<String, Value>) -> Option<Broken>
         .or_else(|| inside::stream_specification(body))
 }
 
+/// UpdateTable.
+#[tactic(auto, unfolding(crate::specs::Bodies::update_table))]
+pub fn update_table(body: &Map<String, Value>) -> Option<Broken>
+    ensures { result ≡ bodies.update_table (members_view body.now.entries) }
+{
+    first_broken(&tables::UPDATE_TABLE, body)
+        .or_else(|| inside::attribute_definitions(body))
+        .or_else(|| inside::index_updates(body))
+}
+
 /// DescribeTable.
 #[tactic(auto, unfolding(crate::specs::Bodies::describe_table))]
 pub fn describe_table(body: &Map<String, Value>) -> Option<Broken>

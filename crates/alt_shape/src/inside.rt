@@ -1,9 +1,10 @@
 //! The objects inside a body, in the order in which they are tested.
 
-ghost use Rattle.std.specs.Prelude.{◌≡◌, codes};
+ghost use Rattle.std.specs.Prelude.{◌≡◌, ◌∷◌, [], codes};
 ghost use Rattle.serde_json.specs.View.{view, items_view, members_view};
 ghost use Rattle.alt_shape.specs.Bodies as bodies;
-ghost use Rattle.alt_shape.specs.Bodies.{in_array, in_object, in_items, in_members, object_fault, array_fault, text_fault, key_fault};
+ghost use Rattle.alt_shape.specs.Bodies.{in_array, in_object, in_items, in_members, object_fault, array_fault, text_fault, key_fault, required};
+ghost use Rattle.alt_shape.specs.Shape.{a_text, first_unmet};
 
 use crate::checking::first_broken;
 use crate::fields::array_at;
@@ -114,6 +115,68 @@ fn index_members(index: &Map<String, Value>) -> Option<Broken>
     first_broken(&tables::SECONDARY_INDEX, index)
         .or_else(|| key_schema(index))
         .or_else(|| projection(index))
+}
+
+/// The changes of GlobalSecondaryIndexUpdates, each with what is inside it.
+pub(crate) fn index_updates(owner: &Map<String, Value>) -> Option<Broken>
+    ensures { result ≡ in_array (codes "GlobalSecondaryIndexUpdates")
+        (in_items (object_fault bodies.index_update)) (members_view owner.now.entries) }
+{
+    match field!(owner, "GlobalSecondaryIndexUpdates": array) {
+        Some(elements) => each_index_update(elements),
+        None => None,
+    }
+}
+
+#[tactic(auto, using(crate::proofs::Walks::in_items_from))]
+fn each_index_update(elements: &[Value]) -> Option<Broken>
+    ensures { result ≡ in_items (object_fault bodies.index_update) (items_view elements.now) }
+{
+    for element in elements {
+        if let Some(broken) = index_update(element) {
+            return Some(broken);
+        }
+    }
+    None
+}
+
+fn index_update(element: &Value) -> Option<Broken>
+    ensures { result ≡ object_fault (bodies.index_update) (view element.now) }
+{
+    match element.as_object() {
+        Some(members) => update_members(members),
+        None => Some(Broken::WrongKind),
+    }
+}
+
+fn update_members(update: &Map<String, Value>) -> Option<Broken>
+    ensures { result ≡ bodies.index_update (members_view update.now.entries) }
+{
+    first_broken(&tables::INDEX_UPDATE, update)
+        .or_else(|| created(update))
+        .or_else(|| deleted(update))
+}
+
+/// The index that comes.
+fn created(update: &Map<String, Value>) -> Option<Broken>
+    ensures { result ≡ in_object (codes "Create") (bodies.secondary_index)
+        (members_view update.now.entries) }
+{
+    match field!(update, "Create": object) {
+        Some(members) => index_members(members),
+        None => None,
+    }
+}
+
+/// The index that goes.
+fn deleted(update: &Map<String, Value>) -> Option<Broken>
+    ensures { result ≡ in_object (codes "Delete")
+        (first_unmet (required (codes "IndexName") a_text ∷ [])) (members_view update.now.entries) }
+{
+    match field!(update, "Delete": object) {
+        Some(members) => first_broken(&tables::INDEX_DELETED, members),
+        None => None,
+    }
 }
 
 /// The Projection of an index.

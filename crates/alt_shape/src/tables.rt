@@ -66,6 +66,23 @@ pub const STREAM_SPECIFICATION: [Rule; 2] = [
     ),
 ];
 
+/// UpdateTable.
+pub const UPDATE_TABLE: [Rule; 3] = [
+    required!("TableName", Kind::Text),
+    optional!("AttributeDefinitions", Kind::Array),
+    optional!("GlobalSecondaryIndexUpdates", Kind::Array),
+];
+
+/// An element of GlobalSecondaryIndexUpdates.
+pub const INDEX_UPDATE: [Rule; 3] = [
+    optional!("Create", Kind::Object),
+    optional!("Update", Kind::Object),
+    optional!("Delete", Kind::Object),
+];
+
+/// The index that goes.
+pub const INDEX_DELETED: [Rule; 1] = [required!("IndexName", Kind::Text)];
+
 /// DescribeTable.
 pub const DESCRIBE_TABLE: [Rule; 1] = [required!("TableName", Kind::Text)];
 

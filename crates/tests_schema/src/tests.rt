@@ -1,3 +1,4 @@
+mod altered;
 mod bodies;
 mod created;
 mod refusals;

@@ -2,9 +2,9 @@
 
 ghost use Rattle.std.specs.Prelude.{◌≡◌, ◌<◌, ◌^◌, length};
 ghost use Rattle.std.specs.List.{AllByRecursion};
-ghost use Rattle.alt_schema.specs.Held.{IsHeldText, Where, IsHeldProjection, IsHeldIndex, IsHeld};
+ghost use Rattle.alt_schema.specs.Held.{IsHeldText, Where, IsHeldBuilt, IsHeldProjection, IsHeldIndex, IsHeld};
 
-use crate::{IndexSchema, KeyAttr, Projection, TableSchema};
+use crate::{Built, IndexSchema, KeyAttr, Projection, TableSchema};
 use alt_value::Text;
 
 /// What each description of the program is, valid or not: its texts are UTF-8, and its numbers, lengths
@@ -85,6 +85,19 @@ fn index_held(index: &IndexSchema)
     text_held(&index.hash.name);
     range_held(&index.range);
     projection_held(&index.projection);
+    built_held(&index.built);
+}
+
+fn built_held(built: &Built)
+    ensures { IsHeldBuilt built.now }
+{
+    match built {
+        Built::Whole => {}
+        Built::UpTo(None) => {}
+        Built::UpTo(Some(key)) => {
+            let _count = key.len();
+        }
+    }
 }
 
 fn projection_held(projection: &Projection)

@@ -16,6 +16,7 @@ const RANGE: Option<Broken> = Some(Broken::OutOfRange);
 #[derive(Clone, Copy)]
 enum Operation {
     CreateTable,
+    UpdateTable,
     DescribeTable,
     DeleteTable,
     ListTables,
@@ -46,7 +47,7 @@ macro_rules! row {
     };
 }
 
-static ROWS: [Row; 79] = [
+static ROWS: [Row; 87] = [
     row!(
         CreateTable,
         r#"{"TableName":"Tab","KeySchema":[{"AttributeName":"k","KeyType":"HASH"}],"AttributeDefinitions":[{"AttributeName":"k","AttributeType":"S"}],"BillingMode":"PAY_PER_REQUEST"}"#,
@@ -148,6 +149,38 @@ static ROWS: [Row; 79] = [
         CreateTable,
         r#"{"TableName":"Tab","KeySchema":[{"AttributeName":"k","KeyType":"HASH"}],"AttributeDefinitions":[{"AttributeName":"k","AttributeType":"S"}],"StreamSpecification":null}"#,
         None
+    ),
+    row!(
+        UpdateTable,
+        r#"{"TableName":"Tab","AttributeDefinitions":[{"AttributeName":"g","AttributeType":"S"}],"GlobalSecondaryIndexUpdates":[{"Create":{"IndexName":"i","KeySchema":[{"AttributeName":"g","KeyType":"HASH"}],"Projection":{"ProjectionType":"ALL"}}},{"Update":{"IndexName":"j"}},{"Delete":{"IndexName":"k"}},{}]}"#,
+        None
+    ),
+    row!(UpdateTable, r#"{"TableName":"Tab"}"#, None),
+    row!(UpdateTable, r#"{"GlobalSecondaryIndexUpdates":5}"#, MISSING),
+    row!(
+        UpdateTable,
+        r#"{"TableName":"Tab","AttributeDefinitions":[{"AttributeName":"g"}],"GlobalSecondaryIndexUpdates":[5]}"#,
+        MISSING
+    ),
+    row!(
+        UpdateTable,
+        r#"{"TableName":"Tab","GlobalSecondaryIndexUpdates":[5]}"#,
+        KIND
+    ),
+    row!(
+        UpdateTable,
+        r#"{"TableName":"Tab","GlobalSecondaryIndexUpdates":[{"Create":{"IndexName":"i","KeySchema":[{"AttributeName":"g","KeyType":"HASH"}]}}]}"#,
+        MISSING
+    ),
+    row!(
+        UpdateTable,
+        r#"{"TableName":"Tab","GlobalSecondaryIndexUpdates":[{"Update":5}]}"#,
+        KIND
+    ),
+    row!(
+        UpdateTable,
+        r#"{"TableName":"Tab","GlobalSecondaryIndexUpdates":[{"Delete":{}}]}"#,
+        MISSING
     ),
     row!(DescribeTable, r#"{"TableName":"Tab"}"#, None),
     row!(DescribeTable, r#"{"TableName":7}"#, KIND),
@@ -303,6 +336,7 @@ static ROWS: [Row; 79] = [
 fn broken(operation: Operation, body: &Map<String, Value>) -> Option<Broken> {
     match operation {
         Operation::CreateTable => bodies::create_table(body),
+        Operation::UpdateTable => bodies::update_table(body),
         Operation::DescribeTable => bodies::describe_table(body),
         Operation::DeleteTable => bodies::delete_table(body),
         Operation::ListTables => bodies::list_tables(body),

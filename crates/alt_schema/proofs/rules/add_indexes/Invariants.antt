@@ -3,7 +3,7 @@ use Rattle.std.proofs.Common.{is_some}
 use Rattle.std.specs.List.{list_all}
 use Rattle.alt_schema.specs.Named.{kind_at}
 use Rattle.alt_schema.specs.Rules.{is_used_in}
-use Rattle.alt_schema.proofs.Used.{Goes}
+use Rattle.alt_schema.proofs.InUse.{Goes}
 use Rattle.alt_schema.proofs.rules.add_indexes.Given as goal
 
 abbrev pub invariant-loop-index : goal.invariant-loop-index

@@ -2,7 +2,7 @@
 use Rattle.std.proofs.Common.{is_some}
 use Rattle.std.specs.Str.{bytes_eq}
 use Rattle.alt_schema.specs.Named.{kind_at}
-use Rattle.alt_schema.proofs.Used.{Goes}
+use Rattle.alt_schema.proofs.InUse.{Goes}
 use Rattle.alt_schema.proofs.rules.add_keys.Given as goal
 
 abbrev pub invariant-loop-element : goal.invariant-loop-element

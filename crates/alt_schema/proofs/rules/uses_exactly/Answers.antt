@@ -3,7 +3,7 @@ use Rattle.std.proofs.Common.{ap, sym, ◌∙◌}
 use Rattle.std.specs.Prelude.{is_some}
 use Rattle.std.specs.List.{list_all}
 use Rattle.alt_schema.specs.Named.{kind_at}
-use Rattle.alt_schema.proofs.Used.{all_have_kinds, one_has_none}
+use Rattle.alt_schema.proofs.InUse.{all_have_kinds, one_has_none}
 use Rattle.alt_schema.proofs.rules.uses_exactly.Goals as goal
 
 pub returns-then-branch : goal.returns-then-branch

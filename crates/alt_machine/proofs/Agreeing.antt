@@ -40,7 +40,7 @@ use Rattle.alt_machine.proofs.Targets as target
 use Rattle.alt_machine.proofs.Trimming.{kept_all}
 
 -- texts that tie are one
-one_text : (a b : List ℕ) → is_eq (text_order a b) ≡ true → a ≡ b
+pub one_text : (a b : List ℕ) → is_eq (text_order a b) ≡ true → a ≡ b
 one_text a b e = text_apart a b (equal _ e)
   where
     equal : (o : Ordering) → is_eq o ≡ true → o ≡ Equal

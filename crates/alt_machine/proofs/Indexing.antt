@@ -1,8 +1,8 @@
 -- The items of a table have keys of their own in an index, and those of an index lie by these.
-use Rattle.std.proofs.Common.{◌≡◌, refl, sym, ap, subst, ◌∙◌, ℕ, zero, suc, Bool, true, false, ◌&&◌, List, [], ◌∷◌, Option, Some, None, option_map, is_some}
+use Rattle.std.proofs.Common.{◌≡◌, refl, sym, ap, subst, ◌∙◌, ℕ, Bool, true, false, ◌&&◌, List, Option, Some, None, option_map}
 use Rattle.std.proofs.lemmas.Bool.{false≢true}
-use Rattle.std.specs.Prelude.{if◌then◌else◌, option_and_then, unwrap_or, slice_get}
-use Rattle.std.specs.List.{list_all}
+use Rattle.std.specs.Prelude.{if◌then◌else◌, option_and_then, unwrap_or}
+use Rattle.std.specs.Option.{option_map_or}
 use Rattle.std.specs.FinMap as map
 use Rattle.alt_keyorder.specs.Kinds.{IsKeyFor}
 use Rattle.alt_keyorder.specs.Laws.{Lie}
@@ -11,12 +11,11 @@ use Rattle.alt_keyorder.proofs.PlaceLaws.{index_tell, index_lie}
 use Rattle.alt_machine.specs.Indexed.{KeyValues, values_beside, values_of, place_of_both, index_place, index_entry}
 use Rattle.alt_machine.specs.Keys.{can_be_key, if_key, key_value, place_beside, place_of}
 use Rattle.alt_machine.specs.Laws.{IndexPlacesLie, AllIndex}
-use Rattle.alt_machine.specs.Sources.{index_at}
 use Rattle.alt_machine.specs.State.{Texts}
 use Rattle.alt_machine.specs.Valid.{IsStored}
 use Rattle.alt_machine.proofs.Placed.{part_kind}
 use Rattle.alt_machine.proofs.Rekeying.{AreApart, given_by, gives}
-use Rattle.alt_schema.specs.Indexes.{index_row, is_in_index, cut, has_part, of_range, is_key_value, is_key_or_none, part_fits, index_fits, indexes, longest_hash, longest_range}
+use Rattle.alt_schema.specs.Indexes.{index_row, is_in_index, cut, has_part, of_range, is_key_value, longest_hash, longest_range}
 use Rattle.alt_schema.specs.declared.schema.IndexSchema.{IndexSchema}
 use Rattle.alt_schema.specs.declared.schema.KeyAttr.{KeyAttr}
 use Rattle.alt_schema.specs.declared.schema.TableSchema.{TableSchema}
@@ -208,35 +207,35 @@ can_be most N (N_tree z) h = refl
 can_be most B (B_tree b) h = first_true _ _ h
 can_be most kind t h = absurd (false≢true h)
 
--- so an attribute that is there and fits has its value
-value_there : (most : ℕ) (item : List Pair) (key : KeyAttr) → has_part item key ≡ true
-    → part_fits most item key ≡ true → (t : Tree) × (key_value item key ≡ Some t)
-value_there most item key has fits = by_value (at_name key.name item) refl has fits
+-- so an attribute that is there with such a value has it
+value_there : (most : ℕ) (item : List Pair) (key : KeyAttr) → has_part most item key ≡ true
+    → (t : Tree) × (key_value item key ≡ Some t)
+value_there most item key has = by_value (at_name key.name item) refl has
   where
-    by_value : (o : Option Tree) → at_name key.name item ≡ o → is_some o ≡ true
-        → is_key_or_none most key.kind o ≡ true → (t : Tree) × (key_value item key ≡ Some t)
-    by_value None at has fits = absurd (false≢true has)
-    by_value (Some t) at has fits = (
+    by_value : (o : Option Tree) → at_name key.name item ≡ o
+        → option_map_or (is_key_value most key.kind) o false ≡ true
+        → (t : Tree) × (key_value item key ≡ Some t)
+    by_value None at has = absurd (false≢true has)
+    by_value (Some t) at has = (
       t,
       ap (option_and_then (if_key key.kind)) at
-          ∙ ap (λ b. if b then Some t else None) (can_be most key.kind t fits),
+          ∙ ap (λ b. if b then Some t else None) (can_be most key.kind t has),
     )
 
 -- and with all of them, the index's key has its values
 own_values : (i : IndexSchema) (item : List Pair) → is_in_index i item ≡ true
-    → index_fits item i ≡ true
     → (kv : KeyValues) × (values_of (key_value item) i.hash i.range ≡ Some kv)
-own_values i item inside fits =
-    let h = value_there longest_hash item i.hash (first_true _ _ inside) (first_true _ _ fits) in
-    let v = beside i.range h.0 (second_true _ _ inside) (second_true _ _ fits) in
+own_values i item inside =
+    let h = value_there longest_hash item i.hash (first_true _ _ inside) in
+    let v = beside i.range h.0 (second_true _ _ inside) in
     (v.0, ap (option_and_then (values_beside (key_value item) i.range)) h.1 ∙ v.1)
   where
-    beside : (r : Option KeyAttr) (h : Tree) → of_range (has_part item) true r ≡ true
-        → of_range (part_fits longest_range item) true r ≡ true
+    beside : (r : Option KeyAttr) (h : Tree)
+        → of_range (has_part longest_range item) true r ≡ true
         → (kv : KeyValues) × (values_beside (key_value item) r h ≡ Some kv)
-    beside None h has fits = (record { hash = h; range = None }, refl)
-    beside (Some r) h has fits =
-        let t = value_there longest_range item r has fits in (
+    beside None h has = (record { hash = h; range = None }, refl)
+    beside (Some r) h has =
+        let t = value_there longest_range item r has in (
           record { hash = h; range = Some t.0 },
           ap
               (option_map (λ (v : Tree). record { hash = h; range = Some v })) t.1,
@@ -250,13 +249,6 @@ table_values d item place e =
     (values_of (key_value item) d.hash d.range) place (sym (place-of_values d item) ∙ e) in
     (a.0, a.1)
 
--- what each of a list passes, each one at a place does
-at_each : {A : Type 0} (test : A → Bool) (xs : List A) (n : ℕ) (x : A) → list_all test xs ≡ true
-    → slice_get xs n ≡ Some x → test x ≡ true
-at_each test [] n x all e = absurd (none x e)
-at_each test (y ∷ ys) zero x all e = ap test (sym (some y x e)) ∙ first_true _ _ all
-at_each test (y ∷ ys) (suc n) x all e = at_each test ys n x (second_true _ _ all) e
-
 -- the row of an item that is in an index is there where the item is
 is_inside : (d : TableSchema) (i : IndexSchema) (item row : List Pair)
     → index_row d item i ≡ Some row → is_in_index i item ≡ true
@@ -269,12 +261,11 @@ is_inside d i item row e = by_test (is_in_index i item) refl e
     by_test false inside e = absurd (none row e)
 
 -- An item that is in an index has an entry there.
-pub entry_there : (d : TableSchema) (number : ℕ) (i : IndexSchema) (place : List ℕ)
-    (item row : List Pair) → IsStored d place item → index_at d (Some number) ≡ Some i
-    → index_row d item i ≡ Some row → (key : List ℕ) × (index_entry d i item ≡ Some (key, row))
-entry_there d number i place item row stored at e =
-    let own = own_values i item (is_inside d i item row e)
-    (at_each (index_fits item) (indexes d) number i stored.index_keys at) in
+pub entry_there : (d : TableSchema) (i : IndexSchema) (place : List ℕ)
+    (item row : List Pair) → IsStored d place item → index_row d item i ≡ Some row
+    → (key : List ℕ) × (index_entry d i item ≡ Some (key, row))
+entry_there d i place item row stored e =
+    let own = own_values i item (is_inside d i item row e) in
     let key = table_values d item place stored.stands in
     let is : index_place d i item ≡ Some (place_of_both own.0 key.0) =
     ap (option_and_then
@@ -290,7 +281,7 @@ entry_there d number i place item row stored at e =
 pub all_index : AllIndex
 all_index s name t number i valid held there at = record {
   each = λ place item row here is.
-      let e = entry_there t.description number i place item row (stored place item here).0 at is in (
+      let e = entry_there t.description i place item row (stored place item here).0 is in (
         e.0,
         e.1,
         gives (index_entry t.description i) t.items

@@ -1,10 +1,11 @@
 -- What room there is where a number or a family is not lacked.
 use Rattle.std.proofs.Common.{◌≡◌, refl, ap, ◌∙◌, ℕ, ◌+◌, ◌<◌, ◌≤◌, Bool, true, false, cond, nat_le, nat_lt, List, [], ◌∷◌, Option, Some, None, arith}
+use Rattle.std.specs.Prelude.{if◌then◌else◌}
 use Rattle.std.proofs.lemmas.Bool.{le-leb, leb-true, lt-ltb}
 use Rattle.alt_machine.specs.declared.TheConstants.{NUMBERS_END, FAMILIES_END, MOST_FAMILIES}
 use Rattle.alt_machine.specs.Outcomes.{Wants}
 use Rattle.alt_machine.specs.State.{State}
-use Rattle.alt_machine.specs.Wanted.{number_lack, numbers_lack, family_lack, table_lack, lack_of, lack_among, or_later, Lack}
+use Rattle.alt_machine.specs.Wanted.{number_lack, numbers_lack, family_lack, table_lack, index_lack, lack_of, lack_among, or_later, Lack}
 
 -- a number that doesn't reach a bound is below it
 not_full : (m n : ℕ) → nat_le m n ≡ false → n < m
@@ -35,6 +36,17 @@ table_room s e =
       not_above FAMILIES_END (s.next_family + MOST_FAMILIES)
           (not_lacked (nat_lt FAMILIES_END (s.next_family + MOST_FAMILIES)) s.next_family None
           tests.1).0,
+    )
+
+-- where a new index lacks nothing there is a number for it, and a family
+pub index_room : (s : State) → index_lack s.next_number s.next_family ≡ None
+    → (s.next_number < NUMBERS_END) × (s.next_family < FAMILIES_END)
+index_room s e =
+    let tests = not_lacked (nat_le NUMBERS_END s.next_number) s.next_number
+    (if nat_le FAMILIES_END s.next_family then Some s.next_family else None) e in (
+      not_full NUMBERS_END s.next_number tests.0,
+      not_full FAMILIES_END s.next_family
+          (not_lacked (nat_le FAMILIES_END s.next_family) s.next_family None tests.1).0,
     )
 
 -- where nothing is lacked among some writes, the first lacks nothing, and neither do the others

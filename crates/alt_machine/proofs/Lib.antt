@@ -1,10 +1,17 @@
+pub mod Added
 pub mod Agreeing
+pub mod Altering
 pub mod Batches
 pub mod Behind
+pub mod BuildItems
+pub mod BuildParts
+pub mod BuildSteps
 pub mod Building
+pub mod BuiltKeys
 pub mod Chains
 pub mod Creations
 pub mod Descriptions
+pub mod Entries
 pub mod Expirations
 pub mod Families
 pub mod Full
@@ -12,6 +19,7 @@ pub mod FullActions
 pub mod FullChanges
 pub mod FullTerms
 pub mod Indexing
+pub mod Inserted
 pub mod KeyStays
 pub mod Lacks
 pub mod Lists
@@ -22,7 +30,9 @@ pub mod Older
 pub mod OlderMeaning
 pub mod Placed
 pub mod Puts
+pub mod Redescribed
 pub mod Rekeying
+pub mod Removed
 pub mod Said
 pub mod Same
 pub mod Spoken
@@ -36,3 +46,4 @@ pub mod Together
 pub mod Trimming
 pub mod Untouched
 pub mod Updates
+pub mod WholeBuilt

@@ -4,9 +4,9 @@ use Rattle.std.specs.Prelude.{◌&&◌, ◌||◌, codes, if◌then◌else◌}
 use Rattle.std.specs.List.{list_all, list_any}
 use Rattle.std.specs.Str.{bytes_eq}
 use Rattle.serde_json.specs.Data.{Members}
-use Rattle.alt_machine.specs.Valid.{is_pair, are_two, is_local, is_used, names_few, IsMade}
+use Rattle.alt_machine.specs.Valid.{is_pair, are_two, is_local, names_few, IsMade}
 use Rattle.alt_schema.specs.Described.{description_of, described_by, hash_of, range_of, index_for, indexes_from, projection_for, IsNew}
-use Rattle.alt_schema.specs.Indexes.{is_key}
+use Rattle.alt_schema.specs.Indexes.{is_key, is_used}
 use Rattle.alt_schema.specs.Rules as rules
 use Rattle.alt_schema.specs.Rules.{is_name}
 use Rattle.alt_schema.specs.Stated.{stated}
@@ -15,6 +15,7 @@ use Rattle.alt_schema.specs.declared.schema.KeyAttr.{KeyAttr}
 use Rattle.alt_schema.specs.declared.schema.Projection.TheVariants.{All, KeysOnly}
 use Rattle.alt_schema.specs.declared.stated.Element.{Element}
 use Rattle.alt_schema.specs.declared.stated.StatedIndex.{StatedIndex}
+use Rattle.alt_machine.proofs.WholeBuilt.{whole_built}
 use Rattle.alt_schema.proofs.NewDescriptions.{left, right, names_hold, keys_hold, indexes_hold, new_description}
 
 -- what holds on both sides of a test holds of the one that is taken
@@ -43,7 +44,7 @@ module _ (ds : List KeyAttr) (p : StatedIndex → Bool) (q : IndexSchema → Boo
       (kept_both (suc f) g ls gs (right (p l) _ e))
 
 -- the key attributes of a good key schema are a pair: their names differ and have bytes
-pair_kept : (ds : List KeyAttr) (keys : List Element) → rules.is_key_schema keys ≡ true
+pub pair_kept : (ds : List KeyAttr) (keys : List Element) → rules.is_key_schema keys ≡ true
     → is_pair (hash_of ds keys) (range_of ds keys) ≡ true
 pair_kept ds [] e = cc
 pair_kept ds (h ∷ []) e = both (nat_lt 0 (length h.name)) true
@@ -71,12 +72,12 @@ local_kept ds (h ∷ r ∷ []) (i ∷ j ∷ x ∷ xs) e = cc
 local_kept ds (h ∷ r ∷ y ∷ ys) index e = cc
 
 -- a test or one that fails is that test
-or_false : (b : Bool) → (b || false) ≡ b
+pub or_false : (b : Bool) → (b || false) ≡ b
 or_false true = refl
 or_false false = refl
 
 -- an attribute is used in a key schema where it is one of the key
-used_kept : (ds : List KeyAttr) (keys : List Element) (name : List ℕ)
+pub used_kept : (ds : List KeyAttr) (keys : List Element) (name : List ℕ)
     → rules.is_key_schema keys ≡ true
     → rules.is_used_in name keys ≡ is_key (hash_of ds keys) (range_of ds keys) name
 used_kept ds [] name e = cc
@@ -106,13 +107,13 @@ used_by_both ds f g (l ∷ ls) gs name e =
     (suc f) g ls gs name (right (rules.is_key_schema l.keys) _ e) j
 
 -- a test that is the same of each name
-tests_alike : (p q : List ℕ → Bool) (ds : List KeyAttr) → ((name : List ℕ) → p name ≡ q name)
+pub tests_alike : (p q : List ℕ → Bool) (ds : List KeyAttr) → ((name : List ℕ) → p name ≡ q name)
     → list_all (λ a. p a.name) ds ≡ list_all (λ a. q a.name) ds
 tests_alike p q [] h = refl
 tests_alike p q (d ∷ ds) h = λ j. h d.name j && tests_alike p q ds h j
 
 -- a good projection that names attributes names 1 to 20, each with bytes
-projection_kept : (word : List ℕ) (names : Option (List (List ℕ)))
+pub projection_kept : (word : List ℕ) (names : Option (List (List ℕ)))
     → rules.is_projection word names ≡ true → names_few (projection_for word names) ≡ true
 projection_kept word None e = if_either (λ p. names_few p ≡ true)
     (bytes_eq word (codes "ALL")) All KeysOnly refl refl
@@ -203,6 +204,6 @@ module _ (ms : Members) (moment number family : ℕ) where
           indexes_differ = made_new.names;
           locals_few = made_new.locals;
           globals_few = made_new.globals;
-          built = made_new.whole;
+          built = whole_built (description_of ms moment number family) made_new.whole;
           whole = made_new.description;
         }

@@ -77,7 +77,6 @@ may_stand d place item read at fits free =
     record {
       stands = at;
       fits = fits;
-      index_keys = indexes.0;
       size = leb-true (item_size item) LARGEST_ITEM size.0;
       depth = read.depth;
       full = read.full;

@@ -18,7 +18,7 @@ use Rattle.alt_machine.specs.Changes.{with_change, trimmed_with}
 use Rattle.alt_machine.specs.Same.{is_same}
 use Rattle.alt_machine.specs.State.{State, Table, Change, start, new_table, families_of}
 use Rattle.alt_machine.specs.Trimming.{kept, trimmed_at}
-use Rattle.alt_machine.specs.Valid.{IsStored, WasStored, IsChange, AreChanges, IsMade, IsTable, IsValid}
+use Rattle.alt_machine.specs.Valid.{IsStored, IsChange, AreChanges, IsMade, IsTable, IsValid}
 use Rattle.alt_machine.specs.Writes.{with_item, with_write_by, after_item_by}
 use Rattle.alt_machine.proofs.Families.{families_few, families_within, families_differ, of_contained}
 use Rattle.alt_machine.proofs.Same.{is_same-equal}
@@ -36,7 +36,7 @@ start_valid = record {
 }
 
 -- the changes of a table, where the next number is later
-changes_later : (d : TableSchema) (n m z : ℕ) (changes : List Change) → n ≤ m
+pub changes_later : (d : TableSchema) (n m z : ℕ) (changes : List Change) → n ≤ m
     → AreChanges d n z changes → AreChanges d m z changes
 changes_later d n m z changes le h = record {
   each = All-weaker (IsChange d n) (IsChange d m) (λ (c : Change) is. record {
@@ -224,23 +224,11 @@ with_item_stored s name t place (Some item) v there put q x e =
       | inr old ↦ (v.tables name t there).items q x old
     ]
 
--- what is stored at a place was stored there
-pub was_stored : (d : TableSchema) (place : List ℕ) (item : List Pair) → IsStored d place item
-    → WasStored d place item
-was_stored d place item is = record {
-  stands = is.stands;
-  fits = is.fits;
-  size = is.size;
-  depth = is.depth;
-  full = is.full;
-  names = is.names;
-}
-
--- so is what may be there
-may_have_been : (d : TableSchema) (place : List ℕ) (o : Option (List Pair))
-    → ((item : List Pair) → o ≡ Some item → IsStored d place item) → IfSome o (WasStored d place)
-may_have_been d place None h = tt
-may_have_been d place (Some item) h = was_stored d place item (h item refl)
+-- what is stored where it is there
+if_stored : (d : TableSchema) (place : List ℕ) (o : Option (List Pair))
+    → ((item : List Pair) → o ≡ Some item → IsStored d place item) → IfSome o (IsStored d place)
+if_stored d place None h = tt
+if_stored d place (Some item) h = h item refl
 
 module _ (s : State) (moment : ℕ) (writer : Writer) (name : List ℕ) (t : Table) (place : List ℕ)
     (new : Option (List Pair)) (v : IsValid s) (room : s.next_number < NUMBERS_END)
@@ -268,9 +256,9 @@ module _ (s : State) (moment : ℕ) (writer : Writer) (name : List ℕ) (t : Tab
     number = omega arith;
     differ = λ e. true≢false (sym (is_same-equal (map.get t.items place) new e) ∙ differ);
     place = place;
-    old = may_have_been t.description place (map.get t.items place)
+    old = if_stored t.description place (map.get t.items place)
         ((v.tables name t there).items place);
-    new = may_have_been t.description place new put;
+    new = if_stored t.description place new put;
   }
 
   -- the table that a write leaves is as one has to be, where what is put may be stored

@@ -1,9 +1,10 @@
 -- No request but an ExpireItems heeds whether the time of an item is over: at two moments it leaves the same items, and its changes are of
 -- a user.
 use Rattle.std.proofs.Common.{◌≡◌, ◌≢◌, refl, sym, ap, subst, ℕ, Bool, true, false, cond, is_eq, List, [], ◌∷◌, map, Option, Some, None, All}
-use Rattle.std.specs.Prelude.{codes, unwrap_or}
+use Rattle.std.specs.Prelude.{codes, if◌then◌else◌, unwrap_or}
 use Rattle.std.specs.FinMap.{get-remove}
 use Rattle.std.specs.FinMap as finite
+use Rattle.std.specs.List.{list_any}
 use Rattle.std.specs.Option.{option_map_or}
 use Rattle.std.proofs.lemmas.List.Elements.{All-nil}
 use Rattle.serde_json.specs.Data.{Members}
@@ -19,7 +20,7 @@ use Rattle.alt_value.proofs.Texts.{text_total}
 use Rattle.alt_machine.specs.Body.{of_shape}
 use Rattle.alt_machine.specs.Conditional.{writes_if}
 use Rattle.alt_machine.specs.declared.Operation.{Operation}
-use Rattle.alt_machine.specs.declared.Operation.TheVariants.{CreateTable, DescribeTable, ListTables, DeleteTable, PutItem, GetItem, DeleteItem, UpdateItem, Query, Scan, BatchWriteItem, BatchGetItem, ListStreams, DescribeStream, GetShardIterator, GetRecords, UpdateTimeToLive, DescribeTimeToLive, ExpireItems}
+use Rattle.alt_machine.specs.declared.Operation.TheVariants.{CreateTable, DescribeTable, ListTables, DeleteTable, PutItem, GetItem, DeleteItem, UpdateItem, Query, Scan, BatchWriteItem, BatchGetItem, ListStreams, DescribeStream, GetShardIterator, GetRecords, UpdateTimeToLive, DescribeTimeToLive, ExpireItems, UpdateTable}
 use Rattle.alt_machine.specs.declared.Sought.TheVariants.{Item, Key}
 use Rattle.alt_machine.specs.Expressions.{conditional, projecting, querying, scanning, updating}
 use Rattle.alt_machine.specs.Laws.{OthersExpireNone}
@@ -42,8 +43,9 @@ use Rattle.alt_machine.specs.Ops.PutItem as put
 use Rattle.alt_machine.specs.Ops.Query as query
 use Rattle.alt_machine.specs.Ops.Scan as scan
 use Rattle.alt_machine.specs.Ops.UpdateItem as update
+use Rattle.alt_machine.specs.Ops.UpdateTable as alter
 use Rattle.alt_machine.specs.Ops.UpdateTimeToLive as timing
-use Rattle.alt_machine.specs.Outcomes.{unless_refused, last_state, together}
+use Rattle.alt_machine.specs.Outcomes.{Outcome, says, unless_refused, last_state, together}
 use Rattle.alt_machine.specs.Refusals.{or_refused, refuse_if}
 use Rattle.alt_machine.specs.Sources.{index_at}
 use Rattle.alt_machine.specs.State.{State, Table, descriptions, new_table}
@@ -93,6 +95,30 @@ module _ (s : State) where
       (insert_agrees s s s (table_name ms) (timing.timed (timing.time_left ms) t)
       (timing.timed (timing.time_left ms) t) _ _ _ _ (own s) refl
       (of_found s s (table_name ms) t ((own s).changes (table_name ms)) there)))
+
+  alter_leaves : (ms : Members) → Leave s (alter.update_table s ms) (alter.update_table s ms)
+  unfolding alter.update_table
+  alter_leaves ms = leave-on_table s (alter.of_body ms) ms _ _ (λ t there.
+      leave-unless s (alter.of_indexes t.description ms) (alter.alters s ms t) (alter.alters s ms t)
+      (leaves t there (list_any alter.acts (alter.changes ms))))
+    where
+      -- what is asked comes to a write, if an index comes or goes
+      altered_if : Bool → Table → Outcome
+      altered_if b t = if b then record {
+        answer = alter.described (alter.altered t.description ms s.next_family) (codes "UPDATING");
+        atoms = alter.state_altered s ms t ∷ [];
+        wants = alter.wanted_for (alter.coming ms);
+      }
+          else says (alter.described t.description (codes "ACTIVE"))
+
+      leaves : (t : Table) → finite.get s.tables (table_name ms) ≡ Some t → (b : Bool)
+          → Leave s (altered_if b t) (altered_if b t)
+      leaves t there true =
+          let u : Table =
+          alter.redescribed (alter.altered t.description ms s.next_family) t in
+          insert_agrees s s s (table_name ms) u u _ _ _ _ (own s) refl
+          (of_found s s (table_name ms) t ((own s).changes (table_name ms)) there)
+      leaves t there false = own s
 
   -- a user's write of an item
   own_write : (m n : ℕ) (name : List ℕ) (t : Table) (place : List ℕ) (new : Option (List Pair))
@@ -229,6 +255,7 @@ module _ (s : State) where
   operates_leave UpdateTimeToLive m n ms other = time_leaves ms
   operates_leave DescribeTimeToLive m n ms other = time_told ms
   operates_leave ExpireItems m n ms other = absurd (other refl)
+  operates_leave UpdateTable m n ms other = alter_leaves ms
 
   body_leaves : (op : Operation) (m n : ℕ) (ms : Option Members) → op ≢ ExpireItems
       → Leave s (with_body s op m ms) (with_body s op n ms)

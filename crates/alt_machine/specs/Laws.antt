@@ -14,6 +14,7 @@ use Rattle.alt_legacy.specs.Keys.{asked_by}
 use Rattle.alt_legacy.specs.Meets as older
 use Rattle.alt_legacy.specs.Trees.{path, action_of, condition_of}
 use Rattle.alt_legacy.specs.declared.entry.Entry.{Entry}
+use Rattle.alt_machine.specs.Building.{build}
 use Rattle.alt_machine.specs.Conditional as conditional
 use Rattle.alt_machine.specs.Conditional.{seen}
 use Rattle.alt_machine.specs.declared.Operation.{Operation}
@@ -22,7 +23,7 @@ use Rattle.alt_machine.specs.Indexed.{index_place, index_entry, index_items}
 use Rattle.alt_machine.specs.Keys.{key_place}
 use Rattle.alt_machine.specs.Older.{some_actions}
 use Rattle.alt_machine.specs.Ops.UpdateItem.{makes_none}
-use Rattle.alt_machine.specs.Outcomes.{last_state, state_after}
+use Rattle.alt_machine.specs.Outcomes.{a_number, last_state, state_after}
 use Rattle.alt_machine.specs.Sources.{index_at}
 use Rattle.alt_machine.specs.State.{State, Table, Texts, Change}
 use Rattle.alt_machine.specs.Step.{step}
@@ -45,6 +46,12 @@ StepsKeepValid = (s : State) (op : Option Operation) (body : List ℕ) (moment k
 abbrev pub OneAtom : Type 0
 OneAtom = (s : State) (op : Option Operation) (body : List ℕ) (moment : ℕ)
     → length (step s op body moment).atoms ≤ 1
+
+-- A step in which a run builds an index further is one write at most, and leads from a valid state to a valid one, where it lacks no
+-- number.
+abbrev pub BuildsKeepValid : Type 0
+BuildsKeepValid = (s : State) → (length (build s) ≤ 1)
+    × (IsValid s → lack_among a_number s (build s) ≡ None → IsValid (last_state s (build s)))
 
 -- The items of a table lie by their keys: their places have an order (the token, then the HASH value, then the RANGE value), in which
 -- only places of equal keys tie, and the bytes of places lie so.
@@ -97,6 +104,12 @@ pub record OthersExpireNone : Type 0 where
       → op ≢ Some ExpireItems
       → All (λ (c : Change). c.by ≡ Expiry → Contains (changes_of s name) c)
       (changes_of (last_state s (step s op body moment).atoms) name)
+
+-- A step in which an index is built deletes none, because of its time or else: it leaves each table its items, and its changes.
+abbrev pub BuildsLeaveItems : Type 0
+BuildsLeaveItems = (s : State) (name : List ℕ)
+    → (items_of (last_state s (build s)) name ≡ items_of s name)
+    × (changes_of (last_state s (build s)) name ≡ changes_of s name)
 
 -- ---- members of the older interface
 

@@ -3,7 +3,7 @@ use Rattle.std.specs.Prelude.{ℕ, List, [], ◌∷◌, Option, option_map, code
 use Rattle.std.specs.List.{find}
 use Rattle.std.specs.Str.{bytes_eq}
 use Rattle.alt_machine.specs.declared.Operation.{Operation}
-use Rattle.alt_machine.specs.declared.Operation.TheVariants.{CreateTable, DescribeTable, ListTables, DeleteTable, PutItem, GetItem, DeleteItem, UpdateItem, Query, Scan, BatchWriteItem, BatchGetItem, ListStreams, DescribeStream, GetShardIterator, GetRecords, UpdateTimeToLive, DescribeTimeToLive, ExpireItems}
+use Rattle.alt_machine.specs.declared.Operation.TheVariants.{CreateTable, DescribeTable, ListTables, DeleteTable, PutItem, GetItem, DeleteItem, UpdateItem, Query, Scan, BatchWriteItem, BatchGetItem, ListStreams, DescribeStream, GetShardIterator, GetRecords, UpdateTimeToLive, DescribeTimeToLive, ExpireItems, UpdateTable}
 
 -- the operations that are built
 abbrev pub operations : List (List ℕ × Operation)
@@ -26,7 +26,8 @@ operations =
     (codes "GetRecords", GetRecords) ∷
     (codes "UpdateTimeToLive", UpdateTimeToLive) ∷
     (codes "DescribeTimeToLive", DescribeTimeToLive) ∷
-    (codes "ExpireItems", ExpireItems) ∷ []
+    (codes "ExpireItems", ExpireItems) ∷
+    (codes "UpdateTable", UpdateTable) ∷ []
 
 -- the operation of a name among these
 abbrev pub named_in : List (List ℕ × Operation) → List ℕ → Option Operation

@@ -17,4 +17,5 @@ pub mod PutItem
 pub mod Query
 pub mod Scan
 pub mod UpdateItem
+pub mod UpdateTable
 pub mod UpdateTimeToLive

@@ -5,12 +5,14 @@ use Rattle.alt_shape.specs.Refusals.{Answer, refused}
 use Rattle.alt_machine.specs.Refusals.{first_answer}
 use Rattle.alt_machine.specs.State.{State}
 
--- what a request wants: nothing, a number, so many numbers, or for a new table a number and 27 families
+-- what a request wants: nothing, a number, so many numbers, for a new table a number and 27 families, or for a new index a number and
+-- one family
 pub data Wants : Type 0 where
   nothing : Wants
   a_number : Wants
   numbers : ℕ → Wants
   a_table : Wants
+  a_family : Wants
 
 -- The answer, and the atoms: what the request makes lasting, by the state after it. Each operation has one at most, so a stop comes before
 -- it or behind it, and never inside. The state after the request is that after the last of them.

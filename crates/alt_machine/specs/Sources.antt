@@ -5,7 +5,7 @@ use Rattle.std.specs.List.{position}
 use Rattle.std.specs.Option.{option_map_or}
 use Rattle.serde_json.specs.Data.{Members}
 use Rattle.serde_json.specs.Find.{as_bool, as_str}
-use Rattle.alt_schema.specs.Indexes.{indexes, is_named, is_key}
+use Rattle.alt_schema.specs.Indexes.{indexes, is_key, is_read_as}
 use Rattle.alt_schema.specs.declared.schema.IndexSchema.{IndexSchema}
 use Rattle.alt_schema.specs.declared.schema.KeyAttr.{KeyAttr}
 use Rattle.alt_schema.specs.declared.schema.Projection.{Projection}
@@ -77,10 +77,10 @@ if_readable d ms number = unless_answer (first_answer
     (refuse_if (lacks_attributes d number ms || lacks_consistency d number ms) not_together ∷ []))
     (Some number)
 
--- the number of the index of that name, which is one of the table's
+-- the number of the index of that name, which is one of the table's, and whole
 abbrev pub index_named : TableSchema → Members → Option (List ℕ) → Result (Option ℕ) Answer
 index_named d ms None = Ok None
-index_named d ms (Some name) = or_refused no_such_index (position (is_named name) (indexes d))
+index_named d ms (Some name) = or_refused no_such_index (position (is_read_as name) (indexes d))
     >>= if_readable d ms
 
 -- the number of the index at IndexName, none where there is no such member

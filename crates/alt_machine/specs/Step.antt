@@ -3,7 +3,7 @@ use Rattle.std.specs.Prelude.{ℕ, List, Option, Some, None}
 use Rattle.serde_json.specs.Data.{Members}
 use Rattle.alt_shape.specs.Refusals.{unknown_operation, unreadable}
 use Rattle.alt_machine.specs.declared.Operation.{Operation}
-use Rattle.alt_machine.specs.declared.Operation.TheVariants.{CreateTable, DescribeTable, ListTables, DeleteTable, PutItem, GetItem, DeleteItem, UpdateItem, Query, Scan, BatchWriteItem, BatchGetItem, ListStreams, DescribeStream, GetShardIterator, GetRecords, UpdateTimeToLive, DescribeTimeToLive, ExpireItems}
+use Rattle.alt_machine.specs.declared.Operation.TheVariants.{CreateTable, DescribeTable, ListTables, DeleteTable, PutItem, GetItem, DeleteItem, UpdateItem, Query, Scan, BatchWriteItem, BatchGetItem, ListStreams, DescribeStream, GetShardIterator, GetRecords, UpdateTimeToLive, DescribeTimeToLive, ExpireItems, UpdateTable}
 use Rattle.alt_machine.specs.Members.{body_of}
 use Rattle.alt_machine.specs.Ops.BatchGetItem.{batch_get_item}
 use Rattle.alt_machine.specs.Ops.BatchWriteItem.{batch_write_item}
@@ -23,6 +23,7 @@ use Rattle.alt_machine.specs.Ops.PutItem.{put_item}
 use Rattle.alt_machine.specs.Ops.Query.{query}
 use Rattle.alt_machine.specs.Ops.Scan.{scan}
 use Rattle.alt_machine.specs.Ops.UpdateItem.{update_item}
+use Rattle.alt_machine.specs.Ops.UpdateTable.{update_table}
 use Rattle.alt_machine.specs.Ops.UpdateTimeToLive.{update_time_to_live}
 use Rattle.alt_machine.specs.Outcomes.{Outcome, refuses}
 use Rattle.alt_machine.specs.State.{State}
@@ -48,6 +49,7 @@ operates s GetRecords moment ms = get_records s ms
 operates s UpdateTimeToLive moment ms = update_time_to_live s ms
 operates s DescribeTimeToLive moment ms = describe_time_to_live s ms
 operates s ExpireItems moment ms = expire_items s moment
+operates s UpdateTable moment ms = update_table s ms
 
 -- an operation on a body, if that is one
 abbrev pub with_body : State → Operation → ℕ → Option Members → Outcome

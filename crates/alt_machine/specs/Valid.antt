@@ -1,11 +1,10 @@
 -- What holds of every state that the machine comes to from the empty store.
-use Rattle.std.specs.Prelude.{◌≡◌, ◌≢◌, ◌≤◌, ◌<◌, ◌&&◌, ◌||◌, ℕ, Bool, true, false, not, nat_lt, nat_le, T, List, [], length, Option, Some, None, IfSome, All, AllPairs, Contains}
-use Rattle.std.specs.List.{list_all, list_any}
+use Rattle.std.specs.Prelude.{◌≡◌, ◌≢◌, ◌≤◌, ◌<◌, ◌&&◌, ℕ, Bool, true, false, not, nat_lt, nat_le, T, List, [], length, Option, Some, None, IfSome, All, AllPairs, Contains}
+use Rattle.std.specs.List.{list_all}
 use Rattle.std.specs.Str.{bytes_eq}
 use Rattle.std.specs.FinMap as map
-use Rattle.alt_schema.specs.Bare.{is_whole}
 use Rattle.alt_schema.specs.Described.{IsDescription}
-use Rattle.alt_schema.specs.Indexes.{indexes, is_key, keys_fit, of_range}
+use Rattle.alt_schema.specs.Indexes.{indexes, is_used, of_range}
 use Rattle.alt_schema.specs.Rules.{is_name, all_differ, most_locals, most_globals, most_included}
 use Rattle.alt_schema.specs.declared.schema.IndexSchema.{IndexSchema}
 use Rattle.alt_schema.specs.declared.schema.KeyAttr.{KeyAttr}
@@ -17,6 +16,7 @@ use Rattle.alt_value.specs.Size.{item_size, fields_depth}
 use Rattle.alt_value.specs.Tree.{Pair, fields_of}
 use Rattle.alt_value.specs.Values.{IsItemOfValues, fields_full}
 use Rattle.alt_machine.specs.declared.TheConstants.{LARGEST_ITEM, MOST_TABLES, NUMBERS_END, FAMILIES_END}
+use Rattle.alt_machine.specs.Building.{IsBuilt}
 use Rattle.alt_machine.specs.Keys.{key_fits, place_of}
 use Rattle.alt_machine.specs.State.{State, Table, Change, families_of}
 
@@ -26,12 +26,12 @@ use Rattle.alt_machine.specs.State.{State, Table, Change, families_of}
 abbrev pub deepest : ℕ
 deepest = 32
 
--- An item of a table stands at the place of its key. Its keys fit in the table and in the indexes, it isn't too large, no value in
--- it is too deep, no set in it is empty, and its names rise, none of them empty.
+-- An item of a table, now or once, stands at the place of its key. Its key fits, it isn't too large, no value in it is too deep, no
+-- set in it is empty, and its names rise, none of them empty. Its keys in indexes need not fit: what was written before an index
+-- came stays, and isn't in the index.
 pub record IsStored (d : TableSchema) (place : List ℕ) (item : List Pair) : Type 0 where
   pub stands : place_of d item ≡ Some place
   pub fits : key_fits d item ≡ true
-  pub index_keys : keys_fit d item ≡ true
   pub size : item_size item ≤ LARGEST_ITEM
   pub depth : fields_depth (fields_of item) ≤ deepest
   pub full : T (fields_full (fields_of item))
@@ -61,14 +61,9 @@ names_few projects.KeysOnly = true
 names_few (projects.Include names) = nat_lt 0 (length names) &&
     (nat_le (length names) most_included && list_all (λ n. nat_lt 0 (length n)) names)
 
--- a name is that of a key attribute of the table or of an index
-abbrev pub is_used : TableSchema → List ℕ → Bool
-is_used d name = is_key d.hash d.range name || list_any (λ i. is_key i.hash i.range name)
-    (indexes d)
-
 -- A description as it is made: the table and its indexes have names; keys, local indexes and projections are as they have to be; at
--- most 5 local and 20 global indexes of different names, each built whole; and exactly the key attributes are defined, none of them
--- twice.
+-- most 5 local and 20 global indexes of different names, of which at most one is being built; and exactly the key attributes are
+-- defined, none of them twice.
 pub record IsMade (d : TableSchema) : Type 0 where
   pub spelled : is_name d.name ≡ true
   pub indexes_spelled : list_all (λ i. is_name i.name) (indexes d) ≡ true
@@ -80,27 +75,18 @@ pub record IsMade (d : TableSchema) : Type 0 where
   pub projections : list_all (λ i. names_few i.projection) (indexes d) ≡ true
   pub locals_few : length d.locals ≤ most_locals
   pub globals_few : length d.globals ≤ most_globals
-  pub built : list_all (λ i. is_whole i.built) (indexes d) ≡ true
+  pub built : IsBuilt d
   pub whole : IsDescription d
 
 -- ---- changes
-
--- An item that was at a place once: it is as an item there has to be, but that its keys in indexes may not fit.
-pub record WasStored (d : TableSchema) (place : List ℕ) (item : List Pair) : Type 0 where
-  pub stands : place_of d item ≡ Some place
-  pub fits : key_fits d item ≡ true
-  pub size : item_size item ≤ LARGEST_ITEM
-  pub depth : fields_depth (fields_of item) ≤ deepest
-  pub full : T (fields_full (fields_of item))
-  pub names : IsItem item
 
 -- A change has a number below the next. The old item and the new one differ, and those of them that are there have one and the same key.
 pub record IsChange (d : TableSchema) (next : ℕ) (c : Change) : Type 0 where
   pub number : c.number < next
   pub differ : c.old ≢ c.new
   pub place : List ℕ
-  pub old : IfSome c.old (WasStored d place)
-  pub new : IfSome c.new (WasStored d place)
+  pub old : IfSome c.old (IsStored d place)
+  pub new : IfSome c.new (IsStored d place)
 
 -- The changes of a table rise by their numbers, from above the number of the last that was trimmed, which is below the next; and one
 -- without a stream has none and trimmed none.

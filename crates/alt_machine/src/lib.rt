@@ -5,7 +5,7 @@
 #![tactic(auto)]
 
 ghost use Rattle.alt_machine.specs.Expiry.{DeletesExpired};
-ghost use Rattle.alt_machine.specs.Laws.{StepsKeepValid, OneAtom, PlacesLie, IndexPlacesLie, AllIndex, OthersExpireNone, OlderConditions, OlderKeys, OlderUpdates};
+ghost use Rattle.alt_machine.specs.Laws.{StepsKeepValid, OneAtom, BuildsKeepValid, BuildsLeaveItems, PlacesLie, IndexPlacesLie, AllIndex, OthersExpireNone, OlderConditions, OlderKeys, OlderUpdates};
 ghost use Rattle.alt_machine.specs.State.{start};
 ghost use Rattle.alt_machine.specs.Valid.{IsValid};
 
@@ -35,6 +35,7 @@ pub enum Operation {
     UpdateTimeToLive,
     DescribeTimeToLive,
     ExpireItems,
+    UpdateTable,
 }
 
 /// What a request has of an item: all of it, at its member Item, or the key alone, at Key.
@@ -108,6 +109,9 @@ pub const FIVE_YEARS: u64 = 157_680_000;
 /// The most items that an ExpireItems deletes.
 pub const MOST_EXPIRED: usize = 25;
 
+/// The items of which a Build builds an index.
+pub const BUILT_AT_ONCE: u32 = 64;
+
 /// The records of a GetRecords where the request doesn't say how many (Streams API Reference, "GetRecords").
 pub const MOST_RECORDS: u64 = 1000;
 
@@ -115,18 +119,21 @@ pub const MOST_RECORDS: u64 = 1000;
 pub const BATCH_BYTES: u64 = 16_777_216;
 
 /// The laws of the machine: the state of an empty store is valid, each request leads from a valid state to a valid one and has one atom
-/// at most, the items of a table and of an index lie by their keys, and an index has the items of its table that have its keys; an
-/// ExpireItems deletes exactly the items that it names, and no other request deletes one because of its time; the trees of members of the
-/// older interface mean what these ask. It does nothing.
+/// at most, and so does a step in which an index is built; the items of a table and of an index lie by their keys, and an index has the
+/// items of its table that have its keys; an ExpireItems deletes exactly the items that it names, no other request deletes one because
+/// of its time, and a step in which an index is built none at all; the trees of members of the older interface mean what these ask. It
+/// does nothing.
 pub fn laws()
     ensures start { IsValid start }
     ensures steps { StepsKeepValid }
     ensures one_atom { OneAtom }
+    ensures builds { BuildsKeepValid }
     ensures places { PlacesLie }
     ensures index_places { IndexPlacesLie }
     ensures indexes { AllIndex }
     ensures expiry { DeletesExpired }
     ensures others { OthersExpireNone }
+    ensures items_left { BuildsLeaveItems }
     ensures older_conditions { OlderConditions }
     ensures older_keys { OlderKeys }
     ensures older_updates { OlderUpdates }

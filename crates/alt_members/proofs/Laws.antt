@@ -24,7 +24,7 @@ use Rattle.alt_machine.specs.Replies.{answers}
 use Rattle.alt_machine.specs.Sources.{hash_of, if_readable, index_asked, index_at, index_named}
 use Rattle.alt_machine.specs.Streams.{arn_in, stream_at}
 use Rattle.alt_schema.specs.Described.{described_by, description_of}
-use Rattle.alt_schema.specs.Indexes.{indexes, is_named}
+use Rattle.alt_schema.specs.Indexes.{indexes, is_read_as}
 use Rattle.alt_schema.specs.Rules.{refusal_of, refused_for}
 use Rattle.alt_schema.specs.Stated.{stated}
 use Rattle.alt_schema.specs.declared.schema.IndexSchema.{IndexSchema}
@@ -49,10 +49,11 @@ use Rattle.alt_machine.specs.Ops.DescribeStream.{describe_stream}
 use Rattle.alt_machine.specs.Ops.GetShardIterator.{get_shard_iterator}
 use Rattle.alt_machine.specs.Ops.GetRecords.{get_records}
 use Rattle.alt_machine.specs.Ops.DescribeTimeToLive.{describe_time_to_live}
+use Rattle.alt_machine.specs.Ops.UpdateTable.{update_table}
 use Rattle.alt_machine.specs.Ops.UpdateTimeToLive.{update_time_to_live}
 use Rattle.alt_machine.specs.State.{State, Table}
 use Rattle.alt_machine.specs.declared.Operation.{Operation}
-use Rattle.alt_machine.specs.declared.Operation.TheVariants.{CreateTable, DescribeTable, ListTables, DeleteTable, PutItem, GetItem, DeleteItem, UpdateItem, Query, Scan, BatchWriteItem, BatchGetItem, ListStreams, DescribeStream, GetShardIterator, GetRecords, UpdateTimeToLive, DescribeTimeToLive, ExpireItems}
+use Rattle.alt_machine.specs.declared.Operation.TheVariants.{CreateTable, DescribeTable, ListTables, DeleteTable, PutItem, GetItem, DeleteItem, UpdateItem, Query, Scan, BatchWriteItem, BatchGetItem, ListStreams, DescribeStream, GetShardIterator, GetRecords, UpdateTimeToLive, DescribeTimeToLive, ExpireItems, UpdateTable}
 use Rattle.alt_named.specs.Named.{AreSame, SaysNamed, is_among}
 use Rattle.alt_shape.specs.Bodies as bodies
 use Rattle.alt_shape.specs.Shape.{given, natural_of, unless_null}
@@ -256,7 +257,7 @@ module _ (s : State) (moment : ℕ) (ms bs : Members) where
         → index_named d ms name ≡ index_named d bs name
     query_named d None = refl
     query_named d (Some name) = λ i.
-        or_refused no_such_index (position (is_named name) (indexes d))
+        or_refused no_such_index (position (is_read_as name) (indexes d))
         >>= (λ number. query_readable d number i)
 
     query_index : (d : TableSchema) → index_asked d ms ≡ index_asked d bs
@@ -379,7 +380,7 @@ module _ (s : State) (moment : ℕ) (ms bs : Members) where
         → index_named d ms name ≡ index_named d bs name
     scan_named d None = refl
     scan_named d (Some name) = λ i.
-        or_refused no_such_index (position (is_named name) (indexes d))
+        or_refused no_such_index (position (is_read_as name) (indexes d))
         >>= (λ number. scan_readable d number i)
 
     scan_index : (d : TableSchema) → index_asked d ms ≡ index_asked d bs
@@ -544,6 +545,16 @@ module _ (s : State) (moment : ℕ) (ms bs : Members) where
       let at = same (heeded DescribeTimeToLive) ms bs h in
       rw (at (codes "TableName") refl) refl
 
+  pub update_table_heeds : AreSame (heeded UpdateTable) ms bs → update_table s ms ≡ update_table s bs
+  unfolding update_table bodies.update_table
+  update_table_heeds h =
+      let at = same (heeded UpdateTable) ms bs h in
+      rw (
+        at (codes "TableName") refl,
+        at (codes "AttributeDefinitions") refl,
+        at (codes "GlobalSecondaryIndexUpdates") refl,
+      ) refl
+
 -- so for each operation
 pub heeds : (op : Operation) → Heeds op
 heeds CreateTable s moment ms bs h = create_table_heeds s moment ms bs h
@@ -565,6 +576,7 @@ heeds GetRecords s moment ms bs h = get_records_heeds s moment ms bs h
 heeds UpdateTimeToLive s moment ms bs h = update_time_heeds s moment ms bs h
 heeds DescribeTimeToLive s moment ms bs h = describe_time_heeds s moment ms bs h
 heeds ExpireItems s moment ms bs h = refl
+heeds UpdateTable s moment ms bs h = update_table_heeds s moment ms bs h
 
 -- so a body of which these are read is enough
 pub suffices : (op : Operation) (body found : Option Members) → SaysNamed (heeded op) body found

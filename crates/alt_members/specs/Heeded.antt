@@ -4,7 +4,7 @@ use Rattle.serde_json.specs.Data.{Members}
 use Rattle.alt_machine.specs.State.{State}
 use Rattle.alt_machine.specs.Step.{operates, with_body}
 use Rattle.alt_machine.specs.declared.Operation.{Operation}
-use Rattle.alt_machine.specs.declared.Operation.TheVariants.{CreateTable, DescribeTable, ListTables, DeleteTable, PutItem, GetItem, DeleteItem, UpdateItem, Query, Scan, BatchWriteItem, BatchGetItem, ListStreams, DescribeStream, GetShardIterator, GetRecords, UpdateTimeToLive, DescribeTimeToLive, ExpireItems}
+use Rattle.alt_machine.specs.declared.Operation.TheVariants.{CreateTable, DescribeTable, ListTables, DeleteTable, PutItem, GetItem, DeleteItem, UpdateItem, Query, Scan, BatchWriteItem, BatchGetItem, ListStreams, DescribeStream, GetShardIterator, GetRecords, UpdateTimeToLive, DescribeTimeToLive, ExpireItems, UpdateTable}
 use Rattle.alt_named.specs.Named.{AreSame}
 
 -- by their names
@@ -50,6 +50,8 @@ heeded GetRecords = codes "ShardIterator" ∷ codes "Limit" ∷ []
 heeded UpdateTimeToLive = codes "TableName" ∷ codes "TimeToLiveSpecification" ∷ []
 heeded DescribeTimeToLive = codes "TableName" ∷ []
 heeded ExpireItems = []
+heeded UpdateTable = codes "TableName" ∷ codes "AttributeDefinitions" ∷
+    codes "GlobalSecondaryIndexUpdates" ∷ []
 
 -- two bodies that have the same at these names come to the same
 abbrev pub Heeds : Operation → Type 0

@@ -37,6 +37,7 @@ pub fn heeded(operation: Operation) -> &'static [&'static str]
         Operation::UpdateTimeToLive => &UPDATE_TIME_TO_LIVE,
         Operation::DescribeTimeToLive => &TABLE,
         Operation::ExpireItems => &NONE,
+        Operation::UpdateTable => &UPDATE_TABLE,
     }
 }
 
@@ -47,6 +48,12 @@ static CREATE_TABLE: [&str; 6] = [
     "LocalSecondaryIndexes",
     "GlobalSecondaryIndexes",
     "StreamSpecification",
+];
+
+static UPDATE_TABLE: [&str; 3] = [
+    "TableName",
+    "AttributeDefinitions",
+    "GlobalSecondaryIndexUpdates",
 ];
 
 /// Of an operation that takes the name of a table alone.

@@ -1,4 +1,6 @@
 -- Each operation's writes keep what is valid.
+use Rattle.alt_machine.proofs.BuildSteps.{builds_keep_valid}
+use Rattle.alt_machine.proofs.BuildItems.{builds_leave_items}
 use Rattle.alt_machine.proofs.Expirations.{deletes_expired}
 use Rattle.alt_machine.proofs.Indexing.{index_places_lie, all_index}
 use Rattle.alt_legacy.proofs.Keyed.{keys_asked}
@@ -18,6 +20,9 @@ returns-clause-steps c = step_valid
 pub returns-clause-one_atom : goal.returns-clause-one_atom
 returns-clause-one_atom c = one_atom
 
+pub returns-clause-builds : goal.returns-clause-builds
+returns-clause-builds c = builds_keep_valid
+
 pub returns-clause-places : goal.returns-clause-places
 returns-clause-places c = places_lie
 
@@ -32,6 +37,9 @@ returns-clause-expiry c = deletes_expired
 
 pub returns-clause-others : goal.returns-clause-others
 returns-clause-others c = others_expire_none
+
+pub returns-clause-items_left : goal.returns-clause-items_left
+returns-clause-items_left c = builds_leave_items
 
 pub returns-clause-older_conditions : goal.returns-clause-older_conditions
 returns-clause-older_conditions c = older_conditions

@@ -1,5 +1,5 @@
 -- The change of the row of number 0 where the trimmed number rises, and rows of different numbers that are hidden.
-use Rattle.std.proofs.Common.{◌≡◌, ◌≢◌, ◌<◌, ◌≤◌, ◌^◌, refl, sym, ap, subst, ◌∙◌, ℕ, Bool, true, false, cond, not, List, [], ◌∷◌, ◌++◌, length, map, take, Option, Some, None, All, bytes_eq, codes, get_or, arith}
+use Rattle.std.proofs.Common.{◌≡◌, ◌≢◌, ◌<◌, ◌≤◌, ◌^◌, refl, sym, ap, subst, ◌∙◌, ℕ, Bool, true, false, cond, not, List, [], ◌∷◌, ◌++◌, length, map, take, Some, None, All, bytes_eq, codes, get_or, arith}
 use Rattle.std.proofs.lemmas.Bool.{eqb-true, eqb-false}
 use Rattle.std.proofs.lemmas.List.{get_or-take, get_or_default, length-take-le}
 use Rattle.std.proofs.lemmas.List.Elements.{All-head, All-tail, All-weaker}
@@ -10,11 +10,10 @@ use Rattle.std.specs.Int.{w64, to_be_bytes}
 use Rattle.std.specs.Option.{option_map_or}
 use Rattle.std.specs.Prelude.{◌==◌, ◌&&◌, ◌||◌, AllPairs, if◌then◌else◌, is_none}
 use Rattle.alt_cells.specs.Batches.{has_row}
-use Rattle.alt_cells.specs.Changes.{Columns, Given, CanShow, change_between, changed_cells, differs, gone_cells, is_changed, with_value, without_value}
+use Rattle.alt_cells.specs.Changes.{Columns, Given, change_between, changed_cells, differs, gone_cells, is_changed, with_value, without_value}
 use Rattle.alt_cells.specs.Keys.{key_cmp}
 use Rattle.alt_cells.specs.declared.batch.RowChange.{RowChange}
 use Rattle.alt_cells.proofs.CellLaws.{key_total}
-use Rattle.alt_cells.proofs.ChangeLaws.{none_shown}
 use Rattle.alt_changes.specs.ChangeRows.{row_key}
 use Rattle.alt_changes.specs.TrimRows.{AreLeft, hidden, trim_changes, trimmed_changes, trimmed_columns, trimmed_row}
 use Rattle.alt_schema.specs.declared.schema.TableSchema.{TableSchema}

@@ -3,7 +3,7 @@ use Rattle.std.proofs.Common.{◌≡◌, ◌<◌, refl, sym, ap, subst, ◌∙�
 use Rattle.std.proofs.lemmas.Bool.{false≢true}
 use Rattle.std.proofs.lemmas.Map.Text.{is_eq-slice_cmp}
 use Rattle.std.proofs.lemmas.Slice.Eq.{bytes_eq-Decides}
-use Rattle.std.specs.Prelude.{◌&&◌, ◌||◌, if◌then◌else◌, is_some, is_none, option_and_then}
+use Rattle.std.specs.Prelude.{◌&&◌, ◌||◌, if◌then◌else◌, is_none, option_and_then}
 use Rattle.std.specs.Option.{option_map_or}
 use Rattle.std.specs.List.{list_any}
 use Rattle.std.specs.Str.{bytes_eq}
@@ -14,8 +14,11 @@ use Rattle.alt_cells.specs.Keys.{key_cmp}
 use Rattle.alt_cells.specs.declared.batch.RowChange.{RowChange}
 use Rattle.alt_cells.proofs.Searched.{get_entry}
 use Rattle.alt_keyorder.specs.Place.{Place, place_bytes}
+use Rattle.alt_machine.specs.Building.{is_reached, reaches}
 use Rattle.alt_machine.specs.Indexed.{index_place}
-use Rattle.alt_schema.specs.Indexes.{has_part, is_in_index, is_key, is_projected, cut, of_range, stands_in}
+use Rattle.alt_machine.specs.Keys.{place_of}
+use Rattle.alt_schema.specs.Bare.{is_whole}
+use Rattle.alt_schema.specs.Indexes.{has_part, is_in_index, is_key, is_key_value, is_projected, cut, longest_hash, longest_range, of_range, stands_in}
 use Rattle.alt_schema.specs.declared.schema.IndexSchema.{IndexSchema}
 use Rattle.alt_schema.specs.declared.schema.KeyAttr.{KeyAttr}
 use Rattle.alt_schema.specs.declared.schema.TableSchema.{TableSchema}
@@ -24,8 +27,8 @@ use Rattle.alt_value.specs.Members.{text_order}
 use Rattle.alt_value.specs.Tree.{Pair}
 use Rattle.alt_value.proofs.Texts.{text_total, text_apart}
 use Rattle.alt_views.specs.private.Changed.{AreAlikeBeside, DifferAt, may_change}
-use Rattle.alt_views.specs.IndexRows.{KeyedRow, changes_in, if_said, index_columns, moved_changes, row_in_index}
-use Rattle.alt_views.proofs.Keeping.{hash_is_key, range_is_key, own_kept, place-cut, same_name}
+use Rattle.alt_views.specs.IndexRows.{KeyedRow, built_row, changes_in, if_said, index_columns, moved_changes, row_in_index}
+use Rattle.alt_views.proofs.Keeping.{hash_is_key, range_is_key, own_kept, own_place-cut, place-cut, same_name}
 use Rattle.alt_views.proofs.Parts.{at_name-where}
 
 -- ---- a row that stays says nothing
@@ -105,21 +108,24 @@ module _ (d : TableSchema) (i : IndexSchema) where
       by q false kept = refl
 
   -- a key attribute that is kept is in what is kept exactly where it is in the item
-  has-cut : (item : List Pair) (key : KeyAttr) → is_projected d i key.name ≡ true
-      → has_part (cut d i item) key ≡ has_part item key
-  has-cut item key kept = ap is_some (at_name-where (is_projected d i) key.name item
+  has-cut : (most : ℕ) (item : List Pair) (key : KeyAttr) → is_projected d i key.name ≡ true
+      → has_part most (cut d i item) key ≡ has_part most item key
+  has-cut most item key kept = ap (λ o. option_map_or (is_key_value most key.kind) o false)
+      (at_name-where (is_projected d i) key.name item
       ∙ ap (λ b. cond b (at_name key.name item) None) kept)
 
   -- what is kept of an item is in the index exactly where the item is
   in-cut : (item : List Pair) → is_in_index i (cut d i item) ≡ is_in_index i item
-  in-cut item = λ j. has-cut item i.hash (own_kept d i i.hash.name (hash_is_key i.hash i.range)) j
+  in-cut item = λ j. has-cut longest_hash item i.hash
+      (own_kept d i i.hash.name (hash_is_key i.hash i.range)) j
       && range i.range (own_kept d i) j
     where
       range : (r : Option KeyAttr)
           → ((name : List ℕ) → is_key i.hash r name ≡ true → is_projected d i name ≡ true)
-          → of_range (has_part (cut d i item)) true r ≡ of_range (has_part item) true r
+          → of_range (has_part longest_range (cut d i item)) true r
+          ≡ of_range (has_part longest_range item) true r
       range None kept = refl
-      range (Some r) kept = has-cut item r (kept r.name (range_is_key i.hash r))
+      range (Some r) kept = has-cut longest_range item r (kept r.name (range_is_key i.hash r))
 
   -- a row by whether it is there, its place and what is kept
   row_by : Bool → Option Place → List Pair → Option KeyedRow
@@ -138,6 +144,16 @@ module _ (d : TableSchema) (i : IndexSchema) where
       sym (place-cut d i o) ∙ ap (index_place d i) same ∙ place-cut d i n in
       λ j. row_by (there j) (place j) (same j)
 
+  -- an index is built of both or of neither
+  reached-alike : (o n : List Pair) → cut d i o ≡ cut d i n
+      → is_reached d i.built o ≡ is_reached d i.built n
+  reached-alike o n same = ap (λ p. option_map_or (reaches d i.built) p (is_whole i.built))
+      (sym (own_place-cut d i o) ∙ ap (place_of d) same ∙ own_place-cut d i n)
+
+  -- so they have one row as far as it is built
+  pub built-alike : (o n : List Pair) → cut d i o ≡ cut d i n → built_row d i o ≡ built_row d i n
+  built-alike o n same = λ j. if reached-alike o n same j then row-alike o n same j else None
+
   -- An index that keeps none of the names at which items differ has no change.
   pub nothing_changes : (names : Option (List (List ℕ))) (old new : Option (List Pair))
       → DifferAt names old new → may_change d i names ≡ false → changes_in d old new i ≡ []
@@ -145,6 +161,6 @@ module _ (d : TableSchema) (i : IndexSchema) where
   nothing_changes (Some names) None new differ unkept = absurd differ
   nothing_changes (Some names) (Some o) None differ unkept = absurd differ
   nothing_changes (Some names) (Some o) (Some n) differ unkept =
-      ap (λ r. moved_changes i.family r (row_in_index d i n))
-      (row-alike o n (cut-alike names o n differ unkept))
-      ∙ moved_changes-same i.family (row_in_index d i n)
+      ap (λ r. moved_changes i.family r (built_row d i n))
+      (built-alike o n (cut-alike names o n differ unkept))
+      ∙ moved_changes-same i.family (built_row d i n)

@@ -13,9 +13,10 @@ use Rattle.alt_schema.specs.declared.schema.KeyAttr.{KeyAttr}
 use Rattle.alt_value.specs.Item.{IsItem, at_name, with_pair}
 use Rattle.alt_value.specs.Members.{text_order}
 use Rattle.alt_value.specs.Tree.{Tree, Pair}
+use Rattle.alt_value.proofs.Entries.{IsItem-with_pair}
 use Rattle.alt_value.proofs.Texts.{text_total, text_apart}
 use Rattle.alt_views.specs.IndexRows.{beside}
-use Rattle.alt_views.specs.Read.{IsRangeOf, with_range, with_values}
+use Rattle.alt_views.specs.Read.{AreValuesOf, IsRangeOf, with_range, with_values}
 use Rattle.alt_views.proofs.Parts.{at_name-where, ties}
 use Rattle.alt_views.proofs.Values.{HasValues, StandsAt}
 
@@ -98,6 +99,22 @@ agrees-values whole item names hash range values has agrees =
     by_range (Some r) (Some t) is stands of agrees =
         agrees-put whole (with_pair hash.name values.hash item) r.name names t stands
         (agrees-put whole item hash.name (r.name ∷ names) values.hash has.hash_at agrees)
+
+-- an item with the values of a key is an item
+pub values_item : (hash : KeyAttr) (range : Option KeyAttr) (values : KeyValues) (item : List Pair)
+    → AreValuesOf hash range values → IsItem item → IsItem (with_values hash range values item)
+values_item hash range values item are item_is = by range values.range are.1
+  where
+    put : IsItem (with_pair hash.name values.hash item)
+    put = IsItem-with_pair hash.name values.hash item are.0.1 item_is
+
+    by : (r : Option KeyAttr) (o : Option Tree) → IsRangeOf r o
+        → IsItem (with_range r o (with_pair hash.name values.hash item))
+    by None None of = put
+    by None (Some t) of = absurd of
+    by (Some r) None of = absurd of
+    by (Some r) (Some t) of = IsItem-with_pair r.name t (with_pair hash.name values.hash item)
+        of.1 put
 
 -- an item that agrees everywhere is the whole
 pub agrees_all : (whole item : List Pair) → IsItem whole → IsItem item → AgreesBut whole [] item

@@ -5,9 +5,9 @@ use Rattle.std.proofs.lemmas.Slice.Eq.{bytes_eq-Decides}
 use Rattle.std.specs.Prelude.{◌&&◌, ◌||◌, not, if◌then◌else◌, option_and_then, unwrap_or}
 use Rattle.std.specs.List.{list_all}
 use Rattle.std.specs.Str.{bytes_eq}
-use Rattle.alt_keyorder.specs.Place.{place_bytes}
+use Rattle.alt_keyorder.specs.Place.{place_bytes, place_in_table}
 use Rattle.alt_machine.specs.Indexed.{values_beside, values_of, place_of_both, index_place, index_entry}
-use Rattle.alt_machine.specs.Keys.{if_key, key_value}
+use Rattle.alt_machine.specs.Keys.{if_key, key_value, place_beside, place_of}
 use Rattle.alt_machine.specs.Sources.{index_at}
 use Rattle.alt_machine.specs.Valid.{IsMade, is_pair}
 use Rattle.alt_machine.proofs.Indexing.{is_entry}
@@ -115,6 +115,26 @@ place-cut d i item =
     λ j. option_and_then (λ own. option_map (place_of_both own)
     (values-cut d i item d.hash d.range (table_kept d i) j))
     (values-cut d i item i.hash i.range (own_kept d i) j)
+
+-- and the place in the table
+pub own_place-cut : (d : TableSchema) (i : IndexSchema) (item : List Pair)
+    → place_of d (cut d i item) ≡ place_of d item
+own_place-cut d i item = ap (option_map place_bytes)
+    (ap (option_and_then (place_beside (cut d i item) d.range))
+    (value-cut d i item d.hash (table_kept d i d.hash.name (hash_is_key d.hash d.range)))
+    ∙ by_hash (key_value item d.hash))
+  where
+    beside : (r : Option KeyAttr) → d.range ≡ r → (h : Tree)
+        → place_beside (cut d i item) r h ≡ place_beside item r h
+    beside None e h = refl
+    beside (Some r) e h = ap (option_map (λ r. place_in_table h (Some r)))
+        (value-cut d i item r (table_kept d i r.name
+        (ap (λ o. is_key d.hash o r.name) e ∙ range_is_key d.hash r)))
+
+    by_hash : (o : Option Tree) → option_and_then (place_beside (cut d i item) d.range) o
+        ≡ option_and_then (place_beside item d.range) o
+    by_hash None = refl
+    by_hash (Some h) = beside d.range refl h
 
 -- ---- names of keys
 

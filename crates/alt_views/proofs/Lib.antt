@@ -6,9 +6,12 @@ pub mod Columns
 pub mod Cuts
 pub mod ItemRowLaws
 pub mod Keeping
+pub mod KeyBack
 pub mod Moved
 pub mod Numbers
 pub mod Parts
 pub mod Placing
+pub mod Reached
 pub mod Reading
+pub mod Taken
 pub mod Values

@@ -1,10 +1,14 @@
 -- The place of the first of two lists' elements that passes a test.
-use Rattle.std.proofs.Common.{◌≡◌, refl, sym, ap, subst, ◌∙◌, ℕ, suc, ◌+◌, ◌<◌, Bool, true, false, cond, not, nat_lt, List, [], ◌∷◌, ◌++◌, length, Option, Some, None, option_map, arith}
+use Rattle.std.proofs.Common.{◌≡◌, refl, sym, ap, subst, ◌∙◌, ℕ, suc, ◌+◌, ◌<◌, Bool, true, false, cond, not, nat_lt, List, [], ◌∷◌, ◌++◌, length, Option, Some, None, option_map, arith, slice_get, ◌&&◌}
 use Rattle.std.specs.Prelude.{IfSome, unwrap_or}
 use Rattle.std.specs.List.{position, position_or_len}
 use Rattle.std.proofs.lemmas.Bool.{ltb-true}
 use Rattle.std.proofs.lemmas.Bool.Decides.{nat_tests}
 use Rattle.std.proofs.lemmas.Grind.{common_steps}
+use Rattle.alt_schema.specs.Bare.{is_whole}
+use Rattle.alt_schema.specs.Indexes.{indexes, is_named, is_read_as}
+use Rattle.alt_schema.specs.declared.schema.TableSchema.{TableSchema}
+use Rattle.alt_views.specs.Readable.{CanRead}
 
 -- the place in both lists, from those in each
 abbrev pub in_both : Option ℕ → ℕ → Option ℕ → Option ℕ
@@ -83,3 +87,43 @@ pub found_within : {X : Type 0} (p : X → Bool) (xs : List X) (r : Option ℕ) 
     → IfSome r (λ i. i < length xs)
 found_within p xs None e = tt
 found_within p xs (Some i) e = place_below p xs i (sym e)
+
+module _ {X : Type 0} (p : X → Bool) where
+  -- what stands at a place that is found passes
+  pub place_passes : (xs : List X) (i : ℕ) (x : X) → position p xs ≡ Some i
+      → slice_get xs i ≡ Some x → p x ≡ true
+  place_passes [] i x e at = absurd (let f : ⊥ = cc in f)
+  place_passes (y ∷ ys) i x e at =
+      by (λ k here next. place_passes ys k x here next) (p y) refl
+      (sym (position-cons p y ys) ∙ e)
+    where
+      behind : ((k : ℕ) → position p ys ≡ Some k → slice_get ys k ≡ Some x → p x ≡ true)
+          → (o : Option ℕ) → position p ys ≡ o → option_map suc o ≡ Some i → p x ≡ true
+      behind further None here f = absurd (let g : ⊥ = cc in g)
+      behind further (Some k) here f =
+          let same : suc k ≡ i = ap (λ (o : Option ℕ). unwrap_or o 0) f in
+          further k here (subst (λ n. slice_get (y ∷ ys) n ≡ Some x) (sym same) at)
+
+      by : ((k : ℕ) → position p ys ≡ Some k → slice_get ys k ≡ Some x → p x ≡ true)
+          → (b : Bool) → p y ≡ b → cond b (Some 0) (option_map suc (position p ys)) ≡ Some i
+          → p x ≡ true
+      by further true c f =
+          let first : 0 ≡ i = ap (λ (o : Option ℕ). unwrap_or o 0) f in
+          let here : Some y ≡ Some x =
+          subst (λ n. slice_get (y ∷ ys) n ≡ Some x) (sym first) at in
+          subst (λ z. p z ≡ true) (ap (λ (o : Option X). unwrap_or o y) here) c
+      by further false c f = behind further (position p ys) refl f
+
+-- An index that is found by its name can be read.
+pub found_read : (d : TableSchema) (name : List ℕ) (r : Option ℕ)
+    → r ≡ position (is_read_as name) (indexes d) → IfSome r (λ number. CanRead d number)
+found_read d name None e = tt
+found_read d name (Some number) e = (
+  place_below (is_read_as name) (indexes d) number (sym e),
+  λ i at. read (is_named name i) (is_whole i.built)
+      (place_passes (is_read_as name) (indexes d) number i (sym e) at),
+)
+  where
+    read : (a b : Bool) → (a && b) ≡ true → b ≡ true
+    read true b h = h
+    read false b h = absurd (let f : ⊥ = cc in f)

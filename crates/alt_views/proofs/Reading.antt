@@ -13,17 +13,14 @@ use Rattle.alt_machine.specs.Indexed.{KeyValues, index_place}
 use Rattle.alt_machine.proofs.Indexing.{has_keys}
 use Rattle.alt_schema.specs.Indexes.{is_key}
 use Rattle.alt_schema.specs.declared.schema.IndexSchema.{IndexSchema}
-use Rattle.alt_schema.specs.declared.schema.KeyAttr.{KeyAttr}
 use Rattle.alt_schema.specs.declared.schema.TableSchema.{TableSchema}
-use Rattle.alt_value.specs.Item.{IsItem, with_pair}
-use Rattle.alt_value.specs.Tree.{Tree, Pair}
-use Rattle.alt_value.proofs.Entries.{IsItem-with_pair}
+use Rattle.alt_value.specs.Tree.{Pair}
 use Rattle.alt_views.specs.IndexRows.{beside_keys}
 use Rattle.alt_views.specs.ItemRows.{IsReadItem, item_columns}
-use Rattle.alt_views.specs.Read.{AreValuesOf, IsKeptAt, IsRangeOf, Reads, Takes, with_range, with_values}
+use Rattle.alt_views.specs.Read.{IsKeptAt, Reads, Takes, with_values}
 use Rattle.alt_views.specs.declared.item_row.Unread.{Unread}
 use Rattle.alt_views.specs.declared.item_row.Unread.TheVariants.{Bad, NoMemory}
-use Rattle.alt_views.proofs.Back.{agrees-beside, agrees-values, agrees_all, agrees_itself, names_of}
+use Rattle.alt_views.proofs.Back.{agrees-beside, agrees-values, agrees_all, agrees_itself, names_of, values_item}
 use Rattle.alt_views.proofs.ItemRowLaws.{item_columns-one}
 use Rattle.alt_views.proofs.Parts.{read-where}
 use Rattle.alt_views.proofs.Placing.{place_both}
@@ -51,7 +48,7 @@ reads_none wanted key behind item NoMemory kept takes = tt
 -- ---- the key of a row
 
 -- what stands behind the bytes of a token
-behind_token : (n : ℕ) (rest : List ℕ) → drop 8 (to_be_bytes w64 n ++ rest) ≡ rest
+pub behind_token : (n : ℕ) (rest : List ℕ) → drop 8 (to_be_bytes w64 n ++ rest) ≡ rest
 behind_token n rest = refl
 
 -- a mapped option that has a value has it from one that was there
@@ -103,21 +100,6 @@ module _ (d : TableSchema) (i : IndexSchema) (kept : List Pair) (key : List ℕ)
       (sym read.1 ∙ is.shows)
 
   -- ---- the item
-
-  values_item : (hash : KeyAttr) (range : Option KeyAttr) (values : KeyValues) (item : List Pair)
-      → AreValuesOf hash range values → IsItem item → IsItem (with_values hash range values item)
-  values_item hash range values item are item_is = by range values.range are.1
-    where
-      put : IsItem (with_pair hash.name values.hash item)
-      put = IsItem-with_pair hash.name values.hash item are.0.1 item_is
-
-      by : (r : Option KeyAttr) (o : Option Tree) → IsRangeOf r o
-          → IsItem (with_range r o (with_pair hash.name values.hash item))
-      by None None of = put
-      by None (Some t) of = absurd of
-      by (Some r) None of = absurd of
-      by (Some r) (Some t) of = IsItem-with_pair r.name t (with_pair hash.name values.hash item)
-          of.1 put
 
   -- with the values of both keys put back they are what the index keeps
   pub put_back : (own of_table : KeyValues) → HasValues kept i.hash i.range own

@@ -14,11 +14,11 @@ use Rattle.alt_machine.proofs.Placed.{field_value}
 use Rattle.alt_views.specs.Read.{AreValuesOf}
 
 -- options that are equal have equal values
-some : {A : Type 0} (x y : A) → Some x ≡ Some y → x ≡ y
+pub some : {A : Type 0} (x y : A) → Some x ≡ Some y → x ≡ y
 some x y e = ap (λ o. unwrap_or o x) e
 
 -- an option without a value isn't one with a value
-none : {A : Type 0} (x : A) → None ≡ Some x → ⊥
+pub none : {A : Type 0} (x : A) → None ≡ Some x → ⊥
 none x e = let no : None ≡ Some x = e in cc no
 
 -- a value that is taken where a test passes is that value, where one is taken

@@ -7,6 +7,7 @@ use Rattle.std.specs.FinMap.Entries.{where_key}
 use Rattle.alt_cells.specs.declared.batch.RowChange.{RowChange}
 use Rattle.alt_cells.specs.Changes.{Columns, change_between}
 use Rattle.alt_cells.specs.Keys.{key_cmp}
+use Rattle.alt_machine.specs.Building.{is_reached}
 use Rattle.alt_machine.specs.Indexed.{index_entry}
 use Rattle.alt_schema.specs.Indexes.{indexes, is_key}
 use Rattle.alt_schema.specs.declared.schema.IndexSchema.{IndexSchema}
@@ -38,6 +39,10 @@ index_columns d i kept = item_columns (beside_keys d i kept)
 abbrev pub row_in_index : TableSchema → IndexSchema → List Pair → Option KeyedRow
 row_in_index d i item = option_map (λ e. (e.0, index_columns d i e.1)) (index_entry d i item)
 
+-- the same, if the index is built of it
+abbrev pub built_row : TableSchema → IndexSchema → List Pair → Option KeyedRow
+built_row d i item = if is_reached d i.built item then row_in_index d i item else None
+
 -- ---- changes
 
 -- a change that says nothing isn't made
@@ -58,11 +63,17 @@ moved_changes family (Some o) (Some n) =
     if eq_by_cmp key_cmp n.0 o.0 then if_said (change_between family o.0 (Some o.1) (Some n.1))
     else change_between family o.0 (Some o.1) None ∷ change_between family n.0 None (Some n.1) ∷ []
 
--- the changes of the rows of one index when an item, if one was there, gives way to another, if one comes
+-- the changes of the rows of one index that is built of all items, when an item, if one was there, gives way to another, if one comes
+abbrev pub moves_in : TableSchema → Option (List Pair) → Option (List Pair) → IndexSchema
+    → List RowChange
+moves_in d old new i = moved_changes i.family (option_and_then (row_in_index d i) old)
+    (option_and_then (row_in_index d i) new)
+
+-- and of one that is built of some
 abbrev pub changes_in : TableSchema → Option (List Pair) → Option (List Pair) → IndexSchema
     → List RowChange
-changes_in d old new i = moved_changes i.family (option_and_then (row_in_index d i) old)
-    (option_and_then (row_in_index d i) new)
+changes_in d old new i = moved_changes i.family (option_and_then (built_row d i) old)
+    (option_and_then (built_row d i) new)
 
 -- and those of all indexes of a table
 abbrev pub index_changes : TableSchema → Option (List Pair) → Option (List Pair) → List RowChange

@@ -2,5 +2,6 @@ pub mod Batches
 pub mod IndexRows
 pub mod ItemRows
 pub mod Read
+pub mod Readable
 pub mod Values
 pub mod private

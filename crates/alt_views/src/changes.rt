@@ -7,11 +7,12 @@ ghost use Rattle.alt_schema.specs.Indexes.{indexes};
 ghost use Rattle.alt_schema.specs.declared.schema.IndexSchema.{IndexSchema};
 ghost use Rattle.alt_views.specs.Batches.{AreNew, AreOfOwnFamilies};
 ghost use Rattle.alt_views.specs.private.Changed.{DifferAt};
-ghost use Rattle.alt_views.specs.IndexRows.{changes_in, if_said, index_changes, moved_changes, row_in_index};
+ghost use Rattle.alt_views.specs.IndexRows.{built_row, changes_in, if_said, index_changes, moved_changes};
 ghost use Rattle.alt_views.specs.Read.{row_at};
 
 use crate::changed::{changed_names, may_change};
-use crate::indexed::{IndexRow, index_row};
+use crate::indexed::IndexRow;
+use crate::reach::built_row;
 use crate::rows::projection::index_at;
 use alt_base::NoMemory;
 use alt_cells::{Batch, RowChange};
@@ -20,7 +21,7 @@ use alt_value::Item;
 use std::alloc::Global;
 
 /// Puts the row changes at the end of a batch that turn the index rows of an item into those of another, for every index of the table; an
-/// item that isn't there has no rows. Where a row keeps its key, only what differs is written, and nothing where nothing does. The
+/// item that isn't there has no rows, and an index that is being built has none of an item that it isn't built of. Where a row keeps its key, only what differs is written, and nothing where nothing does. The
 /// families of the indexes differ, and the batch has no change of these rows yet.
 pub fn index_changes(
     alloc: Global,
@@ -73,7 +74,7 @@ fn change_index(
     change_row(alloc, family, before, after, batch)
 }
 
-/// The row of an item, if one is there, in the index of that number.
+/// The row of an item, if one is there, in the index of that number, as far as that is built.
 fn row_of(
     alloc: Global,
     schema: &TableSchema,
@@ -83,10 +84,10 @@ fn row_of(
     requires there { number < length (indexes schema.now) }
     ensures row { (i : IndexSchema) → slice_get (indexes schema.now) number ≡ Some i
         → IfOk result (λ row. option_map row_at row
-        ≡ option_and_then (row_in_index schema.now i) (option_map (λ i. i.now) item.entry)) }
+        ≡ option_and_then (built_row schema.now i) (option_map (λ i. i.now) item.entry)) }
 {
     match item {
-        Some(item) => index_row(alloc, schema, number, item),
+        Some(item) => built_row(alloc, schema, number, item),
         None => Ok(None),
     }
 }

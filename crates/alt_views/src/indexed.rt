@@ -1,20 +1,23 @@
 //! The rows of indexes (docs/formats/table-rows.md): the keys of the index and of the table make the key of a row, and the other attributes that
 //! the index keeps its columns.
 
-ghost use Rattle.std.specs.Prelude.{◌≡◌, ◌<◌, ◌++◌, ℕ, List, IfOk, drop, length, option_map, option_and_then, slice_get};
+ghost use Rattle.std.specs.Prelude.{◌≡◌, ◌<◌, ◌++◌, ℕ, List, IfOk, drop, length, option_map, option_and_then, slice_get, Err, Some};
 ghost use Rattle.std.specs.List.{flat_map};
 ghost use Rattle.alt_keyorder.specs.KeyBytes.{key_bytes};
 ghost use Rattle.alt_keyorder.specs.Place.{key_values as parts_of};
+ghost use Rattle.alt_machine.specs.Building.{built_place};
 ghost use Rattle.alt_machine.specs.Indexed as machine;
 ghost use Rattle.alt_schema.specs.Indexes.{indexes};
 ghost use Rattle.alt_value.specs.Item.{with_pair};
 ghost use Rattle.alt_value.specs.Tree.{Tree, Pair};
+ghost use Rattle.alt_value.specs.Values.{IsItemOfValues};
 ghost use Rattle.alt_views.specs.IndexRows.{beside, beside_keys, row_in_index};
 ghost use Rattle.alt_views.specs.Read.{AreValuesOf, IsKeptAt, IsValueOf, Reads, Takes, row_at, with_values};
 
 use crate::item_row::{Unread, item_of_row, row_of_item};
 use crate::place::index_place;
 use crate::rows::projection::{index_at, index_item};
+use crate::start::start_place;
 use alt_base::NoMemory;
 use alt_cells::ShownRow;
 use alt_fields::Bytes;
@@ -96,6 +99,27 @@ pub fn item_of_index_row(
     )?;
     take_key(alloc, &mut item, &schema.hash, &schema.range, key, at)?;
     Ok(item)
+}
+
+/// The key of a table of that place. It needn't be that of an item.
+pub fn key_of_place(alloc: Global, schema: &TableSchema, place: &[u8]) -> Result<Item, Unread>
+    ensures key { IfOk result (λ key. built_place schema.now key ≡ Some place.now) }
+    ensures none { result ≡ Err Unread.Bad → (key : List Pair) → IsItemOfValues key
+        → built_place schema.now key ≡ Some place.now → ⊥ }
+{
+    let mut key = Item::new(alloc);
+    let _end = take_key(
+        alloc,
+        &mut key,
+        &schema.hash,
+        &schema.range,
+        place,
+        TOKEN_LENGTH,
+    )?;
+    match start_place(alloc, schema, None, &key)? {
+        Some(own) if own.as_slice() == place => Ok(key),
+        _ => Err(Unread::Bad),
+    }
 }
 
 /// Puts the values of a key, whose parts stand at a place, into an item: where they end.

@@ -38,7 +38,7 @@ pub fn place_of(alloc: Global, schema: &TableSchema, item: &Item) -> Result<Opti
 }
 
 /// Appends the token and the part of a HASH value.
-fn put_hash(hash: &Attr, out: &mut Vec<u8>) -> Result<(), NoMemory>
+pub(crate) fn put_hash(hash: &Attr, out: &mut Vec<u8>) -> Result<(), NoMemory>
     requires { IsKey (tree_of hash.now) }
     ensures { OnOk result (out.new.items ≡ out.old.items
         ++ (to_be_bytes w64 (token_of (tree_of hash.now)) ++ key_bytes (tree_of hash.now))) }

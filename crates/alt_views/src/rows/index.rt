@@ -1,24 +1,26 @@
 //! The indexes of a table: the one of a name, and whether an item's index keys are keys.
 
-ghost use Rattle.std.specs.Prelude.{◌≡◌, ◌<◌, length, option_map, IfSome};
+ghost use Rattle.std.specs.Prelude.{◌≡◌, ◌<◌, length, IfSome};
 ghost use Rattle.std.specs.List.{position, list_all};
 ghost use Rattle.alt_value.specs.Stands.{tree_of};
-ghost use Rattle.alt_schema.specs.Indexes.{indexes, is_named, is_key_length, is_key_value, part_fits, index_fits, keys_fit};
+ghost use Rattle.alt_schema.specs.Indexes.{indexes, is_read_as, is_key_length, is_key_value, part_fits, index_fits, keys_fit};
+ghost use Rattle.alt_views.specs.Readable.{CanRead};
 
 use alt_schema::{IndexSchema, KeyAttr, TableSchema};
 use alt_value::{Attr, Item, KeyKind};
 
 /// The number of the index of that name, below the number of the indexes; none exactly where no index
-/// of the table has it.
+/// of the table has it, or it is being built.
 pub fn index_named(s: &TableSchema, name: &str) -> Option<usize>
-    ensures first { result ≡ position (is_named name.now) (indexes s.now) }
+    ensures first { result ≡ position (is_read_as name.now) (indexes s.now) }
     ensures within { IfSome result (λ number. number < length (indexes s.now)) }
+    ensures read { IfSome result (λ number. CanRead s.now number) }
 {
     number_of(s, name)
 }
 
 fn number_of(s: &TableSchema, name: &str) -> Option<usize>
-    ensures first { result ≡ position (is_named name.now) (indexes s.now) }
+    ensures first { result ≡ position (is_read_as name.now) (indexes s.now) }
 {
     let locals = s.locals.as_slice();
     match place_of(locals, name) {
@@ -28,9 +30,9 @@ fn number_of(s: &TableSchema, name: &str) -> Option<usize>
 }
 
 fn place_of(list: &[IndexSchema], name: &str) -> Option<usize>
-    ensures { result ≡ position (is_named name.now) list.now }
+    ensures { result ≡ position (is_read_as name.now) list.now }
 {
-    list.iter().position(|index| index.name.as_str() == name)
+    list.iter().position(|index| index.name.as_str() == name && index.built.is_whole())
 }
 
 /// Whether each key attribute of an index that the item has is of its kind, not empty, and at most
@@ -66,7 +68,8 @@ fn part_fits(key: &KeyAttr, most: usize, item: &Item) -> bool
     }
 }
 
-fn is_key_value(value: &Attr, kind: KeyKind, most: usize) -> bool
+/// Whether a value can be a key of that kind, with so many bytes at most.
+pub(crate) fn is_key_value(value: &Attr, kind: KeyKind, most: usize) -> bool
     ensures { result ≡ is_key_value most kind (tree_of value.now) }
 {
     match (kind, value) {

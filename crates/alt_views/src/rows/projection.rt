@@ -4,6 +4,7 @@ ghost use Rattle.std.specs.Prelude.{◌≡◌, ◌<◌, ◌+◌, Some, take, len
 ghost use Rattle.alt_value.specs.Item.{IsItem};
 ghost use Rattle.alt_schema.specs.Indexes.{indexes, index_row, is_in_index, has_part, cut, is_projected, is_included, is_key, has_key_name, stands_in};
 
+use crate::rows::index::is_key_value;
 use alt_base::NoMemory;
 use alt_schema::{IndexSchema, KeyAttr, Projection, TableSchema};
 use alt_value::{Item, Text, copy};
@@ -11,7 +12,7 @@ use std::alloc::Global;
 
 /// The item's row in the index of that number, below the number of the indexes: the item cut to the
 /// projected attributes, the keys of the table and of the index among them. None exactly where the item
-/// isn't in the index, because a key attribute of the index is missing.
+/// isn't in the index: a key attribute of the index is missing, or its value can't be a key of its kind there.
 pub fn index_item(
     alloc: Global,
     s: &TableSchema,
@@ -46,16 +47,19 @@ fn is_in_index(index: &IndexSchema, item: &Item) -> bool
     ensures { result ≡ is_in_index index.now item.now }
 {
     let has_range = match &index.range {
-        Some(range) => has_part(item, range),
+        Some(range) => has_part(range, 1024, item),
         None => true,
     };
-    has_part(item, &index.hash) && has_range
+    has_part(&index.hash, 2048, item) && has_range
 }
 
-fn has_part(item: &Item, key: &KeyAttr) -> bool
-    ensures { result ≡ has_part item.now key.now }
+fn has_part(key: &KeyAttr, most: usize, item: &Item) -> bool
+    ensures { result ≡ has_part most item.now key.now }
 {
-    item.get(key.name.as_str()).is_some()
+    match item.get(key.name.as_str()) {
+        Some(value) => is_key_value(value, key.kind, most),
+        None => false,
+    }
 }
 
 fn cut(alloc: Global, s: &TableSchema, index: &IndexSchema, item: &Item) -> Result<Item, NoMemory>

@@ -1,6 +1,5 @@
 -- It is the change between the row before and the row then.
-use Rattle.std.proofs.Common.{◌≡◌, ◌∙◌, ◌<◌, ◌++◌, ◌∷◌, [], ◌^◌, List, Some, ap, arith, codes, nat_eq}
-use Rattle.std.specs.Int.{w64, to_be_bytes}
+use Rattle.std.proofs.Common.{◌∙◌, ◌++◌, ◌∷◌, [], List, Some, ap, arith, nat_eq}
 use Rattle.alt_cells.specs.Changes.{Given}
 use Rattle.alt_cells.specs.declared.batch.RowChange.{RowChange}
 use Rattle.alt_changes.proofs.TrimLaws.{trimmed_made}

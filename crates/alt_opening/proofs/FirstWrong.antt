@@ -25,7 +25,7 @@ use Rattle.alt_opening.proofs.Ties.{tied, itself}
 use Rattle.alt_opening.proofs.Cuts.{cut, shown-cut, shown-here, shown-not}
 use Rattle.alt_opening.proofs.OneState.{some, next_row-one}
 use Rattle.alt_opening.proofs.Families.{own_family}
-use Rattle.alt_opening.proofs.TableRow.{one_table_row}
+use Rattle.alt_opening.proofs.OneDescription.{one_table_row}
 use Rattle.alt_value.specs.Tree.{Pair}
 
 -- ---- the rows before one
@@ -111,7 +111,7 @@ module _ (l : Layout) (Here : ℕ → List ℕ → Type 0) (r : State) (agrees :
         at,
         one_table_row t.description d (agrees.valid.tables name t at).made.whole
             (agrees.held.descriptions name t at) (agrees.valid.tables name t at).made.built
-            is.whole held is.built (sym row),
+            (agrees.valid.tables name t at).differ is.whole held is.built (sym row),
       )
 
 -- a state of the rows before one, taken alone, agrees there

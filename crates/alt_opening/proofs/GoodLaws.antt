@@ -1,18 +1,17 @@
 -- What the tests of a description that is read tell.
 use Rattle.std.proofs.Common.{◌≡◌, ◌≢◌, ◌≤◌, ◌<◌, refl, sym, ap, subst, ◌∙◌, ℕ, zero, suc, Bool, true, false, not, nat_le, nat_lt, List, [], ◌∷◌, length, Some, slice_index_or, arith, All, AllPairs, Contains, IsTrue}
 use Rattle.std.specs.Bool.{Decides}
-use Rattle.std.specs.List.{list_all, list_any, HoldsAt}
+use Rattle.std.specs.List.{list_any, HoldsAt}
 use Rattle.std.specs.Prelude.{◌==◌, ◌&&◌, ◌↔◌}
 use Rattle.std.specs.FinMap as map
 use Rattle.std.proofs.lemmas.Bool.{leb-true, le-leb, false≢true}
 use Rattle.std.proofs.lemmas.Bool.Decides.{Decides-and, Decides-not, Decides-like, Decides-by_and, Decides-by_or, Decides-ltb, Decides-eqb, not_from_Decides}
 use Rattle.std.proofs.lemmas.List.Kept.{AllPairs-cons}
 use Rattle.std.proofs.lemmas.Slice.Eq.{bytes_eq-Decides}
+use Rattle.alt_machine.specs.Building.{IsBuilt}
 use Rattle.alt_machine.specs.State.{Texts, families_of}
-use Rattle.alt_schema.specs.Bare.{is_whole}
 use Rattle.alt_schema.specs.Described.{IsDescription}
 use Rattle.alt_schema.specs.Held.{IsHeld}
-use Rattle.alt_schema.specs.Indexes.{indexes}
 use Rattle.alt_schema.specs.declared.schema.TableSchema.{TableSchema}
 use Rattle.alt_opening.specs.private.Opening.{IsApart, IsGood, are_within, are_apart, passes, shares}
 use Rattle.alt_opening.proofs.MadeLaws.{as_made, made_as}
@@ -59,7 +58,7 @@ apart_is (f ∷ fs) = Decides-like (not (list_any (λ g. g == f) fs) && are_apar
 -- ---- a description
 
 module _ (number next : ℕ) (name : List ℕ) (d : TableSchema) (whole : IsDescription d)
-    (held : IsHeld d) (built : list_all (λ i. is_whole i.built) (indexes d) ≡ true) where
+    (held : IsHeld d) (built : IsBuilt d) where
   -- the tests decide whether a description is good
   pub good_is : Decides (passes number next name d) (IsGood number next name d)
   good_is = Decides-like (passes number next name d)

@@ -1,65 +1,27 @@
 -- Whether a row that an index shows is that of an item of its table: the item is found by what the index keeps of it.
-use Rattle.std.proofs.Common.{◌≡◌, refl, sym, ap, subst, ◌∙◌, ℕ, Bool, true, false, List, Option, Some, None, option_map, IsTrue}
-use Rattle.std.proofs.lemmas.Bool.{false≢true}
-use Rattle.std.proofs.lemmas.Slice.Eq.{bytes_eq-Decides}
-use Rattle.std.specs.Prelude.{◌||◌, ◌↔◌, if◌then◌else◌, option_and_then}
-use Rattle.std.specs.Str.{bytes_eq}
+use Rattle.std.proofs.Common.{◌≡◌, sym, ap, subst, ◌∙◌, ℕ, Bool, true, false, List, Option, Some, None, option_map, IsTrue}
+use Rattle.std.specs.Prelude.{◌↔◌, if◌then◌else◌}
 use Rattle.alt_cells.specs.Changes.{Columns}
 use Rattle.alt_layout.specs.Layout.{Layout, shown}
-use Rattle.alt_keyorder.specs.Place.{place_in_table, place_bytes}
-use Rattle.alt_machine.specs.Keys.{key_value, place_beside, place_of}
+use Rattle.alt_machine.specs.Keys.{place_of}
 use Rattle.alt_machine.specs.Sources.{index_at}
 use Rattle.alt_machine.specs.Valid.{IsMade}
 use Rattle.alt_machine.proofs.Indexing.{is_entry}
-use Rattle.alt_schema.specs.Indexes.{cut, index_row, is_in_index, is_key}
+use Rattle.alt_schema.specs.Indexes.{cut, index_row, is_in_index}
 use Rattle.alt_schema.specs.declared.schema.IndexSchema.{IndexSchema}
-use Rattle.alt_schema.specs.declared.schema.KeyAttr.{KeyAttr}
 use Rattle.alt_schema.specs.declared.schema.TableSchema.{TableSchema}
 use Rattle.alt_opening.specs.private.IndexScans.{HasRow, TellsMissingOf}
 use Rattle.alt_opening.specs.Scans.{ItemsRead}
-use Rattle.alt_opening.proofs.IndexRead.{row_of}
+use Rattle.alt_opening.proofs.IndexRead.{inside, row_of}
 use Rattle.alt_opening.proofs.OneState.{some}
-use Rattle.alt_value.specs.Tree.{Tree, Pair}
-use Rattle.alt_views.specs.IndexRows.{row_in_index}
+use Rattle.alt_value.specs.Tree.{Pair}
+use Rattle.alt_views.specs.IndexRows.{built_row}
 use Rattle.alt_views.specs.ItemRows.{IsReadItem, item_columns}
 use Rattle.alt_views.specs.Read.{IsKeptAt, row_at}
 use Rattle.alt_views.specs.declared.indexed.IndexRow.{IndexRow}
-use Rattle.alt_views.proofs.Keeping.{kept_at, table_kept, value-cut}
+use Rattle.alt_views.proofs.Keeping.{kept_at, own_place-cut}
 
 -- ---- the place of what is kept
-
-same_name : (n : List ℕ) → bytes_eq n n ≡ true
-same_name n = (bytes_eq-Decides n n).1 refl
-
-or_true : (a b : Bool) → b ≡ true → (a || b) ≡ true
-or_true true b h = refl
-or_true false b h = h
-
-true_or : (a b : Bool) → a ≡ true → (a || b) ≡ true
-true_or true b h = refl
-true_or false b h = absurd (false≢true h)
-
--- an index keeps the key of its table
-place-cut : (d : TableSchema) (i : IndexSchema) (item : List Pair)
-    → place_of d (cut d i item) ≡ place_of d item
-place-cut d i item = ap (option_map place_bytes)
-    (ap (option_and_then (place_beside (cut d i item) d.range))
-    (value-cut d i item d.hash (table_kept d i d.hash.name
-    (true_or (bytes_eq d.hash.name d.hash.name) _ (same_name d.hash.name))))
-    ∙ by_hash (key_value item d.hash))
-  where
-    beside : (r : Option KeyAttr) → d.range ≡ r → (h : Tree)
-        → place_beside (cut d i item) r h ≡ place_beside item r h
-    beside None e h = refl
-    beside (Some r) e h = ap (option_map (λ r. place_in_table h (Some r)))
-        (value-cut d i item r (table_kept d i r.name
-        (ap (λ o. is_key d.hash o r.name) e
-        ∙ or_true (bytes_eq d.hash.name r.name) _ (same_name r.name))))
-
-    by_hash : (o : Option Tree) → option_and_then (place_beside (cut d i item) d.range) o
-        ≡ option_and_then (place_beside item d.range) o
-    by_hash None = refl
-    by_hash (Some h) = beside d.range refl h
 
 is_cut : (d : TableSchema) (i : IndexSchema) (item row : List Pair)
     → index_row d item i ≡ Some row → cut d i item ≡ row
@@ -76,12 +38,12 @@ module _ (l : Layout) (d : TableSchema) (number : ℕ) (i : IndexSchema) (made :
   kept_there : (has : HasRow l d i key columns) → (kept : List Pair) × IsKeptAt d i kept key columns
       × (place_of d kept ≡ Some has.place)
   kept_there has =
-      let r = row_of d i has.item key columns has.row in
+      let r = row_of d i has.item key columns (inside d i has.item _ has.row).1 in
       let e = is_entry d i has.item key r.kept r.entry in (
         r.kept,
         subst (λ c. IsKeptAt d i r.kept key c) (sym r.is)
             (kept_at d number i has.item key r.kept made at has.there.read r.entry),
-        ap (place_of d) (sym (is_cut d i has.item r.kept e.kept)) ∙ place-cut d i has.item
+        ap (place_of d) (sym (is_cut d i has.item r.kept e.kept)) ∙ own_place-cut d i has.item
             ∙ has.there.stored.stands,
       )
 
@@ -106,7 +68,7 @@ module _ (l : Layout) (d : TableSchema) (number : ℕ) (i : IndexSchema) (made :
     pub own_is : ItemsRead l d → (p : List ℕ) → place ≡ Some p → (row : Columns)
         → shown l d.family p ≡ Some row → (is : Bool)
         → ((item : List Pair) → IsReadItem item → row ≡ item_columns item
-        → IsTrue is ↔ (row_in_index d i item ≡ Some (key, columns)))
+        → IsTrue is ↔ (built_row d i item ≡ Some (key, columns)))
         → IsTrue is ↔ HasRow l d i key columns
     own_is read p is_p row shows is tells = (
       λ yes.
@@ -130,7 +92,7 @@ module _ (l : Layout) (d : TableSchema) (number : ℕ) (i : IndexSchema) (made :
 
 module _ (l : Layout) (d : TableSchema) (i : IndexSchema) (row : Columns) (own : Option IndexRow)
     (told : (item : List Pair) → IsReadItem item → row ≡ item_columns item
-    → option_map row_at own ≡ row_in_index d i item) where
+    → option_map row_at own ≡ built_row d i item) where
   -- none is missing where it has none
   pub none_missing : own ≡ None → TellsMissingOf l d i row None
   none_missing none item read of_item key columns has =
@@ -139,7 +101,7 @@ module _ (l : Layout) (d : TableSchema) (i : IndexSchema) (row : Columns) (own :
 
   module _ (r : IndexRow) (is : own ≡ Some r) where
     has_it : (item : List Pair) → IsReadItem item → row ≡ item_columns item
-        → row_in_index d i item ≡ Some (r.key, r.columns)
+        → built_row d i item ≡ Some (r.key, r.columns)
     has_it item read of_item = sym (told item read of_item) ∙ ap (option_map row_at) is
 
     -- and else it is

@@ -1,12 +1,19 @@
 -- What each key of an index shows, and what a state's items give the index there.
-use Rattle.std.proofs.Common.{◌≡◌, refl, sym, ap, ◌∙◌, ℕ, List, Option, Some, None, option_map}
+use Rattle.std.proofs.Common.{◌≡◌, refl, sym, ap, ◌∙◌, ℕ, Bool, true, false, cond, List, Option, Some, None, option_map}
+use Rattle.std.specs.Option.{option_map_or}
+use Rattle.std.specs.Prelude.{if◌then◌else◌}
 use Rattle.std.specs.FinMap as map
 use Rattle.alt_cells.specs.Changes.{Columns}
 use Rattle.alt_layout.specs.Layout.{Layout, shown}
+use Rattle.alt_machine.specs.Building.{built_part, is_reached, reaches}
 use Rattle.alt_machine.specs.Indexed.{index_entry, index_items}
-use Rattle.alt_machine.specs.State.{State, Table}
+use Rattle.alt_machine.specs.Keys.{place_of}
+use Rattle.alt_machine.specs.State.{State, Table, Texts}
+use Rattle.alt_machine.proofs.Building.{get-built_part}
 use Rattle.alt_machine.proofs.Indexing.{index_apart}
 use Rattle.alt_machine.proofs.Rekeying.{AreApart, given_by, gives}
+use Rattle.alt_schema.specs.Bare.{is_whole}
+use Rattle.alt_schema.specs.declared.schema.Built.{Built}
 use Rattle.alt_schema.specs.declared.schema.IndexSchema.{IndexSchema}
 use Rattle.alt_schema.specs.declared.schema.TableSchema.{TableSchema}
 use Rattle.alt_opening.specs.private.IndexScans.{HasRow, IsItemThere, IsRightAt}
@@ -14,7 +21,7 @@ use Rattle.alt_opening.specs.Recovery.{AgreesWhole}
 use Rattle.alt_opening.specs.StateRows.{index_rows}
 use Rattle.alt_opening.proofs.OneState.{has_whole, some}
 use Rattle.alt_value.specs.Tree.{Pair}
-use Rattle.alt_views.specs.IndexRows.{index_columns, row_in_index}
+use Rattle.alt_views.specs.IndexRows.{KeyedRow, built_row, index_columns, row_in_index}
 use Rattle.alt_views.specs.ItemRows.{item_columns}
 use Rattle.alt_views.proofs.ItemRowLaws.{item_columns-one}
 
@@ -43,6 +50,23 @@ row_of d i item key columns has = by (index_entry d i item) refl has
           entry = is ∙ ap (λ (r : List ℕ × Columns). Some (r.0, e.1)) one;
           is = sym (ap (λ (r : List ℕ × Columns). r.1) one);
         }
+
+-- a row of an item of which the index is built is one of the item
+pub inside : (d : TableSchema) (i : IndexSchema) (item : List Pair) (r : KeyedRow)
+    → built_row d i item ≡ Some r
+    → (is_reached d i.built item ≡ true) × (row_in_index d i item ≡ Some r)
+inside d i item r e = by (is_reached d i.built item) refl e
+  where
+    by : (b : Bool) → is_reached d i.built item ≡ b
+        → (if b then row_in_index d i item else None) ≡ Some r
+        → (is_reached d i.built item ≡ true) × (row_in_index d i item ≡ Some r)
+    by true is f = (is, f)
+    by false is f = absurd (let no : None ≡ Some r = f in cc no)
+
+-- an item at a place, by the place
+reached_at : (d : TableSchema) (b : Built) (item : List Pair) (place : List ℕ)
+    → place_of d item ≡ Some place → is_reached d b item ≡ reaches d b place
+reached_at d b item place at = ap (λ o. option_map_or (reaches d b) o (is_whole b)) at
 
 module _ (l : Layout) (s : State) (agrees : AgreesWhole l s) (name : List ℕ) (t : Table)
     (at : map.get s.tables name ≡ Some t) where
@@ -78,38 +102,71 @@ module _ (l : Layout) (s : State) (agrees : AgreesWhole l s) (name : List ℕ) (
   -- ---- an index of it
 
   module _ (i : IndexSchema) where
-    apart : AreApart (index_entry t.description i) t.items
-    apart = index_apart t.description i t.items (λ place item here. (
-      (agrees.rows.valid.tables name t at).items place item here,
-      agrees.rows.held.items.items name place t item at here,
+    -- the items of which it is built
+    abbrev part : Texts (List Pair)
+    part = built_part t.description i.built t.items
+
+    -- each is one of the table's, at a place that it reaches
+    of_part : (place : List ℕ) (item : List Pair) → map.get part place ≡ Some item
+        → (map.get t.items place ≡ Some item) × (reaches t.description i.built place ≡ true)
+    of_part place item here = by (reaches t.description i.built place) refl
+        (sym (get-built_part t.description i.built t.items place) ∙ here)
+      where
+        by : (b : Bool) → reaches t.description i.built place ≡ b
+            → cond b (map.get t.items place) None ≡ Some item
+            → (map.get t.items place ≡ Some item) × (reaches t.description i.built place ≡ true)
+        by true is e = (e, is)
+        by false is e = absurd (let no : None ≡ Some item = e in cc no)
+
+    apart : AreApart (index_entry t.description i) part
+    apart = index_apart t.description i part (λ place item here. (
+      (agrees.rows.valid.tables name t at).items place item (of_part place item here).0,
+      agrees.rows.held.items.items name place t item at (of_part place item here).0,
     ))
 
     -- a row that an item has is that of the index's items
     gives_row : (key : List ℕ) (columns : Columns) → HasRow l t.description i key columns
         → index_rows t i key ≡ Some columns
     gives_row key columns has =
-        let e = row_of t.description i has.item key columns has.row in
+        let r = inside t.description i has.item (key, columns) has.row in
+        let e = row_of t.description i has.item key columns r.1 in
+        let reached : reaches t.description i.built has.place ≡ true =
+        sym (reached_at t.description i.built has.item has.place has.there.stored.stands) ∙ r.0 in
         ap (option_map (index_columns t.description i))
-        (gives (index_entry t.description i) t.items apart key e.kept
-        (has.place, (has.item, (there_item has.place has.item has.there, e.entry))))
+        (gives (index_entry t.description i) part apart key e.kept (
+          has.place,
+          (
+            has.item,
+            (
+              get-built_part t.description i.built t.items has.place
+                  ∙ ap (λ b. cond b (map.get t.items has.place) None) reached
+                  ∙ there_item has.place has.item has.there,
+              e.entry,
+            ),
+          ),
+        ))
         ∙ ap (λ c. Some c) (sym e.is)
 
     -- and the other way round
     has_row : (key : List ℕ) (columns : Columns) → index_rows t i key ≡ Some columns
         → HasRow l t.description i key columns
-    has_row key columns is = by (map.get (index_items t.description i t.items) key) refl is
+    has_row key columns is = by (map.get (index_items t.description i part) key) refl is
       where
-        by : (o : Option (List Pair)) → map.get (index_items t.description i t.items) key ≡ o
+        by : (o : Option (List Pair)) → map.get (index_items t.description i part) key ≡ o
             → option_map (index_columns t.description i) o ≡ Some columns
             → HasRow l t.description i key columns
         by None e is = absurd (let no : None ≡ Some columns = is in cc no)
         by (Some kept) e is =
-            let g = given_by (index_entry t.description i) t.items key kept e in
+            let g = given_by (index_entry t.description i) part key kept e in
+            let of = of_part g.0 g.1.0 g.1.1.0 in
+            let there = item_there g.0 g.1.0 of.0 in
             record {
               place = g.0;
               item = g.1.0;
-              there = item_there g.0 g.1.0 g.1.1.0;
-              row = ap (option_map {U = List ℕ × Columns}
+              there = there;
+              row = ap (λ b. if b then row_in_index t.description i g.1.0 else None)
+                  (reached_at t.description i.built g.1.0 g.0 there.stored.stands ∙ of.1)
+                  ∙ ap (option_map {U = List ℕ × Columns}
                   (λ e. (e.0, index_columns t.description i e.1))) g.1.1.1
                   ∙ ap (λ c. Some (key, c)) (some _ _ is);
             }

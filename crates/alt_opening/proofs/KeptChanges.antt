@@ -3,7 +3,7 @@ use Rattle.std.proofs.Common.{◌≡◌, ◌<◌, ◌≤◌, ◌+◌, ◌^◌, �
 use Rattle.std.specs.FinMap as finite
 use Rattle.alt_changes.specs.ChangeRows.{IsReadItem}
 use Rattle.alt_machine.specs.State.{Change, State, Table}
-use Rattle.alt_machine.specs.Valid.{AreChanges, IsChange, IsValid, WasStored}
+use Rattle.alt_machine.specs.Valid.{AreChanges, IsChange, IsValid, IsStored}
 use Rattle.alt_machine.specs.declared.TheConstants.{NUMBERS_END}
 use Rattle.alt_schema.specs.declared.schema.TableSchema.{TableSchema}
 use Rattle.alt_opening.specs.StateRows.{IsHeldWhole}
@@ -24,7 +24,7 @@ are_small d next trimmed cs high changes = each_so (IsChange d next) IsSmall cs
 
 -- an item that was stored, and is made of values, can be read back
 read_item : (d : TableSchema) (place : List ℕ) (o : Option (List Pair))
-    → IfSome o (WasStored d place) → IfSome o IsItemOfValues → IfSome o IsReadItem
+    → IfSome o (IsStored d place) → IfSome o IsItemOfValues → IfSome o IsReadItem
 read_item d place None was held = tt
 read_item d place (Some item) was held = record { whole = (held, was.full); depth = was.depth }
 

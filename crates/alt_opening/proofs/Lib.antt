@@ -1,7 +1,10 @@
 pub mod Ahead
 pub mod Assembled
+pub mod BuiltRows
+pub mod BuiltUp
 pub mod CatalogScan
 pub mod CatalogSteps
+pub mod CellRows
 pub mod ChosenLaws
 pub mod Cuts
 pub mod DeviceFaults
@@ -25,6 +28,9 @@ pub mod Named
 pub mod NextFamily
 pub mod NextRow
 pub mod OneColumn
+pub mod OneDescription
+pub mod OneIndex
+pub mod OneKey
 pub mod OneState
 pub mod OneStream
 pub mod Recovering

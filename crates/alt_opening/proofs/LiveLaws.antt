@@ -12,6 +12,7 @@ use Rattle.alt_opening.specs.StateRows.{catalog_family}
 use Rattle.alt_opening.proofs.EachTable.{at_name, stands_at}
 use Rattle.alt_opening.proofs.Listed.{AreInOrder, tables}
 use Rattle.alt_opening.proofs.LiveLists.{all_in, contained_in, in_all, in_contained, in_without, without_in}
+use Rattle.alt_opening.proofs.Maps.{same_texts}
 use Rattle.alt_opening.proofs.OneState.{some}
 use Rattle.alt_opening.proofs.Ties.{itself, tied}
 use Rattle.alt_value.specs.Members.{text_order}
@@ -240,3 +241,39 @@ module _ (catalog : Texts TableSchema) (live : List ℕ) (are : AreLiveIn catalo
             ∙ ap (λ b. cond b None (map.get catalog of.name)) other ∙ of.there;
         has = of.has;
       })
+
+-- ---- another in the place of one
+
+module _ (catalog : Texts TableSchema) (live : List ℕ) (are : AreLiveIn catalog live)
+    (d e : TableSchema) (name : List ℕ) (here : map.get catalog name ≡ Some d)
+    (named : e.name ≡ name)
+    (apart : (other : List ℕ) (x : TableSchema) (f : ℕ) → map.get catalog other ≡ Some x
+    → other ≢ name → Contains (families_of x) f → Contains (families_of d) f → ⊥) where
+  less : AreLiveIn (map.remove catalog name) (without_all (families_of d) live)
+  less = live_remove catalog live are d name here apart
+
+  absent : map.get (map.remove catalog name) e.name ≡ None
+  absent = ap (map.get (map.remove catalog name)) named
+      ∙ map.get-remove text_total catalog name name
+      ∙ ap (λ b. cond b None (map.get catalog name)) (itself name)
+
+  same : (q : List ℕ) → map.get (map.insert (map.remove catalog name) e.name e) q
+      ≡ map.get (map.insert catalog name e) q
+  same q = ap (λ n. map.get (map.insert (map.remove catalog name) n e) q) named
+      ∙ map.get-insert text_total (map.remove catalog name) name e q
+      ∙ ap (cond (eq_by_cmp text_order q name) (Some e)) (map.get-remove text_total catalog name q)
+      ∙ by (eq_by_cmp text_order q name)
+      ∙ sym (map.get-insert text_total catalog name e q)
+    where
+      by : (b : Bool) → cond b (Some e) (cond b None (map.get catalog q))
+          ≡ cond b (Some e) (map.get catalog q)
+      by true = refl
+      by false = refl
+
+  -- without the families of the one and with those of the other live are those of the catalog with the other
+  pub live_replace : AreLiveIn (map.insert catalog name e)
+      (with_all (families_of e) (without_all (families_of d) live))
+  live_replace = subst (λ (m : Texts TableSchema). AreLiveIn m
+      (with_all (families_of e) (without_all (families_of d) live)))
+      (same_texts (map.insert (map.remove catalog name) e.name e) (map.insert catalog name e) same)
+      (live_insert (map.remove catalog name) (without_all (families_of d) live) less e absent)

@@ -4,10 +4,10 @@ use Rattle.std.proofs.lemmas.Bool.{leb-true, le-leb}
 use Rattle.std.proofs.lemmas.List.Folds.{list_all-append}
 use Rattle.std.specs.List.{list_all}
 use Rattle.std.specs.Prelude.{◌&&◌}
-use Rattle.alt_machine.specs.Valid.{IsMade, is_local, is_pair, is_used, names_few}
-use Rattle.alt_schema.specs.Bare.{is_whole}
+use Rattle.alt_machine.specs.Building.{IsBuilt}
+use Rattle.alt_machine.specs.Valid.{IsMade, is_local, is_pair, names_few}
 use Rattle.alt_schema.specs.Described.{IsDescription}
-use Rattle.alt_schema.specs.Indexes.{indexes}
+use Rattle.alt_schema.specs.Indexes.{indexes, is_used}
 use Rattle.alt_schema.specs.Rules.{all_differ, is_name, most_locals, most_globals}
 use Rattle.alt_schema.specs.declared.schema.IndexSchema.{IndexSchema}
 use Rattle.alt_schema.specs.declared.schema.TableSchema.{TableSchema}
@@ -40,7 +40,7 @@ module _ (d : TableSchema) where
 
   -- a description that passes the test is as it is made
   pub as_made : is_as_made d ≡ true → IsDescription d
-      → list_all (λ i. is_whole i.built) (indexes d) ≡ true → IsMade d
+      → IsBuilt d → IsMade d
   as_made e whole built =
       let few : are_few_indexes d ≡ true = left (are_few_indexes d) _ e in
       let rest : (are_named d && (are_keyed d && are_shaped d)) ≡ true =

@@ -21,7 +21,7 @@ use Rattle.alt_views.specs.ItemRows.{item_columns}
 use Rattle.alt_opening.proofs.OneStream.{ShowsStream, one_stream, one_trimmed}
 use Rattle.alt_opening.proofs.StreamKeys.{Above}
 use Rattle.alt_opening.proofs.KeptChanges.{are_kept, are_small, trimmed_small}
-use Rattle.alt_opening.proofs.TableRow.{one_table_row}
+use Rattle.alt_opening.proofs.OneDescription.{one_table_row}
 use Rattle.alt_opening.specs.StateRows.{Shows, IsHeldWhole, item_rows, table_row, next_row, one_column}
 use Rattle.alt_views.proofs.ItemRowLaws.{item_columns-one}
 use Rattle.alt_value.specs.Tree.{Pair}
@@ -132,7 +132,7 @@ module _ (l : Layout) (s r : State) (agrees_s : AgreesWhole l s) (agrees_r : Agr
       let is_t : IsTable s name t = agrees_s.rows.valid.tables name t at_t in
       let is_u : IsTable r name u = agrees_r.rows.valid.tables name u at_u in
       let descriptions : t.description ≡ u.description = one_table_row t.description u.description
-      is_t.made.whole (agrees_s.rows.held.descriptions name t at_t) is_t.made.built
+      is_t.made.whole (agrees_s.rows.held.descriptions name t at_t) is_t.made.built is_t.differ
       is_u.made.whole (agrees_r.rows.held.descriptions name u at_u) is_u.made.built same in
       let items : t.items ≡ u.items = items-one t u
       (has_whole s agrees_s.rows.valid agrees_s.rows.held name t at_t)

@@ -5,7 +5,7 @@ use Rattle.std.specs.Prelude.{◌↔◌}
 use Rattle.alt_layout.specs.Layout.{Layout}
 use Rattle.alt_machine.specs.Same.{is_same}
 use Rattle.alt_machine.specs.State.{Change}
-use Rattle.alt_machine.specs.Valid.{IsChange, WasStored}
+use Rattle.alt_machine.specs.Valid.{IsChange, IsStored}
 use Rattle.alt_machine.proofs.Same.{is_same-equal, same_is}
 use Rattle.alt_schema.specs.declared.schema.TableSchema.{TableSchema}
 use Rattle.alt_opening.specs.StreamScans.{IsChangeAt, AreOfOne, ChangesRead, ChangesWhere, IsChangeFault, IsChangeRow, IsFirstForeignChange, IsStreamFault, IsStreamRow, stream_trimmed, trimmed_in}
@@ -155,7 +155,7 @@ module _ (d : TableSchema) (next : ℕ) (c : Change) where
 
 -- a place is told exactly where the item may have stood there
 abbrev pub TellsPlace : TableSchema → List Pair → Option (List ℕ) → Type 0
-TellsPlace d item o = (place : List ℕ) → (o ≡ Some place) ↔ WasStored d place item
+TellsPlace d item o = (place : List ℕ) → (o ≡ Some place) ↔ IsStored d place item
 
 module _ (d : TableSchema) (old new : Option (List Pair)) where
   -- two items
@@ -173,7 +173,7 @@ module _ (d : TableSchema) (old new : Option (List Pair)) where
 
   -- a place was found exactly where the item was stored at one
   some_place : (a : List Pair) (o : Option (List ℕ)) → TellsPlace d a o → (r : Bool)
-      → r ≡ is_some o → IsTrue r ↔ ((place : List ℕ) × WasStored d place a)
+      → r ≡ is_some o → IsTrue r ↔ ((place : List ℕ) × IsStored d place a)
   some_place a None tells r is = (
     λ so. absurd (let f : ⊥ = cc in f),
     λ stood. absurd (let no : None ≡ Some stood.0 = (tells stood.0).1 stood.1 in

@@ -1,21 +1,21 @@
 -- The row of a table tells its description.
-use Rattle.std.proofs.Common.{◌≡◌, ◌≢◌, refl, sym, ap, subst, ◌∙◌, ℕ, true, List, [], ◌∷◌, ◌++◌, length, get_or, Option, Some, None, arith}
+use Rattle.std.proofs.Common.{◌≡◌, ◌≢◌, refl, sym, ap, subst, ◌∙◌, ℕ, true, List, [], ◌∷◌, ◌++◌, length, get_or, Option, Some, None, arith, cond, false}
 use Rattle.std.specs.List.{list_all}
 use Rattle.std.specs.Prelude.{T, codes}
 use Rattle.std.specs.FinMap.{entries, entries-from_sorted, same_entries_map}
 use Rattle.std.specs.FinMap as map
 use Rattle.std.specs.FinMap.Entries.{is_sorted}
+use Rattle.std.specs.Ordering.{eq_by_cmp}
+use Rattle.alt_cells.proofs.CellLaws.{key_total}
 use Rattle.alt_cells.specs.Changes.{Columns}
 use Rattle.alt_cells.specs.Keys.{key_cmp}
 use Rattle.alt_schema.specs.Bare.{bare, is_whole}
 use Rattle.alt_schema.specs.Described.{IsDescription}
 use Rattle.alt_schema.specs.Format.{description_bytes}
-use Rattle.alt_schema.specs.Held.{IsHeld}
 use Rattle.alt_schema.specs.Indexes.{indexes}
 use Rattle.alt_schema.specs.declared.schema.TableSchema.{TableSchema}
-use Rattle.alt_schema.proofs.BareLaws.{bare_beside, bare_whole, description_bytes-timed, timed_described}
-use Rattle.alt_schema.proofs.WholeDescriptions.{one_spelling}
-use Rattle.alt_opening.specs.StateRows.{described_row, one_column, table_cells, table_row}
+use Rattle.alt_schema.proofs.BareLaws.{bare_whole, description_bytes-timed, timed_described}
+use Rattle.alt_opening.specs.StateRows.{described_row, one_column, table_cells, table_row, plain_row, built_cell, with_built_cell}
 use Rattle.alt_opening.proofs.OneColumn.{entries-one_column}
 
 -- its cells stand in the order of their names
@@ -138,22 +138,13 @@ none_told row (Some name) bytes alone both is = both name bytes is
 abbrev pub AllWhole : TableSchema → Type 0
 AllWhole d = list_all (λ i. is_whole i.built) (indexes d) ≡ true
 
--- Descriptions whose indexes are whole, and whose rows are one, are one.
-pub one_table_row : (d e : TableSchema) → IsDescription d → IsHeld d → AllWhole d
-    → IsDescription e → IsHeld e → AllWhole e → table_row d ≡ table_row e → d ≡ e
-one_table_row d e is_d held_d whole_d is_e held_e whole_e same =
-    let cells = row_tells d.ttl e.ttl (description_bytes d) (description_bytes e) same in
-    let told : bare d ≡ bare e = one_spelling d e is_d held_d is_e held_e cells.1 in
-    sym (bare_beside d whole_d) ∙ (λ j. record (told j) { ttl = cells.0 j })
-    ∙ bare_beside e whole_e
-
 -- a description of these bytes with another time to live has the row of both
 pub row_timed : (row : Columns) (o ttl : Option (List ℕ)) (bytes : List ℕ) (s d : TableSchema)
     → row ≡ described_row o bytes → ttl ≡ o → bytes ≡ description_bytes s
-    → d ≡ record s { ttl = ttl } → row ≡ table_row d
+    → d ≡ record s { ttl = ttl } → row ≡ plain_row d
 row_timed row o ttl bytes s d is same told timed =
     is ∙ (λ j. described_row (sym same j) (told j))
-    ∙ ap (described_row ttl) (sym (description_bytes-timed s ttl)) ∙ ap table_row (sym timed)
+    ∙ ap (described_row ttl) (sym (description_bytes-timed s ttl)) ∙ ap plain_row (sym timed)
 
 -- and is one
 pub timed_is : (ttl : Option (List ℕ)) (s d : TableSchema) → IsDescription s
@@ -167,9 +158,64 @@ timed_whole ttl s d same timed =
     subst (λ x. list_all (λ i. is_whole i.built) (indexes x) ≡ true) (sym timed)
     (subst (λ x. list_all (λ i. is_whole i.built) (indexes x) ≡ true) same (bare_whole s))
 
--- the bytes are in a column of it
+-- ---- the cell of an index that is being built
+
+-- the row without it has no such cell
+none_built : (time : Option (List ℕ)) (bytes : List ℕ)
+    → map.get (described_row time bytes) (codes "b") ≡ None
+none_built None bytes =
+    map.get-from_sorted key_cmp (table_cells None bytes) (codes "b") (cells_rise None bytes)
+none_built (Some name) bytes = map.get-from_sorted key_cmp (table_cells (Some name) bytes)
+    (codes "b") (cells_rise (Some name) bytes)
+
+-- so a row tells it
+get_built : (o time : Option (List ℕ)) (bytes : List ℕ)
+    → map.get (with_built_cell o (described_row time bytes)) (codes "b") ≡ o
+get_built None time bytes = none_built time bytes
+get_built (Some v) time bytes =
+    map.get-insert key_total (described_row time bytes) (codes "b") v (codes "b")
+
+-- and what is beside it
+get_beside : (o time : Option (List ℕ)) (bytes name : List ℕ) → eq_by_cmp key_cmp name (codes "b") ≡ false
+    → map.get (with_built_cell o (described_row time bytes)) name
+    ≡ map.get (described_row time bytes) name
+get_beside None time bytes name other = refl
+get_beside (Some v) time bytes name other =
+    map.get-insert key_total (described_row time bytes) (codes "b") v name
+    ∙ ap (λ c. cond c (Some v) (map.get (described_row time bytes) name)) other
+
+-- the time to live is in a column
+get_time : (time : Option (List ℕ)) (bytes : List ℕ)
+    → map.get (described_row time bytes) (codes "l") ≡ time
+get_time None bytes =
+    map.get-from_sorted key_cmp (table_cells None bytes) (codes "l") (cells_rise None bytes)
+get_time (Some name) bytes = map.get-from_sorted key_cmp (table_cells (Some name) bytes)
+    (codes "l") (cells_rise (Some name) bytes)
+
+-- and so are the bytes
 pub get-described_row : (time : Option (List ℕ)) (bytes : List ℕ)
     → map.get (described_row time bytes) (codes "t") ≡ Some bytes
 get-described_row None bytes = map.get-from_sorted key_cmp (table_cells None bytes) (codes "t") tt
 get-described_row (Some name) bytes =
     map.get-from_sorted key_cmp (table_cells (Some name) bytes) (codes "t") tt
+
+pub get-table_row : (d : TableSchema) → map.get (table_row d) (codes "t")
+    ≡ Some (description_bytes d)
+get-table_row d = get_beside (built_cell d) d.ttl (description_bytes d) (codes "t") refl
+    ∙ get-described_row d.ttl (description_bytes d)
+
+-- The row of a table tells all three.
+pub all_told : (a b o p : Option (List ℕ)) (v w : List ℕ)
+    → with_built_cell a (described_row o v) ≡ with_built_cell b (described_row p w)
+    → (a ≡ b) × (o ≡ p) × (v ≡ w)
+all_told a b o p v w same = (
+  sym (get_built a o v) ∙ ap (λ m. map.get m (codes "b")) same ∙ get_built b p w,
+  sym (get_beside a o v (codes "l") refl ∙ get_time o v) ∙ ap (λ m. map.get m (codes "l")) same
+      ∙ (get_beside b p w (codes "l") refl ∙ get_time p w),
+  some v w (sym (get_beside a o v (codes "t") refl ∙ get-described_row o v)
+      ∙ ap (λ m. map.get m (codes "t")) same
+      ∙ (get_beside b p w (codes "t") refl ∙ get-described_row p w)),
+)
+  where
+    some : (x y : List ℕ) → Some x ≡ Some y → x ≡ y
+    some x y e = cc

@@ -1,5 +1,5 @@
 -- The rows that stand for a state (docs/formats/table-rows.md), and the changes of rows that a write of the state makes.
-use Rattle.std.specs.Prelude.{◌≡◌, ◌≤◌, ◌<◌, ◌^◌, ◌==◌, ℕ, List, [], ◌∷◌, map as each, All, if◌then◌else◌, Option, Some, None, option_map, codes}
+use Rattle.std.specs.Prelude.{◌≡◌, ◌≤◌, ◌<◌, ◌^◌, ◌==◌, ℕ, List, [], ◌∷◌, ◌++◌, map as each, All, if◌then◌else◌, Option, Some, None, option_map, unwrap_or, codes}
 use Rattle.std.specs.Int.{w32, to_be_bytes}
 use Rattle.std.specs.Ordering.{eq_by_cmp}
 use Rattle.std.specs.FinMap as map
@@ -8,12 +8,15 @@ use Rattle.alt_cells.specs.Keys.{key_cmp}
 use Rattle.alt_changes.specs.ChangeRows.{change_columns, row_key}
 use Rattle.alt_changes.specs.TrimRows.{trimmed_row}
 use Rattle.alt_layout.specs.Layout.{Layout, shown}
+use Rattle.alt_machine.specs.Building.{built_part, built_place, building_in}
 use Rattle.alt_machine.specs.Indexed.{index_items}
 use Rattle.alt_machine.specs.Sources.{index_at}
 use Rattle.alt_machine.specs.State.{State, Table, Texts, Change}
 use Rattle.alt_machine.specs.Valid.{IsHeldState}
 use Rattle.alt_schema.specs.Format.{description_bytes}
 use Rattle.alt_schema.specs.Held.{IsHeld}
+use Rattle.alt_schema.specs.declared.schema.Built.{Built}
+use Rattle.alt_schema.specs.declared.schema.Built.TheVariants.{Whole, UpTo}
 use Rattle.alt_schema.specs.declared.schema.IndexSchema.{IndexSchema}
 use Rattle.alt_schema.specs.declared.schema.TableSchema.{TableSchema}
 use Rattle.alt_views.specs.IndexRows.{index_columns}
@@ -43,9 +46,29 @@ table_cells (Some name) bytes = (codes "l", name) ∷ (codes "t", bytes) ∷ []
 abbrev pub described_row : Option (List ℕ) → List ℕ → Columns
 described_row time bytes = map.from_sorted (table_cells time bytes)
 
+-- of a description, as if each index were whole
+abbrev pub plain_row : TableSchema → Columns
+plain_row d = described_row d.ttl (description_bytes d)
+
+-- how far an index is built: not begun, or up to the place of the last item that it was built of
+abbrev pub built_bytes : TableSchema → Built → List ℕ
+built_bytes d Whole = []
+built_bytes d (UpTo None) = 0 ∷ []
+built_bytes d (UpTo (Some key)) = 1 ∷ unwrap_or (built_place d key) []
+
+-- the family of the one that is being built, where there is one, and how far it is
+abbrev pub built_cell : TableSchema → Option (List ℕ)
+built_cell d =
+    option_map (λ i. to_be_bytes w32 i.family ++ built_bytes d i.built) (building_in d)
+
+-- a row with a cell for that, where there is one
+abbrev pub with_built_cell : Option (List ℕ) → Columns → Columns
+with_built_cell None row = row
+with_built_cell (Some value) row = map.insert row (codes "b") value
+
 -- the row of a table: its description, and beside its bytes what these don't tell
 abbrev pub table_row : TableSchema → Columns
-table_row d = described_row d.ttl (description_bytes d)
+table_row d = with_built_cell (built_cell d) (plain_row d)
 
 -- the next family stands at the empty key, and each description at its table's name
 abbrev pub catalog_rows : State → List ℕ → Option Columns
@@ -59,10 +82,10 @@ catalog_rows s key =
 abbrev pub item_rows : Table → List ℕ → Option Columns
 item_rows t key = option_map item_columns (map.get t.items key)
 
--- what an index keeps of the items, each at its place there, in the family of the index
+-- what an index keeps of the items of which it is built, each at its place there, in the family of the index
 abbrev pub index_rows : Table → IndexSchema → List ℕ → Option Columns
 index_rows t i key = option_map (index_columns t.description i)
-    (map.get (index_items t.description i t.items) key)
+    (map.get (index_items t.description i (built_part t.description i.built t.items)) key)
 
 -- changes by the keys of their rows
 abbrev pub keyed_changes : List Change → Texts Change

@@ -4,7 +4,7 @@ use Rattle.std.specs.Option.{option_map_or}
 use Rattle.alt_cells.specs.Changes.{Columns}
 use Rattle.alt_layout.specs.Layout.{Layout, shown}
 use Rattle.alt_machine.specs.State.{Change}
-use Rattle.alt_machine.specs.Valid.{IsChange, WasStored}
+use Rattle.alt_machine.specs.Valid.{IsChange, IsStored}
 use Rattle.alt_schema.specs.declared.schema.TableSchema.{TableSchema}
 use Rattle.alt_changes.specs.ChangeRows.{IsReadChange, change_columns, row_key}
 use Rattle.alt_changes.specs.TrimRows.{trimmed_columns, trimmed_told}
@@ -25,8 +25,8 @@ pub record IsChangeAt (key : List ℕ) (columns : Columns) (c : Change) : Type 0
 
 -- two items, where they are there, are of one place of a table
 abbrev pub AreOfOne : TableSchema → Option (List Pair) → Option (List Pair) → Type 0
-AreOfOne d old new = (place : List ℕ) × IfSome old (WasStored d place)
-    × IfSome new (WasStored d place)
+AreOfOne d old new = (place : List ℕ) × IfSome old (IsStored d place)
+    × IfSome new (IsStored d place)
 
 -- The row at a key is that of a change that a table may keep: it can be read, its number, which is the key, is below the next one, and its
 -- items differ and are of one place of the table.

@@ -1,6 +1,6 @@
 //! The descriptions of the tables by their names. There are 256 at most, so they stand in one sorted list.
 
-ghost use Rattle.std.specs.Prelude.{◌≡◌, ◌≢◌, ◌<◌, ◌≤◌, ◌==◌, ◌||◌, ◌↔◌, ◌∷◌, [], ℕ, List, T, false, None, Some, OnOk, OnErr, IfOk, IfErr, IfSome, option_map, length, map as each, slice_get, slice_index_or, slice_set, vec_len};
+ghost use Rattle.std.specs.Prelude.{◌≡◌, ◌≢◌, ◌<◌, ◌≤◌, ◌==◌, ◌||◌, ◌↔◌, ◌∷◌, [], ℕ, List, T, true, false, None, Some, OnOk, OnErr, IfOk, IfErr, IfSome, option_map, length, map as each, slice_get, slice_index_or, slice_set, vec_len};
 ghost use Rattle.std.specs.FinMap as map;
 ghost use Rattle.std.specs.FinMap.Entries.{is_sorted};
 ghost use Rattle.std.specs.List.{HoldsAt, list_any, remove};
@@ -129,6 +129,18 @@ impl Catalog {
         }
     }
 
+    /// Puts a description, whose families differ, in the place of the one of its name.
+    pub fn replace(&mut self, schema: TableSchema)
+        requires there { map.contains_key self.old schema.name ≡ true }
+        requires families { HasOwnFamilies schema }
+        ensures replaced { self.new ≡ map.insert self.old schema.name schema }
+    {
+        match seek(&self.entries, schema.name.as_str()) {
+            Ok(i) => put_at(&mut self.entries, i, schema),
+            Err(_) => unreachable!(),
+        }
+    }
+
     /// The families of the catalog itself and of all tables.
     pub fn live(&self, alloc: Global) -> Result<Live, NoMemory>
         ensures live { IfOk result (λ live. AreLiveIn self.now live) }
@@ -169,6 +181,14 @@ fn give_time(entries: &mut Vec<TableSchema>, i: usize, ttl: Option<Text>)
         (record (slice_index_or entries.old.items i d) { ttl = ttl }) }
 {
     entries[i].ttl = ttl;
+}
+
+/// Puts a description at a place.
+fn put_at(entries: &mut Vec<TableSchema>, i: usize, schema: TableSchema)
+    requires { i < vec_len entries.old }
+    ensures { entries.new.items ≡ slice_set entries.old.items i schema }
+{
+    entries[i] = schema;
 }
 
 /// Where the description of a name stands, or where it is to go.

@@ -9,8 +9,11 @@ ghost use Rattle.alt_schema.specs.Described.{IsDescription};
 ghost use Rattle.alt_schema.specs.Held.{IsHeld, IsHeldText, Where};
 ghost use Rattle.alt_schema.specs.Indexes.{indexes};
 ghost use Rattle.alt_schema.specs.declared.schema.TableSchema.{TableSchema};
-ghost use Rattle.alt_opening.specs.StateRows.{one_column, next_row, described_row, table_row};
+ghost use Rattle.alt_opening.specs.Families.{HasOwnFamilies};
+ghost use Rattle.alt_opening.specs.StateRows.{one_column, next_row, described_row, table_row, plain_row, built_cell, with_built_cell};
+ghost use Rattle.alt_machine.specs.Building.{IsBuilt};
 
+use crate::building::{built_and_rest, built_cell, built_up, row_of_columns, with_built_cell};
 use alt_base::NoMemory;
 use alt_cells::ShownRow;
 use alt_fields::{Bytes, BytesFault, put_u32, take_u32};
@@ -50,6 +53,18 @@ pub fn row_with_time(
 ) -> Result<ShownRow, NoMemory>
     ensures row { IfOk result (λ row. row
         ≡ table_row (record schema.now { ttl = option_map (λ t. t.now) ttl.entry })) }
+{
+    let row = plain_row(alloc, schema, ttl)?;
+    match built_cell(alloc, schema)? {
+        Some(value) => with_built_cell(alloc, value, row),
+        None => Ok(row),
+    }
+}
+
+/// The row of a table, as if each index of it were whole, with that attribute for time to live, or with none.
+fn plain_row(alloc: Global, schema: &TableSchema, ttl: Option<&Text>) -> Result<ShownRow, NoMemory>
+    ensures row { IfOk result (λ row. row
+        ≡ plain_row (record schema.now { ttl = option_map (λ t. t.now) ttl.entry })) }
 {
     let mut bytes = Vec::new(alloc);
     schema_bytes(schema, &mut bytes)?;
@@ -94,10 +109,27 @@ fn one_column(alloc: Global, name: &[u8], value: Vec<u8>) -> Result<ShownRow, No
 
 /// The description whose row this is.
 pub(crate) fn schema_of_row(alloc: Global, row: &ShownRow) -> Result<TableSchema, Unread>
-    ensures schema { IfOk result (λ d. IsDescription d × IsHeld d × (row.now ≡ table_row d)) }
+    ensures schema { IfOk result (λ d. IsDescription d × IsHeld d × IsBuilt d
+        × (row.now ≡ table_row d)) }
+    ensures none { result ≡ Err Unread.Bad → (d : TableSchema) → IsDescription d → IsHeld d
+        → IsBuilt d → HasOwnFamilies d → row.now ≡ table_row d → ⊥ }
+{
+    let Some((cell, columns)) = built_and_rest(row) else {
+        return plain_schema(alloc, row);
+    };
+    let rest = row_of_columns(alloc, columns)?;
+    let schema = plain_schema(alloc, &rest)?;
+    let built = built_up(alloc, schema, cell)?;
+    held(&built);
+    Ok(built)
+}
+
+/// The description of the row, as if each index were whole.
+fn plain_schema(alloc: Global, row: &ShownRow) -> Result<TableSchema, Unread>
+    ensures schema { IfOk result (λ d. IsDescription d × IsHeld d × (row.now ≡ plain_row d)) }
     ensures whole { IfOk result (λ d. list_all (λ i. is_whole i.built) (indexes d) ≡ true) }
     ensures none { result ≡ Err Unread.Bad → (d : TableSchema) → IsDescription d → IsHeld d
-        → row.now ≡ table_row d → ⊥ }
+        → row.now ≡ plain_row d → ⊥ }
 {
     let Some((time, bytes)) = cells_of(row) else {
         return Err(Unread::Bad);

@@ -7,7 +7,7 @@ ghost use Rattle.alt_changes.specs.ChangeRows.{IsReadChange, IsReadItem, change_
 ghost use Rattle.alt_engine.specs.InHand.{Reads};
 ghost use Rattle.alt_layout.specs.Layout.{Layout};
 ghost use Rattle.alt_machine.specs.Same.{is_same};
-ghost use Rattle.alt_machine.specs.Valid.{IsChange, WasStored};
+ghost use Rattle.alt_machine.specs.Valid.{IsChange, IsStored};
 ghost use Rattle.alt_opening.specs.Scans.{IsDeviceFault, Walked};
 ghost use Rattle.alt_opening.specs.StreamScans.{AreOfOne, ChangesRead, ChangesWhere, IsChangeFault, IsChangeRow, IsStreamFault, IsStreamRow, stream_trimmed, trimmed_in};
 
@@ -235,7 +235,7 @@ fn are_one(a: &Option<Bytes>, b: &Option<Bytes>) -> bool
 fn place_held(alloc: Global, schema: &TableSchema, item: &Item) -> Result<Option<Bytes>, NoMemory>
     requires { IsReadItem item.now }
     ensures place { IfOk result (λ o. (place : List ℕ)
-        → (o ≡ Some place) ↔ WasStored schema.now place item.now) }
+        → (o ≡ Some place) ↔ IsStored schema.now place item.now) }
 {
     let place = place_of(alloc, schema, item)?;
     if key_fits(schema, item) && item_size_within(item, LARGEST_ITEM).is_some() {

@@ -12,7 +12,7 @@ ghost use Rattle.alt_schema.specs.declared.schema.IndexSchema.{IndexSchema};
 ghost use Rattle.alt_opening.specs.private.IndexScans.{HasRow, IndexRead, IndexesRead, IsFirstForeign, IsIndexFault, IsLeastMissing, IsOwnFault, TellsMissingOf, lesser};
 ghost use Rattle.alt_opening.specs.Scans.{IsDeviceFault, ItemsRead, Walked};
 ghost use Rattle.alt_value.specs.Tree.{Pair};
-ghost use Rattle.alt_views.specs.IndexRows.{row_in_index};
+ghost use Rattle.alt_views.specs.IndexRows.{built_row};
 ghost use Rattle.alt_views.specs.ItemRows.{IsReadItem, item_columns};
 ghost use Rattle.alt_views.specs.Read.{IsKeptAt, row_at};
 
@@ -24,7 +24,7 @@ use alt_disk::Disk;
 use alt_engine::Engine;
 use alt_fields::Bytes;
 use alt_schema::TableSchema;
-use alt_views::{IndexRow, Unread, index_at, index_row, item_of_index_row, item_of_row, place_of};
+use alt_views::{IndexRow, Unread, built_row, index_at, item_of_index_row, item_of_row, place_of};
 use std::alloc::Global;
 
 /// Tests the indexes of a table whose items are read, in the order of their numbers.
@@ -291,7 +291,7 @@ fn is_row_of(
     requires there { number < length (indexes schema.now) }
     ensures own { (i : IndexSchema) (item : List Pair) → index_at schema.now (Some number) ≡ Some i
         → IsReadItem item → shown.now ≡ item_columns item → IfOk result (λ own.
-        IsTrue own ↔ (row_in_index schema.now i item ≡ Some (key.now, row.now))) }
+        IsTrue own ↔ (built_row schema.now i item ≡ Some (key.now, row.now))) }
 {
     match row_of_own(alloc, schema, number, shown)? {
         Some(found) => Ok(found.key == *key && same_columns(&found.columns, row)),
@@ -299,7 +299,7 @@ fn is_row_of(
     }
 }
 
-/// The row in an index of the item of a table's row, None where the item isn't in the index.
+/// The row in an index of the item of a table's row, None where the item isn't in the index, or the index isn't built of it.
 fn row_of_own(
     alloc: Global,
     schema: &TableSchema,
@@ -309,10 +309,10 @@ fn row_of_own(
     requires there { number < length (indexes schema.now) }
     ensures row { (i : IndexSchema) (item : List Pair) → index_at schema.now (Some number) ≡ Some i
         → IsReadItem item → row.now ≡ item_columns item
-        → IfOk result (λ own. option_map row_at own ≡ row_in_index schema.now i item) }
+        → IfOk result (λ own. option_map row_at own ≡ built_row schema.now i item) }
 {
     match item_of_row(alloc, row) {
-        Ok(item) => index_row(alloc, schema, number, &item),
+        Ok(item) => built_row(alloc, schema, number, &item),
         Err(Unread::Bad) => Ok(None),
         Err(Unread::NoMemory) => Err(NoMemory),
     }

@@ -3,9 +3,10 @@
 //! `recover` opens it. `opened` reads the catalog, `scan` the items of tables, `change_scan` the changes of streams and `index_scan`
 //! the rows of indexes; `made` tests a description that is read. `catalog` keeps descriptions by name, `live` the
 //! families of their tables and `trimmed` what was trimmed of their changes, and `catalog_row`, `change_rows` and `trimmed_row` have
-//! the rows of descriptions, of changes and of what was trimmed.
+//! the rows of descriptions, of changes and of what was trimmed. `building` has the cell of an index that is being built.
 #![tactic(auto)]
 
+mod building;
 mod catalog;
 mod catalog_row;
 mod change_rows;

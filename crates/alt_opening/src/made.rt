@@ -3,8 +3,8 @@
 ghost use Rattle.std.specs.Prelude.{◌≡◌, ◌&&◌, ◌++◌, length, nat_lt, nat_le, not, option_map};
 ghost use Rattle.std.specs.List.{list_any, list_all};
 ghost use Rattle.std.specs.Str.{bytes_eq};
-ghost use Rattle.alt_machine.specs.Valid.{is_pair, are_two, is_local, names_few, is_used};
-ghost use Rattle.alt_schema.specs.Indexes.{indexes, is_key};
+ghost use Rattle.alt_machine.specs.Valid.{is_pair, are_two, is_local, names_few};
+ghost use Rattle.alt_schema.specs.Indexes.{indexes, is_key, is_used};
 ghost use Rattle.alt_schema.specs.Rules.{is_name, all_differ, most_included};
 ghost use Rattle.alt_opening.specs.private.Made.{all_indexes, are_few_indexes, are_keyed, are_named, are_shaped, is_as_made};
 

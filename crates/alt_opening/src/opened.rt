@@ -2,12 +2,12 @@
 
 ghost use Rattle.std.specs.Prelude.{◌≡◌, ◌↔◌, ◌==◌, ◌++◌, true, None, Err, IfOk, IfErr, IfSome, OnOk, IsErrOf, IsTrue, map as each};
 ghost use Rattle.std.specs.FinMap as map;
-ghost use Rattle.std.specs.List.{list_all, list_any};
+ghost use Rattle.std.specs.List.{list_any};
 ghost use Rattle.alt_base.specs.Counts.{Rose};
 ghost use Rattle.alt_engine.specs.InHand.{Reads};
 ghost use Rattle.alt_layout.specs.Layout.{Layout};
+ghost use Rattle.alt_machine.specs.Building.{IsBuilt};
 ghost use Rattle.alt_machine.specs.State.{families_of};
-ghost use Rattle.alt_schema.specs.Bare.{is_whole};
 ghost use Rattle.alt_schema.specs.Described.{IsDescription};
 ghost use Rattle.alt_schema.specs.Held.{IsHeld};
 ghost use Rattle.alt_schema.specs.Indexes.{indexes};
@@ -195,7 +195,7 @@ fn may_stand(
 ) -> Result<bool, NoMemory>
     requires description { IsDescription schema.now }
     requires held { IsHeld schema.now }
-    requires whole { list_all (λ i. is_whole i.built) (indexes schema.now) ≡ true }
+    requires built { IsBuilt schema.now }
     ensures may { IfOk result (λ may. IsTrue may
         ↔ MayStand number family catalog.now name.now schema.now) }
 {
@@ -216,7 +216,7 @@ fn may_stand(
 fn is_good(number: u64, family: u32, name: &Bytes, schema: &TableSchema, families: &[u32]) -> bool
     requires description { IsDescription schema.now }
     requires held { IsHeld schema.now }
-    requires whole { list_all (λ i. is_whole i.built) (indexes schema.now) ≡ true }
+    requires built { IsBuilt schema.now }
     requires families { families.now ≡ families_of schema.now }
     ensures good { IsTrue result ↔ IsGood number family name.now schema.now }
 {

@@ -20,7 +20,7 @@ use alt_keyorder::KeyRange;
 use alt_machine::LARGEST_ITEM;
 use alt_schema::TableSchema;
 use alt_value::{Item, item_size_within};
-use alt_views::{Unread, index_keys_fit, item_of_row, key_fits, place_of};
+use alt_views::{Unread, item_of_row, key_fits, place_of};
 use std::alloc::Global;
 
 /// How many rows are asked for at once, since each call of the engine seeks in every row file. An item has 400 KB at most, so those in hand hold 25 MB of names and values at most, and changes, of two items each, 50 MB.
@@ -153,7 +153,7 @@ fn test_item(alloc: Global, schema: &TableSchema, key: &Bytes, row: &ShownRow) -
     }
 }
 
-/// Whether an item may stand at a key of a table: it is the place of the item, whose keys fit and which isn't too large.
+/// Whether an item may stand at a key of a table: it is the place of the item, whose key fits and which isn't too large.
 fn stands_at(
     alloc: Global,
     schema: &TableSchema,
@@ -167,10 +167,5 @@ fn stands_at(
     let Some(place) = place else {
         return Ok(false);
     };
-    Ok(
-        place == *key
-            && key_fits(schema, item)
-            && index_keys_fit(schema, item)
-            && item_size_within(item, LARGEST_ITEM).is_some(),
-    )
+    Ok(place == *key && key_fits(schema, item) && item_size_within(item, LARGEST_ITEM).is_some())
 }

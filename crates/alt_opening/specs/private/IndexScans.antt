@@ -13,7 +13,7 @@ use Rattle.alt_faults.specs.Faults.{OnlyRow}
 use Rattle.alt_opening.specs.Faults.{told_by_opening}
 use Rattle.alt_opening.specs.declared.faults.OpenFault.{OpenFault}
 use Rattle.alt_value.specs.Tree.{Pair}
-use Rattle.alt_views.specs.IndexRows.{row_in_index}
+use Rattle.alt_views.specs.IndexRows.{built_row}
 use Rattle.alt_views.specs.ItemRows.{item_columns, IsReadItem}
 
 -- ---- rows of an index
@@ -31,7 +31,7 @@ pub record HasRow (l : Layout) (d : TableSchema) (i : IndexSchema) (key : List �
   pub place : List ℕ
   pub item : List Pair
   pub there : IsItemThere l d place item
-  pub row : row_in_index d i item ≡ Some (key, columns)
+  pub row : built_row d i item ≡ Some (key, columns)
 
 -- At a key an index shows the row that an item has there, and nothing where none has one.
 pub record IsRightAt (l : Layout) (d : TableSchema) (i : IndexSchema) (key : List ℕ)
@@ -98,14 +98,14 @@ IsAhead key (Some k) = IsBelow key k
 pub record IsMissing (l : Layout) (d : TableSchema) (i : IndexSchema) (item : List Pair)
     (key : List ℕ) : Type 0 where
   pub columns : Columns
-  pub row : row_in_index d i item ≡ Some (key, columns)
+  pub row : built_row d i item ≡ Some (key, columns)
   pub missing : shown l i.family key ≡ Some columns → ⊥
 
 -- Whether the row of an item is missing: where no key is told it has none, or its row is shown.
 abbrev pub TellsMissing : Layout → TableSchema → IndexSchema → List Pair → Option (List ℕ)
     → Type 0
 TellsMissing l d i item None = (key : List ℕ) (columns : Columns)
-    → row_in_index d i item ≡ Some (key, columns) → shown l i.family key ≡ Some columns
+    → built_row d i item ≡ Some (key, columns) → shown l i.family key ≡ Some columns
 TellsMissing l d i item (Some key) = IsMissing l d i item key
 
 -- the same of the item that a row of the table is of
@@ -118,7 +118,7 @@ TellsMissingOf l d i row o = (item : List Pair) → IsReadItem item → row ≡ 
 abbrev pub ShowsAhead : Layout → TableSchema → IndexSchema → Option (List ℕ) → List ℕ → Columns
     → Type 0
 ShowsAhead l d i o place row = (item : List Pair) (key : List ℕ) (columns : Columns)
-    → IsReadItem item → row ≡ item_columns item → row_in_index d i item ≡ Some (key, columns)
+    → IsReadItem item → row ≡ item_columns item → built_row d i item ≡ Some (key, columns)
     → IsAhead key o → shown l i.family key ≡ Some columns
 
 -- The least key at which the row of an item isn't shown, of the items at those places.

@@ -1,8 +1,8 @@
 -- The tests of a description that is read, beside those of its bytes: it is as it is made (`IsMade` of the machine).
 use Rattle.std.specs.Prelude.{Bool, ◌&&◌, nat_le, length}
 use Rattle.std.specs.List.{list_all}
-use Rattle.alt_machine.specs.Valid.{is_pair, is_local, names_few, is_used}
-use Rattle.alt_schema.specs.Indexes.{indexes}
+use Rattle.alt_machine.specs.Valid.{is_pair, is_local, names_few}
+use Rattle.alt_schema.specs.Indexes.{indexes, is_used}
 use Rattle.alt_schema.specs.Rules.{is_name, all_differ, most_locals, most_globals}
 use Rattle.alt_schema.specs.declared.schema.IndexSchema.{IndexSchema}
 use Rattle.alt_schema.specs.declared.schema.TableSchema.{TableSchema}

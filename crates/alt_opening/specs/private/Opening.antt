@@ -1,21 +1,26 @@
 -- What is read of the catalog while a store is opened.
-use Rattle.std.specs.Prelude.{◌≡◌, ◌≢◌, ◌<◌, ◌≤◌, ◌==◌, ◌&&◌, ℕ, Bool, true, not, nat_lt, nat_le, List, [], ◌∷◌, Option, Some, None, All, AllPairs, Contains, if◌then◌else◌, length, slice_index_or}
+use Rattle.std.specs.FinMap.Entries.{below_all}
+use Rattle.std.specs.Prelude.{◌≡◌, ◌≢◌, ◌<◌, ◌≤◌, ◌==◌, ◌&&◌, ℕ, Bool, true, not, nat_lt, nat_le, List, [], ◌∷◌, Option, Some, None, All, AllPairs, Contains, if◌then◌else◌, length, slice_index_or, T, false}
 use Rattle.std.specs.List.{list_all, list_any}
 use Rattle.std.specs.Option.{option_map_or}
 use Rattle.std.specs.Str.{bytes_eq}
 use Rattle.std.specs.FinMap as map
 use Rattle.alt_cells.specs.Changes.{Columns}
+use Rattle.alt_cells.specs.Keys.{key_cmp}
 use Rattle.alt_layout.specs.Layout.{Layout, shown}
 use Rattle.alt_machine.specs.declared.TheConstants.{FAMILIES_END, MOST_TABLES}
 use Rattle.alt_machine.specs.State.{State, Texts, descriptions, families_of}
 use Rattle.alt_machine.specs.Valid.{IsMade, IsValid}
+use Rattle.alt_machine.specs.Building.{is_built_to}
+use Rattle.alt_schema.specs.Bare.{is_whole}
 use Rattle.alt_schema.specs.Held.{IsHeld}
+use Rattle.alt_schema.specs.declared.schema.Built.{Built}
 use Rattle.alt_schema.specs.declared.schema.TableSchema.{TableSchema}
 use Rattle.alt_opening.specs.private.Made.{is_as_made}
 use Rattle.alt_opening.specs.private.IndexScans.{IndexesRead, IsFirstOfOwn}
 use Rattle.alt_opening.specs.Recovery.{IsFirstWrong}
 use Rattle.alt_opening.specs.Scans.{IsBelow, ItemsRead}
-use Rattle.alt_opening.specs.StateRows.{Shows, IsHeldWhole, catalog_family, next_row, table_row}
+use Rattle.alt_opening.specs.StateRows.{Shows, IsHeldWhole, built_bytes, catalog_family, next_row, table_row}
 use Rattle.alt_opening.specs.StreamScans.{ChangesRead, IsFirstOfStream, stream_trimmed}
 use Rattle.alt_opening.specs.Trimmed.{AreTrimmedOf, number_at}
 use Rattle.alt_opening.specs.declared.trimmed.Trimmed.{Trimmed}
@@ -62,6 +67,16 @@ pub record IsGood (next_number next : ℕ) (name : List ℕ) (d : TableSchema) :
   pub number : (1 ≤ d.number) × (d.number < next_number)
   pub families : All (λ f. (1 ≤ f) × (f < next)) (families_of d)
   pub differ : AllPairs (λ f g. f ≢ g) (families_of d)
+
+-- a name stands before those of all these cells
+abbrev pub AllBelow : List ℕ → List (List ℕ × List ℕ) → Type 0
+AllBelow name cells = T (below_all key_cmp name cells)
+
+-- Bytes tell how far an index of a table is built, which is up to a key of the table and not whole.
+pub record TellsBuilt (d : TableSchema) (bytes : List ℕ) (built : Built) : Type 0 where
+  pub part : is_whole built ≡ false
+  pub to : is_built_to d built ≡ true
+  pub told : bytes ≡ built_bytes d built
 
 -- the tests of it, beside those of its bytes
 abbrev pub passes : ℕ → ℕ → List ℕ → TableSchema → Bool

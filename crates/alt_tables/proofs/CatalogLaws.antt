@@ -20,13 +20,15 @@ use Rattle.alt_writes.specs.Writes.{Write}
 use Rattle.alt_layout.specs.Writes.{with_write}
 use Rattle.alt_layout.proofs.BatchLaws.{shows_batch}
 use Rattle.alt_machine.specs.declared.TheConstants.{NUMBERS_END, FAMILIES_END, MOST_FAMILIES, MOST_TABLES}
-use Rattle.alt_machine.specs.Indexed.{index_entry}
+use Rattle.alt_machine.specs.Building.{built_part, reaches}
+use Rattle.alt_machine.specs.Indexed.{index_entry, index_items}
 use Rattle.alt_machine.specs.Rekeyed.{rekeyed}
 use Rattle.alt_machine.specs.Sources.{index_at}
-use Rattle.alt_machine.specs.State.{State, Table, Change, new_table, families_of}
+use Rattle.alt_machine.specs.State.{Texts, State, Table, Change, new_table, families_of}
 use Rattle.alt_machine.specs.Valid.{IsHeldChange, IsMade, IsValid}
 use Rattle.alt_machine.specs.Ops.CreateTable.{with_table}
 use Rattle.alt_machine.specs.Ops.DeleteTable.{without_table}
+use Rattle.alt_machine.proofs.Building.{get-built_part}
 use Rattle.alt_machine.proofs.Families.{of_contained, families_within}
 use Rattle.alt_machine.proofs.Looks.{at_insert, at_remove, not_there}
 use Rattle.alt_machine.proofs.Rekeying.{given_by}
@@ -35,6 +37,7 @@ use Rattle.alt_schema.specs.Described.{IsNew}
 use Rattle.alt_schema.specs.Format.{description_bytes}
 use Rattle.alt_schema.specs.Held.{IsHeld}
 use Rattle.alt_schema.specs.Rules.{is_name}
+use Rattle.alt_schema.specs.declared.schema.Built.{Built}
 use Rattle.alt_schema.specs.declared.schema.IndexSchema.{IndexSchema}
 use Rattle.alt_schema.specs.declared.schema.TableSchema.{TableSchema}
 use Rattle.alt_opening.specs.StateRows.{HasMoment, IsHeldWhole, IsLeftover, Shows, catalog_family, catalog_rows, item_rows, index_rows, change_rows, keyed_changes, one_column, table_row, next_row}
@@ -43,8 +46,11 @@ use Rattle.alt_opening.proofs.Ties.{tied, itself}
 use Rattle.alt_tables.proofs.ChangeLaws.{ShowsWrite, one_change, two_changes, other_family}
 use Rattle.alt_views.proofs.ItemRowLaws.{can_show}
 use Rattle.alt_views.specs.IndexRows.{index_columns}
+use Rattle.alt_opening.proofs.Maps.{same_texts}
 use Rattle.alt_opening.proofs.OneState.{some, nameless}
-use Rattle.alt_opening.proofs.TableRow.{get-described_row}
+use Rattle.alt_value.specs.Members.{text_order}
+use Rattle.alt_value.specs.Tree.{Pair}
+use Rattle.alt_opening.proofs.TableRow.{get-table_row}
 use Rattle.alt_tables.proofs.IndexFamilies.{index_family}
 use Rattle.alt_tables.proofs.StreamShows.{stream_family}
 use Rattle.alt_tables.proofs.WriteLaws.{family_within, index_within, stream_within}
@@ -58,10 +64,10 @@ one_can_show name value = can_show (one_column name value) name value
 -- so can that of a table
 pub table_can_show : (d : TableSchema) → CanShow (Some (table_row d))
 table_can_show d = can_show (table_row d) (codes "t") (description_bytes d)
-    (get-described_row d.ttl (description_bytes d))
+    (get-table_row d)
 
 -- and so can that of the next family
-next_can_show : (family : ℕ) → CanShow (next_row family)
+pub next_can_show : (family : ℕ) → CanShow (next_row family)
 next_can_show family = by_test (family == 1)
   where
     by_test : (b : Bool) → CanShow (if b then None else Some
@@ -70,7 +76,7 @@ next_can_show family = by_test (family == 1)
     by_test false = one_can_show (codes "next") (to_be_bytes w32 family)
 
 -- an index of no items has none
-none_rekeyed : {X Y : Type 0} (g : X → Option (List ℕ × Y)) (key : List ℕ)
+pub none_rekeyed : {X Y : Type 0} (g : X → Option (List ℕ × Y)) (key : List ℕ)
     → map.get (rekeyed g map.empty) key ≡ None
 none_rekeyed {Y = Y} g key = by (map.get (rekeyed g map.empty) key) refl
   where
@@ -79,6 +85,19 @@ none_rekeyed {Y = Y} g key = by (map.get (rekeyed g map.empty) key) refl
     by (Some v) is =
         let (place, (x, (here, entry))) = given_by g map.empty key v is in
         let no : None ≡ Some x = sym (map.get-empty key_cmp place) ∙ here in cc no
+
+-- no items
+abbrev pub no_items : Texts (List Pair)
+no_items = map.empty
+
+-- of them an index is built of none
+none_built : (d : TableSchema) (built : Built) (q : List ℕ)
+    → map.get (built_part d built no_items) q ≡ map.get no_items q
+none_built d built q = get-built_part d built no_items q ∙ by (reaches d built q)
+  where
+    by : (b : Bool) → cond b (map.get no_items q) None ≡ map.get no_items q
+    by true = refl
+    by false = sym (map.get-empty text_order q)
 
 -- changes of the catalog leave all other families
 pub off_catalog : (c : RowChange) (cs : List RowChange) (family : ℕ) (key : List ℕ)
@@ -162,7 +181,9 @@ module _ (l : Layout) (s : State) (shows : Shows l s) (valid : IsValid s) where
         elsewhere i.family key
         (let low = valid.next_family.0 in omega (arith, low, family, is.0))
         ∙ shows.beyond i.family key (omega (arith, family, is.0))
-        ∙ sym (ap (option_map (index_columns d i)) (none_rekeyed (index_entry d i) key))) at_index
+        ∙ sym (ap (λ m. option_map (index_columns d i) (map.get (index_items d i m) key))
+        (same_texts (built_part d i.built no_items) no_items (none_built d i.built))
+        ∙ ap (option_map (index_columns d i)) (none_rekeyed (index_entry d i) key))) at_index
     indexes_after other u false e at n i at_index key =
         elsewhere i.family key (index_within s other u (valid.tables other u at) n i at_index).0
         ∙ shows.indexes other u n i at at_index key

@@ -1,6 +1,6 @@
 -- What the list of the items that are due next knows of the items of tables, where tables and items come, go or change.
 use Rattle.std.proofs.Common.{◌≡◌, refl, sym, ap, subst, ◌∙◌, ℕ, Bool, true, false, cond, List, [], ◌∷◌, ◌++◌, Option, Some, None, IfSome, option_map, ◌≤◌, ◌^◌, arith}
-use Rattle.std.specs.Prelude.{◌&&◌, if◌then◌else◌}
+use Rattle.std.specs.Prelude.{◌&&◌, if◌then◌else◌, option_and_then}
 use Rattle.std.specs.FinMap as map
 use Rattle.std.proofs.lemmas.Bool.{false≢true}
 use Rattle.std.specs.Option.{option_map_or}
@@ -9,8 +9,9 @@ use Rattle.alt_codec.specs.declared.writer.Writer.{Writer}
 use Rattle.alt_due.specs.Due.{CoversNothing, KeepsKnown, KnowsFrom, is_before}
 use Rattle.alt_due.specs.Order.{spot_of}
 use Rattle.alt_due.specs.declared.due.Due.{Due}
-use Rattle.alt_machine.specs.Expiry.{is_expired}
+use Rattle.alt_machine.specs.Expiry.{is_expired, is_over}
 use Rattle.alt_machine.specs.Ops.BatchWriteItem.{Written, writes_of_by, writes_of_all_by}
+use Rattle.alt_machine.specs.Ops.UpdateTable.{redescribed}
 use Rattle.alt_machine.specs.Ops.UpdateTimeToLive.{timed}
 use Rattle.alt_machine.specs.Outcomes.{last_state}
 use Rattle.alt_machine.specs.Same.{is_same}
@@ -23,6 +24,7 @@ use Rattle.alt_schema.specs.declared.schema.TableSchema.{TableSchema}
 use Rattle.alt_tables.specs.Foreseen.{Foresees, ForeseesItem, ForeseesWritten, IsFrom, IsMetFrom}
 use Rattle.alt_tables.specs.Several.{Every}
 use Rattle.alt_tables.proofs.Standing.{descriptions-stay}
+use Rattle.alt_value.specs.Item.{at_name}
 use Rattle.alt_value.specs.Members.{text_order}
 use Rattle.alt_value.specs.Tree.{Pair}
 use Rattle.alt_value.proofs.Texts.{text_total}
@@ -97,6 +99,14 @@ module _ (tables : Texts Table) (name : List ℕ) (due : Due) (knows : Foresees 
   pub foresees_untimed : (t : Table) → Foresees (map.insert tables name (timed None t)) due
   foresees_untimed t = foresees_put (timed None t) (λ place item at moment fits over.
       absurd (let no : false ≡ true = over in let f : ⊥ = cc no in f))
+
+  -- with another description of one, with its time to live
+  pub foresees_redescribed : (t : Table) → map.get tables name ≡ Some t → (e : TableSchema)
+      → e.ttl ≡ t.description.ttl → Foresees (map.insert tables name (redescribed e t)) due
+  foresees_redescribed t at e same = foresees_put (redescribed e t)
+      (λ place item there moment fits over. knows name place t item at there moment fits
+      (ap (λ o. option_map_or (is_over moment) (option_and_then (λ (n : List ℕ). at_name n item) o)
+      false) (sym same) ∙ over))
 
   -- with one in which a place was written
   pub foresees_written : (number moment : ℕ) (writer : Writer) (t : Table) (place : List ℕ)

@@ -20,7 +20,7 @@ use Rattle.alt_tables.proofs.ChangeLaws.{AreOthers, others-append}
 use Rattle.alt_tables.proofs.Moving.{others-moved_changes}
 use Rattle.alt_value.specs.Tree.{Pair}
 use Rattle.alt_views.specs.Batches.{AreNew, AreOfOwnFamilies}
-use Rattle.alt_views.specs.IndexRows.{changes_in, index_changes, row_in_index}
+use Rattle.alt_views.specs.IndexRows.{changes_in, index_changes, built_row}
 
 -- the families of the indexes of a table
 abbrev pub index_families : TableSchema → List ℕ
@@ -92,8 +92,8 @@ pub others-index_changes : (d : TableSchema) (old new : Option (List Pair)) (fam
 others-index_changes d old new family [] h = tt
 others-index_changes d old new family (i ∷ is) h =
     others-append family (changes_in d old new i) (flat_map (changes_in d old new) is)
-    (others-moved_changes i.family family (option_and_then (row_in_index d i) old)
-    (option_and_then (row_in_index d i) new) (h 0 i refl))
+    (others-moved_changes i.family family (option_and_then (built_row d i) old)
+    (option_and_then (built_row d i) new) (h 0 i refl))
     (others-index_changes d old new family is (λ n j at. h (suc n) j at))
 
 -- a batch with a change of another family alone has none of their rows

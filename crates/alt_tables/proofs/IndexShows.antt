@@ -20,7 +20,7 @@ use Rattle.alt_schema.specs.declared.schema.TableSchema.{TableSchema}
 use Rattle.alt_tables.proofs.ChangeLaws.{ShowsWrite, AreOthers, others-append, change_of-behind, change_of-front}
 use Rattle.alt_tables.proofs.Moving.{WasShown, RowCanShow, shown-moved_changes, others-moved_changes}
 use Rattle.alt_value.specs.Tree.{Pair}
-use Rattle.alt_views.specs.IndexRows.{KeyedRow, index_columns, beside_keys, row_in_index, changes_in, moved_changes}
+use Rattle.alt_views.specs.IndexRows.{KeyedRow, beside_keys, built_row, changes_in, index_columns, moved_changes, moves_in, row_in_index}
 use Rattle.alt_views.proofs.ItemRowLaws.{item_can_show}
 
 -- ---- the changes of one index among those of all
@@ -32,8 +32,8 @@ others-changes_in : (d : TableSchema) (old new : Option (List Pair)) (family : �
 others-changes_in d old new family [] h = tt
 others-changes_in d old new family (i ∷ is) h =
     others-append family (changes_in d old new i) (flat_map (changes_in d old new) is)
-    (others-moved_changes i.family family (option_and_then (row_in_index d i) old)
-    (option_and_then (row_in_index d i) new)
+    (others-moved_changes i.family family (option_and_then (built_row d i) old)
+    (option_and_then (built_row d i) new)
     (All-head (λ f. f ≢ family) i.family (map (λ (i : IndexSchema). i.family) is) h))
     (others-changes_in d old new family is
     (All-tail (λ f. f ≢ family) i.family (map (λ (i : IndexSchema). i.family) is) h))
@@ -66,8 +66,8 @@ change_of-index d old new (j ∷ is) zero i differ at key =
 change_of-index d old new (j ∷ is) (suc n) i differ at key =
     let there = family_at is n i j.family at in
     change_of-behind i.family key (changes_in d old new j) (flat_map (changes_in d old new) is)
-    (others-moved_changes j.family i.family (option_and_then (row_in_index d j) old)
-    (option_and_then (row_in_index d j) new) (λ same. differ 0 (suc n) j.family (omega arith)
+    (others-moved_changes j.family i.family (option_and_then (built_row d j) old)
+    (option_and_then (built_row d j) new) (λ same. differ 0 (suc n) j.family (omega arith)
     (omega (arith, there.0)) (same ∙ sym there.1)))
     ∙ change_of-index d old new is n i
     (λ a b x below within. differ (suc a) (suc b) x (omega (arith, below)) (omega (arith, within)))
@@ -152,20 +152,15 @@ module _ (d : TableSchema) (i : IndexSchema) where
           by_item None at = tt
           by_item (Some item) at = by_entry item at (index_entry d i item) refl
 
-      -- What its rows show after the write of an item are those of the items after it.
-      pub index_shows : (l : Layout) (w : Write) → ShowsWrite l w → (new : Option (List Pair))
-          → AreApart (index_entry d i) (with_item items place new)
-          → ((key : List ℕ) → change_of i.family key w.changes
-          ≡ change_of i.family key (changes_in d (finite.get items place) new i))
-          → ((key : List ℕ) → shown l i.family key
-          ≡ option_map (index_columns d i) (finite.get (index_items d i items) key))
-          → (key : List ℕ) → shown (with_write l w) i.family key
+      -- What its rows show with the changes of an item's row are those of the items after it.
+      pub index_shown : (new : Option (List Pair))
+          → AreApart (index_entry d i) (with_item items place new) → (key : List ℕ)
+          → shown_by (change_of i.family key (moves_in d (finite.get items place) new i))
+          (option_map (index_columns d i) (finite.get (index_items d i items) key))
           ≡ option_map (index_columns d i)
           (finite.get (index_items d i (with_item items place new)) key)
-      index_shows l w law new apart_after changes before key =
-          law i.family key
-          ∙ (λ j. shown_by (changes key j) (before key j))
-          ∙ (λ j. shown_by (change_of i.family key
+      index_shown new apart_after key =
+          (λ j. shown_by (change_of i.family key
           (moved_changes i.family (row_of-entry (finite.get items place) j) (row_of-entry new j)))
           (option_map (index_columns d i) (finite.get (index_items d i items) key)))
           ∙ shown-moved_changes i.family
@@ -180,3 +175,18 @@ module _ (d : TableSchema) (i : IndexSchema) where
           (option_and_then (index_entry d i) new) (finite.get (index_items d i items) key)
           ∙ ap (option_map (index_columns d i))
           (sym (get-rekeyed-with_item (index_entry d i) items place new apart apart_after key))
+
+      -- So are those after a write of them.
+      pub index_shows : (l : Layout) (w : Write) → ShowsWrite l w → (new : Option (List Pair))
+          → AreApart (index_entry d i) (with_item items place new)
+          → ((key : List ℕ) → change_of i.family key w.changes
+          ≡ change_of i.family key (moves_in d (finite.get items place) new i))
+          → ((key : List ℕ) → shown l i.family key
+          ≡ option_map (index_columns d i) (finite.get (index_items d i items) key))
+          → (key : List ℕ) → shown (with_write l w) i.family key
+          ≡ option_map (index_columns d i)
+          (finite.get (index_items d i (with_item items place new)) key)
+      index_shows l w law new apart_after changes before key =
+          law i.family key
+          ∙ (λ j. shown_by (changes key j) (before key j))
+          ∙ index_shown new apart_after key

@@ -35,6 +35,7 @@ use Rattle.alt_opening.specs.StateRows.{catalog_family}
 use Rattle.alt_opening.specs.Trimmed.{AreTrimmedOf, IsRenumbered, number_at, without}
 use Rattle.alt_opening.proofs.Engine.{one_layout_in_hand, stands_past}
 use Rattle.alt_opening.proofs.TrimmedLaws.{trimmed-new, trimmed-put, trimmed-remove}
+use Rattle.alt_tables.specs.Built.{NoneBuilds}
 use Rattle.alt_tables.specs.Foreseen.{Foresees, ForeseesWrite}
 use Rattle.alt_tables.specs.Fronts.{AreFronts, IsFront, front_at, without_front}
 use Rattle.alt_tables.specs.Leftovers.{leftovers}
@@ -48,6 +49,7 @@ use Rattle.alt_tables.proofs.Elsewhere.{shown_elsewhere, write_others}
 use Rattle.alt_tables.proofs.Foreseen.{foresees_gone, foresees_new, foresees_written}
 use Rattle.alt_tables.proofs.FrontLaws.{fronts_alike, fronts_gone, fronts_new, fronts_put}
 use Rattle.alt_tables.proofs.FrontTrims.{front_stays, front_then, left_then, leftovers_then, trimmed_then}
+use Rattle.alt_tables.proofs.NoneBuilt.{none_of_whole, none_on, none_with, none_without}
 use Rattle.alt_tables.proofs.StreamShows.{stream_family}
 use Rattle.alt_tables.specs.declared.faults.TableFault.{TableFault}
 use Rattle.alt_tables.specs.declared.faults.TableFault.TheVariants.{Spent, Damaged, BadRow, Failed, NoMemory}
@@ -230,8 +232,8 @@ module _ (before : DiskState) (old : Tables) (s : State) (t : Table) (stands : S
         → IsRenumbered name r.number (trimmed_of old) (trimmed_of new)
         → IsNoted d name moment r (fronts_of old) (fronts_of new)
         → ForeseesWrite (catalog_of old) name place to (due_of old) → new.due ≡ old.due
-        → number_of new ≡ number_of old + 1 → Stands now new after
-    item_stands now new holds valid rows distinct catalog live family trimmed noted told due next = record {
+        → new.builds ≡ old.builds → number_of new ≡ number_of old + 1 → Stands now new after
+    item_stands now new holds valid rows distinct catalog live family trimmed noted told due builds next = record {
       catalog = catalog ∙ stands.catalog ∙ sym (descriptions-stay s.tables name t table_after at refl);
       number = next ∙ ap (λ n. n + 1) stands.number;
       family = family ∙ stands.family;
@@ -246,6 +248,7 @@ module _ (before : DiskState) (old : Tables) (s : State) (t : Table) (stands : S
       due = subst (Foresees after.tables) (sym due) (foresees_written s.tables name old.due
           stands.due s.next_number moment writer t place to at
           (told t.description (known before old s name t stands at)));
+      builds = none_on old new catalog builds stands.builds;
       valid = valid;
     }
 
@@ -295,11 +298,11 @@ module _ (before : DiskState) (old : Tables) (s : State) (stands : Stands before
       → new.live ≡ without_all (families_of d) old.live → new.family ≡ old.family
       → trimmed_of new ≡ without name (trimmed_of old)
       → fronts_of new ≡ without_front name (fronts_of old) → new.due ≡ old.due
-      → number_of new ≡ number_of old + 1
+      → new.builds ≡ old.builds → number_of new ≡ number_of old + 1
       → (batch : List RowChange) → batch ≡ drop_changes d → T (is_distinct batch)
       → HasRows now new (changed_rows stands.rows.layout batch)
       → Stands now new (without_table s name)
-  drop_stands name d now new described holds valid catalog live family trimmed fronts due number batch is
+  drop_stands name d now new described holds valid catalog live family trimmed fronts due builds number batch is
       distinct rows = record {
         catalog = catalog ∙ ap (λ (m : Texts TableSchema). map.remove m name) stands.catalog
             ∙ sym (descriptions-remove s.tables name);
@@ -325,6 +328,8 @@ module _ (before : DiskState) (old : Tables) (s : State) (stands : Stands before
             (catalog_fronts batch distinct (subst OfCatalog (sym is) (refl, tt)))));
         due = subst (Foresees (map.remove s.tables name)) (sym due)
             (foresees_gone s.tables name old.due stands.due);
+        builds = λ none. subst NoneBuilds (sym catalog)
+            (none_without old.catalog (stands.builds (sym builds ∙ none)) name);
         valid = valid;
       }
 
@@ -354,11 +359,12 @@ module _ (before : DiskState) (old : Tables) (s : State) (stands : Stands before
         → IsValid (with_table s d) → new.catalog ≡ map.insert old.catalog d.name d
         → new.live ≡ with_all (families_of d) old.live
         → new.family ≡ old.family + length (families_of d) → new.trimmed ≡ old.trimmed
-        → new.fronts ≡ old.fronts → new.due ≡ old.due → number_of new ≡ number_of old + 1
+        → new.fronts ≡ old.fronts → new.due ≡ old.due → new.builds ≡ old.builds
+        → number_of new ≡ number_of old + 1
         → (next : ℕ) (batch : List RowChange) → batch ≡ creation_changes old.family next d
         → T (is_distinct batch) → HasRows now new (changed_rows stands.rows.layout batch)
         → Stands now new (with_table s d)
-    table_stands now new holds valid catalog live families trimmed fronts due numbers next batch is
+    table_stands now new holds valid catalog live families trimmed fronts due builds numbers next batch is
         distinct rows = record {
           catalog = catalog ∙ ap (λ (m : Texts TableSchema). map.insert m d.name d) stands.catalog
               ∙ sym (descriptions-insert s.tables d.name (new_table d));
@@ -380,6 +386,9 @@ module _ (before : DiskState) (old : Tables) (s : State) (stands : Stands before
               (new_table d) (absent before old s d.name stands free)));
           due = subst (Foresees (map.insert s.tables d.name (new_table d))) (sym due)
               (foresees_new s.tables d.name old.due stands.due d);
+          builds = λ none. subst NoneBuilds (sym catalog)
+              (none_with old.catalog (stands.builds (sym builds ∙ none)) d.name d
+              (none_of_whole d is_new.whole));
           valid = valid;
         }
 

@@ -117,14 +117,14 @@ module _ (a m : DiskState) (old mid known : Tables) (keeps : Keeps a m old mid)
         → new.catalog ≡ mid.catalog → new.live ≡ mid.live → new.family ≡ mid.family
         → new.trimmed ≡ known.trimmed → new.fronts ≡ known.fronts
         → Every (ForeseesWritten (catalog_of old) (due_of mid)) ws → new.due ≡ mid.due
-        → number_of new ≡ number_of known + length staged.batches.items → Stands b new last
-    stand_then noted holds rows catalog live family trimmed fronts told due number =
+        → new.builds ≡ mid.builds → number_of new ≡ number_of known + length staged.batches.items → Stands b new last
+    stand_then noted holds rows catalog live family trimmed fronts told due builds number =
         stand_behind a b old new s last stands moment staged.notes.items staged.batches.items
         are.ahead (noted_then noted trimmed fronts)
         (subst (Foresees last.tables) (sym due) (foresees_all (catalog_of old) mid.due s moment
         writer ws stands.catalog told (foresees_on s.tables old.due mid.due keeps.due stands.due)))
         holds rows (catalog ∙ keeps.catalog)
-        (live ∙ keeps.live) (family ∙ keeps.family)
+        (live ∙ keeps.live) (family ∙ keeps.family) (builds ∙ keeps.builds)
         (number ∙ ap (λ n. n + length staged.batches.items)
         (ap (λ (e : Engine). next_of e) engine ∙ keeps.number))
 

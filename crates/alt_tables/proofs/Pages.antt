@@ -19,11 +19,15 @@ use Rattle.alt_disk.proofs.Runs.{tells_of}
 use Rattle.alt_engine.specs.InHand.{Reads as EngineReads}
 use Rattle.alt_layout.specs.Layout.{Layout, rows_between, shown, shown_of, shown_rows, end_bound as rows_end}
 use Rattle.alt_layout.proofs.ShownLaws.{find-shown, is_sorted-shown, shown-filter, shown-turned}
+use Rattle.alt_machine.specs.Building.{built_part}
 use Rattle.alt_machine.specs.Indexed.{index_items}
 use Rattle.alt_machine.specs.Sources.{index_at}
 use Rattle.alt_machine.specs.State.{State, Table, Texts}
 use Rattle.alt_machine.specs.Walks.{end_bound, items_between, turned}
+use Rattle.alt_machine.proofs.Building.{built_part-whole}
 use Rattle.alt_machine.proofs.Indexing.{all_index}
+use Rattle.alt_schema.specs.Bare.{is_whole}
+use Rattle.alt_schema.proofs.BareLaws.{whole_is}
 use Rattle.alt_schema.specs.declared.schema.IndexSchema.{IndexSchema}
 use Rattle.alt_schema.specs.declared.schema.TableSchema.{TableSchema}
 use Rattle.alt_hand.specs.Faults.{told_by_engine}
@@ -37,6 +41,7 @@ use Rattle.alt_tables.specs.declared.faults.TableFault.{TableFault}
 use Rattle.alt_tables.specs.declared.tables.Tables.{Tables}
 use Rattle.alt_opening.proofs.Ties.{tied, itself}
 use Rattle.alt_opening.proofs.Engine.{finds_shown}
+use Rattle.alt_opening.specs.StateRows.{index_rows}
 use Rattle.alt_views.specs.IndexRows.{index_columns}
 use Rattle.alt_views.specs.Read.{IsKeptAt}
 use Rattle.alt_views.proofs.ItemRowLaws.{item_columns-one}
@@ -283,6 +288,15 @@ All-placed P items from to forward found =
     (each_found P (finite.entries items) (finite.entries_sorted items)
     (λ place item at. found place item (finite.get-entries items place ∙ at))))
 
+-- the rows of an index that is whole are those of all items
+pub whole_rows : (t : Table) (i : IndexSchema) → is_whole i.built ≡ true → (key : List ℕ)
+    → index_rows t i key ≡ option_map (index_columns t.description i)
+    (finite.get (index_items t.description i t.items) key)
+whole_rows t i whole key = ap (λ m. option_map (index_columns t.description i)
+    (finite.get (index_items t.description i m) key))
+    (ap (λ b. built_part t.description b t.items) (whole_is i.built whole)
+    ∙ built_part-whole t.description t.items)
+
 -- the description that is known is that of the table
 pub same_table : (disk : DiskState) (tables : Tables) (s : State) (name : List ℕ) (t : Table)
     (d : TableSchema) → Stands disk tables s → finite.get s.tables name ≡ Some t
@@ -354,6 +368,7 @@ module _ (disk : DiskState) (tables : Tables) (s : State) (name : List ℕ) (t :
   -- ---- of an index
 
   module _ (number : ℕ) (i : IndexSchema) (at_index : index_at d (Some number) ≡ Some i)
+      (whole : is_whole i.built ≡ true)
       (walked : IsTrue disk.tells → (l : Layout) → EngineReads disk tables.engine l
       → page ≡ before ++ take most (rows_between l i.family from to forward)) where
     at_own : index_at t.description (Some number) ≡ Some i
@@ -379,7 +394,7 @@ module _ (disk : DiskState) (tables : Tables) (s : State) (name : List ℕ) (t :
         let placed = placed_between items from to forward in
         subst (λ rows. AreKept d i rows (take most (map (λ e. e.1) placed)))
         (sym (page_rows i.family walked columns items
-        (stands.rows.shows.indexes name t number i at at_own)))
+        (λ key. stands.rows.shows.indexes name t number i at at_own key ∙ whole_rows t i whole key)))
         (kept-take most placed
         (All-placed (λ e. IsKeptAt d i e.1 e.0 (columns e.1)) items from to forward is_kept))
       where

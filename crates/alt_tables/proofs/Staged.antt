@@ -39,6 +39,7 @@ use Rattle.alt_tables.proofs.Differing.{differ_one, differ_rows, stay_found}
 use Rattle.alt_tables.proofs.Foreseen.{written_on}
 use Rattle.alt_tables.proofs.FrontTrims.{trimmed_then}
 use Rattle.alt_tables.proofs.Noting.{fronts_all, trimmed_all}
+use Rattle.alt_tables.proofs.NoneBuilt.{none_on}
 use Rattle.alt_tables.proofs.Standing.{keeps_nothing, keeps_then, known, rows_kept, stands_kept, still_live}
 use Rattle.alt_value.specs.Tree.{Pair}
 use Rattle.alt_value.specs.Values.{IsItemOfValues}
@@ -316,8 +317,9 @@ module _ (a b : DiskState) (old new : Tables) (s r : State) (stands : Stands a o
   pub stand_behind : Holds b new.engine r
       → HasRows b new (with_batches stands.rows.layout batches) → new.catalog ≡ old.catalog
       → new.live ≡ old.live → new.family ≡ old.family
-      → number_of new ≡ number_of old + length batches → Stands b new r
-  stand_behind holds rows catalog live family number = record {
+      → new.builds ≡ old.builds → number_of new ≡ number_of old + length batches
+      → Stands b new r
+  stand_behind holds rows catalog live family builds number = record {
     catalog = catalog ∙ stands.catalog ∙ sym ahead.catalog;
     number = number ∙ ap (λ n. n + length batches) stands.number ∙ sym ahead.number;
     family = family ∙ stands.family ∙ sym ahead.family;
@@ -337,6 +339,7 @@ module _ (a b : DiskState) (old new : Tables) (s r : State) (stands : Stands a o
         (fronts_of new) noted (changes_of r ahead.turns.valid) (changes_of s stands.valid)
         (stands.fronts stands.rows.layout stands.rows.is));
     due = due;
+    builds = none_on old new catalog builds stands.builds;
     valid = ahead.turns.valid;
   }
 

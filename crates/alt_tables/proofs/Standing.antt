@@ -23,6 +23,7 @@ use Rattle.alt_opening.specs.Live.{AreLiveIn}
 use Rattle.alt_opening.specs.Trimmed.{AreTrimmedOf, number_at}
 use Rattle.alt_opening.proofs.Ties.{tied}
 use Rattle.alt_tables.proofs.Holding.{one_held}
+use Rattle.alt_tables.proofs.NoneBuilt.{none_on}
 use Rattle.alt_views.proofs.ItemRowLaws.{item_columns-one}
 use Rattle.alt_opening.proofs.OneState.{some, has_whole}
 use Rattle.alt_opening.proofs.Maps.{same_texts}
@@ -136,7 +137,8 @@ still_trimmed tables t u trimmed are name =
 
 module _ (old new : DiskState) (t u : Tables) (catalog : u.catalog ≡ t.catalog)
     (live : u.live ≡ t.live) (family : u.family ≡ t.family) (trimmed : u.trimmed ≡ t.trimmed)
-    (fronts : u.fronts ≡ t.fronts) (due : KeepsKnown t.due u.due) (goes : Goes old new)
+    (fronts : u.fronts ≡ t.fronts) (due : KeepsKnown t.due u.due) (builds : u.builds ≡ t.builds)
+    (goes : Goes old new)
     (same : IsTrue old.tells → StaysOn old new t.engine u.engine) where
   -- the tables stand for what they stood for
   stays_on : (s : State) → Stands old t s → Stands new u s
@@ -160,6 +162,7 @@ module _ (old new : DiskState) (t u : Tables) (catalog : u.catalog ≡ t.catalog
             (on.stands stands.rows.layout stands.rows.is) rows) stands.rows.is));
         due = λ name place v item at there moment fits over.
             due moment _ (stands.due name place v item at there moment fits over);
+        builds = none_on t u catalog builds stands.builds;
         valid = stands.valid;
       }
 
@@ -178,11 +181,11 @@ module _ (old new : DiskState) (t u : Tables) (keeps : Keeps old new t u) where
   -- the tables stand for what they stood for
   pub stays_kept : AreReady old t → (s : State) → Stands old t s ↔ Stands new u s
   stays_kept = stays old new t u keeps.catalog keeps.live keeps.family keeps.trimmed keeps.fronts
-      keeps.due keeps.reads.goes keeps.same
+      keeps.due keeps.builds keeps.reads.goes keeps.same
 
   pub stands_kept : (s : State) → Stands old t s → Stands new u s
   stands_kept = stays_on old new t u keeps.catalog keeps.live keeps.family keeps.trimmed
-      keeps.fronts keeps.due keeps.reads.goes keeps.same
+      keeps.fronts keeps.due keeps.builds keeps.reads.goes keeps.same
 
   -- they are ready
   pub ready_kept : AreReady old t → AreReady new u
@@ -203,6 +206,7 @@ keeps_then a b c t u v first then = record {
   trimmed = then.trimmed ∙ first.trimmed;
   fronts = then.fronts ∙ first.fronts;
   due = λ moment spot knows. then.due moment spot (first.due moment spot knows);
+  builds = then.builds ∙ first.builds;
   limits = then.limits ∙ first.limits;
   number = then.number ∙ first.number;
   reads = record {
@@ -234,6 +238,7 @@ keeps_nothing a t = record {
   trimmed = refl;
   fronts = refl;
   due = λ moment spot knows. knows;
+  builds = refl;
   limits = refl;
   number = refl;
   reads = record { goes = goes_refl a; quiet = λ tells. quiet_start a };

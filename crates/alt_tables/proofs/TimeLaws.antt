@@ -15,12 +15,14 @@ use Rattle.alt_layout.specs.Writes.{with_write}
 use Rattle.alt_layout.proofs.BatchLaws.{shows_batch}
 use Rattle.alt_writes.specs.Writes.{Write}
 use Rattle.alt_machine.specs.declared.TheConstants.{NUMBERS_END}
+use Rattle.alt_machine.specs.Indexed.{index_items}
 use Rattle.alt_machine.specs.Ops.UpdateTimeToLive.{timed, with_time}
 use Rattle.alt_machine.specs.Sources.{index_at}
 use Rattle.alt_machine.specs.State.{State, Table}
 use Rattle.alt_machine.specs.Valid.{IsHeldChange, IsValid}
 use Rattle.alt_machine.proofs.Looks.{at_insert}
-use Rattle.alt_machine.proofs.Timing.{with_time_valid}
+use Rattle.alt_machine.proofs.Redescribed.{built_part-alike}
+use Rattle.alt_machine.proofs.Timing.{alike_same, with_time_valid}
 use Rattle.alt_schema.specs.Held.{IsHeld, IsHeldText, Where}
 use Rattle.alt_schema.specs.declared.schema.IndexSchema.{IndexSchema}
 use Rattle.alt_schema.specs.declared.schema.TableSchema.{TableSchema}
@@ -28,6 +30,7 @@ use Rattle.alt_opening.specs.StateRows.{HasMoment, IsHeldWhole, IsLeftover, Show
 use Rattle.alt_opening.proofs.OneState.{some}
 use Rattle.alt_opening.proofs.Ties.{tied}
 use Rattle.alt_tables.specs.RowChanges.{Turns, time_changes}
+use Rattle.alt_views.specs.IndexRows.{index_columns}
 use Rattle.alt_tables.proofs.CatalogLaws.{off_catalog, table_can_show, table_named}
 use Rattle.alt_tables.proofs.ChangeLaws.{ShowsWrite, one_change}
 use Rattle.alt_tables.proofs.WriteLaws.{family_within, index_within, stream_within}
@@ -118,7 +121,10 @@ module _ (l : Layout) (s : State) (shows : Shows l s) (valid : IsValid s) (name 
       subst (λ (y : Table). shown (with_write l w) i.family key ≡ index_rows y i key)
       (some u x at_other)
       (kept i.family key (index_within s name t (valid.tables name t at) n i own).0
-      ∙ shows.indexes name t n i at own key)
+      ∙ shows.indexes name t n i at own key
+      ∙ ap (λ m. option_map (index_columns t.description i)
+      (map.get (index_items t.description i m) key))
+      (sym (built_part-alike t.description d (alike_same t.description ttl) i.built t.items)))
   indexes_then other x false at_other n i at_index key =
       kept i.family key (index_within s other x (valid.tables other x at_other) n i at_index).0
       ∙ shows.indexes other x n i at_other at_index key

@@ -21,6 +21,7 @@ use Rattle.alt_opening.proofs.LiveLaws.{live_alike}
 use Rattle.alt_opening.proofs.OneState.{some}
 use Rattle.alt_opening.proofs.Ties.{tied}
 use Rattle.alt_opening.proofs.TrimmedLaws.{trimmed-stay}
+use Rattle.alt_tables.specs.Built.{NoneBuilds}
 use Rattle.alt_tables.specs.Foreseen.{Foresees}
 use Rattle.alt_tables.specs.Fronts.{AreFronts, IsFront}
 use Rattle.alt_tables.specs.RowChanges.{Turns, changed_rows, time_changes}
@@ -30,6 +31,7 @@ use Rattle.alt_tables.specs.declared.tables.Tables.{Tables}
 use Rattle.alt_tables.specs.private.Foretold.{IsTold}
 use Rattle.alt_tables.proofs.Foreseen.{foresees_nothing, foresees_untimed}
 use Rattle.alt_tables.proofs.Making.{OfCatalog, catalog_fronts, fronts_of_rows}
+use Rattle.alt_tables.proofs.NoneBuilt.{none_with}
 use Rattle.alt_tables.proofs.Standing.{descriptions-insert, known, still_live, still_trimmed}
 use Rattle.alt_tables.proofs.TimeLaws.{time_turns}
 
@@ -100,10 +102,10 @@ module _ (before : DiskState) (old : Tables) (s : State) (stands : Stands before
       → new.catalog ≡ map.insert old.catalog name (record d { ttl = ttl })
       → new.live ≡ old.live → new.family ≡ old.family → new.trimmed ≡ old.trimmed
       → new.fronts ≡ old.fronts → IsTold ttl old.due new.due
-      → number_of new ≡ number_of old + 1 → T (is_distinct batch)
+      → new.builds ≡ old.builds → number_of new ≡ number_of old + 1 → T (is_distinct batch)
       → HasRows now new (changed_rows stands.rows.layout batch)
       → Stands now new (with_time s name t ttl)
-  time_stands now new holds valid catalog live family trimmed fronts told number distinct rows = record {
+  time_stands now new holds valid catalog live family trimmed fronts told builds number distinct rows = record {
     catalog = catalog
         ∙ ap (λ (m : Texts TableSchema). map.insert m name (record d { ttl = ttl })) stands.catalog
         ∙ ap (λ (e : TableSchema). map.insert (descriptions s.tables) name (record e { ttl = ttl }))
@@ -125,5 +127,7 @@ module _ (before : DiskState) (old : Tables) (s : State) (stands : Stands before
         (catalog_fronts before old s stands batch distinct
         (subst OfCatalog (sym is) (refl, tt)))));
     due = foresees_timed s.tables name t old.due new.due stands.due ttl told;
+    builds = λ is. subst NoneBuilds (sym catalog) (let none = stands.builds (sym builds ∙ is) in
+        none_with old.catalog none name (record d { ttl = ttl }) (none name d described));
     valid = valid;
   }

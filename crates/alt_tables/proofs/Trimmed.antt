@@ -46,7 +46,7 @@ ok_both P R Q (Err e) p q leads = tt
 -- ---- the rows of a batch
 
 -- changes in front of others have no row where neither have
-has_none : (cs ds : List RowChange) (family : ℕ) (key : List ℕ) → has_row cs family key ≡ false
+pub has_none : (cs ds : List RowChange) (family : ℕ) (key : List ℕ) → has_row cs family key ≡ false
     → has_row ds family key ≡ false → has_row (cs ++ ds) family key ≡ false
 has_none [] ds family key e f = f
 has_none (c ∷ cs) ds family key e f = by ((c.family == family) && bytes_eq c.key key) e

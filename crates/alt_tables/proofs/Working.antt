@@ -42,6 +42,7 @@ use Rattle.alt_tables.specs.declared.tables.Tables.{Tables}
 use Rattle.alt_tables.proofs.FilesLaws.{live_few}
 use Rattle.alt_tables.proofs.FrontLaws.{fronts_alike}
 use Rattle.alt_tables.proofs.IndexFamilies.{index_family}
+use Rattle.alt_tables.proofs.NoneBuilt.{none_on}
 use Rattle.alt_tables.proofs.Standing.{still_live, still_trimmed}
 use Rattle.alt_tables.proofs.StreamShows.{stream_family}
 
@@ -103,10 +104,10 @@ module _ (old new : DiskState) (t : Tables) (s : State) (stands : Stands old t s
   -- and the tables stand for it after work that is done
   pub worked_stands : (u : Tables) → Goes old new → u.catalog ≡ t.catalog → u.live ≡ t.live
       → u.family ≡ t.family → u.trimmed ≡ t.trimmed → u.fronts ≡ t.fronts → u.due ≡ t.due
-      → number_of u ≡ number_of t
+      → u.builds ≡ t.builds → number_of u ≡ number_of t
       → (m : Layout) × EngineStands new u.engine m × Works live stands.rows.layout m
       → Stands new u s
-  worked_stands u goes catalog lives family trimmed fronts due number after = record {
+  worked_stands u goes catalog lives family trimmed fronts due builds number after = record {
     catalog = catalog ∙ stands.catalog;
     number = number ∙ stands.number;
     family = family ∙ stands.family;
@@ -128,6 +129,7 @@ module _ (old new : DiskState) (t : Tables) (s : State) (stands : Stands old t s
         (subst (λ known. AreFronts stands.rows.layout s.tables known.items) (sym fronts)
         (stands.fronts stands.rows.layout stands.rows.is)));
     due = subst (Foresees s.tables) (sym due) stands.due;
+    builds = none_on t u catalog builds stands.builds;
     valid = stands.valid;
   }
 

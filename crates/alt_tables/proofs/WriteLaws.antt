@@ -21,12 +21,15 @@ use Rattle.alt_layout.specs.Writes.{with_write}
 use Rattle.alt_layout.proofs.BatchLaws.{shows_batch}
 use Rattle.alt_codec.specs.declared.writer.Writer.{Writer}
 use Rattle.alt_machine.specs.declared.TheConstants.{NUMBERS_END}
+use Rattle.alt_machine.specs.Building.{built_part, reaches}
 use Rattle.alt_machine.specs.Changes.{change_left}
+use Rattle.alt_machine.specs.Indexed.{index_items}
 use Rattle.alt_machine.specs.Same.{is_same}
 use Rattle.alt_machine.specs.Sources.{index_at}
 use Rattle.alt_machine.specs.State.{State, Table, Texts, Change, families_of}
 use Rattle.alt_machine.specs.Valid.{IsStored, IsTable, IsValid, IsHeldChange, IsHeldState}
 use Rattle.alt_machine.specs.Writes.{with_item, with_write_by as with_row, after_item_by}
+use Rattle.alt_machine.proofs.Building.{built_part-beyond, built_part-reached, get-built_part}
 use Rattle.alt_machine.proofs.Families.{of_contained}
 use Rattle.alt_machine.proofs.Indexing.{index_apart}
 use Rattle.alt_machine.proofs.Looks.{at_insert}
@@ -46,8 +49,10 @@ use Rattle.alt_tables.proofs.IndexShows.{change_of-index, index_shows}
 use Rattle.alt_tables.proofs.IndexFamilies.{index_family, index_family_differs, own_families, others-index_changes}
 use Rattle.alt_tables.proofs.StreamShows.{others-row_changes, others-trim_changes, stream_family, stream_family_differs, stream_index_differs}
 use Rattle.alt_tables.proofs.StreamTrims.{stream_shows}
-use Rattle.alt_views.specs.IndexRows.{index_changes}
+use Rattle.alt_views.specs.IndexRows.{index_changes, index_columns, moves_in}
 use Rattle.alt_views.proofs.ItemRowLaws.{items_can_show}
+use Rattle.alt_views.proofs.Reached.{IsAt, changes_at}
+use Rattle.alt_opening.proofs.Maps.{same_texts}
 use Rattle.alt_opening.proofs.OneState.{some}
 use Rattle.alt_value.specs.Tree.{Pair}
 use Rattle.alt_value.specs.Values.{IsItemOfValues}
@@ -205,28 +210,36 @@ module _ (l : Layout) (s : State) (shows : Shows l s) (valid : IsValid s) (held 
             (items_can_show new)
         at_key false e = refl
 
-    -- those of the indexes show what these keep of the items then
+    -- those of the indexes show what these keep of the items then, as far as they are built
     there : (n : ℕ) (i : IndexSchema) → index_at t.description (Some n) ≡ Some i
         → (key : List ℕ) → shown (with_write l w) i.family key ≡ index_rows changed i key
-    there n i at_index = index_shows t.description i t.items place
-        (index_apart t.description i t.items
-        (λ q item here. (is_table.items q item here, held.items name q t item at here)))
-        l w law new
-        (index_apart t.description i (with_item t.items place new)
-        (λ q item here. (
-          with_item_stored s name t place new valid at stored q item here,
-          values_after q item here,
-        )))
-        (λ key. ap (change_of i.family key) changes
-        ∙ other_family change (index_part ++ stream_part) i.family key
-        (index_family_differs t.description is_table.differ n i at_index)
-        ∙ change_of-front i.family key index_part stream_part (stream_part_apart i.family
-        (λ f stream same. stream_index_differs t.description is_table.differ n i at_index f stream
-        (sym same)))
-        ∙ change_of-index t.description (map.get t.items place) new (indexes t.description) n i
-        (own_families t.description is_table.differ) at_index key)
-        (shows.indexes name t n i at at_index)
+    there n i at_index = by (reaches t.description i.built place) refl
       where
+        -- the items before and after the write are of its place
+        old_at : (o : Option (List Pair)) → map.get t.items place ≡ o
+            → IsAt t.description i place o
+        old_at None here = tt
+        old_at (Some item) here = (is_table.items place item here).stands
+
+        new_at : (o : Option (List Pair)) → new ≡ o → IsAt t.description i place o
+        new_at None is = tt
+        new_at (Some item) is = (stored item is).stands
+
+        -- the changes in its family
+        of_index : (key : List ℕ) → change_of i.family key w.changes
+            ≡ change_of i.family key (if reaches t.description i.built place
+            then moves_in t.description (map.get t.items place) new i else [])
+        of_index key = ap (change_of i.family key) changes
+            ∙ other_family change (index_part ++ stream_part) i.family key
+            (index_family_differs t.description is_table.differ n i at_index)
+            ∙ change_of-front i.family key index_part stream_part (stream_part_apart i.family
+            (λ f stream same. stream_index_differs t.description is_table.differ n i at_index f stream
+            (sym same)))
+            ∙ change_of-index t.description (map.get t.items place) new (indexes t.description) n i
+            (own_families t.description is_table.differ) at_index key
+            ∙ ap (change_of i.family key) (changes_at t.description i place (map.get t.items place) new
+            (old_at (map.get t.items place) refl) (new_at new refl))
+
         values_after : (q : List ℕ) (item : List Pair)
             → map.get (with_item t.items place new) q ≡ Some item → IsItemOfValues item
         values_after q item here = by_key new (eq_by_cmp key_cmp q place) given
@@ -237,6 +250,55 @@ module _ (l : Layout) (s : State) (shows : Shows l s) (valid : IsValid s) (held 
             by_key None true given e = let no : None ≡ Some item = e in cc no
             by_key (Some x) true given e = subst IsItemOfValues (some x item e) given
             by_key to false given e = held.items name q t item at e
+
+        -- an item of which it is built is one of the table's
+        of_table : (items : Texts (List Pair)) (q : List ℕ) (item : List Pair)
+            → map.get (built_part t.description i.built items) q ≡ Some item
+            → map.get items q ≡ Some item
+        of_table items q item here = inside (reaches t.description i.built q)
+            (sym (get-built_part t.description i.built items q) ∙ here)
+          where
+            inside : (b : Bool) → cond b (map.get items q) None ≡ Some item
+                → map.get items q ≡ Some item
+            inside true e = e
+            inside false e = absurd (let no : None ≡ Some item = e in cc no)
+
+        by : (b : Bool) → reaches t.description i.built place ≡ b → (key : List ℕ)
+            → shown (with_write l w) i.family key ≡ index_rows changed i key
+        by true reached key =
+            index_shows t.description i (built_part t.description i.built t.items) place
+            (index_apart t.description i (built_part t.description i.built t.items) (λ q item here. (
+              is_table.items q item (of_table t.items q item here),
+              held.items name q t item at (of_table t.items q item here),
+            )))
+            l w law new
+            (index_apart t.description i (with_item (built_part t.description i.built t.items) place new) (λ q item here.
+            let inside = of_table (with_item t.items place new) q item
+            (built_part-reached t.description i.built t.items place new reached q ∙ here) in (
+              with_item_stored s name t place new valid at stored q item inside,
+              values_after q item inside,
+            )))
+            (λ key. of_index key
+            ∙ ap (λ b. change_of i.family key
+            (if b then moves_in t.description (map.get t.items place) new i else [])) reached
+            ∙ ap (λ o. change_of i.family key (moves_in t.description o new i))
+            (sym (get-built_part t.description i.built t.items place
+            ∙ ap (λ b. cond b (map.get t.items place) None) reached)))
+            (shows.indexes name t n i at at_index) key
+            ∙ ap (λ m. option_map (index_columns t.description i)
+            (map.get (index_items t.description i m) key))
+            (sym (same_texts (built_part t.description i.built (with_item t.items place new)) (with_item (built_part t.description i.built t.items) place new)
+            (built_part-reached t.description i.built t.items place new reached)))
+        by false beyond key =
+            law i.family key
+            ∙ ap (λ c. shown_by c (shown l i.family key)) (of_index key
+            ∙ ap (λ b. change_of i.family key
+            (if b then moves_in t.description (map.get t.items place) new i else [])) beyond)
+            ∙ shows.indexes name t n i at at_index key
+            ∙ ap (λ m. option_map (index_columns t.description i)
+            (map.get (index_items t.description i m) key))
+            (sym (same_texts (built_part t.description i.built (with_item t.items place new)) (built_part t.description i.built t.items)
+            (built_part-beyond t.description i.built t.items place new beyond)))
 
     -- that of the stream shows the change then
     behind : (f : ℕ) → t.description.stream_family ≡ Some f

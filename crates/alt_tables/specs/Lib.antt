@@ -1,3 +1,5 @@
+pub mod Altering
+pub mod Built
 pub mod Faults
 pub mod FilesLeft
 pub mod Foreseen

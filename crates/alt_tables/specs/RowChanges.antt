@@ -1,5 +1,6 @@
 -- The changes of rows that a write of the state makes (docs/formats/table-rows.md).
 use Rattle.std.specs.Prelude.{ℕ, List, [], ◌∷◌, ◌++◌, Option, Some, None, option_map, T}
+use Rattle.std.specs.List.{flat_map}
 use Rattle.alt_cells.specs.Batches.{is_distinct}
 use Rattle.alt_cells.specs.declared.batch.RowChange.{RowChange}
 use Rattle.alt_cells.specs.Changes.{change_between}
@@ -12,8 +13,9 @@ use Rattle.alt_codec.specs.declared.writer.Writer.{Writer}
 use Rattle.alt_machine.specs.Changes.{change_left}
 use Rattle.alt_machine.specs.State.{State}
 use Rattle.alt_machine.specs.Valid.{IsValid}
+use Rattle.alt_schema.specs.declared.schema.IndexSchema.{IndexSchema}
 use Rattle.alt_schema.specs.declared.schema.TableSchema.{TableSchema}
-use Rattle.alt_views.specs.IndexRows.{index_changes}
+use Rattle.alt_views.specs.IndexRows.{index_changes, moves_in}
 use Rattle.alt_views.specs.ItemRows.{item_columns}
 use Rattle.alt_value.specs.Tree.{Pair}
 use Rattle.alt_opening.specs.StateRows.{Shows, IsHeldWhole, catalog_family, next_row, table_row}
@@ -46,6 +48,19 @@ drop_changes d = change_between catalog_family d.name (Some (table_row d)) None 
 abbrev pub time_changes : TableSchema → Option (List ℕ) → List RowChange
 time_changes d ttl = change_between catalog_family d.name (Some (table_row d))
     (Some (table_row (record d { ttl = ttl }))) ∷ []
+
+-- of a table that has another description: its row changes, and the next family
+abbrev pub alter_changes : ℕ → ℕ → TableSchema → TableSchema → List RowChange
+alter_changes before after d e = change_between catalog_family d.name (Some (table_row d))
+    (Some (table_row e))
+    ∷ change_between catalog_family [] (next_row before) (next_row after) ∷ []
+
+-- of a table of which an index is built of these items more: the row of its description changes, and their rows in the index come
+abbrev pub step_changes : TableSchema → TableSchema → IndexSchema → List (List ℕ × List Pair)
+    → List RowChange
+step_changes d e i more = change_between catalog_family d.name (Some (table_row d))
+    (Some (table_row e))
+    ∷ flat_map (λ (x : List ℕ × List Pair). moves_in d None (Some x.1) i) more
 
 -- the rows behind these changes, which are one write with the next number
 abbrev pub changed_rows : Layout → List RowChange → Layout

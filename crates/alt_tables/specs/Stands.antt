@@ -1,5 +1,5 @@
 -- What the tables in hand stand for, with the disk beneath them.
-use Rattle.std.specs.Prelude.{◌≡◌, ℕ, List}
+use Rattle.std.specs.Prelude.{◌≡◌, ℕ, Bool, false, List}
 use Rattle.alt_disk.specs.Disk.{DiskState, IsTrusted, Goes}
 use Rattle.alt_disk.specs.Runs.{Quiet}
 use Rattle.alt_due.specs.Due.{KeepsKnown}
@@ -16,6 +16,7 @@ use Rattle.alt_opening.specs.Live.{AreLiveIn}
 use Rattle.alt_opening.specs.Opened.{Holds}
 use Rattle.alt_opening.specs.Trimmed.{AreTrimmedOf}
 use Rattle.alt_opening.specs.declared.trimmed.Trimmed.{Trimmed}
+use Rattle.alt_tables.specs.Built.{NoneBuilds}
 use Rattle.alt_tables.specs.Foreseen.{Foresees}
 use Rattle.alt_tables.specs.Fronts.{AreFronts}
 use Rattle.alt_tables.specs.declared.fronts.Front.{Front}
@@ -46,6 +47,10 @@ fronts_of t = t.fronts.items
 -- the items that are due next
 abbrev pub due_of : Tables → Due
 due_of t = t.due
+
+-- whether an index of one may be being built
+abbrev pub builds_of : Tables → Bool
+builds_of t = t.builds
 
 -- the families that are live, in the order of their numbers
 abbrev pub live_of : Tables → List ℕ
@@ -81,7 +86,8 @@ HasRows disk t l = EngineStands disk t.engine l
 
 -- The tables and the disk beneath them stand for a valid state of the machine: it has the tables that are known, what was trimmed of their
 -- changes, and the next number and the next family, and its rows are those on the disk. Live are the families of its tables, the fronts
--- that are known are those of its streams, and the list of the items that are due next knows of each of its items.
+-- that are known are those of its streams, the list of the items that are due next knows of each of its items, and where it is known that no
+-- index is being built none is.
 pub record Stands (disk : DiskState) (t : Tables) (s : State) : Type 0 where
   pub catalog : catalog_of t ≡ descriptions s.tables
   pub number : number_of t ≡ s.next_number
@@ -91,6 +97,7 @@ pub record Stands (disk : DiskState) (t : Tables) (s : State) : Type 0 where
   pub rows : Holds disk t.engine s
   pub fronts : (l : Layout) → HasRows disk t l → AreFronts l s.tables (fronts_of t)
   pub due : Foresees s.tables (due_of t)
+  pub builds : builds_of t ≡ false → NoneBuilds (catalog_of t)
   pub valid : IsValid s
 
 -- On a disk that tells its contents and keeps what was synced the tables stand for a state: after a call that failed they don't, and
@@ -113,6 +120,7 @@ pub record Keeps (old new : DiskState) (t u : Tables) : Type 0 where
   pub trimmed : u.trimmed ≡ t.trimmed
   pub fronts : u.fronts ≡ t.fronts
   pub due : KeepsKnown t.due u.due
+  pub builds : u.builds ≡ t.builds
   pub limits : bounds_of u ≡ bounds_of t
   pub number : number_of u ≡ number_of t
   pub reads : Reads old new

@@ -2,4 +2,5 @@
 pub mod Foretold
 pub mod Pages
 pub mod Staging
+pub mod Steps
 pub mod Trims

@@ -1,6 +1,8 @@
 //! The tables with their items over the engine: what the machine's state stands for on a disk.
 #![tactic(auto)]
 
+mod altering;
+mod build;
 mod by_keys;
 mod changes;
 mod faults;

@@ -82,6 +82,7 @@ impl Tables {
                 trimmed,
                 fronts: Vec::new(alloc),
                 due: Due::new(alloc),
+                builds: true,
             }),
             Err(_) => Err(OpenFault::NoMemory),
         }

@@ -246,7 +246,7 @@ impl Tables {
             (fronts_of self.new)) }
         ensures kept { (self.new.engine ≡ self.old.engine) × (self.new.catalog ≡ self.old.catalog)
             × (self.new.live ≡ self.old.live) × (self.new.family ≡ self.old.family)
-            × (self.new.due ≡ self.old.due) }
+            × (self.new.due ≡ self.old.due) × (self.new.builds ≡ self.old.builds) }
     {
         renumber(self.alloc, &mut self.trimmed, table, trim.number)?;
         let Some(schema) = self.catalog.get(table) else {

@@ -372,7 +372,7 @@ impl Tables {
             (fronts_of self.new)) }
         ensures kept { (self.new.engine ≡ self.old.engine) × (self.new.catalog ≡ self.old.catalog)
             × (self.new.live ≡ self.old.live) × (self.new.family ≡ self.old.family)
-            × (self.new.due ≡ self.old.due) }
+            × (self.new.due ≡ self.old.due) × (self.new.builds ≡ self.old.builds) }
     {
         let mut notes = notes;
         while let Some(note) = notes.pop() {

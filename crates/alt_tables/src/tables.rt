@@ -55,6 +55,7 @@ pub struct Tables {
     pub(crate) trimmed: Vec<Trimmed>,
     pub(crate) fronts: Vec<Front>,
     pub(crate) due: Due,
+    pub(crate) builds: bool,
 }
 
 impl Tables {
@@ -259,7 +260,8 @@ impl Tables {
         ensures distinct { OnOk result (T (is_distinct batch.now)) }
         ensures kept { (self.new.catalog ≡ self.old.catalog) × (self.new.live ≡ self.old.live)
             × (self.new.family ≡ self.old.family) × (self.new.trimmed ≡ self.old.trimmed)
-            × (self.new.fronts ≡ self.old.fronts) × (self.new.due ≡ self.old.due) }
+            × (self.new.fronts ≡ self.old.fronts) × (self.new.due ≡ self.old.due)
+            × (self.new.builds ≡ self.old.builds) }
         ensures limits { bounds_of self.new ≡ bounds_of self.old }
         ensures fault { IfErr result IsFindFault }
         ensures no_memory { IsErrOf result TableFault.NoMemory
@@ -300,7 +302,8 @@ impl Tables {
             ≡ number_of self.old + length batches.now) }
         ensures kept { (self.new.catalog ≡ self.old.catalog) × (self.new.live ≡ self.old.live)
             × (self.new.family ≡ self.old.family) × (self.new.trimmed ≡ self.old.trimmed)
-            × (self.new.fronts ≡ self.old.fronts) × (self.new.due ≡ self.old.due) }
+            × (self.new.fronts ≡ self.old.fronts) × (self.new.due ≡ self.old.due)
+            × (self.new.builds ≡ self.old.builds) }
         ensures limits { bounds_of self.new ≡ bounds_of self.old }
         ensures fault { IfErr result IsFindFault }
         ensures no_memory { IsErrOf result TableFault.NoMemory

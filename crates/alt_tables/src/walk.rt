@@ -1,6 +1,6 @@
 //! Walks over the items of a table, or of one of its indexes, in the order of their places or the other way.
 
-ghost use Rattle.std.specs.Prelude.{◌≡◌, ◌↔◌, ◌++◌, ◌+◌, ◌<◌, ◌≤◌, take, length, map as each, true, List, Some, None, IfOk, IfErr, IfSome, OnOk, OnErr, IsErrOf};
+ghost use Rattle.std.specs.Prelude.{◌≡◌, ◌↔◌, ◌++◌, ◌+◌, ◌<◌, ◌≤◌, take, map as each, true, List, Some, None, IfOk, IfErr, IfSome, OnOk, OnErr, IsErrOf};
 ghost use Rattle.std.specs.FinMap as map;
 ghost use Rattle.std.specs.List.{last_or};
 ghost use Rattle.alt_base.specs.Counts.{Rose};
@@ -9,7 +9,6 @@ ghost use Rattle.alt_cells.specs.Walks.{RowMap};
 ghost use Rattle.alt_machine.specs.Sources.{index_at};
 ghost use Rattle.alt_machine.specs.State.{State, Table};
 ghost use Rattle.alt_machine.specs.Walks.{items_between};
-ghost use Rattle.alt_schema.specs.Indexes.{indexes};
 ghost use Rattle.alt_schema.specs.declared.schema.IndexSchema.{IndexSchema};
 ghost use Rattle.alt_schema.specs.declared.schema.TableSchema.{TableSchema};
 ghost use Rattle.alt_tables.specs.Faults.{IsFindFault, IsReadFault, IsUnspent};
@@ -17,6 +16,7 @@ ghost use Rattle.alt_tables.specs.private.Pages.{AreItemsOf, AreKept, ArePut};
 ghost use Rattle.alt_tables.specs.Reading.{HasRowFiles, family_read, places_between, walk_reads};
 ghost use Rattle.alt_tables.specs.Stands.{AreReady, Reads, Stands, KeepsCatalog, catalog_of};
 ghost use Rattle.alt_value.specs.Tree.{Pair};
+ghost use Rattle.alt_views.specs.Readable.{CanRead};
 
 use crate::faults::TableFault;
 use crate::tables::Tables;
@@ -46,7 +46,7 @@ impl Tables {
         requires ready { AreReady (D.state disk.old) self.old }
         requires there { map.contains_key (catalog_of self.old) table.now ≡ true }
         requires index { (d : TableSchema) → map.get (catalog_of self.old) table.now ≡ Some d
-            → IfSome index (λ number. number < length (indexes d)) }
+            → IfSome index (λ number. CanRead d number) }
         ensures rows { (s : State) (t : Table) → Stands (D.state disk.old) self.old s
             → map.get s.tables table.now ≡ Some t
             → OnOk result (out.new.items ≡ out.old.items ++ take most
@@ -145,7 +145,7 @@ impl Tables {
         requires ready { AreReady (D.state disk.old) self.old }
         requires there { map.contains_key (catalog_of self.old) table.now ≡ true }
         requires index { (d : TableSchema) → map.get (catalog_of self.old) table.now ≡ Some d
-            → number < length (indexes d) }
+            → CanRead d number }
         ensures rows { (s : State) (t : Table) (i : IndexSchema)
             → Stands (D.state disk.old) self.old s → map.get s.tables table.now ≡ Some t
             → index_at t.description (Some number) ≡ Some i

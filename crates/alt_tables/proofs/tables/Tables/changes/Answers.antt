@@ -44,12 +44,12 @@ returns-in-Ok-rows-clause-fault g c s stands =
 
 pub returns-in-Ok-rows-clause-stays : goal.returns-in-Ok-rows-clause-stays
 returns-in-Ok-rows-clause-stays g c s = stays (g.D.Disk.state c.args.disk.now)
-    (g.D.Disk.state c.rows.new.disk) c.args.self.now _ refl refl refl refl refl (λ moment spot knows. knows) c.rows.ensures.goes
+    (g.D.Disk.state c.rows.new.disk) c.args.self.now _ refl refl refl refl refl (λ moment spot knows. knows) refl c.rows.ensures.goes
     c.rows.ensures.same c.requires.ready s
 
 pub returns-clause-stays : goal.returns-clause-stays
 returns-clause-stays g c s = stays (g.D.Disk.state c.args.disk.now)
-    (g.D.Disk.state c.rows.new.disk) c.args.self.now _ refl refl refl refl refl (λ moment spot knows. knows) c.rows.ensures.goes
+    (g.D.Disk.state c.rows.new.disk) c.args.self.now _ refl refl refl refl refl (λ moment spot knows. knows) refl c.rows.ensures.goes
     c.rows.ensures.same c.requires.ready s
 
 -- a table without a stream has no changes

@@ -1,5 +1,6 @@
 -- The rows of the walk are those of what the index keeps, and nothing else changed.
-use Rattle.std.proofs.Common.{◌≡◌, ◌++◌, ◌≤◌, ◌+◌, Some, refl, sym, ap, subst, ◌∙◌, take, OnOk, IfOk}
+use Rattle.std.proofs.Common.{◌≡◌, ◌++◌, ◌≤◌, ◌+◌, ℕ, true, List, Some, option_map, refl, sym, ap, subst, ◌∙◌, take, OnOk, IfOk}
+use Rattle.std.specs.FinMap as map
 use Rattle.alt_engine.specs.InHand.{hand_of}
 use Rattle.alt_families.specs.Reads.{most_reads}
 use Rattle.alt_hand.specs.InHand.{file_rows}
@@ -9,17 +10,18 @@ use Rattle.alt_views.specs.IndexRows.{index_columns}
 use Rattle.alt_tables.proofs.Paying.{last_given, on_ok, walk_paid}
 use Rattle.alt_machine.specs.Sources.{index_at}
 use Rattle.alt_machine.specs.Walks.{items_between}
+use Rattle.alt_schema.specs.Bare.{is_whole}
 use Rattle.alt_schema.specs.declared.schema.IndexSchema.{IndexSchema}
 use Rattle.alt_schema.specs.declared.schema.TableSchema.{TableSchema}
 use Rattle.alt_opening.proofs.OneState.{some}
-use Rattle.alt_tables.proofs.Pages.{find_fault, page_kept, page_rows, same_table, engine_fault}
+use Rattle.alt_tables.proofs.Pages.{find_fault, page_kept, page_rows, same_table, engine_fault, whole_rows}
 use Rattle.alt_tables.proofs.Standing.{stays, there}
 use Rattle.alt_disk.proofs.Runs.{tells_of}
 use Rattle.alt_tables.proofs.tables.Tables.index_rows.Goals as goal
 
 pub index_at-index-requires : goal.index_at-index-requires
 index_at-index-requires g c = record {
-  there = c.requires.index c.in-Some.schema.now (sym c.in-Some.ensures.table);
+  there = (c.requires.index c.in-Some.schema.now (sym c.in-Some.ensures.table)).0;
 }
 
 pub returns-in-Ok-clause-rows : goal.returns-in-Ok-clause-rows
@@ -36,18 +38,27 @@ returns-in-Ok-clause-rows g c s t i stands at at_index =
     c.args.table.now t c.in-Some.schema.now stands at known_as c.args.range.now.from
     c.args.range.now.to c.args.forward c.args.most c.new-page.result.items c.rows.new.out.items
     c.new-page.ensures.items c.args.number c.index_at-index.result.now
-    (sym c.index_at-index.ensures.index) c.in-Ok.ensures.rows))
+    (sym c.index_at-index.ensures.index)
+    ((c.requires.index c.in-Some.schema.now known_as).1 c.index_at-index.result.now
+    (sym c.index_at-index.ensures.index)) c.in-Ok.ensures.rows))
 
 pub returns-in-Ok-clause-last : goal.returns-in-Ok-clause-last
 returns-in-Ok-clause-last g c s t i stands at at_index =
     let known_as = sym c.in-Some.ensures.table in
     let l = stands.rows.layout in
     let items = index_items t.description i t.items in
-    let shows = stands.rows.shows.indexes c.args.table.now t c.args.number i at at_index in
     let same : c.index_at-index.result.now ≡ i = some _ _ (c.index_at-index.ensures.index
     ∙ ap (λ (d : TableSchema). index_at d (Some c.args.number))
     (same_table (g.D.Disk.state c.args.disk.now) c.args.self.now s c.args.table.now t
     c.in-Some.schema.now stands at known_as) ∙ at_index) in
+    let whole : is_whole i.built ≡ true =
+    subst (λ (x : IndexSchema). is_whole x.built ≡ true) same
+    ((c.requires.index c.in-Some.schema.now known_as).1 c.index_at-index.result.now
+    (sym c.index_at-index.ensures.index)) in
+    let shows : (key : List ℕ) → shown l i.family key
+    ≡ option_map (index_columns t.description i) (map.get items key) =
+    λ key. stands.rows.shows.indexes c.args.table.now t c.args.number i at at_index key
+    ∙ whole_rows t i whole key in
     subst (λ o. IfOk c.read_index_page.result (λ last. last ≡ o))
     (last_given (index_columns t.description i) l i.family items shows c.args.range.now.from
     c.args.range.now.to c.args.forward c.args.most c.rows.new.out.items
@@ -68,11 +79,16 @@ returns-in-Ok-clause-reads g c s t i maps stands at at_index has =
     ∙ ap (λ (d : TableSchema). index_at d (Some c.args.number))
     (same_table (g.D.Disk.state c.args.disk.now) c.args.self.now s c.args.table.now t
     c.in-Some.schema.now stands at known_as) ∙ at_index) in
+    let whole : is_whole i.built ≡ true =
+    subst (λ (x : IndexSchema). is_whole x.built ≡ true) same
+    ((c.requires.index c.in-Some.schema.now known_as).1 c.index_at-index.result.now
+    (sym c.index_at-index.ensures.index)) in
     let paid = c.in-Ok.ensures.reads
     (tells_of (g.D.Disk.state c.args.disk.now) stands.rows.trusted) l reads in
     on_ok c.read_index_page.result (walk_paid (index_columns t.description i) l i.family
     (index_items t.description i t.items)
-    (stands.rows.shows.indexes c.args.table.now t c.args.number i at at_index)
+    (λ key. stands.rows.shows.indexes c.args.table.now t c.args.number i at at_index key
+    ∙ whole_rows t i whole key)
     c.args.range.now.from c.args.range.now.to c.args.forward (g.D.Disk.state c.args.disk.now)
     c.args.self.now.engine reads c.args.most (g.D.Disk.state c.args.disk.now).reads
     (g.D.Disk.state c.rows.new.disk).reads
@@ -92,16 +108,18 @@ returns-in-Ok-clause-fault g c s stands =
     c.in-Some.schema.now stands at known_as c.args.range.now.from
     c.args.range.now.to c.args.forward c.args.most c.new-page.result.items c.rows.new.out.items
     c.new-page.ensures.items c.args.number c.index_at-index.result.now
-    (sym c.index_at-index.ensures.index) c.in-Ok.ensures.rows))
+    (sym c.index_at-index.ensures.index)
+    ((c.requires.index c.in-Some.schema.now known_as).1 c.index_at-index.result.now
+    (sym c.index_at-index.ensures.index)) c.in-Ok.ensures.rows))
 
 pub returns-in-Ok-clause-stays : goal.returns-in-Ok-clause-stays
 returns-in-Ok-clause-stays g c s = stays (g.D.Disk.state c.args.disk.now)
-    (g.D.Disk.state c.rows.new.disk) c.args.self.now _ refl refl refl refl refl (λ moment spot knows. knows) c.rows.ensures.goes
+    (g.D.Disk.state c.rows.new.disk) c.args.self.now _ refl refl refl refl refl (λ moment spot knows. knows) refl c.rows.ensures.goes
     c.rows.ensures.same c.requires.ready s
 
 pub returns-in-Err-clause-stays : goal.returns-in-Err-clause-stays
 returns-in-Err-clause-stays g c s = stays (g.D.Disk.state c.args.disk.now)
-    (g.D.Disk.state c.rows.new.disk) c.args.self.now _ refl refl refl refl refl (λ moment spot knows. knows) c.rows.ensures.goes
+    (g.D.Disk.state c.rows.new.disk) c.args.self.now _ refl refl refl refl refl (λ moment spot knows. knows) refl c.rows.ensures.goes
     c.rows.ensures.same c.requires.ready s
 
 pub returns-in-Err-clause-fault : goal.returns-in-Err-clause-fault

@@ -16,7 +16,7 @@ pub loop-note-init : goal.loop-note-init
 loop-note-init c = record {
   known = last_none (catalog_of c.args.self.now) c.args.moment c.args.notes.items
       (trimmed_of c.args.self.now) (fronts_of c.args.self.now);
-  kept = (refl, refl, refl, refl, refl);
+  kept = (refl, refl, refl, refl, refl, refl);
 }
 
 -- the table of one that is taken is there
@@ -47,6 +47,7 @@ returns-in_err-know-clause-kept c = (
   c.know.ensures.kept.2 ∙ c.loop-note.invariant.kept.2,
   c.know.ensures.kept.3 ∙ c.loop-note.invariant.kept.3,
   c.know.ensures.kept.4 ∙ c.loop-note.invariant.kept.4,
+  c.know.ensures.kept.5 ∙ c.loop-note.invariant.kept.5,
 )
 
 pub loop-note-smaller : goal.loop-note-smaller
@@ -81,6 +82,7 @@ loop-note-preserved c =
         c.know.ensures.kept.2 ∙ c.loop-note.invariant.kept.2,
         c.know.ensures.kept.3 ∙ c.loop-note.invariant.kept.3,
         c.know.ensures.kept.4 ∙ c.loop-note.invariant.kept.4,
+        c.know.ensures.kept.5 ∙ c.loop-note.invariant.kept.5,
       );
     }
 

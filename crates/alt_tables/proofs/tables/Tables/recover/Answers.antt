@@ -1,5 +1,6 @@
 -- The store that was opened stands for the state, and so do the tables that are made of it.
 use Rattle.std.proofs.Common.{◌≡◌, ◌∙◌, sym, ap, Some, None}
+use Rattle.std.proofs.lemmas.Bool.{false≢true}
 use Rattle.alt_tables.specs.Fronts.{front_at}
 use Rattle.alt_tables.proofs.Foreseen.{foresees_nothing}
 use Rattle.alt_tables.proofs.Left.{whole_on}
@@ -16,6 +17,7 @@ returns-in-Ok-live-clause-stands g c trusted s stood =
       rows = opens.rows;
       fronts = λ l rows name f told. absurd (let no : None ≡ Some f =
           sym (ap (front_at name) c.new.ensures.items) ∙ told in let e : ⊥ = cc no in e);
+      builds = λ is. absurd (false≢true (sym is));
       due = foresees_nothing s.tables c.new-in-Ok-live.result c.new-in-Ok-live.ensures.none;
       valid = opens.valid;
     }

@@ -7,19 +7,19 @@ use Rattle.alt_schema.specs.Indexes.{indexes}
 use Rattle.alt_tables.proofs.Pages.{within_some}
 use Rattle.alt_tables.proofs.Standing.{known}
 use Rattle.alt_tables.specs.Reading.{HasRowFiles, family_read, places_between, walk_reads}
+use Rattle.alt_views.specs.Readable.{CanRead}
 use Rattle.alt_tables.proofs.tables.Tables.rows.Goals as goal
 
 pub index_rows-requires-clause-index : goal.index_rows-requires-clause-index
 index_rows-requires-clause-index g c d at =
-    subst (λ o. IfSome o (λ number. number < length (indexes d))) c.in-Some.is
-    (c.requires.index d at)
+    subst (λ o. IfSome o (λ number. CanRead d number)) c.in-Some.is (c.requires.index d at)
 
 pub returns-in-Some-clause-rows : goal.returns-in-Some-clause-rows
 returns-in-Some-clause-rows g c s t stands at =
     let within : c.in-Some.number < length (indexes t.description) =
-    subst (λ o. IfSome o (λ number. number < length (indexes t.description))) c.in-Some.is
+    (subst (λ o. IfSome o (λ number. CanRead t.description number)) c.in-Some.is
     (c.requires.index t.description (known (g.D.Disk.state c.args.disk.now) c.args.self.now s
-    c.args.table.now t stands at)) in
+    c.args.table.now t stands at))).0 in
     let (i, is) = within_some (indexes t.description) c.in-Some.number within in
     subst (λ o. OnOk c.index_rows.result (c.index_rows.new.out.items ≡ c.args.out.now.items
     ++ take c.args.most (items_between t o c.args.range.now.from c.args.range.now.to
@@ -36,9 +36,9 @@ returns-in-None-clause-rows g c s t stands at =
 pub returns-in-Some-clause-last : goal.returns-in-Some-clause-last
 returns-in-Some-clause-last g c s t stands at =
     let within : c.in-Some.number < length (indexes t.description) =
-    subst (λ o. IfSome o (λ number. number < length (indexes t.description))) c.in-Some.is
+    (subst (λ o. IfSome o (λ number. CanRead t.description number)) c.in-Some.is
     (c.requires.index t.description (known (g.D.Disk.state c.args.disk.now) c.args.self.now s
-    c.args.table.now t stands at)) in
+    c.args.table.now t stands at))).0 in
     let (i, is) = within_some (indexes t.description) c.in-Some.number within in
     subst (λ o. IfOk c.index_rows.result (λ last. last ≡ last_or None (take c.args.most
     (places_between t o c.args.range.now.from c.args.range.now.to c.args.forward))))
@@ -56,8 +56,8 @@ returns-in-Some-clause-reads g c s t maps stands at =
     let a = g.D.Disk.state c.args.disk.now in
     let b = g.D.Disk.state c.index_rows.new.disk in
     let within : c.in-Some.number < length (indexes t.description) =
-    subst (λ o. IfSome o (λ number. number < length (indexes t.description))) c.in-Some.is
-    (c.requires.index t.description (known a c.args.self.now s c.args.table.now t stands at)) in
+    (subst (λ o. IfSome o (λ number. CanRead t.description number)) c.in-Some.is
+    (c.requires.index t.description (known a c.args.self.now s c.args.table.now t stands at))).0 in
     let (i, is) = within_some (indexes t.description) c.in-Some.number within in
     subst (λ o. HasRowFiles a.file (family_read t.description o) maps
     → OnOk c.index_rows.result (b.reads ≤ a.reads

@@ -1,0 +1,9 @@
+pub mod Walks
+pub mod Singles
+pub mod Shapes
+pub mod Tests
+pub mod Asking
+pub mod Altering
+pub mod Naming
+pub mod Writing
+pub mod Builds

@@ -1,0 +1,2 @@
+-- What private contracts alone cite: nobody who believes the promises of this crate has to read it.
+pub mod Asked

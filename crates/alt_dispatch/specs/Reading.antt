@@ -1,7 +1,7 @@
 -- Which requests only read, whatever becomes of them.
 use Rattle.std.specs.Prelude.{Bool, true, false, Option, Some, None, IsTrue}
 use Rattle.alt_machine.specs.declared.Operation.{Operation}
-use Rattle.alt_machine.specs.declared.Operation.TheVariants.{CreateTable, DescribeTable, ListTables, DeleteTable, PutItem, GetItem, DeleteItem, UpdateItem, Query, Scan, BatchWriteItem, BatchGetItem, ListStreams, DescribeStream, GetShardIterator, GetRecords, UpdateTimeToLive, DescribeTimeToLive, ExpireItems}
+use Rattle.alt_machine.specs.declared.Operation.TheVariants.{CreateTable, DescribeTable, ListTables, DeleteTable, PutItem, GetItem, DeleteItem, UpdateItem, Query, Scan, BatchWriteItem, BatchGetItem, ListStreams, DescribeStream, GetShardIterator, GetRecords, UpdateTimeToLive, DescribeTimeToLive, ExpireItems, UpdateTable}
 
 -- The operation has no writes.
 abbrev pub is_read : Operation → Bool
@@ -24,6 +24,7 @@ is_read GetRecords = true
 is_read UpdateTimeToLive = false
 is_read DescribeTimeToLive = true
 is_read ExpireItems = false
+is_read UpdateTable = false
 
 -- So it is of a request that names no operation that is built.
 abbrev pub OnlyReads : Option Operation → Type 0

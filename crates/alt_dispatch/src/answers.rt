@@ -22,6 +22,7 @@ ghost use Rattle.alt_tables.specs.Images.{Leaves};
 ghost use Rattle.alt_tables.specs.Stands.{AreReady, Reads, Stands, bounds_of};
 ghost use Rattle.alt_shape.specs.Body.{body_json};
 
+use alt_backfill::update_table;
 use alt_disk::Disk;
 use alt_machine::Operation;
 use alt_members::{heeded, read_heeded};
@@ -39,7 +40,7 @@ use serde_json::{Map, Value};
 use std::alloc::Global;
 
 /// The operations that are built, by name.
-static OPERATIONS: [(&str, Operation); 19] = [
+static OPERATIONS: [(&str, Operation); 20] = [
     ("CreateTable", Operation::CreateTable),
     ("DescribeTable", Operation::DescribeTable),
     ("ListTables", Operation::ListTables),
@@ -59,6 +60,7 @@ static OPERATIONS: [(&str, Operation); 19] = [
     ("UpdateTimeToLive", Operation::UpdateTimeToLive),
     ("DescribeTimeToLive", Operation::DescribeTimeToLive),
     ("ExpireItems", Operation::ExpireItems),
+    ("UpdateTable", Operation::UpdateTable),
 ];
 
 /// The built operation of that name, `None` exactly where there is none.
@@ -248,5 +250,6 @@ fn carry_out<D: Disk>(
         Operation::UpdateTimeToLive => update_time_to_live(alloc, tables, disk, body, moment),
         Operation::DescribeTimeToLive => describe_time_to_live(alloc, tables, disk, body, moment),
         Operation::ExpireItems => expire_items(alloc, tables, disk, body, moment),
+        Operation::UpdateTable => update_table(alloc, tables, disk, body, moment),
     }
 }

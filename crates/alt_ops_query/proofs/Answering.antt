@@ -1,5 +1,5 @@
 -- The page that was filled is answered as that of the list.
-use Rattle.std.proofs.Common.{◌≡◌, refl, sym, ap, subst, ◌∙◌, ◌<◌, ℕ, Bool, true, false, List, [], length, map, Option, Some, None, Result, Ok, Err, IfOk, IfErr, IfSome, OnOk, option_map}
+use Rattle.std.proofs.Common.{◌≡◌, refl, sym, ap, subst, ◌∙◌, ℕ, Bool, true, false, List, [], length, map, Option, Some, None, Result, Ok, Err, IfOk, IfErr, IfSome, OnOk, option_map}
 use Rattle.std.specs.Prelude.{if◌then◌else◌, codes}
 use Rattle.std.specs.FinMap as finite
 use Rattle.std.specs.Result.{IsErr, IsErrAnd}
@@ -7,7 +7,7 @@ use Rattle.serde_json.specs.Data.{Data, Members, member, no_members, number, uns
 use Rattle.serde_json.specs.Written.{has_float}
 use Rattle.alt_codec.specs.Writing.{json_of_pairs}
 use Rattle.alt_expr.specs.Pages as pages
-use Rattle.alt_expr.specs.Pages.{Asked, examined, ends_early, parts, passed}
+use Rattle.alt_expr.specs.Pages.{Asked, examined, parts, passed}
 use Rattle.alt_machine.specs.Lists.{shown_items, key_attributes, page_answer, page_asked, last_examined}
 use Rattle.alt_machine.specs.Outcomes.{Outcome, says}
 use Rattle.alt_machine.specs.Sources.{index_at, selects}
@@ -27,7 +27,6 @@ use Rattle.alt_request.specs.declared.stop.Stop.{Stop}
 use Rattle.alt_request.specs.declared.stop.Stop.TheVariants.{Refused, Fault}
 use Rattle.alt_request.proofs.Carrying.{does_say}
 use Rattle.alt_request.proofs.Reaching.{err_is}
-use Rattle.alt_schema.specs.Indexes.{indexes}
 use Rattle.alt_schema.specs.declared.schema.IndexSchema.{IndexSchema}
 use Rattle.alt_schema.specs.declared.schema.TableSchema.{TableSchema}
 use Rattle.alt_schema.specs.Json.{member_if}
@@ -36,6 +35,7 @@ use Rattle.alt_shape.specs.Refusals.{Answer, answered, answer_of}
 use Rattle.alt_shape.specs.declared.refusal.Reply.{Reply}
 use Rattle.alt_tables.specs.declared.faults.TableFault.TheVariants.{Spent, Damaged, BadRow, Failed, NoMemory}
 use Rattle.alt_value.specs.Tree.{Pair}
+use Rattle.alt_views.specs.Readable.{CanRead}
 
 -- the page whose items were examined
 page_with : Asked → List (List Pair) → Bool → pages.Page
@@ -182,10 +182,10 @@ told_of found index ms filling (Err stop) d is h = tt
 
 -- and so is what holds of each description that is there
 pub within_of : (catalog : Texts TableSchema) (name : List ℕ) (index : Option ℕ) (d : TableSchema)
-    → finite.get catalog name ≡ Some d → IfSome index (λ n. n < length (indexes d))
+    → finite.get catalog name ≡ Some d → IfSome index (λ n. CanRead d n)
     → (x : TableSchema) → finite.get catalog name ≡ Some x
-    → IfSome index (λ n. n < length (indexes x))
-within_of catalog name index d is h x at = subst (λ y. IfSome index (λ n. n < length (indexes y)))
+    → IfSome index (λ n. CanRead x n)
+within_of catalog name index d is h x at = subst (λ y. IfSome index (λ n. CanRead y n))
     (some_same d x (sym is ∙ at)) h
 
 -- the reply is that of the description at hand

@@ -9,7 +9,7 @@ use Rattle.alt_machine.specs.State.{State, Table}
 use Rattle.alt_machine.proofs.Descriptions.{get-descriptions}
 use Rattle.alt_machine.proofs.Indexing.{all_index, is_entry}
 use Rattle.alt_ops_query.specs.Places.{MayStand, place_in}
-use Rattle.alt_ops_query.proofs.Lists.{none_past}
+use Rattle.alt_views.proofs.Taken.{none_past}
 use Rattle.alt_request.proofs.Named.{table_found}
 use Rattle.alt_schema.specs.Indexes.{cut, index_row, indexes, is_in_index, is_projected}
 use Rattle.alt_schema.specs.declared.schema.IndexSchema.{IndexSchema}
@@ -20,6 +20,7 @@ use Rattle.alt_value.specs.Size.{item_size}
 use Rattle.alt_value.specs.Tree.{Pair}
 use Rattle.alt_views.proofs.Keeping.{entry_place}
 use Rattle.alt_views.proofs.Parts.{size-where}
+use Rattle.alt_views.specs.Readable.{CanRead}
 
 -- options that are equal have equal values
 same_some : {A : Type 0} (x y : A) → Some x ≡ Some y → x ≡ y
@@ -41,7 +42,7 @@ module _ (disk : DiskState) (tables : Tables) (s : State) (stands : Stands disk 
   -- what stands at a place of the table, or of its index of that number, may stand there
   pub may_stand : (index : Option ℕ)
       → ((d : TableSchema) → finite.get (catalog_of tables) name ≡ Some d
-      → IfSome index (λ n. n < length (indexes d)))
+      → IfSome index (λ n. CanRead d n))
       → (place : List ℕ) (item : List Pair)
       → finite.get (items_of t (index_at t.description index)) place ≡ Some item
       → MayStand t.description (index_at t.description index) place item
@@ -53,8 +54,9 @@ module _ (disk : DiskState) (tables : Tables) (s : State) (stands : Stands disk 
       by (slice_get (indexes t.description) number) refl found
     where
       there : number < length (indexes t.description)
-      there = within t.description (ap (λ m. finite.get m name) stands.catalog
-          ∙ get-descriptions s.tables name ∙ ap (option_map (λ (x : Table). x.description)) at)
+      there = (within t.description (ap (λ m. finite.get m name) stands.catalog
+          ∙ get-descriptions s.tables name
+          ∙ ap (option_map (λ (x : Table). x.description)) at)).0
 
       by : (o : Option IndexSchema) → slice_get (indexes t.description) number ≡ o
           → finite.get (items_of t o) place ≡ Some item → MayStand t.description o place item
@@ -72,7 +74,7 @@ module _ (disk : DiskState) (tables : Tables) (s : State) (stands : Stands disk 
   -- and has that place
   pub stored_at : (index : Option ℕ)
       → ((d : TableSchema) → finite.get (catalog_of tables) name ≡ Some d
-      → IfSome index (λ n. n < length (indexes d)))
+      → IfSome index (λ n. CanRead d n))
       → (place : List ℕ) (item : List Pair)
       → finite.get (items_of t (index_at t.description index)) place ≡ Some item
       → place_in t.description (index_at t.description index) item ≡ Some place
@@ -87,7 +89,7 @@ module _ (disk : DiskState) (tables : Tables) (s : State) (stands : Stands disk 
   -- and isn't too large
   pub sized_at : (index : Option ℕ)
       → ((d : TableSchema) → finite.get (catalog_of tables) name ≡ Some d
-      → IfSome index (λ n. n < length (indexes d)))
+      → IfSome index (λ n. CanRead d n))
       → (place : List ℕ) (item : List Pair)
       → finite.get (items_of t (index_at t.description index)) place ≡ Some item
       → item_size item ≤ LARGEST_ITEM

@@ -1,5 +1,5 @@
 -- What the page of a whole operation reads: that of the range that holds its list.
-use Rattle.std.proofs.Common.{◌≡◌, ◌≤◌, ◌<◌, ◌+◌, sym, ap, subst, ◌∙◌, ℕ, ◌||◌, Bool, true, List, length, Option, Some, None, Result, Ok, Err, IfSome, OnOk}
+use Rattle.std.proofs.Common.{◌≡◌, ◌≤◌, ◌+◌, sym, ap, subst, ◌∙◌, ℕ, ◌||◌, Bool, true, List, Option, Some, None, Result, Ok, Err, IfSome, OnOk}
 use Rattle.std.specs.FinMap as map
 use Rattle.serde_json.specs.Data.{Members}
 use Rattle.alt_cells.specs.Walks.{RowMap}
@@ -27,7 +27,6 @@ use Rattle.alt_request.specs.declared.lists.ListTarget.{ListTarget}
 use Rattle.alt_request.specs.declared.stop.Stop.{Stop}
 use Rattle.alt_request.proofs.Listing.{list_reached}
 use Rattle.alt_keyorder.specs.declared.range.KeyRange.{KeyRange}
-use Rattle.alt_schema.specs.Indexes.{indexes}
 use Rattle.alt_schema.specs.declared.schema.IndexSchema.{IndexSchema}
 use Rattle.alt_schema.specs.declared.schema.TableSchema.{TableSchema}
 use Rattle.alt_shape.specs.Bodies as bodies
@@ -38,10 +37,11 @@ use Rattle.alt_tables.specs.Reading.{HasRowFiles, family_read}
 use Rattle.alt_tables.specs.Stands.{Stands, catalog_of}
 use Rattle.alt_tables.specs.declared.tables.Tables.{Tables}
 use Rattle.alt_value.specs.Tree.{Pair}
+use Rattle.alt_views.specs.Readable.{CanRead}
 
 module _ (before after : DiskState) (tables : Tables) (ms : Members) (target : ListTarget)
     (range : KeyRange) (r : Result Reply Stop) (s : State) (stands : Stands before tables s)
-    (within : IfSome target.index (λ n. n < length (indexes target.schema.now))) where
+    (within : IfSome target.index (λ n. CanRead target.schema.now n)) where
   -- the index that is read, in a description
   abbrev source_in : TableSchema → Option IndexSchema
   source_in d = index_at d target.index

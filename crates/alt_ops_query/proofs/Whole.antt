@@ -1,5 +1,5 @@
 -- The operations as wholes: the page of a range that holds the list is that of the list, and what stops the program stops the machine.
-use Rattle.std.proofs.Common.{◌≡◌, sym, ap, subst, ◌∙◌, ◌<◌, ℕ, ◌||◌, Bool, true, List, length, Option, Some, None, Result, Err, IfSome}
+use Rattle.std.proofs.Common.{◌≡◌, sym, ap, subst, ◌∙◌, ℕ, ◌||◌, Bool, true, List, Option, Some, None, Result, Err, IfSome}
 use Rattle.std.specs.FinMap as map
 use Rattle.serde_json.specs.Data.{Members}
 use Rattle.alt_disk.specs.Disk.{DiskState}
@@ -33,7 +33,6 @@ use Rattle.alt_request.proofs.Carrying.{refused_so, faulted}
 use Rattle.alt_request.proofs.Listing.{list_reached}
 use Rattle.alt_request.proofs.Moving.{unfailed_fault}
 use Rattle.alt_keyorder.specs.declared.range.KeyRange.{KeyRange}
-use Rattle.alt_schema.specs.Indexes.{indexes}
 use Rattle.alt_schema.specs.declared.schema.IndexSchema.{IndexSchema}
 use Rattle.alt_schema.specs.declared.schema.TableSchema.{TableSchema}
 use Rattle.alt_shape.specs.Bodies as bodies
@@ -42,6 +41,7 @@ use Rattle.alt_shape.specs.declared.rule.Broken.{Broken}
 use Rattle.alt_tables.specs.Stands.{Stands, catalog_of}
 use Rattle.alt_tables.specs.declared.tables.Tables.{Tables}
 use Rattle.alt_value.specs.Tree.{Pair}
+use Rattle.alt_views.specs.Readable.{CanRead}
 
 -- ---- the operations with the tests of their bodies
 
@@ -70,7 +70,7 @@ module _ (disk : DiskState) (tables : Tables) (s : State) (stands : Stands disk 
     (name : List ℕ) (t : Table) (at : map.get s.tables name ≡ Some t) (d : TableSchema)
     (same : t.description ≡ d) (index : Option ℕ)
     (within : (x : TableSchema) → map.get (catalog_of tables) name ≡ Some x
-    → IfSome index (λ n. n < length (indexes x))) where
+    → IfSome index (λ n. CanRead x n)) where
   -- the items of a range that holds a list are the list
   pub list_is : (forward : Bool) (place : Option (List ℕ)) (test : List Pair → Bool) (range : KeyRange)
       → HoldsListed forward place test d (index_at d index) range.from range.to
@@ -203,7 +203,7 @@ module _ (file : ℕ) (disk : DiskState) (tables : Tables) (now : State → Type
 
 module _ (file : ℕ) (disk : DiskState) (tables : Tables) (now : State → Type 0) (ms : Members)
     (target : ListTarget) (range : KeyRange) (r : Result Reply Stop) (plain : IsPlain r)
-    (within : IfSome target.index (λ n. n < length (indexes target.schema.now))) where
+    (within : IfSome target.index (λ n. CanRead target.schema.now n)) where
   -- a Query is carried out by the page of the range that is asked for
   pub query_done : (broken : Option Broken) (mismatched : Bool) → broken ≡ bodies.query ms
       → mismatched ≡ is_mismatched ms

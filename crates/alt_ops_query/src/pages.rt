@@ -1,6 +1,6 @@
 //! The page of a range of a table, or of one of its indexes.
 
-ghost use Rattle.std.specs.Prelude.{◌≡◌, ◌<◌, ◌≤◌, ◌+◌, true, false, List, Some, None, if◌then◌else◌, IfOk, IfErr, IfSome, OnOk, codes, length};
+ghost use Rattle.std.specs.Prelude.{◌≡◌, ◌<◌, ◌≤◌, ◌+◌, true, false, List, Some, None, if◌then◌else◌, IfOk, IfErr, IfSome, OnOk, codes};
 ghost use Rattle.std.specs.FinMap as map;
 ghost use Rattle.serde_json.specs.View.{members_view};
 ghost use Rattle.serde_json.specs.Written.{has_float};
@@ -17,12 +17,12 @@ ghost use Rattle.alt_ops_query.specs.private.Paged.{AnswersPage, HasLimit, answe
 ghost use Rattle.alt_paging.specs.Offered.{asked_of};
 ghost use Rattle.alt_request.specs.Carried.{Does, IsPlain, IfFailed};
 ghost use Rattle.alt_request.specs.Steps.{IsMemory};
-ghost use Rattle.alt_schema.specs.Indexes.{indexes};
 ghost use Rattle.alt_schema.specs.declared.schema.TableSchema.{TableSchema};
 ghost use Rattle.alt_shape.specs.Body.{body_json};
 ghost use Rattle.alt_shape.specs.Refusals.{answer_of};
 ghost use Rattle.alt_tables.specs.Reading.{HasRowFiles, family_read};
 ghost use Rattle.alt_tables.specs.Stands.{AreReady, Reads, Stands, catalog_of, bounds_of};
+ghost use Rattle.alt_views.specs.Readable.{CanRead};
 
 use crate::asking::page_ask;
 use crate::replies::page_reply;
@@ -56,7 +56,7 @@ pub(crate) fn page_of_range<D: Disk>(
         (table_name (members_view body.now.entries)) ≡ true }
     requires index { (d : TableSchema) → map.get (catalog_of tables.old)
         (table_name (members_view body.now.entries)) ≡ Some d
-        → IfSome index (λ n. n < length (indexes d)) }
+        → IfSome index (λ n. CanRead d n) }
     requires limit { HasLimit (members_view body.now.entries) }
     ensures does { (s : State) (t : Table) → Stands (D.state disk.old) tables.old s
         → map.get s.tables (table_name (members_view body.now.entries)) ≡ Some t
@@ -103,7 +103,7 @@ fn page_of_ask<D: Disk>(
         (table_name (members_view body.now.entries)) ≡ true }
     requires index { (d : TableSchema) → map.get (catalog_of tables.old)
         (table_name (members_view body.now.entries)) ≡ Some d
-        → IfSome index (λ n. n < length (indexes d)) }
+        → IfSome index (λ n. CanRead d n) }
     requires limit { IfSome ask.limit (λ most. 0 < most) }
     requires counts { ask.count_only ≡ selects (codes "COUNT") (members_view body.now.entries) }
     ensures does { (s : State) (t : Table) → Stands (D.state disk.old) tables.old s
@@ -155,7 +155,7 @@ fn answered(
         (table_name (members_view body.now.entries)) ≡ true }
     requires index { (d : TableSchema) → map.get (catalog_of tables.now)
         (table_name (members_view body.now.entries)) ≡ Some d
-        → IfSome index (λ n. n < length (indexes d)) }
+        → IfSome index (λ n. CanRead d n) }
     ensures reply { IfOk result (λ reply. (d : TableSchema)
         → map.get (catalog_of tables.now) (table_name (members_view body.now.entries)) ≡ Some d
         → AnswersPage d (index_at d index) (members_view body.now.entries) filling
@@ -177,7 +177,7 @@ fn filled_reply(
     body: &Map<String, Value>,
     filling: Filling,
 ) -> Result<Reply, Stop>
-    requires index { IfSome index (λ n. n < length (indexes schema.now)) }
+    requires index { IfSome index (λ n. CanRead schema.now n) }
     ensures reply { IfOk result (λ reply. AnswersPage schema.now (index_at schema.now index)
         (members_view body.now.entries) filling (answer_of reply)) }
     ensures plain { IfOk result (λ reply. has_float (body_json reply.body) ≡ false) }

@@ -1,6 +1,6 @@
 //! Query.
 
-ghost use Rattle.std.specs.Prelude.{◌≡◌, ◌<◌, List, IfOk, IfSome, OnOk, length, option_map};
+ghost use Rattle.std.specs.Prelude.{◌≡◌, ◌<◌, List, IfOk, IfSome, OnOk, option_map};
 ghost use Rattle.serde_json.specs.View.{members_view};
 ghost use Rattle.alt_expr.specs.KeyForm.{meets};
 ghost use Rattle.alt_expr.specs.Pages.{passes};
@@ -10,7 +10,6 @@ ghost use Rattle.alt_keyorder.specs.KeyBytes.{IsKey};
 ghost use Rattle.alt_machine.specs.Ops.Query.{query, goes_forward, key_asked, key_of as machine_key};
 ghost use Rattle.alt_machine.specs.Sources.{index_at, hash_of, range_of};
 ghost use Rattle.alt_machine.specs.State.{State};
-ghost use Rattle.alt_schema.specs.Indexes.{indexes};
 ghost use Rattle.alt_ops_query.specs.PageReads.{ReadsQuery};
 ghost use Rattle.alt_ops_query.specs.private.Asked.{AreHeld, Asks, Places};
 ghost use Rattle.alt_request.specs.Carried.{Carries, Moves};
@@ -20,6 +19,7 @@ ghost use Rattle.alt_value.specs.Item.{at_name};
 ghost use Rattle.alt_value.specs.Stands.{tree_of};
 ghost use Rattle.alt_value.specs.Tree.{Pair};
 ghost use Rattle.alt_value.specs.Values.{IsValue};
+ghost use Rattle.alt_views.specs.Readable.{CanRead};
 
 use crate::pages::page_of_range;
 use crate::places::{beyond, walk_start};
@@ -115,7 +115,7 @@ fn asked_range(
     start: &Option<Item>,
     forward: bool,
 ) -> Result<KeyRange, Stop>
-    requires index { IfSome number (λ n. n < length (indexes schema.now)) }
+    requires index { IfSome number (λ n. CanRead schema.now n) }
     ensures asks { Asks schema.now (index_at schema.now number) condition.now start.now forward
         result }
 {

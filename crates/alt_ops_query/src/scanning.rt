@@ -1,18 +1,18 @@
 //! Scan.
 
-ghost use Rattle.std.specs.Prelude.{◌≡◌, ◌||◌, ◌+◌, ◌^◌, ◌<◌, ◌≤◌, [], false, None, IfOk, IfSome, OnOk, option_map, length};
+ghost use Rattle.std.specs.Prelude.{◌≡◌, ◌||◌, ◌+◌, ◌^◌, ◌<◌, ◌≤◌, [], false, None, IfOk, IfSome, OnOk, option_map};
 ghost use Rattle.serde_json.specs.View.{members_view};
 ghost use Rattle.alt_machine.specs.Lists.{is_mismatched};
 ghost use Rattle.alt_machine.specs.Ops.Scan as machine;
 ghost use Rattle.alt_machine.specs.Ops.Scan.{scan, is_segment_odd};
 ghost use Rattle.alt_machine.specs.Sources.{index_at};
 ghost use Rattle.alt_machine.specs.State.{State};
-ghost use Rattle.alt_schema.specs.Indexes.{indexes};
 ghost use Rattle.alt_ops_query.specs.PageReads.{ReadsScan};
 ghost use Rattle.alt_ops_query.specs.private.Asked.{Segments};
 ghost use Rattle.alt_ops_query.specs.private.Tokens.{segment_in, first_token, token_bytes, end_token};
 ghost use Rattle.alt_request.specs.Carried.{Carries, Moves};
 ghost use Rattle.alt_tables.specs.Stands.{AreReady, Reads, Stands, bounds_of};
+ghost use Rattle.alt_views.specs.Readable.{CanRead};
 
 use crate::pages::page_of_range;
 use crate::places::{beyond, walk_start};
@@ -138,7 +138,7 @@ fn segment_range(
     start: &Option<Item>,
 ) -> Result<KeyRange, Stop>
     requires below { IfSome segment (λ s. s.number < s.total) }
-    requires index { IfSome number (λ n. n < length (indexes schema.now)) }
+    requires index { IfSome number (λ n. CanRead schema.now n) }
     ensures segments { Segments schema.now (index_at schema.now number)
         (option_map segment_in segment) start.now result }
 {

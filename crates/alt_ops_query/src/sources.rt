@@ -1,15 +1,15 @@
 //! What Query and Scan read: a table, or one of its indexes.
 
-ghost use Rattle.std.specs.Prelude.{◌≡◌, ◌<◌, IfSome, length, option_map};
+ghost use Rattle.std.specs.Prelude.{◌≡◌, ◌<◌, IfSome, option_map};
 ghost use Rattle.alt_machine.specs.Sources as machine;
-ghost use Rattle.alt_schema.specs.Indexes.{indexes};
+ghost use Rattle.alt_views.specs.Readable.{CanRead};
 
 use alt_schema::{IndexSchema, KeyAttr, TableSchema};
 use alt_views::{index_at, is_key};
 
 /// The index of that number; where no number is told, the table itself is read.
 pub(crate) fn index_of(schema: &TableSchema, number: Option<usize>) -> Option<&IndexSchema>
-    requires there { IfSome number (λ n. n < length (indexes schema.now)) }
+    requires there { IfSome number (λ n. CanRead schema.now n) }
     ensures index { option_map (λ i. i.now) result ≡ machine.index_at schema.now number }
 {
     match number {
@@ -48,18 +48,5 @@ fn as_ref(range: &Option<KeyAttr>) -> Option<&KeyAttr>
     match range {
         Some(range) => Some(range),
         None => None,
-    }
-}
-
-/// Whether an attribute of that name is a key there: of the table, and in an index of the index too.
-pub(crate) fn is_key_there(schema: &TableSchema, index: Option<&IndexSchema>, name: &str) -> bool
-    ensures key { result
-        ≡ machine.is_key_there schema.now (option_map (λ i. i.now) index.entry) name.now }
-{
-    match index {
-        Some(index) => {
-            is_key(&schema.hash, &schema.range, name) || is_key(&index.hash, &index.range, name)
-        }
-        None => is_key(&schema.hash, &schema.range, name),
     }
 }

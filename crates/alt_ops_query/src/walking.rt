@@ -1,7 +1,7 @@
 //! A walk over the items of a table, or of one of its indexes, that ends with a page. It asks for no more items than are certain to be
 //! examined, so it reads no row beyond the last of them.
 
-ghost use Rattle.std.specs.Prelude.{◌≡◌, ◌≢◌, ◌↔◌, ◌++◌, ◌+◌, ◌≤◌, ◌∷◌, [], not, true, false, List, Some, None, All, IfOk, IfErr, IfSome, OnOk, length, ◌<◌};
+ghost use Rattle.std.specs.Prelude.{◌≡◌, ◌≢◌, ◌↔◌, ◌++◌, ◌+◌, ◌≤◌, ◌∷◌, [], not, true, false, List, Some, None, All, IfOk, IfErr, IfSome, OnOk, ◌<◌};
 ghost use Rattle.std.specs.FinMap as map;
 ghost use Rattle.alt_base.specs.Counts.{Rose};
 ghost use Rattle.alt_cells.specs.Walks.{RowMap};
@@ -15,11 +15,11 @@ ghost use Rattle.alt_ops_query.specs.private.Stops.{IsFault, IfErrFailed};
 ghost use Rattle.alt_paging.specs.Offered.{asked_of, has_ended};
 ghost use Rattle.alt_paging.specs.declared.ask.PageAsk.{PageAsk};
 ghost use Rattle.alt_request.specs.Steps.{IsMemory};
-ghost use Rattle.alt_schema.specs.Indexes.{indexes};
 ghost use Rattle.alt_schema.specs.declared.schema.TableSchema.{TableSchema};
 ghost use Rattle.alt_tables.specs.Reading.{HasRowFiles, family_read};
 ghost use Rattle.alt_tables.specs.Stands.{AreReady, Reads, Stands, KeepsCatalog, catalog_of};
 ghost use Rattle.alt_value.specs.Tree.{Pair};
+ghost use Rattle.alt_views.specs.Readable.{CanRead};
 
 use crate::places::beyond;
 use alt_disk::Disk;
@@ -53,7 +53,7 @@ pub(crate) fn fill<D: Disk>(
     requires ready { AreReady (D.state disk.old) tables.old }
     requires there { map.contains_key (catalog_of tables.old) table.now ≡ true }
     requires index { (d : TableSchema) → map.get (catalog_of tables.old) table.now ≡ Some d
-        → IfSome index (λ n. n < length (indexes d)) }
+        → IfSome index (λ n. CanRead d n) }
     requires going { has_ended filling.old.pager ≡ false }
     ensures filled { (s : State) (t : Table) (ask : PageAsk)
         → Stands (D.state disk.old) tables.old s
@@ -103,7 +103,7 @@ fn step<D: Disk>(
     requires ready { AreReady (D.state disk.old) tables.old }
     requires there { map.contains_key (catalog_of tables.old) table.now ≡ true }
     requires index { (d : TableSchema) → map.get (catalog_of tables.old) table.now ≡ Some d
-        → IfSome index (λ n. n < length (indexes d)) }
+        → IfSome index (λ n. CanRead d n) }
     requires going { has_ended filling.old.pager ≡ false }
     ensures steps { (s : State) (t : Table) (ask : PageAsk) (seen : List (List Pair))
         → Stands (D.state disk.old) tables.old s → map.get s.tables table.now ≡ Some t

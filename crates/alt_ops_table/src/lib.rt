@@ -12,3 +12,4 @@ pub use create::create_table;
 pub use delete::delete_table;
 pub use describe::describe_table;
 pub use list::list_tables;
+pub use replies::described;

@@ -15,7 +15,7 @@ use alt_tables::TableFault;
 use std::alloc::Global;
 
 /// The reply whose one member is the description with that status.
-pub(crate) fn described(
+pub fn described(
     alloc: Global,
     member: &str,
     schema: &TableSchema,

@@ -5,6 +5,7 @@ ghost use Rattle.serde_json.specs.View.{members_view};
 ghost use Rattle.alt_machine.specs.Sources as machine;
 ghost use Rattle.alt_request.specs.Steps.{Comes};
 ghost use Rattle.alt_schema.specs.Indexes.{indexes};
+ghost use Rattle.alt_views.specs.Readable.{CanRead};
 
 use crate::replies::asks;
 use crate::stop::Stop;
@@ -21,8 +22,7 @@ pub(crate) fn index_asked(
 ) -> Result<Option<usize>, Stop>
     ensures asked { Comes (λ number. number)
         (machine.index_asked schema.now (members_view body.now.entries)) result }
-    ensures within { IfOk result (λ index. IfSome index
-        (λ number. number < length (indexes schema.now))) }
+    ensures read { IfOk result (λ index. IfSome index (λ number. CanRead schema.now number)) }
 {
     let Some(name) = text_at(body, "IndexName") else {
         return Ok(None);

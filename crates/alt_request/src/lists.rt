@@ -1,7 +1,7 @@
 //! What an operation on a list of items goes on with: the table that its body names, the index of it, if one is named, the key to start
 //! after, and what its expressions say.
 
-ghost use Rattle.std.specs.Prelude.{◌≡◌, ◌<◌, IfOk, IfSome, length};
+ghost use Rattle.std.specs.Prelude.{◌<◌, IfOk, IfSome};
 ghost use Rattle.serde_json.specs.View.{members_view};
 ghost use Rattle.alt_machine.specs.Body.{paired_refusals};
 ghost use Rattle.alt_machine.specs.Lists as machine;
@@ -9,8 +9,8 @@ ghost use Rattle.alt_machine.specs.Lists.{start_at};
 ghost use Rattle.alt_request.specs.Steps.{Comes, rules_of};
 ghost use Rattle.alt_request.specs.Targets.{OnList};
 ghost use Rattle.alt_request.specs.Words.{texts_of};
-ghost use Rattle.alt_schema.specs.Indexes.{indexes};
 ghost use Rattle.alt_tables.specs.Stands.{catalog_of};
+ghost use Rattle.alt_views.specs.Readable.{CanRead};
 
 use crate::body::{Rules, paired_refusal, table_of};
 use crate::indexed::index_asked;
@@ -51,7 +51,7 @@ pub fn list_target<'t>(
         (members_view body.now.entries)) (texts_of texts.now) (catalog_of tables.now)
         (members_view body.now.entries) result }
     ensures index { IfOk result (λ target. IfSome target.index
-        (λ number. number < length (indexes target.schema.now))) }
+        (λ number. CanRead target.schema.now number)) }
 {
     paired_refusal(broken, mismatched, rules, body)?;
     let given = given_at(alloc, texts, body)?;

@@ -10,7 +10,7 @@ use Rattle.alt_disk.specs.Disk.{DiskState}
 use Rattle.alt_machine.specs.Changes.{record_size}
 use Rattle.alt_machine.specs.Ops.GetRecords.{changes_from, next_from, page_of}
 use Rattle.alt_machine.specs.State.{Change, State, Table}
-use Rattle.alt_machine.specs.Valid.{IsChange, IsValid, WasStored}
+use Rattle.alt_machine.specs.Valid.{IsChange, IsValid, IsStored}
 use Rattle.alt_machine.proofs.Descriptions.{get-descriptions}
 use Rattle.alt_schema.specs.declared.schema.TableSchema.{TableSchema}
 use Rattle.alt_schema.specs.declared.schema.View.{View}
@@ -29,7 +29,7 @@ use Rattle.alt_value.specs.Tree.{Pair}
 
 -- ---- the changes of a valid state
 
-sized : (d : TableSchema) (place : List ℕ) (o : Option (List Pair)) → IfSome o (WasStored d place)
+sized : (d : TableSchema) (place : List ℕ) (o : Option (List Pair)) → IfSome o (IsStored d place)
     → IsSized o
 sized d place None h = tt
 sized d place (Some item) h = h.size

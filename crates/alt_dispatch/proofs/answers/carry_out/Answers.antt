@@ -172,6 +172,14 @@ returns-in-ExpireItems-clause-carried g c =
     (Stands (g.D.Disk.state c.expire_items.new.disk) c.expire_items.new.tables)
     c.expire_items.result c.expire_items.ensures.carried
 
+pub returns-in-UpdateTable-clause-carried : goal.returns-in-UpdateTable-clause-carried
+returns-in-UpdateTable-clause-carried g c =
+    carried_as c.args.operation _ c.in-UpdateTable.is c.args.moment
+    (members_view c.args.body.now.entries)
+    (Stands (g.D.Disk.state c.args.disk.now) c.args.tables.now)
+    (Stands (g.D.Disk.state c.update_table.new.disk) c.update_table.new.tables)
+    c.update_table.result c.update_table.ensures.carried
+
 -- ---- what only reads
 
 -- a call that wasn't made of the disk reads
@@ -245,3 +253,6 @@ returns-in-DescribeTimeToLive-clause-reads g c reads = unread (g.D.Disk.state c.
 
 pub returns-in-ExpireItems-clause-reads : goal.returns-in-ExpireItems-clause-reads
 returns-in-ExpireItems-clause-reads g c reads = absurd (writes_not c.args.operation _ c.in-ExpireItems.is refl reads)
+
+pub returns-in-UpdateTable-clause-reads : goal.returns-in-UpdateTable-clause-reads
+returns-in-UpdateTable-clause-reads g c reads = absurd (writes_not c.args.operation _ c.in-UpdateTable.is refl reads)

@@ -22,15 +22,15 @@ use Rattle.alt_run.specs.Faults.{IsControlFault}
 use Rattle.alt_run.specs.Turns.{Asked, request, control, unread, turns, requests, tasks, obeyed}
 use Rattle.alt_run.specs.declared.lines.Control.{Control}
 use Rattle.alt_run.specs.declared.lines.Control.TheVariants.{Flush, Merge, Step, Reopen}
-use Rattle.alt_talks.specs.Turns.{Turn, text_of, after, after_turn, wanted, or_next}
+use Rattle.alt_talks.specs.Turns.{Turn, WritesLast, text_of, after, after_turn, wanted, or_next}
 use Rattle.alt_talks.specs.Works.{Follows}
 use Rattle.alt_shell.proofs.Telling.{Grows-then, Grows-nil}
 use Rattle.alt_tables.proofs.Left.{stands_left}
 use Rattle.alt_talks.proofs.Stopping.{Meet, IsPrefix-self, IsPrefix-behind, one-by, until-append, until-before, until-behind, within-wider, left-more, left-behind, spans_two, trusts-kept, leaves-weaker, leaves-here, leaves-followed, leaves-said, leaves-unsaid, stands_kept}
 use Rattle.alt_talks.proofs.Owning.{follows_none}
 use Rattle.alt_run.proofs.TurnLaws.{turns_say, turns-more, left-nothing, requests-append, tasks-append, turns-append}
-use Rattle.alt_talks.proofs.FileFaults.{file_more}
-use Rattle.alt_talks.proofs.TurnLaws.{text_of-append, after-append, wanted-append}
+use Rattle.alt_talks.proofs.FileFaults.{IsTurnFault, file_more}
+use Rattle.alt_talks.proofs.TurnLaws.{text_of-append, after-append, wanted-append, writes_behind, writes_one}
 use Rattle.alt_talks.proofs.Stretching.{said_in-append, taken-append, ended-append}
 use Rattle.alt_talks.proofs.TalkLogs.{crosses-append}
 
@@ -98,14 +98,10 @@ breaks_for fault next now s t ls done begun es fs ms ns low p why =
         line = w.line;
         last = w.last;
         asks = w.asks;
-        enough = same ∙ w.enough;
-        before = turns s ls ms ++ w.before;
-        turn = w.turn;
-        parts = ap (λ xs. turns s xs (ms ++ ns)) (append_assoc ls done begun)
-            ∙ turns_both s t t ls (done ++ begun) es fs ms ns p
-            ∙ ap (λ (us : List Turn). turns s ls ms ++ us) w.parts
-            ∙ sym (append_assoc (turns s ls ms) w.before (w.turn ∷ []));
-        writes = w.writes;
+        writes = subst (λ (us : List Turn). WritesLast us)
+            (sym (ap (λ xs. turns s xs (ms ++ ns)) (append_assoc ls done begun)
+            ∙ turns_both s t t ls (done ++ begun) es fs ms ns p))
+            (writes_behind (turns s ls ms) (turns t (done ++ begun) ns) p.enough w.writes);
       })) (λ (w : IsWorking t done begun fs ns). inr (record {
         line = w.line;
         last = w.last;
@@ -475,11 +471,22 @@ module _ (old mid done new : DiskState) (tables : Tables) (s : State) (l : Asked
   pub all_said : said_in told_text ≡ text_of (turns s (l ∷ []) ms)
   all_said = said_text ∙ sym (append-nil t.text) ∙ ap text_of (sym b.one)
 
-  -- since what follows it lacks something
-  pub own_broke : (fault : RunFault) (next : ℕ) → IsCausedBy t.lacks fault
+  -- since what follows it lacks something, or its first write wants a file
+  pub own_broke : (fault : RunFault) (next : ℕ) → requests (l ∷ []) ≡ 1 → tasks (l ∷ []) ≡ 1
+      → IsAnswerFault next t.lacks t.own fault
       → Stretch old new (BreaksAtHand fault next s (l ∷ []))
-  own_broke fault next cause =
-      turn_broke fault next (lacked next s l t ms fault told_text b.one cause)
+  own_broke fault next asks task cause = turn_broke fault next (⊎_elim
+      (λ (lack : IsCausedBy t.lacks fault). lacked next s l t ms fault told_text b.one lack)
+      (λ (last : (t.lacks ≡ None) × (1 ≤ length t.own) × IsFileFault next fault). inr (
+        file_more fault next (next + tasks (l ∷ []) * most_files) (omega (arith, task)) last.2,
+        inl (record {
+          line = l;
+          last = refl;
+          asks = asks;
+          writes = subst (λ (ts : List Turn). WritesLast ts) (sym b.one)
+              (writes_one t (inr (last.0, last.1)));
+        }),
+      )) cause)
 
 -- a turn that nothing follows
 pub turn_alone : (old mid new : DiskState) (tables : Tables) (s : State) (l : Asked) (t : Turn)
@@ -549,22 +556,19 @@ unsaid old new s l t ms fault next b why =
 -- since it lacks what it wants or there is no memory
 pub turn_unsaid : (old new : DiskState) (s : State) (l : Asked) (t : Turn) (ms : List ℕ)
     (fault : RunFault) (next : ℕ) → requests (l ∷ []) ≡ 1 → tasks (l ∷ []) ≡ 1
-    → Begins old new s l t ms → IsAnswerFault next t.lacks t.atoms fault
+    → Begins old new s l t ms → IsTurnFault next t.alone t.lacks t.atoms fault
     → Stretch old new (BreaksAtHand fault next s (l ∷ []))
 turn_unsaid old new s l t ms fault next asks task b cause =
     unsaid old new s l t ms fault next b (⊎_elim
     (λ (lack : IsCausedBy t.lacks fault). lacked next s l t ms fault [] b.one lack)
-    (λ (last : (t.lacks ≡ None) × (1 ≤ length t.atoms) × IsFileFault next fault). inr (
+    (λ (last : (t.alone ≡ None) × (1 ≤ length t.atoms) × IsFileFault next fault). inr (
       file_more fault next (next + tasks (l ∷ []) * most_files) (omega (arith, task)) last.2,
       inl (record {
         line = l;
         last = refl;
         asks = asks;
-        enough = ap wanted b.one ∙ ap (λ w. or_next w None) last.0;
-        before = [];
-        turn = t;
-        parts = b.one;
-        writes = last.1;
+        writes = subst (λ (ts : List Turn). WritesLast ts) (sym b.one)
+            (writes_one t (inl (last.0, last.1)));
       }),
     )) cause)
 

@@ -21,22 +21,22 @@ use Rattle.alt_tables.specs.Stands.{Stands, bounds_of}
 use Rattle.alt_tables.specs.declared.tables.Tables.{Tables}
 use Rattle.alt_tables.proofs.Left.{stands_left}
 use Rattle.alt_talks.specs.Faults.{IsAnswerFault, IsCausedBy, IsFileFault}
-use Rattle.alt_talks.specs.Own.{FollowsNot, after_behind, own_behind}
+use Rattle.alt_talks.specs.Own.{FollowsNot, Own, after_behind, own_behind}
 use Rattle.alt_talks.specs.Works.{Follows}
 use Rattle.alt_talks.specs.Runs.{Stretch}
 use Rattle.alt_run.specs.Runs.{Rests}
 use Rattle.alt_talks.specs.Stops.{Image, StandsBehind, AtEach, IsAmong, IsUncut, AreWithin}
 use Rattle.alt_run.specs.Trials.{trial_asks, trial_moment, trial_turns, beginning, all_turns, trial_text, IsTried, LeftOfTrial, Tries, TriesFor, TriesSome, IsTally, Counted, CountedSome}
 use Rattle.alt_run.specs.Turns.{Asked, request, control_of, asked_as, asked_by, is_space, carried_out, left_by, outcome_of, turns, requests}
-use Rattle.alt_talks.specs.Turns.{Turn, after, wanted, or_next}
+use Rattle.alt_talks.specs.Turns.{Turn, WritesLast, after, wanted, or_next}
 use Rattle.alt_talks.specs.declared.fault.RunFault.{RunFault}
 use Rattle.alt_talks.specs.declared.fault.RunFault.TheVariants.{Failed, NoMemory}
 use Rattle.alt_run.specs.declared.tally.Tally.{Tally}
 use Rattle.alt_talks.proofs.Stopping.{one-by, until-before, stands-behind, stands-more, stands-fewer, stands-none, stands-all, stands-one, stands-uncut, trusts-kept, leaves-weaker, leaves-here, spans_two, keeps-spans, within-wider, stands_kept}
 use Rattle.alt_talks.proofs.FileFaults.{file_more}
-use Rattle.alt_talks.proofs.Owning.{answer_first, cause_behind, enough_both, none_lacked}
+use Rattle.alt_talks.proofs.Owning.{answer_behind, answer_first, enough_both}
 use Rattle.alt_run.proofs.TurnLaws.{requests-append, turns-append}
-use Rattle.alt_talks.proofs.TurnLaws.{after-append, wanted-append}
+use Rattle.alt_talks.proofs.TurnLaws.{after-append, wanted-append, writes_behind, writes_one}
 
 -- ---- what is counted
 
@@ -156,8 +156,15 @@ module _ (a b c : DiskState) (t1 : Tables) (s : State) (ls ks : List Asked) (x y
         file_more fault (then + length begun * most_files)
             (next + length (ls ++ begun) * most_files)
             (let l = length-append ls begun in omega (arith, l, low)) work.0,
-        wanted_begun begun ∙ work.1,
-        let l = length-append ls begun in let some = work.2 in omega (arith, l, some),
+        ⊎_elim
+            (λ (w : WritesLast (trial_turns (reached_by s ls) begun)).
+            inl (subst (λ (ts : List Turn). WritesLast ts) (sym (turns_then s ls begun))
+            (writes_behind (trial_turns s ls) (trial_turns (reached_by s ls) begun) p.enough w)))
+            (λ (at : (wanted (trial_turns (reached_by s ls) begun) ≡ None) × (0 < length begun)). inr (
+              wanted_begun begun ∙ at.0,
+              let l = length-append ls begun in let some = at.1 in omega (arith, l, some),
+            ))
+            work.1,
       ))
       why
 
@@ -195,18 +202,20 @@ module _ (a b : DiskState) (s : State) (name body : List ℕ)
     lines = refl;
     wants = ⊎_elim
         (λ (lack : IsCausedBy lacks fault). inl (lacked_alone fault lacks lack))
-        (λ (last : (lacks ≡ None) × (1 ≤ length atoms) × IsFileFault next fault). inr (
+        (λ (last : (alone ≡ None) × (1 ≤ length atoms) × IsFileFault next fault). inr (
           file_more fault next (next + 1 * most_files) (omega arith) last.2,
-          ap (λ w. or_next w None) last.0,
-          omega arith,
+          inl (writes_one (carried_out s name body trial_moment) (inl (last.0, last.1))),
         ))
-        (answer_first next _ _ atoms fault (none_lacked (left_by s name body trial_moment)) cause);
+        (answer_first next alone (own_behind (left_by s name body trial_moment)).lacks atoms fault cause);
     leaves = leaves-weaker a b
         (λ _ image. IsUncut image s (carried_out s name body trial_moment).atoms)
         (λ _ image. StandsBehind image s (one_turn s name body) [])
         (λ u image h. stands-uncut image s (carried_out s name body trial_moment) h) leaves;
   }
     where
+      alone : Option Lack
+      alone = wanted_by s (outcome_of s name body trial_moment)
+
       lacks : Option Lack
       lacks = (carried_out s name body trial_moment).lacks
 
@@ -246,23 +255,34 @@ module _ (a b c : DiskState) (s : State) (name body : List ℕ)
 
   -- or it broke off
   pub one_followed_some : (fault : RunFault) (next : ℕ)
-      → FollowsNot true (next + most_files) (own_behind (left_by s name body trial_moment)).lacks fault
+      → FollowsNot true next (own_behind (left_by s name body trial_moment)) fault
       → CountedSome fault next s (request name body ∷ []) a c
   one_followed_some fault next why = record {
     begun = request name body ∷ [];
     rest = [];
     lines = refl;
     wants = ⊎_elim
-        (λ cause. inl (lacked_alone fault (carried_out s name body trial_moment).lacks
-        (cause_behind _ _ fault enough cause)))
+        (λ own. ⊎_elim
+        (λ (lack : IsCausedBy turn.lacks fault). inl (lacked_alone fault turn.lacks lack))
+        (λ (last : (turn.lacks ≡ None) × (1 ≤ length turn.own) × IsFileFault next fault). inr (
+          file_more fault next (next + 1 * most_files) (omega arith) last.2,
+          inl (writes_one turn (inr (last.0, last.1))),
+        ))
+        (answer_behind next (wanted_by s (outcome_of s name body trial_moment)) behind.lacks behind.atoms
+        fault enough own))
         (λ work. inr (
           file_more fault (next + most_files) (next + 1 * most_files) (omega arith) work.2,
-          ap (λ w. or_next w None) (enough_both _ _ enough work.1),
-          omega arith,
+          inr (ap (λ w. or_next w None) (enough_both _ _ enough work.1), omega arith),
         ))
         why;
     leaves = leaves_followed;
   }
+    where
+      turn : Turn
+      turn = carried_out s name body trial_moment
+
+      behind : Own
+      behind = own_behind (left_by s name body trial_moment)
 
 -- none was begun for want of memory
 pub none_begun : (a : DiskState) (tables : Tables) (next : ℕ) (s : State) (ls : List Asked)

@@ -1,5 +1,5 @@
 -- A request that was answered, and what follows it.
-use Rattle.std.proofs.Common.{◌≡◌, ◌+◌, ◌*◌, ⊎_elim, ℕ, List, [], ◌∷◌, None, true, arith}
+use Rattle.std.proofs.Common.{◌≡◌, ◌+◌, ◌*◌, ⊎_elim, ℕ, List, [], ◌∷◌, None, true, refl, arith}
 use Rattle.alt_disk.specs.Disk.{DiskState}
 use Rattle.alt_machine.specs.State.{State}
 use Rattle.alt_machine.specs.Wanted.{wanted}
@@ -13,7 +13,7 @@ use Rattle.alt_talks.specs.Runs.{Stretch, Leads}
 use Rattle.alt_talks.specs.Works.{Follows}
 use Rattle.alt_talks.specs.declared.fault.RunFault.{RunFault}
 use Rattle.alt_talks.proofs.FileFaults.{file_more}
-use Rattle.alt_talks.proofs.Owning.{cause_behind, enough_both}
+use Rattle.alt_talks.proofs.Owning.{answer_behind, enough_both}
 use Rattle.alt_run.specs.Runs.{ServesAtHand, BreaksAtHand}
 use Rattle.alt_run.specs.Turns.{request, carried_out, left_by, outcome_of}
 use Rattle.alt_run.proofs.Serving.{Begins, all_said, own_broke, turn_served, work_broke}
@@ -37,11 +37,13 @@ module _ (old mid done new : DiskState) (tables : Tables) (s : State) (name body
 
   -- or it broke off
   pub request_broke : (fault : RunFault) (next : ℕ)
-      → FollowsNot true (next + most_files) (own_behind (left_by s name body m)).lacks fault
+      → FollowsNot true next (own_behind (left_by s name body m)) fault
       → Stretch old new (BreaksAtHand fault next s (request name body ∷ []))
-  request_broke fault next why = ⊎_elim
+  request_broke fault next why = let behind = own_behind (left_by s name body m) in ⊎_elim
       (λ cause. own_broke old mid done new tables s (request name body) (carried_out s name body m)
-      (m ∷ []) bytes b stands call added n e follows fault next (cause_behind _ _ fault enough cause))
+      (m ∷ []) bytes b stands call added n e follows fault next refl refl
+      (answer_behind next (wanted s (outcome_of s name body m)) behind.lacks behind.atoms fault enough
+      cause))
       (λ work. work_broke old mid done new tables s (request name body) (carried_out s name body m)
       (m ∷ []) bytes b stands call added n e follows fault next (enough_both _ _ enough work.1)
       (file_more fault (next + most_files) (next + 1 * most_files) (omega arith) work.2)

@@ -10,7 +10,7 @@ use Rattle.alt_tables.specs.FilesLeft.{most_files}
 use Rattle.alt_tables.specs.Images.{StandsFor}
 use Rattle.alt_talks.specs.Faults.{IsCausedBy, IsFileFault}
 use Rattle.alt_talks.specs.declared.fault.RunFault.{RunFault}
-use Rattle.alt_talks.specs.Turns.{Turn, text_of, after, wanted}
+use Rattle.alt_talks.specs.Turns.{WritesLast, text_of, after, wanted}
 use Rattle.alt_run.specs.Moments.{said_by, taken_by, ended_by}
 use Rattle.alt_talks.specs.Stops.{Image, IsLeft, AtEach}
 use Rattle.alt_run.specs.Turns.{Asked, request, control, unread, turns, requests, tasks, asks, asked_of, out}
@@ -50,21 +50,17 @@ pub record IsWorking (s : State) (done begun : List Asked) (entries : Log)
   pub enough : wanted (turns s (done ++ begun) told) ≡ None
   pub at : IsAtWork line (said_in entries ≡ text_of (turns s (done ++ begun) told))
 
--- A request was under way that writes something, the line that was begun behind these: the last of their turns is its. None of the requests
--- lacked anything.
+-- A request was under way, the line that was begun behind these: the last of their turns is its, and writes something, or the server does behind
+-- it. Nothing before that lacked anything.
 pub record IsWriting (s : State) (done begun : List Asked) (told : List ℕ) : Type 0 where
   pub line : Asked
   pub last : begun ≡ line ∷ []
   pub asks : requests begun ≡ 1
-  pub enough : wanted (turns s (done ++ begun) told) ≡ None
-  pub before : List Turn
-  pub turn : Turn
-  pub parts : turns s (done ++ begun) told ≡ before ++ turn ∷ []
-  pub writes : 1 ≤ length turn.atoms
+  pub writes : WritesLast (turns s (done ++ begun) told)
 
--- Why serving broke off: a request has no answer, for want of a number that is the first that one wanted, or of the file of a first write, or
--- work broke off. A file was wanted then only where none of them lacked anything, and as many numbers as the tasks of the lines that were begun
--- take at most, from the first file that work made before them on, reach the last.
+-- Why serving broke off: a request has no answer, or the server's own request behind it, for want of a number that is the first that one
+-- wanted, or of the file of a first write, or work broke off. A file was wanted then only where nothing before that lacked anything, and as many
+-- numbers as the tasks of the lines that were begun take at most, from the first file that work made before them on, reach the last.
 abbrev pub BreaksFor : RunFault → ℕ → State → List Asked → List Asked → Log → List ℕ → Type 0
 BreaksFor fault next s done begun entries told =
     IsCausedBy (wanted (turns s (done ++ begun) told)) fault

@@ -17,7 +17,7 @@ use Rattle.alt_talks.specs.Faults.{IsCausedBy, IsFileFault}
 use Rattle.alt_run.specs.Runs.{Rests}
 use Rattle.alt_talks.specs.Stops.{Image, StandsBehind, AtEach}
 use Rattle.alt_run.specs.Turns.{Asked, asked_by, turns, requests}
-use Rattle.alt_talks.specs.Turns.{Turn, text_of, after, wanted}
+use Rattle.alt_talks.specs.Turns.{Turn, WritesLast, text_of, after, wanted}
 use Rattle.alt_talks.specs.declared.fault.RunFault.{RunFault}
 use Rattle.alt_run.specs.declared.tally.Tally.{Tally}
 use Rattle.alt_talks.specs.TalkStops.{LeavesNow}
@@ -61,13 +61,14 @@ pub record IsSummary (count : ℕ) (text : List ℕ) : Type 0 where
   pub digest : List ℕ
   pub is : text ≡ four_lines count good bad digest
 
--- Why a trial broke off among these requests, which were begun: one has no answer, for want of the first number that one wanted, or of the file
--- of a first write, or work behind one broke off, and in these two cases none lacked a number or a family. A file was wanted then only where as
--- many numbers as work behind each of these takes at most, from the first file that work made before them on, reach the last.
+-- Why a trial broke off among these requests, which were begun: one has no answer, or the server's own request behind it, for want of the first
+-- number that one wanted, or of the file of a first write, or work behind one broke off; in these two cases nothing before that lacked a number or
+-- a family. A file was wanted then only where as many numbers as work behind each of these takes at most, from the first file that work made
+-- before them on, reach the last.
 abbrev pub TriesFor : RunFault → ℕ → State → List Asked → Type 0
 TriesFor fault next s begun = IsCausedBy (wanted (trial_turns s begun)) fault
     ⊎ (IsFileFault (next + length begun * most_files) fault
-    × (wanted (trial_turns s begun) ≡ None) × (0 < length begun))
+    × (WritesLast (trial_turns s begun) ⊎ ((wanted (trial_turns s begun) ≡ None) × (0 < length begun))))
 
 -- the turns of all requests of a seed, one after the other
 abbrev pub all_turns : State → ℕ → ℕ → List Turn

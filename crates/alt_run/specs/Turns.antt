@@ -92,6 +92,7 @@ turn_of s o = record {
   text = line_of o.answer;
   atoms = o.atoms;
   own = (own_behind (last_state s o.atoms)).atoms;
+  alone = wanted_by s o;
   lacks = or_next (wanted_by s o) (own_behind (last_state s o.atoms)).lacks;
 }
 
@@ -105,12 +106,13 @@ turned_away = record {
   text = codes "413 {\"message\":\"request too long\"}\n";
   atoms = [];
   own = [];
+  alone = None;
   lacks = None;
 }
 
 -- what a word of control comes to: the state stays
 abbrev pub obeyed : Turn
-obeyed = record { text = codes "ok\n"; atoms = []; own = []; lacks = None }
+obeyed = record { text = codes "ok\n"; atoms = []; own = []; alone = None; lacks = None }
 
 -- The turns of these lines, each request at the next moment, as long as there are moments.
 abbrev pub turns : State → List Asked → List ℕ → List Turn

@@ -1,7 +1,7 @@
 -- A request that was carried out, or has no answer.
 use Rattle.std.proofs.Common.{◌≡◌, ◌≤◌, ⊎_elim, inl, inr, ℕ, zero, suc, List, [], ◌∷◌, length, Option, None, Some, option_map, ap, subst, sym, arith}
 use Rattle.alt_disk.specs.Disk.{DiskState}
-use Rattle.alt_machine.specs.Outcomes.{Outcome, state_after}
+use Rattle.alt_machine.specs.Outcomes.{Outcome, Wants, state_after}
 use Rattle.alt_machine.specs.State.{State}
 use Rattle.alt_machine.specs.Step.{step}
 use Rattle.alt_machine.specs.Wanted.{Lack, lack_among, wanted}
@@ -20,8 +20,8 @@ use Rattle.alt_tables.specs.declared.tables.Tables.{Tables}
 use Rattle.alt_tables.proofs.Left.{leaves_images}
 
 -- this is the number that it lacks
-abbrev Lacks : State → Outcome → ℕ → Type 0
-Lacks s outcome n = option_map (λ (l : Lack). l.number) (wanted s outcome) ≡ Some n
+abbrev Lacks : Wants → State → List State → ℕ → Type 0
+Lacks wants s atoms n = option_map (λ (l : Lack). l.number) (lack_among wants s atoms) ≡ Some n
 
 -- what is left of one state at most that is made lasting is that before it or that after it
 uncut_some : (image : Image) (s : State) (atoms : List State) → length atoms ≤ 1 → (k : ℕ)
@@ -61,21 +61,28 @@ among_leaves a b tables s atoms stands leaves trusted =
       each = p.each;
     }
 
--- what broke off a request is why it has no answer: a lack, or, where it writes anything and lacks nothing, that of a file
+-- what broke off writes is why they aren't made: a lack, or, where there are any and they lack nothing, that of a file
+pub caused_of : (file : ℕ) (now : State → Type 0) (wants : Wants) (s : State) (atoms : List State)
+    (given : TableFault) (fault : RunFault) → told_by_run fault ≡ told_by_tables given
+    → BreakOff file now wants s atoms given
+    → IsAnswerFault file (lack_among wants s atoms) atoms fault
+caused_of file now wants s atoms (Spent n) fault same h = ⊎_elim
+    (λ (lacks : lack_among wants s atoms ≡ Some (record { number = n; before = h.0 })).
+    inl (subst (OnlySpent (Lacks wants s atoms)) (sym same)
+    (ap (option_map (λ (l : Lack). l.number)) lacks)))
+    (λ (last : (h.0 ≡ 0) × (lack_among wants s atoms ≡ None) × WantFile file atoms n).
+    inr (last.1, last.2.0, subst (OnlySpent (IsLastFile file)) (sym same) last.2.1)) h.1
+caused_of file now wants s atoms (Damaged f at) fault same h = absurd h
+caused_of file now wants s atoms (BadRow family key) fault same h = absurd h
+caused_of file now wants s atoms Failed fault same h =
+    inl (subst (OnlySpent (Lacks wants s atoms)) (sym same) tt)
+caused_of file now wants s atoms NoMemory fault same h =
+    inl (subst (OnlySpent (Lacks wants s atoms)) (sym same) tt)
+
+-- so it is of a request
 pub caused : (file : ℕ) (now : State → Type 0) (s : State) (outcome : Outcome) (given : TableFault)
     (fault : RunFault) → told_by_run fault ≡ told_by_tables given
     → BreakOff file now outcome.wants s outcome.atoms given
     → IsAnswerFault file (wanted s outcome) outcome.atoms fault
-caused file now s outcome (Spent n) fault same h = ⊎_elim
-    (λ (lacks : lack_among outcome.wants s outcome.atoms ≡ Some (record { number = n; before = h.0 })).
-    inl (subst (OnlySpent (Lacks s outcome)) (sym same)
-    (ap (option_map (λ (l : Lack). l.number)) lacks)))
-    (λ (last : (h.0 ≡ 0) × (lack_among outcome.wants s outcome.atoms ≡ None)
-    × WantFile file outcome.atoms n).
-    inr (last.1, last.2.0, subst (OnlySpent (IsLastFile file)) (sym same) last.2.1)) h.1
-caused file now s outcome (Damaged f at) fault same h = absurd h
-caused file now s outcome (BadRow family key) fault same h = absurd h
-caused file now s outcome Failed fault same h =
-    inl (subst (OnlySpent (Lacks s outcome)) (sym same) tt)
-caused file now s outcome NoMemory fault same h =
-    inl (subst (OnlySpent (Lacks s outcome)) (sym same) tt)
+caused file now s outcome given fault same h =
+    caused_of file now outcome.wants s outcome.atoms given fault same h

@@ -6,7 +6,7 @@ use Rattle.alt_machine.specs.State.{State}
 use Rattle.alt_machine.specs.Wanted.{Lack}
 use Rattle.alt_shell.specs.Log.{Log, said_in, says_failed}
 use Rattle.alt_talks.specs.Faults.{IsCausedBy, IsFileFault, reach}
-use Rattle.alt_talks.specs.Stretches.{SaidOf, Does, DoesSome, IsWorking, IsWriting, BreaksFor}
+use Rattle.alt_talks.specs.Stretches.{SaidOf, Does, DoesSome, IsWorking, IsWriting, WritesAt, BreaksFor}
 use Rattle.alt_talks.specs.Talks.{Turn, asked, Request, Rules, has_refused}
 use Rattle.alt_talks.specs.TalkTexts.{text, after, asks, wanted}
 use Rattle.alt_talks.specs.declared.fault.RunFault.{RunFault}
@@ -107,11 +107,12 @@ module _ (r : Rules) (fault : RunFault) (next : ℕ) (s t : State) (m n : Bool) 
         count = let same = ap asks (append_assoc ts w.before last) in
             let x = length-append ms ns in let y = asks-append ts (w.before ++ last) in
             let z = told in let k = w.count in omega (arith, same, x, y, z, k);
-        enough = sym same_wanted ∙ w.enough;
         first = ms ++ w.first;
         moment = w.moment;
         moments = ap (λ (ls : List ℕ). ms ++ ls) w.moments ∙ sym (append_assoc ms w.first (w.moment ∷ []));
-        writes = subst (λ (v : State). 1 ≤ length (r.atoms v w.request w.moment))
+        enough = wanted-append r s ts w.before ms w.first told a.enough
+            ∙ ap (λ (v : State). wanted r v w.before w.first) (sym a.state) ∙ w.enough;
+        writes = subst (λ (v : State). WritesAt r v w.request w.moment)
             (ap (λ v. after r v w.before w.first) a.state ∙ sym (after-append r s ts w.before ms w.first told))
             w.writes;
       }

@@ -1,12 +1,14 @@
 -- Faults of work that wants a file.
-use Rattle.std.proofs.Common.{◌≡◌, ◌≤◌, ◌+◌, ◌-◌, ◌^◌, ◌∷◌, ◌++◌, ℕ, List, inl, inr, sym, subst, arith, length-append}
+use Rattle.std.proofs.Common.{◌≡◌, ◌≤◌, ◌⊎◌, ◌+◌, ◌-◌, ◌^◌, ◌∷◌, ◌++◌, ℕ, List, length, Option, None, inl, inr, sym, subst, arith, length-append}
 use Rattle.alt_faults.specs.Faults.{Damage, OnlySpent}
 use Rattle.alt_faults.proofs.Telling.{tells-more}
+use Rattle.alt_machine.specs.State.{State}
+use Rattle.alt_machine.specs.Wanted.{Lack}
 use Rattle.alt_tables.specs.FilesLeft.{most_files}
 use Rattle.alt_tables.specs.Faults.{IsWorkFault as IsTableFault, told_by_tables}
 use Rattle.alt_tables.specs.declared.faults.TableFault.{TableFault}
 use Rattle.alt_talks.specs.Own.{BetweenNot, Own}
-use Rattle.alt_talks.specs.Faults.{IsFileFault, reach, told_by_run}
+use Rattle.alt_talks.specs.Faults.{IsAnswerFault, IsCausedBy, IsFileFault, reach, told_by_run}
 use Rattle.alt_talks.specs.declared.fault.RunFault.{RunFault}
 
 -- the fault of the tables, as one of the run
@@ -20,6 +22,17 @@ pub file_more : (fault : RunFault) (m n : ℕ) → m ≤ n → IsFileFault m fau
 file_more fault m n le h = tells-more (λ k. (k ≡ 2 ^ 32 - 1) × (2 ^ 32 ≤ m))
     (λ k. (k ≡ 2 ^ 32 - 1) × (2 ^ 32 ≤ n)) (λ (d : Damage). ⊥) (λ (d : Damage). ⊥)
     (λ k x. (x.0, let low = x.1 in omega (arith, low, le))) (λ d x. x) (told_by_run fault) h
+
+-- Why a turn has no answer that makes these writes: for what it lacks with what follows it, or, where it lacks nothing alone, for that file.
+abbrev pub IsTurnFault : ℕ → Option Lack → Option Lack → List State → RunFault → Type 0
+IsTurnFault file alone lack atoms fault =
+    IsCausedBy lack fault ⊎ ((alone ≡ None) × (1 ≤ length atoms) × IsFileFault file fault)
+
+-- so has a request no answer
+pub answer_more : (m n : ℕ) (lack : Option Lack) (atoms : List State) (fault : RunFault) → m ≤ n
+    → IsAnswerFault m lack atoms fault → IsAnswerFault n lack atoms fault
+answer_more m n lack atoms fault le (inl h) = inl h
+answer_more m n lack atoms fault le (inr h) = inr (h.0, h.1, file_more fault m n le h.2)
 
 -- so what follows a connection breaks off for
 pub between_more : (m n : ℕ) (own : Own) (fault : RunFault) → m ≤ n → BetweenNot m own fault

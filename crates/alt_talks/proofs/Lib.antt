@@ -1,5 +1,6 @@
 pub mod Between
 pub mod Breaking
+pub mod Built
 pub mod Expired
 pub mod FileFaults
 pub mod Answering

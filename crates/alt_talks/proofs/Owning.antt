@@ -1,4 +1,4 @@
--- What the server does by itself: nothing but work behind a request, and behind every 64th connection it deletes expired items.
+-- What the server does by itself: behind a request it builds an index further, and behind every 64th connection it deletes expired items.
 use Rattle.std.proofs.Common.{◌≡◌, ◌==◌, ◌%◌, ap, inl, inr, ℕ, Bool, true, false, List, [], Option, Some, None, option_map, refl}
 use Rattle.std.specs.Prelude.{if◌then◌else◌}
 use Rattle.std.specs.Option.{option_map_or}
@@ -12,21 +12,19 @@ use Rattle.alt_tables.specs.Stands.{Stands}
 use Rattle.alt_tables.specs.declared.tables.Tables.{Tables}
 use Rattle.alt_tables.proofs.Left.{stands_left}
 use Rattle.alt_talks.specs.Faults.{IsAnswerFault, IsCausedBy, told_by_run}
-use Rattle.alt_talks.specs.Own.{Own, expiries, none_own, own_behind, own_between}
+use Rattle.alt_talks.specs.Own.{building, expiries, none_own, own_behind, own_between}
 use Rattle.alt_talks.specs.declared.expiring.TheConstants.{BETWEEN_EXPIRIES, MOST_EXPIRIES}
 use Rattle.alt_talks.specs.Stops.{IsAmong}
 use Rattle.alt_talks.specs.Turns.{or_next}
 use Rattle.alt_talks.specs.Works.{Follows, Works}
 use Rattle.alt_talks.specs.declared.fault.RunFault.{RunFault}
+use Rattle.alt_talks.proofs.FileFaults.{IsTurnFault}
 use Rattle.alt_talks.proofs.Stopping.{leaves-here, leaves-weaker}
 
-pub none_behind : (s : State) → own_behind s ≡ none_own
+-- a Build behind a request
+pub built_behind : (s : State) → own_behind s ≡ building s
 unfolding own_behind
-none_behind s = refl
-
--- so it lacks nothing
-pub none_lacked : (s : State) → (own_behind s).lacks ≡ None
-none_lacked s = ap (λ (o : Own). o.lacks) (none_behind s)
+built_behind s = refl
 
 -- nothing behind a connection of another number
 pub none_between : (number : ℕ) (moment : Option ℕ) (s : State)
@@ -85,14 +83,20 @@ cause_first None b fault h =
     (λ n. option_map (λ (l : Lack). l.number) b ≡ Some n) (λ d. ⊥) (λ d. ⊥) (λ n no. absurd (let f : ⊥ = cc in f))
     (λ d no. no) (told_by_run fault) h
 
--- and it has no answer for what is lacked, where the server lacks nothing behind it
-pub answer_first : (file : ℕ) (a b : Option Lack) (atoms : List State) (fault : RunFault) → b ≡ None
-    → IsAnswerFault file a atoms fault → IsAnswerFault file (or_next a b) atoms fault
-answer_first file a b atoms fault none (inl h) = inl (cause_first a b fault h)
-answer_first file a b atoms fault none (inr h) = inr (enough_both a b h.0 none, h.1, h.2)
+-- and it has no answer for what is lacked, or for the file of its first write, whatever the server lacks behind it
+pub answer_first : (file : ℕ) (a b : Option Lack) (atoms : List State) (fault : RunFault)
+    → IsAnswerFault file a atoms fault → IsTurnFault file a (or_next a b) atoms fault
+answer_first file a b atoms fault (inl h) = inl (cause_first a b fault h)
+answer_first file a b atoms fault (inr h) = inr h
 
 -- and so is what the server lacks behind one that lacks nothing
 pub cause_behind : (a b : Option Lack) (fault : RunFault) → a ≡ None → IsCausedBy b fault
     → IsCausedBy (or_next a b) fault
 cause_behind None b fault here h = h
 cause_behind (Some x) b fault here h = absurd (let f : ⊥ = cc in f)
+
+-- nor is what the server does made behind one that lacks nothing
+pub answer_behind : (file : ℕ) (a b : Option Lack) (atoms : List State) (fault : RunFault) → a ≡ None
+    → IsAnswerFault file b atoms fault → IsAnswerFault file (or_next a b) atoms fault
+answer_behind file a b atoms fault here (inl h) = inl (cause_behind a b fault here h)
+answer_behind file a b atoms fault here (inr h) = inr (enough_both a b here h.0, h.1, h.2)

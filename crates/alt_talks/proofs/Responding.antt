@@ -8,7 +8,7 @@ use Rattle.alt_machine.specs.Wanted.{Lack, wanted}
 use Rattle.alt_shell.specs.Calls.{Keeps}
 use Rattle.alt_shell.specs.Log.{Log}
 use Rattle.alt_tables.specs.FilesLeft.{most_files}
-use Rattle.alt_talks.specs.Faults.{IsCausedBy, IsFileFault, reach}
+use Rattle.alt_talks.specs.Faults.{IsAnswerFault, IsFileFault, reach}
 use Rattle.alt_talks.specs.Own.{FollowsNot, own_behind}
 use Rattle.alt_talks.specs.Runs.{OfStretch, Stretch, Timed}
 use Rattle.alt_talks.specs.Stops.{AreWithin}
@@ -16,12 +16,13 @@ use Rattle.alt_talks.specs.Stretches.{Does, Heard, Utters}
 use Rattle.alt_talks.specs.Talks.{asked, has_refused, Rules, Lawful, Request}
 use Rattle.alt_talks.specs.TalkRules.{rules, left_by, outcome_of}
 use Rattle.alt_talks.specs.TalkStops.{AnswersOn, AnswersSomeOn, LeavesNow}
+use Rattle.alt_talks.specs.Turns.{or_next}
 use Rattle.alt_talks.specs.Works.{Follows}
 use Rattle.alt_talks.specs.declared.fault.RunFault.{RunFault}
-use Rattle.alt_talks.proofs.FileFaults.{file_more, reach_one}
-use Rattle.alt_talks.proofs.Owning.{cause_behind, enough_both}
+use Rattle.alt_talks.proofs.FileFaults.{IsTurnFault, file_more, reach_one}
+use Rattle.alt_talks.proofs.Owning.{answer_behind, answer_first, enough_both}
 use Rattle.alt_talks.proofs.Stretching.{stretch_goes}
-use Rattle.alt_talks.proofs.TalkLaws.{lawful, rules-left, rules-own, rules-wants}
+use Rattle.alt_talks.proofs.TalkLaws.{lawful, rules-alone, rules-atoms, rules-left, rules-own, rules-wants}
 use Rattle.alt_talks.proofs.Timing.{told_one}
 use Rattle.alt_talks.proofs.TalkLeaving.{Asked, asked_on, asked_own_on, asked_work_on, told_then}
 
@@ -72,7 +73,8 @@ module _ (r : Rules) (w : Lawful r) (old done new last : DiskState) (s : State) 
       spoken
 
   -- or what the server does by itself
-  pub own_broke : (fault : RunFault) (next : ℕ) → IsCausedBy (r.wants s q at) fault
+  pub own_broke : (fault : RunFault) (next : ℕ)
+      → IsAnswerFault next (r.wants s q at) (r.own s q at) fault
       → Stretch old last (AnswersSomeOn r fault next s m (asked q ∷ []))
   own_broke fault next cause = told_then old done last {Q = Spoken}
       {R = AnswersSomeOn r fault next s m (asked q ∷ [])} at front.silent front.told front.later
@@ -91,6 +93,21 @@ own_follows a b s q at p = subst (λ (u : State). Follows a b u (rules.own s q a
     (sym (rules-left s q at))
     (subst (λ (xs : List State). Follows a b (left_by s q at) xs) (sym (rules-own s q at)) p)
 
+-- a request that has no answer
+pub asked_fault : (s : State) (q : Request) (at next : ℕ) (fault : RunFault)
+    → IsAnswerFault next (wanted s (outcome_of s q at)) (outcome_of s q at).atoms fault
+    → IsTurnFault next (rules.alone s q at) (rules.wants s q at) (rules.atoms s q at) fault
+asked_fault s q at next fault h =
+    let first = wanted s (outcome_of s q at) in
+    let behind = (own_behind (left_by s q at)).lacks in
+    subst (λ (l : Option Lack). IsTurnFault next l (rules.wants s q at) (rules.atoms s q at) fault)
+    (sym (rules-alone s q at))
+    (subst (λ (l : Option Lack). IsTurnFault next first l (rules.atoms s q at) fault)
+    (sym (rules-wants s q at))
+    (subst (λ (xs : List State). IsTurnFault next first (or_next first behind) xs fault)
+    (sym (rules-atoms s q at))
+    (answer_first next first behind (outcome_of s q at).atoms fault h)))
+
 not_true : (n : Bool) → not n ≡ true → n ≡ false
 not_true true e = absurd (let f : ⊥ = cc in f)
 not_true false e = refl
@@ -102,14 +119,17 @@ pub follow_broke : (old done new last : DiskState) (s : State) (m n : Bool)
     → bytes ≡ rules.reply s q at → Stretch done new (λ _ _. Utters m bytes n)
     → Follows new last (left_by s q at) (own_behind (left_by s q at)).atoms
     → (fault : RunFault) (next : ℕ) → wanted s (outcome_of s q at) ≡ None
-    → FollowsNot (not n) (next + most_files) (own_behind (left_by s q at)).lacks fault
+    → FollowsNot (not n) next (own_behind (left_by s q at)) fault
     → Stretch old last (AnswersSomeOn rules fault next s m (asked q ∷ []))
 follow_broke old done new last s m n q at bytes front here keeps same said follows fault next enough why =
-    ⊎_elim
+    let behind = own_behind (left_by s q at) in ⊎_elim
     (λ cause. own_broke rules lawful old done new last s m n q at bytes front here keeps same said
     (own_follows new last s q at follows) fault next
-    (subst (λ (l : Option Lack). IsCausedBy l fault) (sym (rules-wants s q at))
-    (cause_behind _ _ fault enough cause)))
+    (subst (λ (l : Option Lack). IsAnswerFault next l (rules.own s q at) fault)
+    (sym (rules-wants s q at))
+    (subst (λ (xs : List State). IsAnswerFault next (or_next (wanted s (outcome_of s q at)) behind.lacks)
+    xs fault) (sym (rules-own s q at))
+    (answer_behind next (wanted s (outcome_of s q at)) behind.lacks behind.atoms fault enough cause))))
     (λ work. work_broke rules lawful old done new last s m n q at bytes front here keeps same said
     (own_follows new last s q at follows) fault next
     (rules-wants s q at ∙ enough_both _ _ enough work.1) work.2 (not_true n work.0))

@@ -58,10 +58,10 @@ breaks_more r fault next s m ts us es ms few (inr work) = inr (
     rest = w.rest ++ us;
     parts = ap (λ l. l ++ us) w.parts ∙ append_assoc w.before (asked w.request ∷ w.rest) us;
     count = w.count;
-    enough = wanted-more r s ts us ms few ∙ w.enough;
     first = w.first;
     moment = w.moment;
     moments = w.moments;
+    enough = w.enough;
     writes = w.writes;
   })) (λ (w : IsWorking r s m ts es ms). inr (record {
     before = w.before;

@@ -52,6 +52,11 @@ pub rules-atoms : (s : State) (q : Request) (m : ℕ)
 unfolding rules
 rules-atoms s q m = refl
 
+pub rules-alone : (s : State) (q : Request) (m : ℕ)
+    → rules.alone s q m ≡ wanted s (outcome_of s q m)
+unfolding rules
+rules-alone s q m = refl
+
 pub rules-wants : (s : State) (q : Request) (m : ℕ)
     → rules.wants s q m ≡ or_next (wanted s (outcome_of s q m)) (own_behind (left_by s q m)).lacks
 unfolding rules

@@ -12,7 +12,7 @@ use Rattle.alt_shell.specs.Calls.{Adds, Aside, Keeps, Untold, IsUntoldBy}
 use Rattle.alt_shell.specs.Log.{Log, Grows, Tells, moments_of, until, entry, told_count, took, take_failed, takes_failed, takes_missed, talks, accepted, hung_up, said_in, taken, bytes_said, bytes_taken, event_of}
 use Rattle.alt_shell.proofs.Telling.{Grows-then, Tells-then}
 use Rattle.alt_tables.specs.Images.{StandsFor}
-use Rattle.alt_talks.specs.Faults.{IsAnswerFault, IsCausedBy, IsFileFault, reach}
+use Rattle.alt_talks.specs.Faults.{IsAnswerFault, IsFileFault, reach}
 use Rattle.alt_talks.specs.Runs.{OfStretch, Stretch, Timed}
 use Rattle.alt_talks.specs.Stops.{Image, IsLeft, IsAmong, IsUncut, AtEach, AreWithin}
 use Rattle.alt_talks.specs.Stretches.{Utters, AtRest, Idle, Goes, Does, DoesSome}
@@ -22,6 +22,7 @@ use Rattle.alt_talks.specs.TalkTexts.{asks}
 use Rattle.alt_talks.specs.Turns.{Turn as Deed}
 use Rattle.alt_talks.specs.declared.fault.RunFault.{RunFault}
 use Rattle.alt_talks.proofs.Breaking.{broke_behind}
+use Rattle.alt_talks.proofs.FileFaults.{IsTurnFault}
 use Rattle.alt_talks.proofs.Stretching.{said_in-append, stretch_as, taken-append}
 use Rattle.alt_talks.proofs.Stepping.{answers_greeted, steps_short, steps_bad, steps_unread, moves_hello, moves_some, whole_at, fewer_left}
 use Rattle.alt_talks.proofs.Stopping.{AllSay, Meet, left-more, left-nothing-of, leaves-here, leaves-said, leaves-followed, leaves-unsaid, leaves-weaker, spans_two, keeps-spans, trusts-kept, until-append, until-before, until-behind, taken-until, within-then, within-wider, leaves-before-aside, leaves-behind-aside, none-shorter, said-by}
@@ -165,7 +166,8 @@ module _ (r : Rules) (w : Lawful r) (a b c d : DiskState) (s : State) (m n : Boo
   )
 
   -- or what the server does by itself
-  pub asked_own_on : (fault : RunFault) (next : ℕ) → IsCausedBy (r.wants s q moment) fault
+  pub asked_own_on : (fault : RunFault) (next : ℕ)
+      → IsAnswerFault next (r.wants s q moment) (r.own s q moment) fault
       → AnswersSomeOn r fault next s m (asked q ∷ []) a d fs (moment ∷ ns)
   asked_own_on fault next cause = (
     record {
@@ -181,7 +183,7 @@ module _ (r : Rules) (w : Lawful r) (a b c d : DiskState) (s : State) (m n : Boo
 -- or it broke off
 pub asked_some_on : (r : Rules) (w : Lawful r) (a b : DiskState) (s : State) (m : Bool) (q : Request)
     (moment : ℕ) (fault : RunFault) (next : ℕ) → Asked r a b s q moment
-    → IsAnswerFault next (r.wants s q moment) (r.atoms s q moment) fault
+    → IsTurnFault next (r.alone s q moment) (r.wants s q moment) (r.atoms s q moment) fault
     → Stretch a b (AnswersSomeOn r fault next s m (asked q ∷ []))
 asked_some_on r w a b s m q moment fault next front cause =
     told_alone a b {R = AnswersSomeOn r fault next s m (asked q ∷ [])} moment front.silent front.told

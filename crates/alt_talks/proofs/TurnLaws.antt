@@ -1,9 +1,9 @@
 -- What turns come to, one list of turns after another.
-use Rattle.std.proofs.Common.{◌≡◌, List, [], ◌∷◌, ◌++◌, Option, Some, None, refl, ap, ◌∙◌}
+use Rattle.std.proofs.Common.{◌≡◌, List, [], ◌∷◌, ◌++◌, Option, Some, None, refl, ap, sym, ◌∙◌, append_assoc}
 use Rattle.std.proofs.lemmas.Grind.{flat_map-append}
 use Rattle.alt_machine.specs.State.{State}
 use Rattle.alt_machine.specs.Wanted.{Lack}
-use Rattle.alt_talks.specs.Turns.{Turn, text_of, after, after_turn, or_next, wanted}
+use Rattle.alt_talks.specs.Turns.{DoesWrite, Turn, WritesLast, text_of, after, after_turn, or_next, wanted}
 
 -- what is said in all
 pub text_of-append : (ts us : List Turn) → text_of (ts ++ us) ≡ text_of ts ++ text_of us
@@ -24,3 +24,17 @@ wanted-append [] us e = refl
 wanted-append (t ∷ ts) us e =
     let here = first_none t.lacks (wanted ts) e in
     ap (λ w. or_next w (wanted (ts ++ us))) here.0 ∙ wanted-append ts us here.1
+
+-- the last of these turns writes something behind others that lacked nothing
+pub writes_behind : (ts us : List Turn) → wanted ts ≡ None → WritesLast us → WritesLast (ts ++ us)
+writes_behind ts us enough w = record {
+  before = ts ++ w.before;
+  turn = w.turn;
+  parts = ap (λ vs. ts ++ vs) w.parts ∙ sym (append_assoc ts w.before (w.turn ∷ []));
+  enough = wanted-append ts w.before enough ∙ w.enough;
+  writes = w.writes;
+}
+
+-- one turn writes something
+pub writes_one : (t : Turn) → DoesWrite t → WritesLast (t ∷ [])
+writes_one t w = record { before = []; turn = t; parts = refl; enough = refl; writes = w }

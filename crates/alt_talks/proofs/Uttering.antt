@@ -17,7 +17,7 @@ use Rattle.alt_talks.specs.Talks.{Turn, onward, asked, refused, Rules, Request, 
 use Rattle.alt_talks.specs.TalkTexts.{text, after, requests, asks, wanted}
 use Rattle.alt_talks.specs.Stretches.{SaidOf, Quiet, Utters, Does, DoesSome, AnswersSome, BreaksFor, Moves, MovesAll, MovesSome, AtRest, over, says, Counted, Begins}
 use Rattle.alt_talks.proofs.Breaking.{breaks_behind}
-use Rattle.alt_talks.proofs.FileFaults.{file_more}
+use Rattle.alt_talks.proofs.FileFaults.{IsTurnFault, file_more}
 use Rattle.alt_talks.proofs.Stretching.{said_in-append, taken-append}
 use Rattle.alt_talks.proofs.Stopping.{IsPrefix-self, one-by}
 use Rattle.alt_talks.proofs.TalkLogs.{Clocked, stretch_one, over-append, broken-append, crosses-append, says-append, hushes-append, or-assoc, or_right}
@@ -234,7 +234,8 @@ answers_some_none r next s m ts = record { some = record { said = (text r s ts [
 
 -- why a request has no answer is why it broke off
 asked_breaks : (r : Rules) (fault : RunFault) (next : ℕ) (s : State) (m : Bool) (q : Request) (at : ℕ)
-    → IsAnswerFault next (r.wants s q at) (r.atoms s q at) fault → BreaksFor r fault next s m (asked q ∷ []) [] (at ∷ [])
+    → IsTurnFault next (r.alone s q at) (r.wants s q at) (r.atoms s q at) fault
+    → BreaksFor r fault next s m (asked q ∷ []) [] (at ∷ [])
 asked_breaks r fault next s m q at (inl w) =
     inl (subst (λ v. IsCausedBy v fault) (alone (r.wants s q at)) w)
 asked_breaks r fault next s m q at (inr last) = inr (
@@ -245,16 +246,16 @@ asked_breaks r fault next s m q at (inr last) = inr (
     rest = [];
     parts = refl;
     count = refl;
-    enough = sym (alone (r.wants s q at)) ∙ last.0;
     first = [];
     moment = at;
     moments = refl;
-    writes = last.1;
+    enough = refl;
+    writes = inl (last.0, last.1);
   }),
 )
 
 pub some_asked : (r : Rules) (fault : RunFault) (next : ℕ) (s : State) (m : Bool) (q : Request) (at : ℕ) (es : Log) (ms : List ℕ)
-    → Clocked at es ms → IsAnswerFault next (r.wants s q at) (r.atoms s q at) fault → AnswersSome r fault next s m (asked q ∷ []) es ms
+    → Clocked at es ms → IsTurnFault next (r.alone s q at) (r.wants s q at) (r.atoms s q at) fault → AnswersSome r fault next s m (asked q ∷ []) es ms
 some_asked r fault next s m q at es ms t w =
     let none = t.nothing in let one = t.one in
     subst (λ (fs : Log). AnswersSome r fault next s m (asked q ∷ []) fs ms) (sym none)
@@ -271,15 +272,36 @@ some_asked r fault next s m q at es ms t w =
       quiet = quiet_none;
     }))
 
--- its reply was said, and then it lacked something
+-- why what follows a request isn't made is why it broke off
+own_breaks : (r : Rules) (fault : RunFault) (next : ℕ) (s : State) (m : Bool) (q : Request) (at : ℕ) (es : Log)
+    → IsAnswerFault next (r.wants s q at) (r.own s q at) fault → BreaksFor r fault next s m (asked q ∷ []) es (at ∷ [])
+own_breaks r fault next s m q at es (inl w) =
+    inl (subst (λ v. IsCausedBy v fault) (alone (r.wants s q at)) w)
+own_breaks r fault next s m q at es (inr last) = inr (
+  file_more fault next (reach next (at ∷ [])) (omega arith) last.2,
+  inl (record {
+    before = [];
+    request = q;
+    rest = [];
+    parts = refl;
+    count = refl;
+    first = [];
+    moment = at;
+    moments = refl;
+    enough = refl;
+    writes = inr (last.0, last.1);
+  }),
+)
+
+-- its reply was said, and then what follows it wasn't made
 pub some_said : (r : Rules) (fault : RunFault) (next : ℕ) (s : State) (m n : Bool) (q : Request) (at : ℕ) (es : Log)
-    → IsCausedBy (r.wants s q at) fault → Utters m (r.reply s q at) n es []
+    → IsAnswerFault next (r.wants s q at) (r.own s q at) fault → Utters m (r.reply s q at) n es []
     → DoesSome r fault next s m (asked q ∷ []) es (at ∷ [])
 some_said r fault next s m n q at es w u = record {
   said = subst (IsPrefix (said_in es)) (sym (append-nil (r.reply s q at)))
       (some_of n (said_in es) (r.reply s q at) u.said);
   most = omega arith;
-  wants = inl (subst (λ v. IsCausedBy v fault) (alone (r.wants s q at)) w);
+  wants = own_breaks r fault next s m q at es w;
   silent = u.silent;
   hush = u.hush;
   still = u.still;

@@ -1,14 +1,16 @@
--- What the server does by itself: requests of its own, without a text, and without a moment of their own. Behind a request there are none,
--- and behind every 64th connection it deletes expired items.
-use Rattle.std.specs.Prelude.{◌≡◌, ◌≤◌, ◌==◌, ◌%◌, ◌⊎◌, ℕ, zero, suc, nat_lt, length, if◌then◌else◌, List, [], ◌∷◌, ◌++◌, Bool, true, Option, Some, None}
+-- What the server does by itself: requests of its own, without a text, and without a moment of their own. Behind each request it builds an
+-- index further, and behind every 64th connection it deletes expired items.
+use Rattle.std.specs.Prelude.{◌≡◌, ◌≤◌, ◌+◌, ◌==◌, ◌%◌, ◌⊎◌, ℕ, zero, suc, nat_lt, length, if◌then◌else◌, List, [], ◌∷◌, ◌++◌, Bool, true, Option, Some, None}
 use Rattle.std.specs.Option.{option_map_or}
 use Rattle.alt_machine.specs.declared.TheConstants.{MOST_EXPIRED}
+use Rattle.alt_machine.specs.Building.{build}
 use Rattle.alt_machine.specs.Expiry.{expiring}
 use Rattle.alt_machine.specs.Ops.ExpireItems.{expire_items}
-use Rattle.alt_machine.specs.Outcomes.{Outcome, last_state}
+use Rattle.alt_machine.specs.Outcomes.{Outcome, a_number, last_state}
 use Rattle.alt_machine.specs.State.{State}
-use Rattle.alt_machine.specs.Wanted.{Lack, wanted}
-use Rattle.alt_talks.specs.Faults.{IsCausedBy, IsFileFault}
+use Rattle.alt_machine.specs.Wanted.{Lack, lack_among, wanted}
+use Rattle.alt_tables.specs.FilesLeft.{most_files}
+use Rattle.alt_talks.specs.Faults.{IsAnswerFault, IsCausedBy, IsFileFault}
 use Rattle.alt_talks.specs.Turns.{or_next}
 use Rattle.alt_talks.specs.declared.expiring.TheConstants.{BETWEEN_EXPIRIES, MOST_EXPIRIES}
 use Rattle.alt_talks.specs.declared.fault.RunFault.{RunFault}
@@ -40,9 +42,13 @@ expiries (suc n) moment s = own_then (own_of s (expire_items s moment))
     (if nat_lt (length (expiring s moment)) MOST_EXPIRED then none_own
     else expiries n moment (last_state s (expire_items s moment).atoms))
 
--- behind a request, from the state that the request left
+-- Build: an index is built further, of the first table by name of which one is being built, by one write that takes a number.
+abbrev pub building : State → Own
+building s = record { atoms = build s; lacks = lack_among a_number s (build s) }
+
+-- Behind a request, from the state that the request left: one Build.
 unfoldable pub own_behind : State → Own
-own_behind s = none_own
+own_behind s = building s
 
 -- Behind a connection, from the state that its requests left: how many connections have come by then, and the last moment that was told
 -- while they were served, none where none was.
@@ -65,11 +71,12 @@ last_told before (m ∷ ms) = last_told (Some m) ms
 
 -- ---- why it breaks off
 
--- Why what follows a request breaks off: the server's own requests lack that number or family, the device failed, or memory was refused;
--- or, once they were made, a step of work breaks off, where one is to be made, and wants a file only where so many numbers reach the last.
-abbrev pub FollowsNot : Bool → ℕ → Option Lack → RunFault → Type 0
-FollowsNot works numbers lack fault =
-    IsCausedBy lack fault ⊎ ((works ≡ true) × (lack ≡ None) × IsFileFault numbers fault)
+-- Why what follows a request breaks off, where this is the first file that work makes before it: the server's own requests aren't made, for what
+-- they lack or for the segment of the first of their writes; or, once they were made, a step of work breaks off, where one is to be made, and
+-- wants a file only where as many numbers as it takes at most reach the last.
+abbrev pub FollowsNot : Bool → ℕ → Own → RunFault → Type 0
+FollowsNot works file own fault = IsAnswerFault file own.lacks own.atoms fault
+    ⊎ ((works ≡ true) × (own.lacks ≡ None) × IsFileFault (file + most_files) fault)
 
 -- Why what follows a connection breaks off: these requests of the server's own lack a number or a family, the device failed, or memory was
 -- refused; or, where they write anything, the segment that the first of their writes makes wants a file, where so many numbers reach the last.

@@ -131,26 +131,32 @@ pub record IsWorking (r : Rules) (s : State) (mute : Bool) (ts : List Turn) (ent
   pub heard : (mute || says_failed entries) ≡ false
   pub said : said_in entries ≡ text r s (before ++ asked request ∷ []) told
 
--- A request was under way that writes something, the last one that was begun, and no request lacked a number or a family.
+-- A request from a state writes something and lacks nothing by itself; or the server writes something behind it, and neither lacks anything.
+abbrev pub WritesAt : Rules → State → Request → ℕ → Type 0
+WritesAt r s q moment = ((r.alone s q moment ≡ None) × (1 ≤ length (r.atoms s q moment)))
+    ⊎ ((r.wants s q moment ≡ None) × (1 ≤ length (r.own s q moment)))
+
+-- A request was under way, the last one that was begun, and none before it lacked a number or a family, nor what the server did behind them. It
+-- writes something, or the server does behind it.
 pub record IsWriting (r : Rules) (s : State) (ts : List Turn) (told : List ℕ) : Type 0 where
   pub before : List Turn
   pub request : Request
   pub rest : List Turn
   pub parts : ts ≡ before ++ asked request ∷ rest
   pub count : length told ≡ asks (before ++ asked request ∷ [])
-  pub enough : wanted r s ts told ≡ None
   pub first : List ℕ
   pub moment : ℕ
   pub moments : told ≡ first ++ moment ∷ []
-  pub writes : 1 ≤ length (r.atoms (after r s before first) request moment)
+  pub enough : wanted r s before first ≡ None
+  pub writes : WritesAt r (after r s before first) request moment
 
 -- So it was, or there was work behind it.
 abbrev pub IsUnderWay : Rules → State → Bool → List Turn → Log → List ℕ → Type 0
 IsUnderWay r s mute ts entries told = IsWriting r s ts told ⊎ IsWorking r s mute ts entries told
 
--- Why turns broke off: a request has no answer, or work behind one broke off. A file was wanted then, by a request that writes something on a
--- store whose last segment is of the first form, or by work, only where no request lacked a number or a family, and as many numbers as a task with a write before it
--- takes at most at each of the moments told, from the first file that work made before them on, reach the last.
+-- Why turns broke off: a request has no answer, or what the server does behind one broke off. A file was wanted then, by a write on a store whose
+-- last segment is of the first form, or by work, only where nothing before it lacked a number or a family, and as many numbers as a task with a
+-- write before it takes at most at each of the moments told, from the first file that work made before them on, reach the last.
 abbrev pub BreaksFor : Rules → RunFault → ℕ → State → Bool → List Turn → Log → List ℕ → Type 0
 BreaksFor r fault next s mute ts entries told = IsCausedBy (wanted r s ts told) fault
     ⊎ (IsFileFault (reach next told) fault × IsUnderWay r s mute ts entries told)

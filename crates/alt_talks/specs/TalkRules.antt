@@ -38,6 +38,7 @@ rules = record {
   atoms = λ s q moment. (outcome_of s q moment).atoms;
   own = λ s q moment. (own_behind (left_by s q moment)).atoms;
   reply = λ s q moment. http_text (outcome_of s q moment).answer moment q.close;
+  alone = λ s q moment. wanted_by s (outcome_of s q moment);
   wants = λ s q moment. or_next (wanted_by s (outcome_of s q moment))
       (own_behind (left_by s q moment)).lacks;
   between = own_between;

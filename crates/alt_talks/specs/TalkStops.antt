@@ -16,7 +16,7 @@ use Rattle.alt_talks.specs.declared.fault.RunFault.{RunFault}
 
 -- a text that is said, and nothing written
 abbrev pub saying : List ℕ → Deed
-saying text = record { text = text; atoms = []; own = []; lacks = None }
+saying text = record { text = text; atoms = []; own = []; alone = None; lacks = None }
 
 -- what a request comes to, with what the server does behind it
 abbrev pub carrying : Rules → State → Request → ℕ → Deed
@@ -24,6 +24,7 @@ carrying r s q m = record {
   text = r.reply s q m;
   atoms = r.atoms s q m;
   own = r.own s q m;
+  alone = r.alone s q m;
   lacks = r.wants s q m;
 }
 

@@ -39,13 +39,14 @@ pub data Turn : Type 0 where
   refused : ℕ → Turn
 
 -- What the parts below give: how heads are read, the machine's step, what the server does by itself behind it and behind a
--- connection, and the texts that are said.
+-- connection, and the texts that are said; what a request alone wants and can't have, and what it and what follows it want and can't have.
 pub record Rules : Type 0 where
   pub scan : List ℕ → Scanned
   pub next : State → Request → ℕ → State
   pub atoms : State → Request → ℕ → List State
   pub own : State → Request → ℕ → List State
   pub reply : State → Request → ℕ → List ℕ
+  pub alone : State → Request → ℕ → Option Lack
   pub wants : State → Request → ℕ → Option Lack
   pub between : ℕ → Option ℕ → State → Own
   pub refusal : ℕ → ℕ → List ℕ

@@ -1,5 +1,5 @@
 -- What turns come to, whatever asked for them: what is said to each, what it writes, and what it lacks.
-use Rattle.std.specs.Prelude.{ℕ, List, [], ◌∷◌, ◌++◌, if◌then◌else◌, Option, Some, None, length, drop, nat_le}
+use Rattle.std.specs.Prelude.{◌≡◌, ◌≤◌, ◌⊎◌, ℕ, List, [], ◌∷◌, ◌++◌, if◌then◌else◌, Option, Some, None, length, drop, nat_le}
 use Rattle.std.specs.List.{flat_map}
 use Rattle.alt_machine.specs.Outcomes.{last_state}
 use Rattle.alt_machine.specs.State.{State}
@@ -8,11 +8,13 @@ use Rattle.alt_machine.specs.Wanted.{Lack}
 -- ---- what they come to
 
 -- What a line comes to: the text that is said to it, what it makes lasting, by the state after it, which is one at most, the single writes that the
--- server makes by itself behind it, each by the state after it, and the number or family that one of them wants and can't have.
+-- server makes by itself behind it, each by the state after it, the number or family that the line alone wants and can't have, and the one that
+-- it or one of those writes does.
 pub record Turn : Type 0 where
   pub text : List ℕ
   pub atoms : List State
   pub own : List State
+  pub alone : Option Lack
   pub lacks : Option Lack
 
 -- all its writes
@@ -43,6 +45,19 @@ or_next (Some lack) next = Some lack
 abbrev pub wanted : List Turn → Option Lack
 wanted [] = None
 wanted (t ∷ ts) = or_next t.lacks (wanted ts)
+
+-- A turn writes something and lacks nothing by itself; or the server writes something behind it, and neither lacks anything.
+abbrev pub DoesWrite : Turn → Type 0
+DoesWrite t = ((t.alone ≡ None) × (1 ≤ length t.atoms))
+    ⊎ ((t.lacks ≡ None) × (1 ≤ length t.own))
+
+-- The last of these turns writes something, or the server does behind it, and none before it lacks a number or a family.
+pub record WritesLast (ts : List Turn) : Type 0 where
+  pub before : List Turn
+  pub turn : Turn
+  pub parts : ts ≡ before ++ turn ∷ []
+  pub enough : wanted before ≡ None
+  pub writes : DoesWrite turn
 
 -- the turns, from the first on, whose whole texts stand in the bytes said
 abbrev pub answered : List Turn → List ℕ → List Turn

@@ -104,8 +104,8 @@ fn refuse<S: Shell>(
     }
 }
 
-/// A request: it is carried out at the moment that the clock tells, and answered unless a say failed before. Then come the server's own
-/// requests behind it, and behind a reply that was said one step of work.
+/// A request: it is carried out at the moment that the clock tells, and answered unless a say failed before. Then comes what the server does
+/// by itself behind it, and behind a reply that was said one step of work.
 fn respond<S: Shell>(
     alloc: Global,
     tables: &mut Tables,

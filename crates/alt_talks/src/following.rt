@@ -14,11 +14,12 @@ ghost use Rattle.alt_talks.specs.Works.{AfterWork, Follows};
 use crate::expiring::{BETWEEN_EXPIRIES, MOST_EXPIRIES, expire_all};
 use crate::fault::RunFault;
 use crate::working::work;
+use alt_backfill::build;
 use alt_disk::Disk;
 use alt_tables::{Tables, Task};
 use std::alloc::Global;
 
-/// What follows a request: the server's own requests behind it, and then, where that is wanted, one step of work.
+/// What follows a request: an index is built further, if one is being built, and then, where that is wanted, one step of work is made.
 pub fn follow<D: Disk>(tables: &mut Tables, disk: &mut D, works: bool) -> Result<(), RunFault>
     requires ready { AreReady (D.state disk.old) tables.old }
     ensures stands { (s : State) → Stands (D.state disk.old) tables.old s
@@ -28,8 +29,7 @@ pub fn follow<D: Disk>(tables: &mut Tables, disk: &mut D, works: bool) -> Result
     ensures enough { (s : State) → Stands (D.state disk.old) tables.old s
         → OnOk result ((own_behind s).lacks ≡ None) }
     ensures fault { (s : State) → Stands (D.state disk.old) tables.old s
-        → IfErr result (FollowsNot works ((bounds_of tables.old).file + most_files)
-        (own_behind s).lacks) }
+        → IfErr result (FollowsNot works (bounds_of tables.old).file (own_behind s)) }
     ensures files { (s : State) → Stands (D.state disk.old) tables.old s → OnOk result
         ((bounds_of tables.new).file ≤ (bounds_of tables.old).file + most_files) }
     ensures entries { works ≡ true
@@ -39,6 +39,10 @@ pub fn follow<D: Disk>(tables: &mut Tables, disk: &mut D, works: bool) -> Result
     ensures cause { IsErrOf result RunFault.Failed
         → Rose (D.state disk.old).faults (D.state disk.new).faults }
 {
+    match build(tables, disk) {
+        Ok(_) => {}
+        Err(fault) => return Err(RunFault::from(fault)),
+    }
     if !works {
         return Ok(());
     }

@@ -2,14 +2,15 @@ use Rattle.std.proofs.Common.{◌∷◌, [], ◌∙◌, ◌≤◌, ◌+◌, true
 use Rattle.alt_disk.proofs.Runs.{trusted_back}
 use Rattle.alt_disk.specs.Disk.{DiskState}
 use Rattle.alt_engine.specs.InHand.{Bounds}
+use Rattle.alt_machine.specs.Wanted.{wanted}
 use Rattle.alt_tables.specs.FilesLeft.{most_files}
 use Rattle.alt_tables.specs.Stands.{bounds_of}
 use Rattle.alt_talks.specs.Own.{FollowsNot, own_behind}
 use Rattle.alt_talks.specs.Works.{HasFewEntries}
-use Rattle.alt_run.specs.Turns.{request, carried_out, left_by}
+use Rattle.alt_run.specs.Turns.{request, carried_out, left_by, outcome_of}
 use Rattle.alt_run.proofs.Serving.{turn_cut, turn_unsaid}
 use Rattle.alt_run.proofs.Working.{request_broke, request_served}
-use Rattle.alt_talks.proofs.Owning.{answer_first, none_lacked}
+use Rattle.alt_talks.proofs.Owning.{answer_first}
 use Rattle.alt_talks.proofs.Stopping.{ready_kept, stands_kept}
 use Rattle.alt_run.proofs.Beginning.{begins}
 use Rattle.alt_run.proofs.Bringing.{at_hand_worked, silent_then}
@@ -37,8 +38,9 @@ returns-in-Err-clause-served g c = λ s stands.
     (begins old mid new s c.args.name.now c.args.body.now m c.now-moment.ensures.call
     c.now-moment.ensures.log c.now-moment.ensures.told c.in-Err.ensures.goes
     (c.in-Err.ensures.leaves s here))
-    (answer_first _ _ _ _ c.in-Err.fault
-    (none_lacked (left_by s c.args.name.now c.args.body.now m)) (c.in-Err.ensures.cause s here))
+    (answer_first _ (wanted s (outcome_of s c.args.name.now c.args.body.now m))
+    (own_behind (left_by s c.args.name.now c.args.body.now m)).lacks _ c.in-Err.fault
+    (c.in-Err.ensures.cause s here))
 
 pub returns-in-Err-say-clause-served : goal.returns-in-Err-say-clause-served
 returns-in-Err-say-clause-served g c = λ s stands.
@@ -142,8 +144,7 @@ returns-clause-served g c = λ s stands.
     (c.as_bytes.ensures.value ∙ c.in-Ok.ensures.text s here)
     (c.in-Err-follow.ensures.follows left there) (c.in-Ok.ensures.enough s here)
     c.in-Err-follow.fault (bounds_of c.args.tables.now).file
-    (subst (λ (b : Bounds). FollowsNot true (b.file + most_files) (own_behind left).lacks
-    c.in-Err-follow.fault) c.in-Ok.ensures.limits (c.in-Err-follow.ensures.fault left there))
+    (subst (λ (b : Bounds). FollowsNot true b.file (own_behind left) c.in-Err-follow.fault) c.in-Ok.ensures.limits (c.in-Err-follow.ensures.fault left there))
 
 pub returns-in-Ok-follow-clause-files : goal.returns-in-Ok-follow-clause-files
 returns-in-Ok-follow-clause-files g c = λ s stands.

@@ -62,8 +62,7 @@ returns-in-Err-follow-clause-counted g c = λ s stands.
     one_followed_some old mid (state c.follow.new.disk) s name body (c.in-Ok.ensures.leaves s stands)
     (trusted_on old mid c.in-Ok.ensures.goes) (c.in-Err-follow.ensures.follows left there)
     (c.in-Ok.ensures.enough s stands) c.in-Err-follow.fault (bounds_of c.args.tables.now).file
-    (subst (λ (b : Bounds). FollowsNot true (b.file + most_files) (own_behind left).lacks
-    c.in-Err-follow.fault) c.in-Ok.ensures.limits (c.in-Err-follow.ensures.fault left there))
+    (subst (λ (b : Bounds). FollowsNot true b.file (own_behind left) c.in-Err-follow.fault) c.in-Ok.ensures.limits (c.in-Err-follow.ensures.fault left there))
 
 pub returns-in-Ok-follow-clause-files : goal.returns-in-Ok-follow-clause-files
 returns-in-Ok-follow-clause-files g c = λ s stands.

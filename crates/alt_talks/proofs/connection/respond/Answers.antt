@@ -2,13 +2,11 @@ use Rattle.std.proofs.Common.{◌∙◌, ◌≤◌, ◌+◌, List, [], ◌∷◌
 use Rattle.alt_disk.proofs.Runs.{trusted_back}
 use Rattle.alt_machine.specs.Outcomes.{last_state}
 use Rattle.alt_machine.specs.State.{State}
-use Rattle.alt_machine.specs.Wanted.{Lack}
 use Rattle.alt_tables.proofs.Left.{stands_left}
 use Rattle.alt_engine.specs.InHand.{Bounds}
 use Rattle.alt_tables.specs.Images.{StandsFor}
 use Rattle.alt_tables.specs.FilesLeft.{most_files}
 use Rattle.alt_tables.specs.Stands.{Stands, bounds_of}
-use Rattle.alt_talks.specs.Faults.{IsAnswerFault}
 use Rattle.alt_talks.specs.Own.{FollowsNot, own_behind}
 use Rattle.alt_talks.specs.Runs.{Counting, Timed}
 use Rattle.alt_talks.specs.Stops.{AtEach, IsUncut}
@@ -16,8 +14,8 @@ use Rattle.alt_talks.specs.TalkRules.{rules, left_by, outcome_of}
 use Rattle.alt_talks.specs.TalkStops.{AnswersOn}
 use Rattle.alt_talks.specs.TalkViews.{asking}
 use Rattle.alt_talks.specs.Talks.{asked}
-use Rattle.alt_talks.proofs.Owning.{answer_first, enough_both, none_lacked}
-use Rattle.alt_talks.proofs.Responding.{asked_reach, follow_made, follow_broke, own_follows}
+use Rattle.alt_talks.proofs.Owning.{enough_both}
+use Rattle.alt_talks.proofs.Responding.{asked_fault, asked_reach, follow_made, follow_broke, own_follows}
 use Rattle.alt_talks.proofs.Stopping.{ready_kept, stands_kept}
 use Rattle.alt_talks.proofs.Stretching.{stretch_as}
 use Rattle.alt_talks.proofs.TalkLaws.{lawful, rules-atoms, rules-left, rules-next, rules-reply, rules-wants}
@@ -122,8 +120,8 @@ returns-clause-answered g c = λ s stands.
     (c.deref.ensures.value ∙ c.in-Ok.ensures.text s here ∙ sym (rules-reply s q at))
     c.utter.ensures.said (c.in-Err-follow.ensures.follows left there) c.in-Err-follow.fault
     (bounds_of c.args.tables.now).file (c.in-Ok.ensures.enough s here)
-    (subst (λ (b : Bounds). FollowsNot (not c.utter.new.mute) (b.file + most_files)
-    (own_behind left).lacks c.in-Err-follow.fault) c.in-Ok.ensures.limits
+    (subst (λ (b : Bounds). FollowsNot (not c.utter.new.mute) b.file (own_behind left)
+    c.in-Err-follow.fault) c.in-Ok.ensures.limits
     (c.in-Err-follow.ensures.fault left there))
 
 pub returns-in-Err-clause-answered : goal.returns-in-Err-clause-answered
@@ -143,13 +141,8 @@ returns-in-Err-clause-answered g c = λ s stands.
     (sym (rules-atoms s q at)) (c.in-Err.ensures.leaves s here)) in
     asked_some_on rules lawful old done s m q at c.in-Err.fault
     (bounds_of c.args.tables.now).file front
-    (subst (λ (atoms : List State). IsAnswerFault (bounds_of c.args.tables.now).file (rules.wants s q at)
-    atoms c.in-Err.fault)
-    (sym (rules-atoms s q at))
-    (subst (λ (l : Option Lack). IsAnswerFault (bounds_of c.args.tables.now).file l
-    (outcome_of s q at).atoms c.in-Err.fault)
-    (sym (rules-wants s q at))
-    (answer_first _ _ _ _ c.in-Err.fault (none_lacked (left_by s q at)) (c.in-Err.ensures.cause s here))))
+    (asked_fault s q at (bounds_of c.args.tables.now).file c.in-Err.fault
+    (c.in-Err.ensures.cause s here))
 
 pub returns-in-Ok-follow-clause-none : goal.returns-in-Ok-follow-clause-none
 returns-in-Ok-follow-clause-none g c =

@@ -1,52 +1,90 @@
--- There are no requests of the server's own.
-use Rattle.std.proofs.Common.{inr, sym, ap, subst}
-use Rattle.alt_disk.specs.Disk.{DiskState}
+-- An index is built further, and then there is work where it is wanted.
+use Rattle.std.proofs.Common.{◌∙◌, ◌≤◌, ◌+◌, ap, sym, subst, refl, arith}
+use Rattle.alt_disk.proofs.Runs.{trusted_back}
+use Rattle.alt_engine.specs.InHand.{Bounds}
+use Rattle.alt_machine.specs.Building.{build}
 use Rattle.alt_machine.specs.Outcomes.{last_state}
-use Rattle.alt_tables.specs.Stands.{Stands}
-use Rattle.alt_talks.specs.Own.{Own}
-use Rattle.alt_talks.specs.Works.{Follows}
-use Rattle.alt_talks.proofs.Owning.{follows_none, follows_worked, none_behind}
+use Rattle.alt_tables.specs.FilesLeft.{most_files}
+use Rattle.alt_tables.specs.Stands.{Stands, bounds_of, limits_of}
+use Rattle.alt_talks.specs.Faults.{IsFileFault}
+use Rattle.alt_talks.specs.Works.{HasFewEntries}
+use Rattle.alt_talks.proofs.Built.{built_broke, built_enough, built_follows, built_stands, work_behind, worked_follows}
 use Rattle.alt_talks.proofs.following.follow.Goals as goal
 
-pub returns-then-not-works-clause-stands : goal.returns-then-not-works-clause-stands
-returns-then-not-works-clause-stands g c = λ s stands.
-    subst (λ (o : Own). Stands (g.D.Disk.state c.args.disk.now) c.args.tables.now (last_state s o.atoms))
-    (sym (none_behind s)) stands
-
-pub returns-then-not-works-clause-follows : goal.returns-then-not-works-clause-follows
-returns-then-not-works-clause-follows g c = λ s stands.
-    let a : DiskState = g.D.Disk.state c.args.disk.now in
-    subst (λ (o : Own). Follows a a s o.atoms) (sym (none_behind s))
-    (follows_none a c.args.tables.now s stands)
-
-pub returns-then-not-works-clause-enough : goal.returns-then-not-works-clause-enough
-returns-then-not-works-clause-enough g c = λ s stands. ap (λ (o : Own). o.lacks) (none_behind s)
-
-pub returns-in-Ok-clause-stands : goal.returns-in-Ok-clause-stands
-returns-in-Ok-clause-stands g c = λ s stands.
-    subst (λ (o : Own). Stands (g.D.Disk.state c.work.new.disk) c.work.new.tables (last_state s o.atoms))
-    (sym (none_behind s)) (c.in-Ok.ensures.stands s stands)
-
-pub returns-in-Ok-clause-follows : goal.returns-in-Ok-clause-follows
-returns-in-Ok-clause-follows g c = λ s stands.
-    let a : DiskState = g.D.Disk.state c.args.disk.now in
-    let b : DiskState = g.D.Disk.state c.work.new.disk in
-    subst (λ (o : Own). Follows a b s o.atoms) (sym (none_behind s))
-    (follows_worked a b s (c.in-Ok.ensures.works s stands))
+pub work-requires : goal.work-requires
+work-requires g c = record {
+  ready = λ trusted.
+      let state = g.D.Disk.state in
+      let first = c.requires.ready (trusted_back (state c.args.disk.now) (state c.build.new.disk)
+      c.build.ensures.goes trusted) in
+      (last_state first.0 (build first.0), (c.in-Ok.ensures.builds first.0 first.1).state);
+}
 
 pub returns-in-Err-clause-follows : goal.returns-in-Err-clause-follows
 returns-in-Err-clause-follows g c = λ s stands.
-    let a : DiskState = g.D.Disk.state c.args.disk.now in
-    let b : DiskState = g.D.Disk.state c.work.new.disk in
-    subst (λ (o : Own). Follows a b s o.atoms) (sym (none_behind s))
-    (follows_worked a b s (c.in-Err.ensures.works s stands))
-
-pub returns-in-Ok-clause-enough : goal.returns-in-Ok-clause-enough
-returns-in-Ok-clause-enough g c = λ s stands. ap (λ (o : Own). o.lacks) (none_behind s)
+    let state = g.D.Disk.state in
+    built_follows (state c.args.disk.now) (state c.build.new.disk) c.args.tables.now s stands
+    c.build.ensures.goes (c.build.ensures.disk s stands)
 
 pub returns-in-Err-clause-fault : goal.returns-in-Err-clause-fault
-returns-in-Err-clause-fault g c = λ s stands. inr (
-  c.if-not-works.false,
-  ap (λ (o : Own). o.lacks) (none_behind s),
-  c.in-Err.ensures.fault s stands,
-)
+returns-in-Err-clause-fault g c = λ s stands.
+    built_broke c.args.works (bounds_of c.args.tables.now).file
+    (Stands (g.D.Disk.state c.build.new.disk) c.build.new.tables) s c.in-Err.fault c.from.result
+    c.from.ensures (c.in-Err.ensures.builds s stands)
+
+pub returns-then-not-works-clause-stands : goal.returns-then-not-works-clause-stands
+returns-then-not-works-clause-stands g c = λ s stands.
+    built_stands (g.D.Disk.state c.build.new.disk) c.build.new.tables s
+    (c.in-Ok.ensures.builds s stands).state
+
+pub returns-then-not-works-clause-follows : goal.returns-then-not-works-clause-follows
+returns-then-not-works-clause-follows g c = λ s stands.
+    let state = g.D.Disk.state in
+    built_follows (state c.args.disk.now) (state c.build.new.disk) c.args.tables.now s stands
+    c.build.ensures.goes (c.build.ensures.disk s stands)
+
+pub returns-then-not-works-clause-enough : goal.returns-then-not-works-clause-enough
+returns-then-not-works-clause-enough g c = λ s stands.
+    built_enough s (c.in-Ok.ensures.builds s stands).enough
+
+pub returns-in-Ok-work-clause-stands : goal.returns-in-Ok-work-clause-stands
+returns-in-Ok-work-clause-stands g c = λ s stands.
+    built_stands (g.D.Disk.state c.work.new.disk) c.work.new.tables s
+    (c.in-Ok-work.ensures.stands (last_state s (build s)) (c.in-Ok.ensures.builds s stands).state)
+
+pub returns-in-Ok-work-clause-follows : goal.returns-in-Ok-work-clause-follows
+returns-in-Ok-work-clause-follows g c = λ s stands.
+    let state = g.D.Disk.state in
+    worked_follows (state c.args.disk.now) (state c.build.new.disk) (state c.work.new.disk)
+    c.args.tables.now s stands c.build.ensures.goes (c.build.ensures.disk s stands)
+    (c.in-Ok-work.ensures.works (last_state s (build s)) (c.in-Ok.ensures.builds s stands).state)
+
+pub returns-in-Ok-work-clause-enough : goal.returns-in-Ok-work-clause-enough
+returns-in-Ok-work-clause-enough g c = λ s stands.
+    built_enough s (c.in-Ok.ensures.builds s stands).enough
+
+pub returns-in-Ok-work-clause-files : goal.returns-in-Ok-work-clause-files
+returns-in-Ok-work-clause-files g c = λ s stands.
+    subst (λ (b : Bounds). (bounds_of c.work.new.tables).file ≤ b.file + most_files)
+    c.build.ensures.limits
+    (c.in-Ok-work.ensures.files (last_state s (build s)) (c.in-Ok.ensures.builds s stands).state)
+
+pub returns-in-Ok-work-clause-entries : goal.returns-in-Ok-work-clause-entries
+returns-in-Ok-work-clause-entries g c = λ works.
+    subst (λ (b : Bounds). HasFewEntries b.limits.flush (g.D.Disk.state c.work.new.disk))
+    c.build.ensures.limits c.in-Ok-work.ensures.entries
+
+pub returns-in-Err-work-clause-follows : goal.returns-in-Err-work-clause-follows
+returns-in-Err-work-clause-follows g c = λ s stands.
+    let state = g.D.Disk.state in
+    worked_follows (state c.args.disk.now) (state c.build.new.disk) (state c.work.new.disk)
+    c.args.tables.now s stands c.build.ensures.goes (c.build.ensures.disk s stands)
+    (c.in-Err-work.ensures.works (last_state s (build s)) (c.in-Ok.ensures.builds s stands).state)
+
+pub returns-in-Err-work-clause-fault : goal.returns-in-Err-work-clause-fault
+returns-in-Err-work-clause-fault g c = λ s stands.
+    let there = c.in-Ok.ensures.builds s stands in
+    work_behind c.args.works (bounds_of c.args.tables.now).file s c.in-Err-work.fault
+    c.if-not-works.false there.enough
+    (subst (λ (b : Bounds). IsFileFault (b.file + most_files) c.in-Err-work.fault)
+    c.build.ensures.limits (c.in-Err-work.ensures.fault (last_state s (build s)) there.state))

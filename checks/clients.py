@@ -368,8 +368,8 @@ pass_64()
 wants("without a time to live all stay", left(), sorted([*STAYING, "over"]))
 
 
-def cli(name, *words):
-    return dynamodb(SETTINGS["endpoint_url"], name, "--table-name", "Timed", *words)
+def cli(name, *words, table="Timed"):
+    return dynamodb(SETTINGS["endpoint_url"], name, "--table-name", table, *words)
 
 
 def cli_sees_expiry():
@@ -387,12 +387,99 @@ def cli_sees_expiry():
     wants("the CLI sees what stays", status == 0 and sorted(item["k"]["S"] for item in said["Items"]), STAYING)
 
 
+# Indexes that come and go. Behind each request the server builds one further, of 64 items.
+client.create_table(
+    TableName="Grown",
+    KeySchema=[{"AttributeName": "k", "KeyType": "HASH"}],
+    AttributeDefinitions=[{"AttributeName": "k", "AttributeType": "S"}],
+    BillingMode="PAY_PER_REQUEST",
+)
+grown = boto3.resource("dynamodb", **SETTINGS).Table("Grown")
+with grown.batch_writer() as batch:
+    for n in range(2000):
+        batch.put_item(Item={"k": f"item {n:04}", "group": f"g{n % 10}", "n": n})
+GROUPED = [{"AttributeName": "group", "KeyType": "HASH"}, {"AttributeName": "n", "KeyType": "RANGE"}]
+GROUPED_KINDS = [{"AttributeName": "group", "AttributeType": "S"}, {"AttributeName": "n", "AttributeType": "N"}]
+BY_GROUP = {"IndexName": "ByGroup", "KeySchema": GROUPED, "Projection": {"ProjectionType": "KEYS_ONLY"}}
+
+
+def add_index():
+    updates = [{"Create": BY_GROUP}]
+    return client.update_table(
+        TableName="Grown", AttributeDefinitions=GROUPED_KINDS, GlobalSecondaryIndexUpdates=updates
+    )["TableDescription"]
+
+
+def drop_index():
+    updates = [{"Delete": {"IndexName": "ByGroup"}}]
+    return client.update_table(TableName="Grown", GlobalSecondaryIndexUpdates=updates)["TableDescription"]
+
+
+def statuses(description):
+    return [index["IndexStatus"] for index in description.get("GlobalSecondaryIndexes", [])]
+
+
+def wait_until_active():
+    """How many requests it takes, 100 at most."""
+    for count in range(100):
+        if statuses(client.describe_table(TableName="Grown")["Table"]) == ["ACTIVE"]:
+            return count
+    return None
+
+
+def of_group(group):
+    pages = client.get_paginator("query").paginate(
+        TableName="Grown",
+        IndexName="ByGroup",
+        KeyConditionExpression="#g = :g",
+        ExpressionAttributeNames={"#g": "group"},
+        ExpressionAttributeValues={":g": {"S": group}},
+        PaginationConfig={"PageSize": 90},
+    )
+    return [int(item["n"]["N"]) for page in pages for item in page["Items"]]
+
+
+described_so = add_index()
+wants("update_table", (described_so["TableStatus"], statuses(described_so)), ("UPDATING", ["CREATING"]))
+wants("an index that is being built isn't read", error_of(of_group, group="g0"), "ValidationException")
+wants("nor is another one added", error_of(add_index), "ValidationException")
+grown.put_item(Item={"k": "item 0000", "group": "moved", "n": 0})
+grown.put_item(Item={"k": "item 2000", "group": "g0", "n": 2000})
+grown.delete_item(Key={"k": "item 0010"})
+count = wait_until_active()
+wants("it is whole behind 32 requests", count is not None and count <= 32, True)
+wants("its items", of_group("g0"), list(range(20, 2001, 10)))
+wants("those of another group", of_group("g7"), list(range(7, 2000, 10)))
+wants("one that moved", of_group("moved"), [0])
+wants("all of them", grown.scan(IndexName="ByGroup", Select="COUNT")["Count"], 2000)
+wants("without it", statuses(drop_index()), [])
+wants("an index that is gone", error_of(of_group, group="g0"), "ValidationException")
+wants("and gone once", error_of(drop_index), "ValidationException")
+
+
+def cli_adds_an_index():
+    index = json.dumps([{"Create": BY_GROUP}])
+    kinds = ["--attribute-definitions", json.dumps(GROUPED_KINDS)]
+    status, said = cli("update-table", *kinds, "--global-secondary-index-updates", index, table="Grown")
+    wants("the CLI adds an index", status == 0 and statuses(said["TableDescription"]), ["CREATING"])
+    wants("it becomes whole", wait_until_active() is not None, True)
+    query = ("--index-name", "ByGroup", "--select", "COUNT", "--key-condition-expression", "#g = :g")
+    words = ("--expression-attribute-names", '{"#g":"group"}', "--expression-attribute-values", '{":g":{"S":"g0"}}')
+    status, said = cli("query", *query, *words, table="Grown")
+    wants("the CLI queries it", status == 0 and said["Count"], 199)
+    gone = json.dumps([{"Delete": {"IndexName": "ByGroup"}}])
+    status, said = cli("update-table", "--global-secondary-index-updates", gone, table="Grown")
+    wants("the CLI drops it", status == 0 and statuses(said["TableDescription"]), [])
+
+
 version = version_of_cli()
 if version:
     cli_sees_expiry()
+    cli_adds_an_index()
 else:
     print("clients: the AWS CLI is not installed, and its part was skipped")
 client.delete_table(TableName="Timed")
+client.delete_table(TableName="Grown")
 
 for failure in failures:
     print("clients:", failure)

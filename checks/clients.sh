@@ -14,7 +14,7 @@ work=$(mktemp -d)
 server=
 trap '[ -z "$server" ] || kill "$server" 2>/dev/null; wait 2>/dev/null; rm -rf "$work"' EXIT
 "$program" "$work/store" 0 init >/dev/null || { echo 'clients: the program does not run'; exit 1; }
-serves "$first" "$program" "$work/store" serve 1 3000 65536 4 2>"$work/notes" || { echo 'clients: no port is free'; exit 1; }
+serves "$first" "$program" "$work/store" serve 1 4000 65536 4 2>"$work/notes" || { echo 'clients: no port is free'; exit 1; }
 passed=0
 failed=0
 # answers NAME WANTED ARGUMENTS..: what curl gets contains WANTED

@@ -1,3 +1,5 @@
+mod backfill;
+mod building;
 mod chains;
 mod damage;
 mod expiry;

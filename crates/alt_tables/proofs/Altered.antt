@@ -1,5 +1,5 @@
 -- The write that gives a table an index more or less: what it leaves is what the machine's leaves.
-use Rattle.std.proofs.Common.{◌≡◌, ◌≢◌, ◌≤◌, ◌<◌, refl, sym, ap, subst, ◌∙◌, ℕ, ◌+◌, ◌&&◌, ◌||◌, Bool, true, false, cond, nat_le, T, List, [], ◌∷◌, length, Some, None, inl, inr, All, Contains, arith}
+use Rattle.std.proofs.Common.{◌≡◌, ◌≢◌, ◌≤◌, ◌<◌, refl, sym, ap, subst, ◌∙◌, ℕ, ◌+◌, ◌&&◌, ◌||◌, Bool, true, false, cond, nat_le, T, List, [], ◌∷◌, Some, None, inl, inr, All, Contains, arith}
 use Rattle.std.specs.Prelude.{◌==◌, if◌then◌else◌}
 use Rattle.std.specs.FinMap as map
 use Rattle.std.specs.List.{list_any}
@@ -21,8 +21,6 @@ use Rattle.alt_machine.proofs.Added.{differ_added}
 use Rattle.alt_machine.proofs.Lacks.{has_number, lacks_number}
 use Rattle.alt_machine.proofs.Removed.{differ_removed}
 use Rattle.alt_schema.specs.Held.{IsHeld}
-use Rattle.alt_schema.specs.Rules.{is_name}
-use Rattle.alt_schema.proofs.NewDescriptions.{left}
 use Rattle.alt_schema.specs.declared.schema.TableSchema.{TableSchema}
 use Rattle.alt_value.specs.Members.{text_order}
 use Rattle.alt_value.proofs.Texts.{text_total}
@@ -121,11 +119,6 @@ own_families f d e (inr less) own free = subst HasOwnFamilies (sym less.is)
     (differ_removed d less.name own)
 
 -- ---- what the write lacks
-
--- a name has bytes
-pub name_there : (n : List ℕ) → is_name n ≡ true → 0 < length n
-name_there n is = let low = leb-true 3 (length n) (left (nat_le 3 (length n)) _ is) in
-    omega (arith, low)
 
 module _ (b : Bool) (s : State) where
   abbrev wants : Wants

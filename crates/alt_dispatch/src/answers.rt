@@ -26,16 +26,16 @@ use alt_backfill::update_table;
 use alt_disk::Disk;
 use alt_machine::Operation;
 use alt_members::{heeded, read_heeded};
-use alt_ops_batch::{batch_get_item, batch_write_item};
 use alt_ops_item::{delete_item, get_item, put_item, put_item_ahead, update_item};
-use alt_ops_query::{query, scan};
-use alt_ops_table::{create_table, delete_table, describe_table, list_tables};
 use alt_readahead::{ReadAhead, read_ahead};
 use alt_request::Stop;
 use alt_shape::{Refusal, Reply, refuse};
 use alt_streams::{describe_stream, get_records, get_shard_iterator, list_streams};
 use alt_tables::{TableFault, Tables};
-use alt_ttl::{describe_time_to_live, expire_items, update_time_to_live};
+use alt_ttl::{
+    batch_get_item, batch_write_item, create_table, delete_table, describe_table,
+    describe_time_to_live, expire_items, list_tables, query, scan, update_time_to_live,
+};
 use serde_json::{Map, Value};
 use std::alloc::Global;
 

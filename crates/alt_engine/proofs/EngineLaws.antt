@@ -6,13 +6,13 @@ use Rattle.alt_disk.specs.Runs.{Quiet}
 use Rattle.alt_layout.specs.Layout.{Layout}
 use Rattle.alt_rowfile.specs.declared.rowfile.RowFile.{RowFile}
 use Rattle.alt_rowfile.specs.InHand.{file_of as row_file}
-use Rattle.alt_hand.specs.Carrying.{AreStill, Carries}
-use Rattle.alt_hand.specs.InHand.{limits_of}
-use Rattle.alt_hand.specs.Merging.{AreMany, HasMany, files_at}
-use Rattle.alt_hand.specs.declared.hand.Hand.{Hand}
-use Rattle.alt_hand.specs.declared.hand.Limits.{Limits}
-use Rattle.alt_hand.proofs.BesideLaws.{merging_stays}
-use Rattle.alt_hand.proofs.HandLaws as hand
+use Rattle.alt_merging.specs.HandCarrying.{AreStill, Carries}
+use Rattle.alt_merging.specs.HandInHand.{limits_of}
+use Rattle.alt_merging.specs.HandMerging.{AreMany, HasMany, files_at}
+use Rattle.alt_merging.specs.HandDeclaredHand.{Hand}
+use Rattle.alt_merging.specs.HandDeclaredLimits.{Limits}
+use Rattle.alt_merging.proofs.HandBesideLaws.{merging_stays}
+use Rattle.alt_merging.proofs.HandHandLaws as hand
 use Rattle.alt_merging.specs.Mergings.{family_of}
 use Rattle.alt_merging.specs.declared.merging.Merging.{Merging}
 use Rattle.alt_merging.proofs.StepLaws.{carried}

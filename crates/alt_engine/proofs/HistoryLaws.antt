@@ -14,7 +14,7 @@ use Rattle.alt_layout.proofs.PastLaws.{is_past_after}
 use Rattle.alt_layout.proofs.RowLaws.{next_number-numbered, none_behind}
 use Rattle.alt_writes.specs.Writes.{AreRising, Write, numbered}
 use Rattle.alt_writes.proofs.PushLaws.{rising-numbered}
-use Rattle.alt_hand.specs.InHand.{batch_writes}
+use Rattle.alt_merging.specs.HandInHand.{batch_writes}
 use Rattle.alt_engine.specs.Histories.{Call, HaveNone, IsNamed, IsNamedSince, Lead, applied, opened, with_batches, worked}
 
 -- a family without rows shows none

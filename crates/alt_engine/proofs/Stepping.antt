@@ -3,10 +3,10 @@ use Rattle.std.proofs.Common.{◌≡◌, ◌∙◌, ⊎_elim, ℕ, List, [], ◌
 use Rattle.std.specs.List.{AllByRecursion}
 use Rattle.alt_disk.specs.Disk.{DiskState}
 use Rattle.alt_manifest.specs.Versions.{IsIn}
-use Rattle.alt_hand.specs.Merging.{HasMany, IsFirstMany, files_at}
-use Rattle.alt_hand.specs.Working.{IsDueFor, IsFileSpent, IsNoDamage}
-use Rattle.alt_hand.specs.declared.hand.EngineFault.{EngineFault}
-use Rattle.alt_hand.specs.declared.hand.Hand.{Hand}
+use Rattle.alt_merging.specs.HandMerging.{HasMany, IsFirstMany, files_at}
+use Rattle.alt_merging.specs.HandWorking.{IsDueFor, IsFileSpent, IsNoDamage}
+use Rattle.alt_merging.specs.HandDeclaredEngineFault.{EngineFault}
+use Rattle.alt_merging.specs.HandDeclaredHand.{Hand}
 use Rattle.alt_merging.specs.Mergings.{GivesWay, MergingStands, family_of, taken_of}
 use Rattle.alt_merging.specs.declared.merging.Merging.{Merging}
 use Rattle.alt_merging.proofs.EachLaws.{file_for, whole_for}

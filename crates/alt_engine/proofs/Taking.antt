@@ -4,10 +4,10 @@ use Rattle.std.specs.BTreeMap.{get}
 use Rattle.std.specs.FinMap.{entries}
 use Rattle.std.specs.Ordering.{nat_cmp}
 use Rattle.alt_families.specs.Families.{Families, rows_in}
-use Rattle.alt_hand.specs.Drafting.{files_for, files_needed}
-use Rattle.alt_hand.specs.InHand.{next_file_of}
-use Rattle.alt_hand.specs.Working.{AreAllFlushed, IsFirstFull, IsFlushDone, IsLong, IsOneFlushed, IsShort}
-use Rattle.alt_hand.specs.declared.hand.Hand.{Hand}
+use Rattle.alt_merging.specs.HandDrafting.{files_for, files_needed}
+use Rattle.alt_merging.specs.HandInHand.{next_file_of}
+use Rattle.alt_merging.specs.HandWorking.{AreAllFlushed, IsFirstFull, IsFlushDone, IsLong, IsOneFlushed, IsShort}
+use Rattle.alt_merging.specs.HandDeclaredHand.{Hand}
 use Rattle.alt_engine.specs.Working.{most_files}
 
 -- the rows in memory of one family take one at most

@@ -14,14 +14,14 @@ use Rattle.alt_rowfile.specs.Format.{IsRowFile}
 use Rattle.alt_rowfile.specs.Summaries.{any_tombstone}
 use Rattle.alt_rowfile.specs.declared.rowfile.RowFile.{RowFile}
 use Rattle.alt_rowfile.proofs.OneFile.{one_list}
-use Rattle.alt_hand.specs.Carrying.{AreStill}
-use Rattle.alt_hand.specs.InHand.{AreOpen, Stands as HandStands, length_of, next_file_of}
-use Rattle.alt_hand.specs.Merging.{IsFirstMany, files_at, version_in}
-use Rattle.alt_hand.specs.Working.{AreAllFlushed, IsCalm, IsFirstFull, IsFlushDone, IsLong, IsOneFlushed, IsShort}
-use Rattle.alt_hand.specs.declared.hand.EngineFault.{EngineFault}
-use Rattle.alt_hand.specs.declared.hand.Hand.{Hand}
-use Rattle.alt_hand.proofs.HandLaws.{lies_of}
-use Rattle.alt_hand.proofs.WorkLaws.{entries_length, has_entries, long_entries, no_entries, none_in_memory, short_entries}
+use Rattle.alt_merging.specs.HandCarrying.{AreStill}
+use Rattle.alt_merging.specs.HandInHand.{AreOpen, Stands as HandStands, length_of, next_file_of}
+use Rattle.alt_merging.specs.HandMerging.{IsFirstMany, files_at, version_in}
+use Rattle.alt_merging.specs.HandWorking.{AreAllFlushed, IsCalm, IsFirstFull, IsFlushDone, IsLong, IsOneFlushed, IsShort}
+use Rattle.alt_merging.specs.HandDeclaredEngineFault.{EngineFault}
+use Rattle.alt_merging.specs.HandDeclaredHand.{Hand}
+use Rattle.alt_merging.proofs.HandHandLaws.{lies_of}
+use Rattle.alt_merging.proofs.HandWorkLaws.{entries_length, has_entries, long_entries, no_entries, none_in_memory, short_entries}
 use Rattle.alt_merging.specs.Merged.{AreMerged}
 use Rattle.alt_merging.specs.Mergings.{family_of as merged_family, file_of}
 use Rattle.alt_merging.specs.declared.merging.Merging.{Merging}

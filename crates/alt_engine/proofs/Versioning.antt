@@ -14,16 +14,16 @@ use Rattle.alt_manifest.specs.declared.version.Version.{Version}
 use Rattle.alt_manifest.proofs.OneVersion.{same_version}
 use Rattle.alt_rowfile.specs.InHand.{file_of as row_file}
 use Rattle.alt_rowfile.specs.declared.rowfile.RowFile.{RowFile}
-use Rattle.alt_hand.specs.Adding.{Adds, HasLast, HasOneOf, IsLeftOut, IsOverNewLog, IsThere, LeavesOut}
-use Rattle.alt_hand.specs.Drafting.{IsFlushed}
-use Rattle.alt_hand.specs.InHand.{AreOpen, Stands, family_of, length_of, next_file_of}
-use Rattle.alt_hand.specs.Merging.{files_at, version_in}
-use Rattle.alt_hand.specs.Working.{AreAllFlushed, IsLong, IsShort}
-use Rattle.alt_hand.specs.declared.hand.EngineFault.{EngineFault}
-use Rattle.alt_hand.specs.declared.hand.Hand.{Hand}
-use Rattle.alt_hand.proofs.AddingLaws.{last_or}
-use Rattle.alt_hand.proofs.HandLaws.{lies_of}
-use Rattle.alt_hand.proofs.WorkLaws.{long_entries, no_entries, short_entries}
+use Rattle.alt_merging.specs.HandAdding.{Adds, HasLast, HasOneOf, IsLeftOut, IsOverNewLog, IsThere, LeavesOut}
+use Rattle.alt_merging.specs.HandDrafting.{IsFlushed}
+use Rattle.alt_merging.specs.HandInHand.{AreOpen, Stands, family_of, length_of, next_file_of}
+use Rattle.alt_merging.specs.HandMerging.{files_at, version_in}
+use Rattle.alt_merging.specs.HandWorking.{AreAllFlushed, IsLong, IsShort}
+use Rattle.alt_merging.specs.HandDeclaredEngineFault.{EngineFault}
+use Rattle.alt_merging.specs.HandDeclaredHand.{Hand}
+use Rattle.alt_merging.proofs.HandAddingLaws.{last_or}
+use Rattle.alt_merging.proofs.HandHandLaws.{lies_of}
+use Rattle.alt_merging.proofs.HandWorkLaws.{long_entries, no_entries, short_entries}
 use Rattle.alt_engine.specs.InHand.{hand_of}
 use Rattle.alt_engine.specs.Versions.{GetsFile, HasNewLog, IsAfter}
 use Rattle.alt_engine.specs.declared.engine.Engine.{Engine}

@@ -6,8 +6,8 @@ use Rattle.alt_cells.specs.declared.batch.RowChange.{RowChange}
 use Rattle.alt_layout.specs.Layout.{Layout, IsPast, shown}
 use Rattle.alt_layout.specs.Writes.{changes_in, with_writes}
 use Rattle.alt_manifest.specs.Versions.{IsIn}
-use Rattle.alt_hand.specs.InHand.{batch_writes}
-use Rattle.alt_hand.specs.Working.{Works}
+use Rattle.alt_merging.specs.HandInHand.{batch_writes}
+use Rattle.alt_merging.specs.HandWorking.{Works}
 
 -- A call of an engine: batches are joined, work is done while these families are live, or the store is opened again.
 pub data Call : Type 0 where

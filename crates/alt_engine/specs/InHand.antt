@@ -4,10 +4,10 @@ use Rattle.alt_cells.specs.Walks.{RowList}
 use Rattle.alt_disk.specs.Disk.{DiskState}
 use Rattle.alt_layout.specs.Layout.{Layout}
 use Rattle.alt_gatelog.specs.declared.form.Form.{Form}
-use Rattle.alt_hand.specs.InHand.{last_form_of as hand_form, limits_of as hand_limits, next_file_of as hand_file, next_of as hand_number, work_file_of, Reads as HandReads, Stands as HandStands}
-use Rattle.alt_hand.specs.Merging.{HasMany}
-use Rattle.alt_hand.specs.declared.hand.Hand.{Hand}
-use Rattle.alt_hand.specs.declared.hand.Limits.{Limits}
+use Rattle.alt_merging.specs.HandInHand.{last_form_of as hand_form, limits_of as hand_limits, next_file_of as hand_file, next_of as hand_number, work_file_of, Reads as HandReads, Stands as HandStands}
+use Rattle.alt_merging.specs.HandMerging.{HasMany}
+use Rattle.alt_merging.specs.HandDeclaredHand.{Hand}
+use Rattle.alt_merging.specs.HandDeclaredLimits.{Limits}
 use Rattle.alt_merging.specs.Mergings.{MergingStands}
 use Rattle.alt_merging.specs.declared.merging.Merging.{Merging}
 use Rattle.alt_engine.specs.declared.engine.Engine.{Engine}

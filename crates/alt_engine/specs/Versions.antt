@@ -7,12 +7,12 @@ use Rattle.alt_layout.specs.Files.{Image}
 use Rattle.alt_layout.specs.Fresh.{versions_file}
 use Rattle.alt_manifest.specs.Versions.{HasVersion, IsIn, numbers_of}
 use Rattle.alt_manifest.specs.declared.version.Version.{Version}
-use Rattle.alt_hand.specs.Adding.{IsLeftOut, IsThere}
-use Rattle.alt_hand.specs.Drafting.{files_for}
-use Rattle.alt_hand.specs.InHand.{family_of}
-use Rattle.alt_hand.specs.Merging.{memory_at}
-use Rattle.alt_hand.specs.Working.{HasEntries, most_entries}
-use Rattle.alt_hand.specs.declared.hand.Hand.{Hand}
+use Rattle.alt_merging.specs.HandAdding.{IsLeftOut, IsThere}
+use Rattle.alt_merging.specs.HandDrafting.{files_for}
+use Rattle.alt_merging.specs.HandInHand.{family_of}
+use Rattle.alt_merging.specs.HandMerging.{memory_at}
+use Rattle.alt_merging.specs.HandWorking.{HasEntries, most_entries}
+use Rattle.alt_merging.specs.HandDeclaredHand.{Hand}
 use Rattle.alt_engine.specs.InHand.{hand_of, limits_of, next_of}
 use Rattle.alt_engine.specs.declared.engine.Engine.{Engine}
 use Rattle.alt_engine.specs.declared.work.Task.{Task}

@@ -11,12 +11,12 @@ use Rattle.alt_manifest.specs.declared.version.Version.{Version}
 use Rattle.alt_families.specs.Families.{rows_in}
 use Rattle.alt_rowfile.specs.Format.{IsRowFile}
 use Rattle.alt_rowfile.specs.Summaries.{any_tombstone}
-use Rattle.alt_hand.specs.Drafting.{IsSpentFor}
-use Rattle.alt_hand.specs.InHand.{family_of}
-use Rattle.alt_hand.specs.Merging.{HasMany, IsFirstMany, files_at}
-use Rattle.alt_hand.specs.Working.{AreAllFlushed, HasEntries, IsAllFor, IsCalm, IsDueFor, IsFirstFull, IsOneFlushed, most_entries}
-use Rattle.alt_hand.specs.declared.hand.EngineFault.{EngineFault}
-use Rattle.alt_hand.specs.declared.hand.Hand.{Hand}
+use Rattle.alt_merging.specs.HandDrafting.{IsSpentFor}
+use Rattle.alt_merging.specs.HandInHand.{family_of}
+use Rattle.alt_merging.specs.HandMerging.{HasMany, IsFirstMany, files_at}
+use Rattle.alt_merging.specs.HandWorking.{AreAllFlushed, HasEntries, IsAllFor, IsCalm, IsDueFor, IsFirstFull, IsOneFlushed, most_entries}
+use Rattle.alt_merging.specs.HandDeclaredEngineFault.{EngineFault}
+use Rattle.alt_merging.specs.HandDeclaredHand.{Hand}
 use Rattle.alt_merging.specs.Merged.{AreMerged}
 use Rattle.alt_merging.specs.Mergings.{GivesWay, MergingStands, family_of as merged_family, taken_of}
 use Rattle.alt_merging.specs.declared.merging.Merging.{Merging}

@@ -6,23 +6,22 @@ ghost use Rattle.alt_disk.specs.Disk.{IsTrusted, Goes};
 ghost use Rattle.alt_disk.specs.Runs.{Spans};
 ghost use Rattle.alt_layout.specs.Layout.{Layout};
 ghost use Rattle.alt_manifest.specs.Versions.{IsIn};
-ghost use Rattle.alt_hand.specs.Adding.{Adds, IsOverNewLog, LeavesOut, MakesNone};
-ghost use Rattle.alt_hand.specs.Carrying.{AreStill};
-ghost use Rattle.alt_hand.specs.Merging.{files_at, memory_at};
+ghost use Rattle.alt_merging.specs.HandAdding.{Adds, IsOverNewLog, LeavesOut, MakesNone};
+ghost use Rattle.alt_merging.specs.HandCarrying.{AreStill};
+ghost use Rattle.alt_merging.specs.HandMerging.{files_at, memory_at};
 ghost use Rattle.alt_merging.specs.Merged.{AreMerged};
 ghost use Rattle.alt_merging.specs.Mergings.{family_of as merged_family};
 ghost use Rattle.alt_merging.specs.declared.merging.Merging.{Merging};
-ghost use Rattle.alt_hand.specs.InHand.{Stands as HandStands, length_of};
-ghost use Rattle.alt_hand.specs.Opened.{IsUnspent};
-ghost use Rattle.alt_hand.specs.Working.{AreAllFlushed, AreLive, IsAllFor, IsFileSpent, IsNoDamage, Works, WorksIn};
+ghost use Rattle.alt_merging.specs.HandInHand.{Stands as HandStands, length_of};
+ghost use Rattle.alt_merging.specs.HandOpened.{IsUnspent};
+ghost use Rattle.alt_merging.specs.HandWorking.{AreAllFlushed, AreLive, IsAllFor, IsFileSpent, IsNoDamage, Works, WorksIn};
 ghost use Rattle.alt_engine.specs.InHand.{Stands, hand_of, limits_of, merge_of, next_file_of, next_of};
 ghost use Rattle.alt_engine.specs.Working.{AllMerged, IsNeeded, KeepsMerge, most_files};
 
 use crate::engine::Engine;
 use crate::work::{Task, Worked};
 use alt_disk::Disk;
-use alt_hand::EngineFault;
-use alt_merging::merge_each;
+use alt_merging::{EngineFault, merge_each};
 
 impl Engine {
     /// Flushes all live families, where the log has entries and a merge under way is of a live family.

@@ -11,16 +11,15 @@ ghost use Rattle.alt_layout.specs.Writes.{with_write, with_writes};
 ghost use Rattle.alt_manifest.specs.Versions.{HasVersion};
 ghost use Rattle.alt_manifest.specs.declared.version.Version.{Version};
 ghost use Rattle.alt_gatelog.specs.declared.form.Form.TheVariants.{One};
-ghost use Rattle.alt_hand.specs.Adding.{IsBehind};
-ghost use Rattle.alt_hand.specs.InHand.{BeforeOrAll, BeforeOrWith, IsSpentBy, batch_write, batch_writes, files_made};
-ghost use Rattle.alt_hand.specs.Recovery.{ExplainsStore, HasNoLayout, IsNextFile, LeavesFiles, LeavesStore, LeftLike};
-ghost use Rattle.alt_hand.specs.Syncing.{AllSynced};
+ghost use Rattle.alt_merging.specs.HandAdding.{IsBehind};
+ghost use Rattle.alt_merging.specs.HandInHand.{BeforeOrAll, BeforeOrWith, IsSpentBy, batch_write, batch_writes, files_made};
+ghost use Rattle.alt_merging.specs.HandRecovery.{ExplainsStore, HasNoLayout, IsNextFile, LeavesFiles, LeavesStore, LeftLike};
+ghost use Rattle.alt_merging.specs.HandSyncing.{AllSynced};
 ghost use Rattle.alt_engine.specs.InHand.{bounds_of, hand_of, last_form_of, limits_of, next_file_of, next_of, Reads, Stands};
 
 use alt_cells::Batch;
 use alt_disk::Disk;
-use alt_hand::{EngineFault, Hand, Limits, RecoverFault};
-use alt_merging::Merging;
+use alt_merging::{EngineFault, Hand, Limits, Merging, RecoverFault};
 use std::alloc::Global;
 
 /// The engine: the rows over files, a merge of some of these files that is under way, and whether a family may have so many files

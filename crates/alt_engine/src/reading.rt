@@ -7,9 +7,9 @@ ghost use Rattle.alt_disk.specs.Disk.{Goes};
 ghost use Rattle.alt_disk.specs.Runs.{Quiet};
 ghost use Rattle.alt_layout.specs.Layout.{Layout, ShowsFirst, rows_between, shown};
 ghost use Rattle.alt_families.specs.Reads.{most_reads};
-ghost use Rattle.alt_hand.specs.InHand.{file_rows};
-ghost use Rattle.alt_hand.specs.Merging.{files_at};
-ghost use Rattle.alt_hand.specs.Opened.{IsUndamaged, IsUnspent};
+ghost use Rattle.alt_merging.specs.HandInHand.{file_rows};
+ghost use Rattle.alt_merging.specs.HandMerging.{files_at};
+ghost use Rattle.alt_merging.specs.HandOpened.{IsUndamaged, IsUnspent};
 ghost use Rattle.alt_engine.specs.InHand.{Reads, bounds_of, hand_of, limits_of, next_of};
 ghost use Rattle.alt_engine.specs.Opened.{StaysOn};
 
@@ -17,8 +17,8 @@ use crate::engine::Engine;
 use alt_cells::ShownRow;
 use alt_disk::Disk;
 use alt_fields::Bytes;
-use alt_hand::EngineFault;
 use alt_keyorder::KeyRange;
+use alt_merging::EngineFault;
 
 impl Engine {
     /// What the row of a key shows, None exactly where the family shows no row there.

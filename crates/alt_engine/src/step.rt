@@ -9,12 +9,12 @@ ghost use Rattle.alt_layout.specs.Layout.{Layout};
 ghost use Rattle.alt_layout.specs.Moments.{Has};
 ghost use Rattle.alt_manifest.specs.Versions.{IsIn};
 ghost use Rattle.alt_manifest.specs.declared.version.Version.{Version};
-ghost use Rattle.alt_hand.specs.Adding.{Adds, HasLast, HasOneOf, IsOverNewLog, LeavesOut, MakesNone};
-ghost use Rattle.alt_hand.specs.Drafting.{IsSpentFor};
-ghost use Rattle.alt_hand.specs.InHand.{Stands as HandStands, length_of};
-ghost use Rattle.alt_hand.specs.Merging.{IsFirstMany, version_in};
-ghost use Rattle.alt_hand.specs.Opened.{IsUnspent};
-ghost use Rattle.alt_hand.specs.Working.{AreAllFlushed, AreLive, IsCalm, IsFileSpent, IsFlushDone, IsLong, IsNoDamage, IsShort, Works, WorksIn};
+ghost use Rattle.alt_merging.specs.HandAdding.{Adds, HasLast, HasOneOf, IsOverNewLog, LeavesOut, MakesNone};
+ghost use Rattle.alt_merging.specs.HandDrafting.{IsSpentFor};
+ghost use Rattle.alt_merging.specs.HandInHand.{Stands as HandStands, length_of};
+ghost use Rattle.alt_merging.specs.HandMerging.{IsFirstMany, version_in};
+ghost use Rattle.alt_merging.specs.HandOpened.{IsUnspent};
+ghost use Rattle.alt_merging.specs.HandWorking.{AreAllFlushed, AreLive, IsCalm, IsFileSpent, IsFlushDone, IsLong, IsNoDamage, IsShort, Works, WorksIn};
 ghost use Rattle.alt_merging.specs.Mergings.{MergingStands, family_of as merged_family};
 ghost use Rattle.alt_engine.specs.InHand.{IsFew, Stands, hand_of, limits_of, merge_of, next_file_of, next_of};
 ghost use Rattle.alt_engine.specs.Working.{Begins, Ended, Ends, Furthered, GoesOn, IsNeeded, KeepsMerge, NoneMany, most_files};
@@ -23,8 +23,7 @@ use crate::engine::Engine;
 use crate::work::{Task, Worked};
 use alt_compact::Stepped;
 use alt_disk::Disk;
-use alt_hand::EngineFault;
-use alt_merging::Merging;
+use alt_merging::{EngineFault, Merging};
 
 impl Engine {
     /// Does the first action of a step that applies, where a merge under way is of a live family.

@@ -10,13 +10,13 @@ ghost use Rattle.alt_layout.specs.Layout.{Layout};
 ghost use Rattle.alt_layout.specs.Moments.{Has};
 ghost use Rattle.alt_manifest.specs.Versions.{HasVersion, IsIn};
 ghost use Rattle.alt_manifest.specs.declared.version.Version.{Version};
-ghost use Rattle.alt_hand.specs.Adding.{HasLast, HasOneOf};
-ghost use Rattle.alt_hand.specs.Carrying.{AreStill};
-ghost use Rattle.alt_hand.specs.Merging.{files_at, memory_at, version_in};
+ghost use Rattle.alt_merging.specs.HandAdding.{HasLast, HasOneOf};
+ghost use Rattle.alt_merging.specs.HandCarrying.{AreStill};
+ghost use Rattle.alt_merging.specs.HandMerging.{files_at, memory_at, version_in};
 ghost use Rattle.alt_merging.specs.Merged.{AreMerged};
 ghost use Rattle.alt_merging.specs.Mergings.{family_of as merged_family, file_of};
 ghost use Rattle.alt_merging.specs.declared.merging.Merging.{Merging};
-ghost use Rattle.alt_hand.specs.Working.{AreLive, HasEntries, IsFileSpent, IsNoDamage, Works, WorksIn};
+ghost use Rattle.alt_merging.specs.HandWorking.{AreLive, HasEntries, IsFileSpent, IsNoDamage, Works, WorksIn};
 ghost use Rattle.alt_engine.specs.InHand.{Stands, hand_of, limits_of, merge_of, next_file_of, next_of};
 ghost use Rattle.alt_engine.specs.Versions.{IsAfter};
 ghost use Rattle.alt_engine.specs.Working.{Did, IsIdle, IsMerged, IsNeeded, KeepsMerge, WasGivenUp, WasKept, Went, most_files};
@@ -24,7 +24,7 @@ ghost use Rattle.alt_engine.specs.Working.{Did, IsIdle, IsMerged, IsNeeded, Keep
 use crate::engine::Engine;
 use alt_disk::Disk;
 use alt_flush::has;
-use alt_hand::EngineFault;
+use alt_merging::EngineFault;
 
 /// What is to be done.
 #[derive(Clone, Copy, Debug, PartialEq, Eq, Drop)]

@@ -5,5 +5,6 @@ mod complete;
 mod each;
 mod merging;
 
+pub use alt_hand::{EngineFault, Hand, Limits, MakeFault, RecoverFault, make_store};
 pub use each::merge_each;
 pub use merging::Merging;

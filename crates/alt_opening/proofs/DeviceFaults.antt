@@ -1,8 +1,8 @@
 -- A fault of the device is none of a row, whatever is read, and one of a walk is of the device.
 use Rattle.std.proofs.Common.{◌≡◌, ℕ, sym, subst}
-use Rattle.alt_hand.specs.Faults.{told_by_engine}
-use Rattle.alt_hand.specs.Opened.{IsUndamaged}
-use Rattle.alt_hand.specs.declared.hand.EngineFault.{EngineFault}
+use Rattle.alt_engine.specs.HandFaults.{told_by_engine}
+use Rattle.alt_engine.specs.HandOpened.{IsUndamaged}
+use Rattle.alt_engine.specs.HandDeclaredEngineFault.{EngineFault}
 use Rattle.alt_faults.specs.Faults.{IsOutside, RowWhere, without_numbers}
 use Rattle.alt_faults.proofs.Telling.{outside-numbers, outside-tells}
 use Rattle.alt_layout.specs.Layout.{Layout}

@@ -9,7 +9,7 @@ pub mod ChosenLaws
 pub mod Cuts
 pub mod DeviceFaults
 pub mod EachTable
-pub mod Engine
+pub mod OverEngine
 pub mod Families
 pub mod FirstWrong
 pub mod GoodLaws
@@ -48,3 +48,6 @@ pub mod TrimmedLaws
 pub mod TrimmedRow
 pub mod TrimmedSteps
 pub mod WrongTable
+pub use Rattle.alt_engine.proofs.Taking as EngineTaking
+pub use Rattle.alt_engine.proofs.HandNeedLaws as HandNeedLaws
+pub use Rattle.alt_engine.proofs.HandSegmentFiles as HandSegmentFiles

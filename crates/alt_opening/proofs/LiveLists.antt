@@ -3,7 +3,7 @@ use Rattle.std.proofs.Common.{◌≡◌, ◌≤◌, ◌<◌, ◌+◌, ◌==◌, 
 use Rattle.std.specs.Prelude.{◌⊎◌, ◌≢◌, if◌then◌else◌}
 use Rattle.std.specs.List.{list_any}
 use Rattle.std.proofs.lemmas.Bool.{eqb-true, eq-eqb, false≢true, ltb-false, ltb-true}
-use Rattle.alt_hand.specs.Working.{AreLive}
+use Rattle.alt_engine.specs.HandWorking.{AreLive}
 use Rattle.alt_manifest.specs.Versions.{IsIn, RiseFrom}
 use Rattle.alt_opening.specs.Live.{with_all, with_first, with_one, without_all}
 use Rattle.alt_opening.specs.StateRows.{catalog_family}

@@ -12,10 +12,10 @@ use Rattle.alt_engine.specs.InHand.{Reads, Stands as EngineStands}
 use Rattle.alt_manifest.specs.InHand.{version_of}
 use Rattle.alt_layout.specs.Layout.{Layout}
 use Rattle.alt_writes.specs.Writes.{Write}
-use Rattle.alt_hand.specs.Faults.{told_by_recovery}
-use Rattle.alt_hand.specs.Recovery.{ExplainsStore, HasNoLayout, IsBadAt, IsBadDigest, LeftLike}
+use Rattle.alt_engine.specs.HandFaults.{told_by_recovery}
+use Rattle.alt_engine.specs.HandRecovery.{ExplainsStore, HasNoLayout, IsBadAt, IsBadDigest, LeftLike}
 use Rattle.alt_engine.specs.declared.engine.Engine.{Engine}
-use Rattle.alt_hand.specs.declared.recover.RecoverFault.{RecoverFault}
+use Rattle.alt_engine.specs.HandDeclaredRecoverFault.{RecoverFault}
 use Rattle.alt_layout.proofs.OneLayout.{one_layout}
 use Rattle.alt_machine.specs.declared.TheConstants.{NUMBERS_END}
 use Rattle.alt_machine.specs.State.{State}

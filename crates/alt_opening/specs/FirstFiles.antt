@@ -1,6 +1,6 @@
 -- Which file work makes first once a store is opened.
 use Rattle.std.specs.Prelude.{◌≤◌, ◌+◌, ℕ, List, Option}
-use Rattle.alt_hand.specs.Recovery.{IsNextFile}
+use Rattle.alt_engine.specs.HandRecovery.{IsNextFile}
 use Rattle.alt_manifest.specs.declared.version.Version.{Version}
 
 -- Once files with this version are opened, it is the next file, or the one behind it, where the first write makes a segment before.

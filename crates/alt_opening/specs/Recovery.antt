@@ -6,7 +6,7 @@ use Rattle.alt_cells.specs.Keys.{key_cmp}
 use Rattle.alt_disk.specs.Disk.{DiskState, IsImage}
 use Rattle.alt_layout.specs.Files.{IsLayout}
 use Rattle.alt_layout.specs.Layout.{Layout, shown}
-use Rattle.alt_hand.specs.Recovery.{IsBadAt, IsBadDigest}
+use Rattle.alt_engine.specs.HandRecovery.{IsBadAt, IsBadDigest}
 use Rattle.alt_machine.specs.Sources.{index_at}
 use Rattle.alt_machine.specs.State.{State, Table}
 use Rattle.alt_machine.specs.Valid.{IsValid}

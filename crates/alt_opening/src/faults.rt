@@ -30,7 +30,7 @@ pub enum OpenFault {
 
 impl From<RecoverFault> for OpenFault {
     ghost use Rattle.std.specs.Prelude.{◌≡◌};
-    ghost use Rattle.alt_hand.specs.Faults.{told_by_recovery};
+    ghost use Rattle.alt_engine.specs.HandFaults.{told_by_recovery};
     ghost use Rattle.alt_opening.specs.Faults.{told_by_opening};
 
     ghost from_gives = { λ given f. told_by_opening f ≡ told_by_recovery given };
@@ -50,7 +50,7 @@ impl From<RecoverFault> for OpenFault {
 /// A fault of a walk. No walk wants a number, and an opening tells none.
 impl From<EngineFault> for OpenFault {
     ghost use Rattle.std.specs.Prelude.{◌≡◌};
-    ghost use Rattle.alt_hand.specs.Faults.{told_by_engine};
+    ghost use Rattle.alt_engine.specs.HandFaults.{told_by_engine};
     ghost use Rattle.alt_faults.specs.Faults.{without_numbers};
     ghost use Rattle.alt_opening.specs.Faults.{told_by_opening};
 

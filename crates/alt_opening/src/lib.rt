@@ -21,6 +21,7 @@ mod scan;
 mod trimmed;
 mod trimmed_row;
 
+pub use alt_engine::{Engine, EngineFault, Limits, MakeFault, Task, Worked, make_store};
 pub use catalog::Catalog;
 pub use catalog_row::{CATALOG, row_of_family, row_of_schema, row_with_time};
 pub use change_rows::{change_at, number_of};

@@ -1,7 +1,7 @@
 //! The families that are live while a store is open: all others may be dropped by the engine.
 
 ghost use Rattle.std.specs.Prelude.{◌≡◌, ◌++◌, ◌∷◌, [], IfOk, OnOk};
-ghost use Rattle.alt_hand.specs.Working.{AreLive};
+ghost use Rattle.alt_engine.specs.HandWorking.{AreLive};
 ghost use Rattle.alt_machine.specs.State.{families_of};
 ghost use Rattle.alt_opening.specs.Live.{with_all, with_first, with_one, without_all};
 ghost use Rattle.alt_opening.specs.StateRows.{catalog_family};
@@ -22,7 +22,7 @@ pub struct Live {
 impl Model for Live {
     ghost use Rattle.std.specs.Prelude.{ℕ, List};
     ghost use Rattle.std.specs.Coded.{coded_ℕ, coded_list};
-    ghost use Rattle.alt_hand.specs.Working.{AreLive};
+    ghost use Rattle.alt_engine.specs.HandWorking.{AreLive};
 
     ghost Value = { List ℕ };
 

@@ -3,7 +3,7 @@
 ghost use Rattle.std.specs.Prelude.{◌≡◌, ◌↔◌, ◌++◌, ◌∷◌, [], List, Err, IfOk, IfErr, OnOk, IfSome, IsErrOf, IsTrue, None, true};
 ghost use Rattle.alt_base.specs.Counts.{Rose};
 ghost use Rattle.alt_engine.specs.InHand.{Reads};
-ghost use Rattle.alt_hand.specs.Opened.{IsUndamaged};
+ghost use Rattle.alt_engine.specs.HandOpened.{IsUndamaged};
 ghost use Rattle.alt_layout.specs.Layout.{Layout, rows_between};
 ghost use Rattle.alt_machine.specs.Valid.{IsStored};
 ghost use Rattle.alt_views.specs.ItemRows.{IsReadItem};

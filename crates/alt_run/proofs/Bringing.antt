@@ -3,7 +3,7 @@ use Rattle.std.proofs.Common.{Option, ◌≡◌, ◌<◌, ℕ, List, [], ◌∷�
 use Rattle.std.proofs.Math.Path.{fun_ext}
 use Rattle.std.specs.Prelude.{◌||◌, Result, Ok, Err, OnOk}
 use Rattle.alt_disk.specs.Disk.{DiskState, Goes, IsTrusted}
-use Rattle.alt_hand.specs.Working.{HasEntries}
+use Rattle.alt_tables.specs.HandWorking.{HasEntries}
 use Rattle.alt_lines.specs.Unread.{Unread}
 use Rattle.alt_shell.specs.Calls.{Adds, Keeps}
 use Rattle.alt_shell.specs.Log.{Log, Grows, entry, told_count, took, said, taken, ended}

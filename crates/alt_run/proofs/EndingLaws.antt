@@ -16,7 +16,7 @@ use Rattle.alt_talks.specs.TalkRules.{rules}
 use Rattle.alt_talks.specs.TalkStops.{LeftAmong, ServedOn, ServedSomeOn, LeavesNow}
 use Rattle.alt_talks.specs.Talks.{Rules, Turn}
 use Rattle.alt_run.specs.Trials.{Tries, TriesSome, LeftOfTrial, all_turns}
-use Rattle.alt_opening.specs.Recovery.{WasLeft}
+use Rattle.alt_tables.specs.OpeningRecovery.{WasLeft}
 use Rattle.alt_talks.specs.declared.fault.RunFault.{RunFault}
 use Rattle.alt_talks.specs.declared.fault.RunFault.TheVariants as why
 use Rattle.alt_run.specs.declared.ending.Ending.{Ending}

@@ -6,9 +6,9 @@ use Rattle.alt_disk.specs.Runs.{Quiet}
 use Rattle.alt_disk.proofs.Runs.{trusted_on}
 use Rattle.alt_layout.specs.Files.{IsLayout}
 use Rattle.alt_layout.specs.Layout.{no_rows}
-use Rattle.alt_hand.specs.Making.{NamesFirst}
-use Rattle.alt_hand.specs.declared.make.MakeFault.{MakeFault}
-use Rattle.alt_hand.specs.declared.make.MakeFault.TheVariants.{NotEmpty}
+use Rattle.alt_tables.specs.HandMaking.{NamesFirst}
+use Rattle.alt_tables.specs.HandDeclaredMakeFault.{MakeFault}
+use Rattle.alt_tables.specs.HandDeclaredMakeFault.TheVariants.{NotEmpty}
 use Rattle.alt_shell.specs.Calls.{Adds, Aside, ShellCall, Untold, RoseBy}
 use Rattle.alt_shell.specs.Log.{Log, Grows, moments_of, entry, told_count, said, say_failed, says_failed, says_missed, talks}
 use Rattle.alt_shell.proofs.Telling.{Grows-then, Grows-nil, Tells-nil}

@@ -9,7 +9,7 @@ use Rattle.alt_shell.specs.Log.{Log, Grows, moments_of}
 use Rattle.alt_shell.proofs.Telling.{Grows-nil}
 use Rattle.alt_faults.specs.Faults.{OnlyDamaged}
 use Rattle.alt_faults.proofs.Telling.{both-damaged, tells-more}
-use Rattle.alt_opening.specs.Faults.{told_by_opening}
+use Rattle.alt_tables.specs.OpeningFaults.{told_by_opening}
 use Rattle.alt_talks.specs.Faults.{IsCausedBy, IsFileFault, told_by_run}
 use Rattle.alt_run.specs.Faults.{IsUnreadable}
 use Rattle.alt_talks.specs.declared.fault.RunFault.{RunFault}
@@ -23,8 +23,8 @@ use Rattle.alt_talks.specs.Stops.{AtEach}
 use Rattle.alt_tables.specs.FilesLeft.{IsFirstGiven}
 use Rattle.alt_tables.specs.Stands.{Stands}
 use Rattle.alt_tables.specs.Images.{StandsFor}
-use Rattle.alt_opening.specs.Recovery.{IsExplained, IsOfFiles, HasNoState, WasLeft}
-use Rattle.alt_opening.specs.declared.faults.OpenFault.{OpenFault}
+use Rattle.alt_tables.specs.OpeningRecovery.{IsExplained, IsOfFiles, HasNoState, WasLeft}
+use Rattle.alt_tables.specs.OpeningDeclaredOpenFault.{OpenFault}
 use Rattle.alt_tables.proofs.Left.{stands_left, stands_read, stands_trusted}
 use Rattle.alt_talks.proofs.Stopping.{leaves-weaker}
 use Rattle.alt_talks.specs.Works.{Works}

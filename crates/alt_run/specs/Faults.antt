@@ -4,7 +4,7 @@ use Rattle.alt_machine.specs.State.{State}
 use Rattle.alt_tables.specs.FilesLeft.{most_files}
 use Rattle.alt_tables.specs.Images.{StandsFor}
 use Rattle.alt_faults.specs.Faults.{OnlyDamaged}
-use Rattle.alt_opening.specs.Recovery.{IsOfFiles}
+use Rattle.alt_tables.specs.OpeningRecovery.{IsOfFiles}
 use Rattle.alt_talks.specs.Faults.{IsCausedBy, IsFileFault, told_by_run}
 use Rattle.alt_talks.specs.declared.fault.RunFault.{RunFault}
 use Rattle.alt_run.specs.declared.lines.Control.{Control}

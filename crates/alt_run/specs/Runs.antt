@@ -5,7 +5,7 @@ use Rattle.alt_disk.specs.Disk.{DiskState, IsTrusted}
 use Rattle.alt_lines.specs.Unread.{Unread, lines_now, lines_later}
 use Rattle.alt_machine.specs.State.{State}
 use Rattle.alt_shell.specs.Log.{Log, Grows, moments_of, until, taken, said_in, ended, crosses}
-use Rattle.alt_opening.specs.Recovery.{WasLeft}
+use Rattle.alt_tables.specs.OpeningRecovery.{WasLeft}
 use Rattle.alt_tables.specs.FilesLeft.{most_files}
 use Rattle.alt_tables.specs.Images.{StandsFor}
 use Rattle.alt_talks.specs.Faults.{IsCausedBy, IsFileFault}

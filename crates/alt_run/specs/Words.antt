@@ -3,7 +3,7 @@ use Rattle.std.specs.Prelude.{ℕ, ◌<◌, ⊤, ◌+◌, ◌-◌, ◌*◌, ◌^
 use Rattle.std.specs.declared.alloc.Global.{Global}
 use Rattle.std.specs.Char.{is_ascii_digit}
 use Rattle.std.specs.Str.{bytes_eq}
-use Rattle.alt_hand.specs.declared.hand.Limits.{Limits}
+use Rattle.alt_tables.specs.HandDeclaredLimits.{Limits}
 use Rattle.alt_run.specs.declared.words.Command.{Command}
 use Rattle.alt_run.specs.declared.words.Command.TheVariants.{Init, Over}
 use Rattle.alt_run.specs.declared.words.Job.{Job}

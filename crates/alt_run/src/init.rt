@@ -7,8 +7,8 @@ ghost use Rattle.alt_run.specs.Endings.{HasMade};
 ghost use Rattle.alt_talks.specs.Runs.{Passes};
 
 use crate::ending::Ending;
-use alt_engine::{MakeFault, make_store};
 use alt_shell::Shell;
+use alt_tables::{MakeFault, make_store};
 use std::alloc::Global;
 
 /// Makes an empty store where no file is, and says so.

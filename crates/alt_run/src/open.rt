@@ -9,7 +9,7 @@ ghost use Rattle.alt_tables.specs.Stands.{Stands, bounds_of, limits_of};
 ghost use Rattle.alt_run.specs.Faults.{IsUnreadable};
 ghost use Rattle.alt_talks.specs.Stops.{AtEach};
 ghost use Rattle.alt_tables.specs.Images.{StandsFor};
-ghost use Rattle.alt_opening.specs.Recovery.{WasLeft};
+ghost use Rattle.alt_tables.specs.OpeningRecovery.{WasLeft};
 
 use alt_disk::Disk;
 use alt_tables::{Limits, Tables};

@@ -16,10 +16,9 @@ ghost use Rattle.alt_run.specs.Turns.{carried_out, left_by, line_of, outcome_of}
 
 use alt_base::NoMemory;
 use alt_disk::Disk;
-use alt_dispatch::{answer, operation_named};
 use alt_shape::Reply;
 use alt_tables::Tables;
-use alt_talks::RunFault;
+use alt_talks::{RunFault, answer, operation_named};
 use std::alloc::Global;
 
 /// The line of a reply.

@@ -23,7 +23,7 @@ ghost use Rattle.alt_run.specs.declared.ending.Ending.TheVariants.{Whole};
 ghost use Rattle.alt_talks.specs.declared.fault.RunFault.TheVariants.{Failed};
 ghost use Rattle.alt_run.specs.declared.words.Job.{Job as RunJob};
 ghost use Rattle.alt_run.specs.declared.words.Command.TheVariants.{Init, Over};
-ghost use Rattle.alt_hand.specs.declared.hand.Limits.{Limits as EngineLimits};
+ghost use Rattle.alt_tables.specs.HandDeclaredLimits.{Limits as EngineLimits};
 
 use crate::ending::{Ending, noted, status_of};
 use crate::ending_of::ending_of;

@@ -3,7 +3,7 @@
 ghost use Rattle.std.specs.Prelude.{◌≡◌, ◌<◌, ◌≤◌, ◌^◌, ◌-◌, Some, None, min, option_map, option_and_then, IfSome};
 ghost use Rattle.alt_run.specs.Words.{digits_from, number_of, within, number_within, flush_of, merge_of, some_of, count_of, small_seed, seed_of, limits_with, serve_with, trial_with, over, init_of, replay_of, serve_of, trial_of, served_of, run_of, command_of, IsServable, IsFit, port_of, small_port, bytes_of};
 
-use alt_engine::Limits;
+use alt_tables::Limits;
 
 // The number of the digits, 2^64 - 1 where it is greater.
 fn digits(word: &[u8]) -> Option<u64>

@@ -19,7 +19,7 @@ use Rattle.alt_streams.specs.private.Named.{IsStreamOf}
 use Rattle.alt_streams.specs.private.Paged.{iterator_at}
 use Rattle.alt_streams.proofs.Reached.{known_at, stream_named, stream_stands}
 use Rattle.alt_streams.proofs.Reaching.{something}
-use Rattle.alt_opening.specs.Trimmed.{number_at}
+use Rattle.alt_tables.specs.OpeningTrimmed.{number_at}
 use Rattle.alt_tables.specs.Stands.{Stands, catalog_of, number_of, trimmed_of}
 use Rattle.alt_tables.specs.declared.tables.Tables.{Tables}
 

@@ -26,8 +26,8 @@ use Rattle.alt_shape.specs.declared.rule.Broken.TheVariants.{WrongKind, Missing,
 use Rattle.alt_streams.specs.private.Placed.{OnPlace, OnStreaming}
 use Rattle.alt_streams.specs.declared.records.Place.{Place}
 use Rattle.alt_streams.proofs.Reached.{records_broken, records_unread, records_missed, records_trimmed}
-use Rattle.alt_opening.specs.Trimmed.{number_at}
-use Rattle.alt_opening.specs.declared.trimmed.Trimmed.{Trimmed}
+use Rattle.alt_tables.specs.OpeningTrimmed.{number_at}
+use Rattle.alt_tables.specs.OpeningDeclaredTrimmed.{Trimmed}
 use Rattle.alt_machine.specs.Trimming.{is_trimmed}
 use Rattle.alt_tables.specs.Stands.{Stands, catalog_of, trimmed_of}
 use Rattle.alt_tables.specs.declared.tables.Tables.{Tables}

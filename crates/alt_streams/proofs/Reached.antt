@@ -17,8 +17,8 @@ use Rattle.alt_machine.specs.State.{State, Table, Texts, descriptions}
 use Rattle.alt_machine.specs.Streams.{Iterator, is_stream, iterator_of, stream_at, table_of_stream}
 use Rattle.alt_machine.specs.Trimming.{is_trimmed}
 use Rattle.alt_machine.specs.Valid.{IsValid}
-use Rattle.alt_opening.specs.Trimmed.{AreTrimmedOf, number_at}
-use Rattle.alt_opening.specs.declared.trimmed.Trimmed.{Trimmed}
+use Rattle.alt_tables.specs.OpeningTrimmed.{AreTrimmedOf, number_at}
+use Rattle.alt_tables.specs.OpeningDeclaredTrimmed.{Trimmed}
 use Rattle.alt_machine.proofs.Descriptions.{get-descriptions}
 use Rattle.alt_machine.proofs.Tests.{passed, stopped, found_some, found_none}
 use Rattle.alt_request.specs.declared.stop.Stop.{Stop}

@@ -2,7 +2,7 @@
 use Rattle.std.proofs.Common.{◌≡◌, refl, sym, subst, T, List, [], ◌∷◌, ◌++◌, arith}
 use Rattle.alt_cells.specs.Batches.{is_distinct}
 use Rattle.alt_cells.specs.declared.batch.RowChange.{RowChange}
-use Rattle.alt_hand.specs.InHand.{batch_write, batch_writes}
+use Rattle.alt_opening.specs.HandInHand.{batch_write, batch_writes}
 use Rattle.alt_layout.specs.Layout.{Layout, IsPast}
 use Rattle.alt_layout.specs.Writes.{with_writes}
 use Rattle.alt_layout.proofs.PastLaws.{is_past_after}

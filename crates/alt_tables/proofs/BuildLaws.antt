@@ -12,7 +12,7 @@ use Rattle.std.specs.FinMap.Entries.{below_all, is_sorted}
 use Rattle.alt_cells.specs.declared.batch.RowChange.{RowChange}
 use Rattle.alt_cells.specs.Keys.{key_cmp}
 use Rattle.alt_cells.proofs.CellLaws.{key_total}
-use Rattle.alt_hand.specs.InHand.{batch_write}
+use Rattle.alt_opening.specs.HandInHand.{batch_write}
 use Rattle.alt_layout.specs.Layout.{Layout, shown, shown_by, change_of}
 use Rattle.alt_layout.specs.Writes.{with_write}
 use Rattle.alt_layout.proofs.BatchLaws.{shows_batch}

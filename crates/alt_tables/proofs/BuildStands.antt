@@ -33,7 +33,7 @@ use Rattle.alt_value.specs.Tree.{Pair}
 use Rattle.alt_value.proofs.Texts.{text_total}
 use Rattle.alt_views.specs.IndexRows.{moves_in}
 use Rattle.alt_opening.specs.Opened.{Holds}
-use Rattle.alt_opening.proofs.Engine.{stands_past}
+use Rattle.alt_opening.proofs.OverEngine.{stands_past}
 use Rattle.alt_opening.proofs.LiveLaws.{live_alike}
 use Rattle.alt_opening.proofs.OneState.{some}
 use Rattle.alt_opening.proofs.TrimmedLaws.{trimmed-stay}

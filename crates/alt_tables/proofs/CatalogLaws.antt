@@ -14,7 +14,7 @@ use Rattle.alt_cells.proofs.CellLaws.{key_total}
 use Rattle.alt_cells.proofs.ChangeLaws.{written-change_between, none_shown}
 use Rattle.alt_changes.specs.ChangeRows.{change_columns, row_key}
 use Rattle.alt_changes.specs.TrimRows.{trimmed_row}
-use Rattle.alt_hand.specs.InHand.{batch_write}
+use Rattle.alt_opening.specs.HandInHand.{batch_write}
 use Rattle.alt_layout.specs.Layout.{Layout, shown, shown_by, change_of}
 use Rattle.alt_writes.specs.Writes.{Write}
 use Rattle.alt_layout.specs.Writes.{with_write}

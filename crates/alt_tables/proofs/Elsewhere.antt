@@ -7,7 +7,7 @@ use Rattle.alt_cells.specs.Changes.{change_between}
 use Rattle.alt_cells.specs.declared.batch.RowChange.{RowChange}
 use Rattle.alt_changes.specs.ChangeRows.{row_change, row_changes}
 use Rattle.alt_changes.specs.TrimRows.{hidden, trim_changes, trimmed_changes}
-use Rattle.alt_hand.specs.InHand.{batch_write}
+use Rattle.alt_opening.specs.HandInHand.{batch_write}
 use Rattle.alt_layout.specs.Layout.{Layout, IsPast, change_of, shown, shown_by}
 use Rattle.alt_layout.proofs.BatchLaws.{shows_batch}
 use Rattle.alt_codec.specs.declared.writer.Writer.{Writer}

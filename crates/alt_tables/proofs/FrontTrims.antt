@@ -9,7 +9,7 @@ use Rattle.alt_cells.specs.Batches.{is_distinct}
 use Rattle.alt_cells.specs.declared.batch.RowChange.{RowChange}
 use Rattle.alt_changes.specs.ChangeRows.{row_change, row_key}
 use Rattle.alt_changes.specs.TrimRows.{AreLeft, hidden, trimmed_changes}
-use Rattle.alt_hand.specs.InHand.{batch_write}
+use Rattle.alt_opening.specs.HandInHand.{batch_write}
 use Rattle.alt_layout.specs.Layout.{Layout, IsPast, change_of, shown}
 use Rattle.alt_layout.proofs.BatchLaws.{shows_batch}
 use Rattle.alt_codec.specs.declared.writer.Writer.{Writer}

@@ -8,7 +8,7 @@ use Rattle.alt_disk.proofs.Calls.{goes_refl, goes_on}
 use Rattle.alt_disk.proofs.Runs.{quiet_start, quiet_then, tells_of, trusted_back}
 use Rattle.alt_layout.specs.Files.{IsLayout}
 use Rattle.alt_layout.specs.Layout.{no_rows}
-use Rattle.alt_opening.proofs.Engine.{files_hold, one_layout_in_hand, stays_quiet}
+use Rattle.alt_opening.proofs.OverEngine.{files_hold, one_layout_in_hand, stays_quiet}
 use Rattle.alt_machine.specs.State.{State, start}
 use Rattle.alt_opening.specs.Images.{StandsFor}
 use Rattle.alt_opening.specs.Recovery.{WasLeft}

@@ -48,3 +48,7 @@ pub mod TrimSteps
 pub mod Trimmed
 pub mod Working
 pub mod WriteLaws
+pub use Rattle.alt_opening.proofs.NextRow as OpeningNextRow
+pub use Rattle.alt_opening.proofs.OneColumn as OpeningOneColumn
+pub use Rattle.alt_opening.proofs.OneState as OpeningOneState
+pub use Rattle.alt_opening.proofs.Ties as OpeningTies

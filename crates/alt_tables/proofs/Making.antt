@@ -33,7 +33,7 @@ use Rattle.alt_opening.proofs.LiveLaws.{live_insert, live_remove}
 use Rattle.alt_layout.specs.Layout.{Layout, shown}
 use Rattle.alt_opening.specs.StateRows.{catalog_family}
 use Rattle.alt_opening.specs.Trimmed.{AreTrimmedOf, IsRenumbered, number_at, without}
-use Rattle.alt_opening.proofs.Engine.{one_layout_in_hand, stands_past}
+use Rattle.alt_opening.proofs.OverEngine.{one_layout_in_hand, stands_past}
 use Rattle.alt_opening.proofs.TrimmedLaws.{trimmed-new, trimmed-put, trimmed-remove}
 use Rattle.alt_tables.specs.Built.{NoneBuilds}
 use Rattle.alt_tables.specs.Foreseen.{Foresees, ForeseesWrite}

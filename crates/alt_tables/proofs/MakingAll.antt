@@ -3,8 +3,8 @@ use Rattle.std.proofs.Common.{◌≡◌, ◌≤◌, ◌+◌, sym, ap, subst, ◌
 use Rattle.std.specs.FinMap as map
 use Rattle.alt_codec.specs.declared.writer.Writer.{Writer}
 use Rattle.alt_disk.specs.Disk.{DiskState}
-use Rattle.alt_engine.specs.InHand.{Stands as EngineStands, next_of}
-use Rattle.alt_engine.specs.declared.engine.Engine.{Engine}
+use Rattle.alt_opening.specs.EngineInHand.{Stands as EngineStands, next_of}
+use Rattle.alt_opening.specs.EngineDeclaredEngine.{Engine}
 use Rattle.alt_layout.specs.Layout.{Layout}
 use Rattle.alt_machine.specs.Ops.BatchWriteItem.{Written, writes_of_all_by}
 use Rattle.alt_machine.specs.Outcomes.{last_state, together}

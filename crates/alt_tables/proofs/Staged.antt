@@ -17,7 +17,7 @@ use Rattle.alt_machine.specs.Valid.{AreChanges, IsStored, IsValid}
 use Rattle.alt_machine.specs.Writes.{after_item_by, with_write_by}
 use Rattle.alt_machine.proofs.Descriptions.{get-descriptions, table_of_description}
 use Rattle.alt_opening.specs.Opened.{Holds}
-use Rattle.alt_opening.proofs.Engine.{one_layout_in_hand, stands_past}
+use Rattle.alt_opening.proofs.OverEngine.{one_layout_in_hand, stands_past}
 use Rattle.alt_opening.proofs.OneState.{some}
 use Rattle.alt_schema.specs.declared.schema.TableSchema.{TableSchema}
 use Rattle.alt_tables.specs.Foreseen.{Foresees, ForeseesWritten}

@@ -8,14 +8,14 @@ use Rattle.alt_disk.specs.Disk.{DiskState, Goes, IsTrusted}
 use Rattle.alt_disk.proofs.Calls.{goes_refl, goes_on}
 use Rattle.alt_due.specs.Due.{KeepsKnown}
 use Rattle.alt_disk.proofs.Runs.{quiet_start, quiet_then, trusted_on, trusted_back, tells_of}
-use Rattle.alt_engine.specs.InHand.{Bounds, Reads as EngineReads, Stands as EngineStands}
-use Rattle.alt_engine.specs.Opened.{StaysOn}
+use Rattle.alt_opening.specs.EngineInHand.{Bounds, Reads as EngineReads, Stands as EngineStands}
+use Rattle.alt_opening.specs.EngineOpened.{StaysOn}
 use Rattle.alt_layout.specs.Layout.{Layout, shown}
 use Rattle.alt_machine.specs.State.{State, Table, Texts, descriptions}
 use Rattle.alt_machine.proofs.Descriptions.{get-descriptions, no_description, table_of_description}
 use Rattle.alt_schema.specs.declared.schema.TableSchema.{TableSchema}
 use Rattle.alt_views.specs.ItemRows.{IsReadItem, item_columns}
-use Rattle.alt_opening.proofs.Engine.{one_layout_in_hand}
+use Rattle.alt_opening.proofs.OverEngine.{one_layout_in_hand}
 use Rattle.alt_tables.specs.Fronts.{AreFronts}
 use Rattle.alt_tables.specs.Stands.{AreReady, HasRows, Keeps, Stands, bounds_of, catalog_of, trimmed_of}
 use Rattle.alt_tables.specs.declared.tables.Tables.{Tables}

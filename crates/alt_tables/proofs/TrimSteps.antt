@@ -10,7 +10,7 @@ use Rattle.alt_cells.specs.Changes.{Columns}
 use Rattle.alt_changes.specs.ChangeRows.{row_key}
 use Rattle.alt_disk.specs.Disk.{DiskState}
 use Rattle.alt_disk.proofs.Runs.{tells_of}
-use Rattle.alt_engine.specs.InHand.{Reads as EngineReads}
+use Rattle.alt_opening.specs.EngineInHand.{Reads as EngineReads}
 use Rattle.alt_layout.specs.Layout.{Layout, rows_between, shown}
 use Rattle.alt_machine.specs.Ops.GetRecords.{changes_from}
 use Rattle.alt_machine.specs.State.{Change, State, Table}
@@ -18,7 +18,7 @@ use Rattle.alt_machine.specs.Trimming.{kept, trimmed_at}
 use Rattle.alt_machine.specs.Valid.{AreChanges}
 use Rattle.alt_opening.proofs.StreamKeys.{IsSmall}
 use Rattle.alt_machine.proofs.Trimming.{trimmed_least, trimmed_most}
-use Rattle.alt_opening.proofs.Engine.{one_layout_in_hand}
+use Rattle.alt_opening.proofs.OverEngine.{one_layout_in_hand}
 use Rattle.alt_opening.proofs.KeptChanges.{are_small, trimmed_small}
 use Rattle.alt_opening.proofs.OneState.{some}
 use Rattle.alt_opening.specs.Trimmed.{number_at}

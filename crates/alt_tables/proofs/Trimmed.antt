@@ -16,7 +16,7 @@ use Rattle.alt_machine.specs.Same.{is_same}
 use Rattle.alt_machine.specs.State.{Change, State, Table}
 use Rattle.alt_opening.specs.Families.{HasOwnFamilies}
 use Rattle.alt_opening.specs.Trimmed.{number_at}
-use Rattle.alt_opening.proofs.Engine.{one_layout_in_hand}
+use Rattle.alt_opening.proofs.OverEngine.{one_layout_in_hand}
 use Rattle.alt_opening.proofs.OneState.{some}
 use Rattle.alt_opening.proofs.StreamKeys.{key_one}
 use Rattle.alt_schema.specs.declared.schema.TableSchema.{TableSchema}

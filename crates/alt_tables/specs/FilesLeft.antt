@@ -1,9 +1,9 @@
 -- How many numbers of files work takes, and that none is left for it.
 use Rattle.std.specs.Prelude.{◌≡◌, ◌+◌, ◌*◌, ℕ, List, Option}
-use Rattle.alt_engine.specs.Working.{IsNeeded}
-use Rattle.alt_engine.specs.declared.work.Task.{Task}
-use Rattle.alt_hand.specs.Faults.{told_by_engine}
-use Rattle.alt_hand.specs.declared.hand.EngineFault.{EngineFault}
+use Rattle.alt_opening.specs.EngineWorking.{IsNeeded}
+use Rattle.alt_opening.specs.EngineDeclaredTask.{Task}
+use Rattle.alt_opening.specs.HandFaults.{told_by_engine}
+use Rattle.alt_opening.specs.HandDeclaredEngineFault.{EngineFault}
 use Rattle.alt_layout.specs.Fresh.{versions_file}
 use Rattle.alt_machine.specs.declared.TheConstants.{MOST_FAMILIES, MOST_TABLES}
 use Rattle.alt_manifest.specs.Versions.{HasVersion}

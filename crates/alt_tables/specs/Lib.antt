@@ -14,3 +14,15 @@ pub mod RowChanges
 pub mod Several
 pub mod Stands
 pub mod private
+pub use Rattle.alt_opening.specs.EngineInHand as EngineInHand
+pub use Rattle.alt_opening.specs.EngineDeclaredTask as EngineDeclaredTask
+pub use Rattle.alt_opening.specs.HandMaking as HandMaking
+pub use Rattle.alt_opening.specs.HandWorking as HandWorking
+pub use Rattle.alt_opening.specs.HandDeclaredLimits as HandDeclaredLimits
+pub use Rattle.alt_opening.specs.HandDeclaredMakeFault as HandDeclaredMakeFault
+pub use Rattle.alt_opening.specs.Faults as OpeningFaults
+pub use Rattle.alt_opening.specs.Order as OpeningOrder
+pub use Rattle.alt_opening.specs.Recovery as OpeningRecovery
+pub use Rattle.alt_opening.specs.Trimmed as OpeningTrimmed
+pub use Rattle.alt_opening.specs.declared.faults.OpenFault as OpeningDeclaredOpenFault
+pub use Rattle.alt_opening.specs.declared.trimmed.Trimmed as OpeningDeclaredTrimmed

@@ -1,6 +1,6 @@
 -- Files of which nothing is left to merge.
 use Rattle.std.specs.Prelude.{ℕ, List, Option}
-use Rattle.alt_engine.specs.Working.{IsMerged}
+use Rattle.alt_opening.specs.EngineWorking.{IsMerged}
 use Rattle.alt_machine.specs.State.{State, descriptions}
 use Rattle.alt_opening.specs.Live.{AreLiveIn}
 

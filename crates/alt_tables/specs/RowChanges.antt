@@ -6,7 +6,7 @@ use Rattle.alt_cells.specs.declared.batch.RowChange.{RowChange}
 use Rattle.alt_cells.specs.Changes.{change_between}
 use Rattle.alt_changes.specs.ChangeRows.{row_changes}
 use Rattle.alt_changes.specs.TrimRows.{trim_changes}
-use Rattle.alt_hand.specs.InHand.{batch_write}
+use Rattle.alt_opening.specs.HandInHand.{batch_write}
 use Rattle.alt_layout.specs.Layout.{Layout, IsPast}
 use Rattle.alt_layout.specs.Writes.{with_write}
 use Rattle.alt_codec.specs.declared.writer.Writer.{Writer}

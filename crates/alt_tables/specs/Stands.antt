@@ -5,10 +5,10 @@ use Rattle.alt_disk.specs.Runs.{Quiet}
 use Rattle.alt_due.specs.Due.{KeepsKnown}
 use Rattle.alt_due.specs.declared.due.Due.{Due}
 use Rattle.std.specs.Prelude.{IsTrue}
-use Rattle.alt_engine.specs.Opened.{StaysOn}
-use Rattle.alt_engine.specs.InHand.{Bounds, Stands as EngineStands, next_of, bounds_of as engine_bounds, limits_of as engine_limits}
+use Rattle.alt_opening.specs.EngineOpened.{StaysOn}
+use Rattle.alt_opening.specs.EngineInHand.{Bounds, Stands as EngineStands, next_of, bounds_of as engine_bounds, limits_of as engine_limits}
 use Rattle.alt_layout.specs.Layout.{Layout}
-use Rattle.alt_hand.specs.declared.hand.Limits.{Limits}
+use Rattle.alt_opening.specs.HandDeclaredLimits.{Limits}
 use Rattle.alt_machine.specs.State.{State, Texts, descriptions}
 use Rattle.alt_machine.specs.Valid.{IsValid}
 use Rattle.alt_schema.specs.declared.schema.TableSchema.{TableSchema}

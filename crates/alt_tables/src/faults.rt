@@ -3,8 +3,8 @@
 ghost use Rattle.std.specs.Prelude.{◌≡◌};
 
 use alt_base::NoMemory;
-use alt_engine::EngineFault;
 use alt_fields::Bytes;
+use alt_opening::EngineFault;
 use std::alloc::{AllocError, AllocFailed};
 
 /// What ends a run in the middle of a request. Only a recovery of the tables goes on from there.
@@ -53,7 +53,7 @@ impl<T: Drop> From<AllocFailed<T>> for TableFault {
 }
 
 impl From<EngineFault> for TableFault {
-    ghost use Rattle.alt_hand.specs.Faults.{told_by_engine};
+    ghost use Rattle.alt_opening.specs.HandFaults.{told_by_engine};
     ghost use Rattle.alt_tables.specs.Faults.{told_by_tables};
 
     ghost from_gives = { λ given f. told_by_tables f ≡ told_by_engine given };

@@ -19,8 +19,7 @@ mod trimming;
 mod walk;
 mod work;
 
-pub use alt_engine::{Limits, Task, Worked};
-pub use alt_opening::OpenFault;
+pub use alt_opening::{Limits, MakeFault, OpenFault, Task, Worked, make_store};
 pub use by_keys::ItemWrite;
 pub use faults::TableFault;
 pub use finding::Found;

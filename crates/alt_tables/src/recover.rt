@@ -14,8 +14,7 @@ ghost use Rattle.alt_tables.specs.Stands.{Stands, bounds_of, limits_of};
 use crate::tables::Tables;
 use alt_disk::Disk;
 use alt_due::Due;
-use alt_engine::Limits;
-use alt_opening::{OpenFault, Store, open_store};
+use alt_opening::{Limits, OpenFault, Store, open_store};
 use std::alloc::Global;
 
 impl Tables {

@@ -32,11 +32,10 @@ use alt_base::NoMemory;
 use alt_cells::{Batch, RowChange};
 use alt_disk::Disk;
 use alt_due::Due;
-use alt_engine::Engine;
 use alt_fields::Bytes;
 use alt_machine::{FAMILIES_END, MOST_FAMILIES, MOST_TABLES, NUMBERS_END};
 use alt_opening::{
-    CATALOG, Catalog, Live, Trimmed, forget, row_of_family, row_of_schema, row_with_time,
+    CATALOG, Catalog, Engine, Live, Trimmed, forget, row_of_family, row_of_schema, row_with_time,
     trimmed_number,
 };
 use alt_schema::{TableSchema, held};

@@ -4,7 +4,7 @@ use Rattle.alt_disk.specs.Disk.{DiskState}
 use Rattle.alt_machine.specs.Outcomes.{last_state}
 use Rattle.alt_machine.specs.State.{State}
 use Rattle.alt_shell.specs.Log.{Log}
-use Rattle.alt_engine.specs.InHand.{Bounds}
+use Rattle.alt_tables.specs.EngineInHand.{Bounds}
 use Rattle.alt_tables.specs.Stands.{Stands, bounds_of}
 use Rattle.alt_tables.specs.declared.tables.Tables.{Tables}
 use Rattle.alt_talks.specs.Connections.{after_own}

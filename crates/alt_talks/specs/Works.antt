@@ -1,9 +1,9 @@
 -- Work on the store between two turns, which changes no state, and what the server does by itself. Neither says or takes anything.
 use Rattle.std.specs.Prelude.{◌≡◌, ◌<◌, ◌*◌, ℕ, List}
 use Rattle.alt_disk.specs.Disk.{DiskState, Goes, IsTrusted}
-use Rattle.alt_hand.specs.Working.{HasEntries}
-use Rattle.alt_engine.specs.declared.work.Task.{Task}
-use Rattle.alt_engine.specs.declared.work.Task.TheVariants.{Step, FlushAll, MergeAll}
+use Rattle.alt_tables.specs.HandWorking.{HasEntries}
+use Rattle.alt_tables.specs.EngineDeclaredTask.{Task}
+use Rattle.alt_tables.specs.EngineDeclaredTask.TheVariants.{Step, FlushAll, MergeAll}
 use Rattle.alt_machine.specs.State.{State}
 use Rattle.alt_tables.specs.Images.{StandsFor}
 use Rattle.alt_tables.specs.Merged.{IsMergedFor}

@@ -11,9 +11,9 @@ ghost use Rattle.alt_talks.specs.Works.{Follows};
 
 use crate::fault::RunFault;
 use alt_disk::Disk;
+use alt_dispatch::expire;
 use alt_machine::MOST_EXPIRED;
 use alt_tables::Tables;
-use alt_ttl::expire;
 use std::alloc::Global;
 
 /// After so many connections expired items are deleted once more.

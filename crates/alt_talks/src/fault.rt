@@ -52,7 +52,7 @@ impl From<TableFault> for RunFault {
 }
 
 impl From<OpenFault> for RunFault {
-    ghost use Rattle.alt_opening.specs.Faults.{told_by_opening};
+    ghost use Rattle.alt_tables.specs.OpeningFaults.{told_by_opening};
     ghost use Rattle.alt_talks.specs.Faults.{told_by_run};
 
     ghost from_gives = { λ given f. told_by_run f ≡ told_by_opening given };

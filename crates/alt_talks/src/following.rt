@@ -4,7 +4,7 @@
 ghost use Rattle.std.specs.Prelude.{◌≡◌, ◌≤◌, ◌+◌, None, true, IfErr, OnOk, IsErrOf};
 ghost use Rattle.alt_base.specs.Counts.{Rose};
 ghost use Rattle.alt_disk.specs.Disk.{Goes};
-ghost use Rattle.alt_engine.specs.declared.work.Task.TheVariants.{Step};
+ghost use Rattle.alt_tables.specs.EngineDeclaredTask.TheVariants.{Step};
 ghost use Rattle.alt_machine.specs.State.{State};
 ghost use Rattle.alt_tables.specs.FilesLeft.{most_files};
 ghost use Rattle.alt_tables.specs.Stands.{AreReady, Stands, bounds_of, limits_of};
@@ -14,8 +14,8 @@ ghost use Rattle.alt_talks.specs.Works.{AfterWork, Follows};
 use crate::expiring::{BETWEEN_EXPIRIES, MOST_EXPIRIES, expire_all};
 use crate::fault::RunFault;
 use crate::working::work;
-use alt_backfill::build;
 use alt_disk::Disk;
+use alt_dispatch::build;
 use alt_tables::{Tables, Task};
 use std::alloc::Global;
 

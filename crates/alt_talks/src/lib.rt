@@ -9,6 +9,7 @@ mod front;
 mod response;
 mod working;
 
+pub use alt_dispatch::{answer, operation_named};
 pub use connection::connections;
 pub use fault::RunFault;
 pub use following::follow;

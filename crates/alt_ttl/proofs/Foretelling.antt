@@ -15,7 +15,7 @@ use Rattle.alt_machine.specs.Keys.{place_of}
 use Rattle.alt_machine.specs.declared.Standing.{Standing}
 use Rattle.alt_machine.specs.State.{State, Table, Texts, descriptions}
 use Rattle.alt_machine.proofs.Descriptions.{get-descriptions}
-use Rattle.alt_opening.proofs.Ties.{itself, tied}
+use Rattle.alt_tables.proofs.OpeningTies.{itself, tied}
 use Rattle.alt_schema.specs.declared.schema.TableSchema.{TableSchema}
 use Rattle.alt_tables.specs.Foreseen.{Foresees, ForeseesItem, IsFrom, IsMetFrom}
 use Rattle.alt_tables.specs.Several.{Every}

@@ -17,7 +17,7 @@ use Rattle.alt_due.specs.declared.spot.Spot.{Spot}
 use Rattle.alt_machine.specs.declared.Standing.{Standing}
 use Rattle.alt_machine.specs.Expiry.{all_expired, expired_in, is_expired}
 use Rattle.alt_machine.specs.State.{State, Table}
-use Rattle.alt_opening.proofs.Ties.{tied}
+use Rattle.alt_tables.proofs.OpeningTies.{tied}
 use Rattle.alt_tables.specs.Several.{Every}
 use Rattle.alt_ttl.specs.private.Foresight.{is_over_at, spot_at}
 use Rattle.alt_ttl.proofs.Founds.{every_both}

@@ -23,7 +23,7 @@ use Rattle.alt_machine.specs.State.{State, Table, Texts, descriptions}
 use Rattle.alt_machine.specs.Valid.{IsTable, IsValid}
 use Rattle.alt_machine.specs.Walks.{items_between}
 use Rattle.alt_machine.proofs.Descriptions.{keys-descriptions, there-descriptions}
-use Rattle.alt_opening.proofs.Ties.{itself, tied}
+use Rattle.alt_tables.proofs.OpeningTies.{itself, tied}
 use Rattle.alt_ops_query.proofs.Beyond.{beyond_after}
 use Rattle.alt_ops_query.proofs.Lists.{each_entry}
 use Rattle.alt_ops_query.proofs.Rests.{contains_so}

@@ -20,7 +20,7 @@ use Rattle.alt_due.specs.declared.spot.Spot.{Spot}
 use Rattle.alt_machine.specs.Keys.{place_of}
 use Rattle.alt_machine.specs.State.{State, Table}
 use Rattle.alt_machine.specs.Walks.{items_between}
-use Rattle.alt_opening.proofs.Ties.{tied}
+use Rattle.alt_tables.proofs.OpeningTies.{tied}
 use Rattle.alt_ops_query.proofs.Beyond.{beyond_after}
 use Rattle.alt_ops_query.proofs.Lists.{each_entry}
 use Rattle.alt_ops_query.proofs.Rests.{contains_so}

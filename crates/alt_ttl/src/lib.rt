@@ -13,6 +13,9 @@ mod standings;
 mod survey;
 mod update_time;
 
+pub use alt_ops_batch::{batch_get_item, batch_write_item};
+pub use alt_ops_query::{query, scan};
+pub use alt_ops_table::{create_table, delete_table, describe_table, list_tables};
 pub use describe_time::describe_time_to_live;
 pub use expiry::{expire, expire_items};
 pub use update_time::update_time_to_live;

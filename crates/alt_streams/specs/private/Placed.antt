@@ -19,8 +19,8 @@ use Rattle.alt_shape.specs.Bodies as bodies
 use Rattle.alt_shape.specs.Refusals.{IsKnown, not_found}
 use Rattle.alt_streams.specs.private.Named.{IsStreamOf}
 use Rattle.alt_streams.specs.declared.records.Place.{Place}
-use Rattle.alt_opening.specs.Trimmed.{AreTrimmedOf, number_at}
-use Rattle.alt_opening.specs.declared.trimmed.Trimmed.{Trimmed}
+use Rattle.alt_tables.specs.OpeningTrimmed.{AreTrimmedOf, number_at}
+use Rattle.alt_tables.specs.OpeningDeclaredTrimmed.{Trimmed}
 use Rattle.alt_tables.specs.Faults.{IsReadFault}
 
 -- a table is there, and has a stream

@@ -2,7 +2,7 @@
 use Rattle.std.proofs.Common.{refl, sym, ap, subst, ◌∙◌, IsTrue, arith}
 use Rattle.alt_disk.proofs.Runs.{tells_of, trusted_on}
 use Rattle.alt_engine.specs.InHand.{Bounds, last_form_of, next_file_of}
-use Rattle.alt_hand.proofs.SegmentFiles.{files_made-few}
+use Rattle.alt_engine.proofs.HandSegmentFiles.{files_made-few}
 use Rattle.alt_opening.specs.FirstFiles.{IsFirstFile}
 use Rattle.alt_opening.proofs.Recovering.{stands_then, rows_explain, rows_no_state, files_explain, files_no_state, left_at_once, left_before, stands_like, stands_behind}
 use Rattle.alt_opening.proofs.recover.open_store.Goals as goal

@@ -1,5 +1,5 @@
 use Rattle.std.proofs.Common.{OnOk, sym, subst}
-use Rattle.alt_hand.specs.declared.hand.Limits.{Limits}
+use Rattle.alt_tables.specs.HandDeclaredLimits.{Limits}
 use Rattle.alt_talks.specs.Works.{HasFewEntries}
 use Rattle.alt_run.specs.Behind.{AfterJob, ComesWithin, SaysSummary}
 use Rattle.std.specs.Prelude.{MatchResult}

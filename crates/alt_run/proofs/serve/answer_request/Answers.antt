@@ -1,7 +1,7 @@
 use Rattle.std.proofs.Common.{◌∷◌, [], ◌∙◌, ◌≤◌, ◌+◌, true, ap, refl, subst}
 use Rattle.alt_disk.proofs.Runs.{trusted_back}
 use Rattle.alt_disk.specs.Disk.{DiskState}
-use Rattle.alt_engine.specs.InHand.{Bounds}
+use Rattle.alt_tables.specs.EngineInHand.{Bounds}
 use Rattle.alt_machine.specs.Wanted.{wanted}
 use Rattle.alt_tables.specs.FilesLeft.{most_files}
 use Rattle.alt_tables.specs.Stands.{bounds_of}

@@ -1,6 +1,6 @@
 -- What a step leaves of the log, by the limits of the tables.
 use Rattle.std.proofs.Common.{OnOk, Some, subst, sym}
-use Rattle.alt_hand.specs.declared.hand.Limits.{Limits}
+use Rattle.alt_tables.specs.HandDeclaredLimits.{Limits}
 use Rattle.alt_talks.specs.Works.{HasFewEntries}
 use Rattle.alt_run.specs.Behind.{Behind}
 use Rattle.alt_tables.specs.Stands.{Stands, bounds_of}

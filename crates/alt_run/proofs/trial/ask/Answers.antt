@@ -1,7 +1,7 @@
 use Rattle.std.proofs.Common.{◌∙◌, ◌≤◌, ◌+◌, true, ap, refl, subst}
 use Rattle.alt_disk.proofs.Runs.{trusted_back, trusted_on}
 use Rattle.alt_tables.specs.FilesLeft.{most_files}
-use Rattle.alt_engine.specs.InHand.{Bounds}
+use Rattle.alt_tables.specs.EngineInHand.{Bounds}
 use Rattle.alt_tables.specs.Stands.{bounds_of}
 use Rattle.alt_talks.specs.Own.{FollowsNot, own_behind}
 use Rattle.alt_talks.specs.Works.{HasFewEntries}

@@ -2,7 +2,7 @@ use Rattle.std.proofs.Common.{◌≡◌, ◌≤◌, ◌+◌, ◌-◌, ◌∙◌,
 use Rattle.alt_disk.proofs.Calls.{goes_refl, goes_on}
 use Rattle.alt_disk.proofs.Runs.{trusted_back}
 use Rattle.alt_lines.specs.Trial.{Generator, generator, generator_from, next_line, next_lines, after_line, trial_lines}
-use Rattle.alt_hand.specs.declared.hand.Limits.{Limits}
+use Rattle.alt_tables.specs.HandDeclaredLimits.{Limits}
 use Rattle.alt_talks.specs.Works.{HasFewEntries}
 use Rattle.alt_run.specs.Trials.{trial_turns}
 use Rattle.alt_run.specs.Turns.{asked_by}

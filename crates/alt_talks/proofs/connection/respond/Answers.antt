@@ -3,7 +3,7 @@ use Rattle.alt_disk.proofs.Runs.{trusted_back}
 use Rattle.alt_machine.specs.Outcomes.{last_state}
 use Rattle.alt_machine.specs.State.{State}
 use Rattle.alt_tables.proofs.Left.{stands_left}
-use Rattle.alt_engine.specs.InHand.{Bounds}
+use Rattle.alt_tables.specs.EngineInHand.{Bounds}
 use Rattle.alt_tables.specs.Images.{StandsFor}
 use Rattle.alt_tables.specs.FilesLeft.{most_files}
 use Rattle.alt_tables.specs.Stands.{Stands, bounds_of}

@@ -1,7 +1,7 @@
 -- An index is built further, and then there is work where it is wanted.
 use Rattle.std.proofs.Common.{◌∙◌, ◌≤◌, ◌+◌, ap, sym, subst, refl, arith}
 use Rattle.alt_disk.proofs.Runs.{trusted_back}
-use Rattle.alt_engine.specs.InHand.{Bounds}
+use Rattle.alt_tables.specs.EngineInHand.{Bounds}
 use Rattle.alt_machine.specs.Building.{build}
 use Rattle.alt_machine.specs.Outcomes.{last_state}
 use Rattle.alt_tables.specs.FilesLeft.{most_files}

@@ -2,10 +2,10 @@
 use Rattle.std.proofs.Common.{◌≡◌, ◌+◌, refl, subst}
 use Rattle.alt_disk.specs.Disk.{IsTrusted}
 use Rattle.alt_disk.proofs.Runs.{trusted_back}
-use Rattle.alt_engine.specs.declared.work.Task.{Task}
-use Rattle.alt_engine.specs.declared.work.Task.TheVariants.{Step, FlushAll, MergeAll}
+use Rattle.alt_tables.specs.EngineDeclaredTask.{Task}
+use Rattle.alt_tables.specs.EngineDeclaredTask.TheVariants.{Step, FlushAll, MergeAll}
 use Rattle.alt_machine.specs.State.{State}
-use Rattle.alt_opening.proofs.OneState.{one_state_of_image}
+use Rattle.alt_tables.proofs.OpeningOneState.{one_state_of_image}
 use Rattle.alt_tables.specs.Merged.{IsMergedFor}
 use Rattle.alt_tables.specs.FilesLeft.{most_files}
 use Rattle.alt_tables.specs.Stands.{bounds_of, limits_of}

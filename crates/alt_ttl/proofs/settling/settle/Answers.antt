@@ -1,7 +1,7 @@
 -- Nothing stands there, or the item has expired, or it is noted when it will have.
 use Rattle.std.proofs.Common.{◌≡◌, sym, ap, subst, ◌∙◌}
 use Rattle.std.specs.FinMap as map
-use Rattle.alt_opening.proofs.OneState.{some}
+use Rattle.alt_tables.proofs.OpeningOneState.{some}
 use Rattle.alt_schema.specs.declared.schema.TableSchema.{TableSchema}
 use Rattle.alt_tables.specs.Foreseen.{ForeseesItem}
 use Rattle.alt_tables.specs.Stands.{catalog_of}

@@ -1,11 +1,11 @@
 -- A merge under way is carried on.
 use Rattle.std.proofs.Common.{◌≡◌, ℕ}
 use Rattle.alt_disk.specs.Disk.{DiskState, IsTrusted}
-use Rattle.alt_hand.specs.Carrying.{Carries}
-use Rattle.alt_hand.specs.InHand.{Stands as HandStands}
-use Rattle.alt_hand.specs.Merging.{files_at}
+use Rattle.alt_merging.specs.HandCarrying.{Carries}
+use Rattle.alt_merging.specs.HandInHand.{Stands as HandStands}
+use Rattle.alt_merging.specs.HandMerging.{files_at}
 use Rattle.alt_layout.specs.Layout.{Layout}
-use Rattle.alt_hand.proofs.CarryLaws.{on_ok_both}
+use Rattle.alt_merging.proofs.HandCarryLaws.{on_ok_both}
 use Rattle.alt_merging.specs.Mergings.{family_of}
 use Rattle.alt_engine.proofs.EngineLaws.{few_on, going_carried}
 use Rattle.alt_engine.proofs.engine.Engine.apply_all.Goals as goal

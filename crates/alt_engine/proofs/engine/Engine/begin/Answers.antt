@@ -1,6 +1,6 @@
 -- A merge of the first family that has many files.
 use Rattle.std.proofs.Common.{refl, subst}
-use Rattle.alt_hand.specs.Merging.{FindsMany}
+use Rattle.alt_merging.specs.HandMerging.{FindsMany}
 use Rattle.alt_merging.proofs.StepLaws.{has_still, last_still}
 use Rattle.alt_engine.proofs.EngineLaws.{few_on}
 use Rattle.alt_engine.proofs.Stepping.{none_of}

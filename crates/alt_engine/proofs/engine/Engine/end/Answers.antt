@@ -1,8 +1,8 @@
 -- The merge that was taken out stands.
 use Rattle.std.proofs.Common.{◌≡◌, Some, rules, sym}
-use Rattle.alt_hand.proofs.EndLaws.{works_same, works_still}
-use Rattle.alt_hand.specs.Merging.{files_at}
-use Rattle.alt_hand.proofs.CarryDrafts.{all_still}
+use Rattle.alt_merging.proofs.HandEndLaws.{works_same, works_still}
+use Rattle.alt_merging.specs.HandMerging.{files_at}
+use Rattle.alt_merging.proofs.HandCarryDrafts.{all_still}
 use Rattle.alt_engine.specs.InHand.{merge_of}
 use Rattle.alt_engine.proofs.Stepping.{taken_stands}
 use Rattle.alt_engine.proofs.engine.Engine.end.Goals as goal

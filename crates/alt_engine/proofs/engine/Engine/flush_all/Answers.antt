@@ -1,7 +1,7 @@
 -- A merge under way is carried on.
 use Rattle.alt_disk.specs.Disk.{DiskState}
-use Rattle.alt_hand.proofs.EndLaws.{works_same, works_still}
-use Rattle.alt_hand.proofs.WorkLaws.{worked_in, works_of}
+use Rattle.alt_merging.proofs.HandEndLaws.{works_same, works_still}
+use Rattle.alt_merging.proofs.HandWorkLaws.{worked_in, works_of}
 use Rattle.alt_merging.specs.Mergings.{family_of}
 use Rattle.alt_engine.proofs.EngineLaws.{going_carried}
 use Rattle.alt_engine.proofs.Taking.{taken_all}

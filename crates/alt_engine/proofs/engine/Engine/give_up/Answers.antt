@@ -4,8 +4,8 @@ use Rattle.alt_disk.specs.Disk.{DiskState}
 use Rattle.std.proofs.lemmas.Result.{on_ok_weaker}
 use Rattle.alt_manifest.proofs.RuleLaws.{tells_no}
 use Rattle.alt_manifest.specs.Versions.{IsIn}
-use Rattle.alt_hand.specs.Merging.{files_at}
-use Rattle.alt_hand.proofs.CarryDrafts.{all_still}
+use Rattle.alt_merging.specs.HandMerging.{files_at}
+use Rattle.alt_merging.proofs.HandCarryDrafts.{all_still}
 use Rattle.alt_merging.proofs.StepLaws.{has_still, last_still}
 use Rattle.alt_engine.specs.InHand.{IsGoing, merge_of}
 use Rattle.alt_engine.proofs.Stepping.{taken_stands}

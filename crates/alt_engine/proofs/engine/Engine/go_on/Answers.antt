@@ -4,11 +4,11 @@ use Rattle.alt_disk.specs.Disk.{DiskState}
 use Rattle.alt_disk.proofs.Runs.{trusted_back, trusted_on}
 use Rattle.alt_compact.specs.Jobs.{Says}
 use Rattle.alt_compact.specs.declared.job.Stepped.{Stepped}
-use Rattle.alt_hand.proofs.EndLaws.{works_same}
+use Rattle.alt_merging.proofs.HandEndLaws.{works_same}
 use Rattle.alt_merging.specs.Mergings.{GivesWay, MergingStands, family_of, taken_of}
 use Rattle.alt_merging.proofs.StepLaws.{has_works, then_works}
-use Rattle.alt_hand.specs.Merging.{version_in}
-use Rattle.alt_hand.proofs.AddingLaws.{last_or}
+use Rattle.alt_merging.specs.HandMerging.{version_in}
+use Rattle.alt_merging.proofs.HandAddingLaws.{last_or}
 use Rattle.alt_engine.specs.InHand.{IsGoing}
 use Rattle.alt_engine.proofs.Versioning.{one_behind}
 use Rattle.alt_engine.proofs.engine.Engine.go_on.Goals as goal

@@ -2,11 +2,11 @@
 use Rattle.std.proofs.Common.{rules, ◌≡◌, ◌∙◌, sym, ap, subst, arith}
 use Rattle.alt_disk.specs.Disk.{DiskState}
 use Rattle.alt_disk.proofs.Runs.{trusted_back, trusted_on}
-use Rattle.alt_hand.specs.Adding.{Adds, LeavesOut, MakesNone}
-use Rattle.alt_hand.specs.InHand.{next_file_of}
-use Rattle.alt_hand.specs.Merging.{HasMany, files_at}
+use Rattle.alt_merging.specs.HandAdding.{Adds, LeavesOut, MakesNone}
+use Rattle.alt_merging.specs.HandInHand.{next_file_of}
+use Rattle.alt_merging.specs.HandMerging.{HasMany, files_at}
 use Rattle.alt_merging.specs.Merged.{AreMerged}
-use Rattle.alt_hand.specs.declared.hand.Hand.{Hand}
+use Rattle.alt_merging.specs.HandDeclaredHand.{Hand}
 use Rattle.alt_merging.proofs.EachLaws.{adds_then, leaves_then, merged_on, works_on, works_then}
 use Rattle.alt_engine.proofs.Stepping.{back_both}
 use Rattle.alt_engine.proofs.Versioning.{by_flag}

@@ -4,16 +4,16 @@ use Rattle.std.proofs.lemmas.Result.{IfOk-weaker, on_ok_weaker}
 use Rattle.alt_disk.specs.Disk.{DiskState}
 use Rattle.alt_disk.specs.Runs.{Spans}
 use Rattle.alt_disk.proofs.Runs.{trusted_back, trusted_on}
-use Rattle.alt_hand.specs.InHand.{Stands as HandStands}
-use Rattle.alt_hand.specs.Merging.{HasMany, version_in}
-use Rattle.alt_hand.specs.Working.{IsCalm, IsShort, WorksIn}
-use Rattle.alt_hand.specs.declared.hand.Hand.{Hand}
-use Rattle.alt_hand.specs.Adding.{Adds, HasLast, HasOneOf, LeavesOut, MakesNone}
-use Rattle.alt_hand.specs.InHand.{next_file_of}
-use Rattle.alt_hand.proofs.AddingLaws.{last_or}
+use Rattle.alt_merging.specs.HandInHand.{Stands as HandStands}
+use Rattle.alt_merging.specs.HandMerging.{HasMany, version_in}
+use Rattle.alt_merging.specs.HandWorking.{IsCalm, IsShort, WorksIn}
+use Rattle.alt_merging.specs.HandDeclaredHand.{Hand}
+use Rattle.alt_merging.specs.HandAdding.{Adds, HasLast, HasOneOf, LeavesOut, MakesNone}
+use Rattle.alt_merging.specs.HandInHand.{next_file_of}
+use Rattle.alt_merging.proofs.HandAddingLaws.{last_or}
 use Rattle.alt_manifest.specs.declared.version.Version.{Version}
-use Rattle.alt_hand.proofs.EndLaws.{works_same}
-use Rattle.alt_hand.proofs.WorkLaws.{worked_in, works_of}
+use Rattle.alt_merging.proofs.HandEndLaws.{works_same}
+use Rattle.alt_merging.proofs.HandWorkLaws.{worked_in, works_of}
 use Rattle.alt_merging.specs.Mergings.{MergingStands, family_of}
 use Rattle.alt_merging.proofs.StepLaws.{has_works}
 use Rattle.alt_engine.specs.InHand.{IsGoing, Stands, merge_of}

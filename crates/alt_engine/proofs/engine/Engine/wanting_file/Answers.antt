@@ -1,7 +1,7 @@
 -- The hand says by the form of its last segment what work has.
 use Rattle.std.proofs.Common.{◌≡◌, ◌≤◌, ◌+◌, ◌-◌, ◌^◌, ℕ, Option, None, Some, IfSome}
-use Rattle.alt_hand.specs.InHand.{WantsFile, files_made, last_form_of, next_file_of}
-use Rattle.alt_hand.proofs.SegmentFiles.{has-file, wants-last}
+use Rattle.alt_merging.specs.HandInHand.{WantsFile, files_made, last_form_of, next_file_of}
+use Rattle.alt_merging.proofs.HandSegmentFiles.{has-file, wants-last}
 use Rattle.alt_engine.proofs.engine.Engine.wanting_file.Goals as goal
 
 -- what holds of what an option has

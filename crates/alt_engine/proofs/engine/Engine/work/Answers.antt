@@ -6,14 +6,14 @@ use Rattle.alt_disk.specs.Disk.{DiskState, IsTrusted}
 use Rattle.alt_disk.proofs.Runs.{trusted_back, trusted_on}
 use Rattle.alt_disk.specs.Runs.{Spans}
 use Rattle.alt_manifest.specs.declared.version.Version.{Version}
-use Rattle.alt_hand.specs.Adding.{Adds, HasLast, HasOneOf, IsOverNewLog, LeavesOut}
-use Rattle.alt_hand.specs.InHand.{length_of, next_file_of}
-use Rattle.alt_hand.specs.Merging.{HasMany, files_at, memory_at, version_in}
-use Rattle.alt_hand.specs.Working.{AreAllFlushed, IsCalm, IsFlushDone, IsLong, IsShort}
-use Rattle.alt_hand.specs.declared.hand.Hand.{Hand}
-use Rattle.alt_hand.proofs.AddingLaws.{last_or}
-use Rattle.alt_hand.proofs.CarryLaws.{on_ok_both}
-use Rattle.alt_hand.proofs.WorkLaws.{no_entries, step_short}
+use Rattle.alt_merging.specs.HandAdding.{Adds, HasLast, HasOneOf, IsOverNewLog, LeavesOut}
+use Rattle.alt_merging.specs.HandInHand.{length_of, next_file_of}
+use Rattle.alt_merging.specs.HandMerging.{HasMany, files_at, memory_at, version_in}
+use Rattle.alt_merging.specs.HandWorking.{AreAllFlushed, IsCalm, IsFlushDone, IsLong, IsShort}
+use Rattle.alt_merging.specs.HandDeclaredHand.{Hand}
+use Rattle.alt_merging.proofs.HandAddingLaws.{last_or}
+use Rattle.alt_merging.proofs.HandCarryLaws.{on_ok_both}
+use Rattle.alt_merging.proofs.HandWorkLaws.{no_entries, step_short}
 use Rattle.alt_merging.specs.Merged.{AreMerged}
 use Rattle.alt_merging.specs.Mergings.{file_of}
 use Rattle.alt_merging.proofs.EachLaws.{merged_on}

@@ -1,6 +1,6 @@
 -- With the families of a table they are live still.
 use Rattle.std.proofs.Common.{sym, subst}
-use Rattle.alt_hand.specs.Working.{AreLive}
+use Rattle.alt_engine.specs.HandWorking.{AreLive}
 use Rattle.alt_opening.proofs.LiveLists.{live_all}
 use Rattle.alt_opening.proofs.live.Live.with_table.Goals as goal
 

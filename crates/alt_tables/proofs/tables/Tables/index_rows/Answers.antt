@@ -1,9 +1,9 @@
 -- The rows of the walk are those of what the index keeps, and nothing else changed.
 use Rattle.std.proofs.Common.{◌≡◌, ◌++◌, ◌≤◌, ◌+◌, ℕ, true, List, Some, option_map, refl, sym, ap, subst, ◌∙◌, take, OnOk, IfOk}
 use Rattle.std.specs.FinMap as map
-use Rattle.alt_engine.specs.InHand.{hand_of}
+use Rattle.alt_opening.specs.EngineInHand.{hand_of}
 use Rattle.alt_families.specs.Reads.{most_reads}
-use Rattle.alt_hand.specs.InHand.{file_rows}
+use Rattle.alt_opening.specs.HandInHand.{file_rows}
 use Rattle.alt_layout.specs.Layout.{rows_between, shown}
 use Rattle.alt_machine.specs.Indexed.{index_items}
 use Rattle.alt_views.specs.IndexRows.{index_columns}

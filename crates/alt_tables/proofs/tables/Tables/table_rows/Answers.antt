@@ -1,9 +1,9 @@
 -- The rows of the walk are those of the items, and nothing else changed.
 use Rattle.std.proofs.Common.{◌≡◌, ◌∙◌, refl, sym, ap, subst, IfOk}
 use Rattle.std.specs.Prelude.{◌≤◌, ◌+◌}
-use Rattle.alt_engine.specs.InHand.{hand_of}
+use Rattle.alt_opening.specs.EngineInHand.{hand_of}
 use Rattle.alt_families.specs.Reads.{most_reads}
-use Rattle.alt_hand.specs.InHand.{file_rows}
+use Rattle.alt_opening.specs.HandInHand.{file_rows}
 use Rattle.alt_layout.specs.Layout.{rows_between, shown}
 use Rattle.alt_schema.specs.declared.schema.TableSchema.{TableSchema}
 use Rattle.alt_views.specs.ItemRows.{item_columns}

@@ -1,8 +1,8 @@
 -- The families of all tables are live, so the rows of the state stay.
 use Rattle.std.proofs.Common.{refl, subst, arith}
-use Rattle.alt_engine.specs.Working.{IsNeeded}
-use Rattle.alt_hand.specs.InHand.{last_form_of}
-use Rattle.alt_hand.proofs.SegmentFiles.{files_made-few}
+use Rattle.alt_opening.specs.EngineWorking.{IsNeeded}
+use Rattle.alt_opening.specs.HandInHand.{last_form_of}
+use Rattle.alt_opening.proofs.HandSegmentFiles.{files_made-few}
 use Rattle.alt_tables.proofs.Working.{few_live, merged_for, work_fault, worked_left, worked_stands}
 use Rattle.alt_tables.proofs.tables.Tables.work.Goals as goal
 

@@ -5,8 +5,8 @@ use Rattle.std.proofs.lemmas.Slice.Eq.{bytes_eq-Decides}
 use Rattle.alt_changes.specs.TrimRows.{trim_changes}
 use Rattle.alt_codec.specs.declared.writer.Writer.TheVariants.{User}
 use Rattle.alt_disk.proofs.Runs.{quiet_start}
-use Rattle.alt_engine.specs.InHand.{Stands as EngineStands, bounds_of as engine_bounds, next_of}
-use Rattle.alt_engine.specs.declared.engine.Engine.{Engine}
+use Rattle.alt_opening.specs.EngineInHand.{Stands as EngineStands, bounds_of as engine_bounds, next_of}
+use Rattle.alt_opening.specs.EngineDeclaredEngine.{Engine}
 use Rattle.alt_machine.specs.Outcomes.{a_number}
 use Rattle.alt_machine.specs.Writes.{after_item}
 use Rattle.alt_machine.proofs.Lacks.{has_number}

@@ -3,7 +3,7 @@ use Rattle.std.proofs.Common.{◌≡◌, ℕ, List, Option}
 use Rattle.std.specs.FinMap.{get}
 use Rattle.alt_disk.specs.Disk.{DiskState, IsImage}
 use Rattle.alt_disk.specs.Runs.{Quiet}
-use Rattle.alt_hand.proofs.HandLaws as laws
+use Rattle.alt_engine.proofs.HandHandLaws as laws
 use Rattle.alt_layout.proofs.OneLayout.{one_layout}
 use Rattle.alt_layout.proofs.ShownLaws.{get-shown_rows}
 use Rattle.alt_layout.specs.Files.{IsLayout}

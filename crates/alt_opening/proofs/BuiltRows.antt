@@ -9,13 +9,14 @@ use Rattle.alt_cells.specs.Changes.{Columns}
 use Rattle.alt_machine.specs.Building.{IsBuilt, is_building, is_built_to}
 use Rattle.alt_schema.specs.Bare.{bare, is_whole}
 use Rattle.alt_schema.specs.Described.{IsDescription, keys_defined}
-use Rattle.alt_schema.specs.Format.{description_bytes}
-use Rattle.alt_schema.specs.Held.{IsHeld}
+use Rattle.alt_schemabytes.specs.Format.{description_bytes}
+use Rattle.alt_schemabytes.specs.Held.{IsHeld}
 use Rattle.alt_schema.specs.declared.schema.IndexSchema.{IndexSchema}
 use Rattle.alt_schema.specs.declared.schema.TableSchema.{TableSchema}
-use Rattle.alt_schema.proofs.BareLaws.{bare_described, description_bytes-bare, tests-as_whole, whole_is}
+use Rattle.alt_schema.proofs.BareLaws.{bare_described, tests-as_whole, whole_is}
+use Rattle.alt_schemabytes.proofs.BareBytes.{description_bytes-bare}
 use Rattle.alt_schema.proofs.NewDescriptions.{left, right}
-use Rattle.alt_schema.proofs.WholeDescriptions.{one_spelling}
+use Rattle.alt_schemabytes.proofs.WholeDescriptions.{one_spelling}
 use Rattle.alt_opening.specs.StateRows.{built_bytes, built_cell, described_row, plain_row, table_row, with_built_cell}
 use Rattle.alt_opening.proofs.CellRows.{cell_of_row, no_cell, row_with_cell, same_cell}
 use Rattle.alt_opening.proofs.TableRow.{AllWhole, row_tells}

@@ -16,7 +16,7 @@ use Rattle.alt_machine.proofs.Inserted.{head_pairs, tail_pairs}
 use Rattle.alt_machine.specs.Building.{IsBuilt, building_in, built_place, is_building, is_built_to}
 use Rattle.alt_machine.specs.Lists.{start_beside, start_value}
 use Rattle.alt_schema.specs.Bare.{as_whole, bare, is_whole}
-use Rattle.alt_schema.specs.Held.{IsHeld, IsHeldBuilt, IsHeldIndex}
+use Rattle.alt_schemabytes.specs.Held.{IsHeld, IsHeldBuilt, IsHeldIndex}
 use Rattle.alt_schema.specs.Indexes.{indexes, is_key}
 use Rattle.alt_schema.specs.SoFar.{index_of_family, schema_of_family}
 use Rattle.alt_schema.specs.declared.schema.Built.{Built}

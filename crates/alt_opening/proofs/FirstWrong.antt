@@ -13,7 +13,7 @@ use Rattle.alt_machine.specs.declared.TheConstants.{NUMBERS_END, FAMILIES_END}
 use Rattle.alt_machine.specs.State.{State, Table, Texts, families_of}
 use Rattle.alt_machine.proofs.Families.{of_contained}
 use Rattle.alt_machine.specs.Valid.{IsMade}
-use Rattle.alt_schema.specs.Held.{IsHeld}
+use Rattle.alt_schemabytes.specs.Held.{IsHeld}
 use Rattle.alt_schema.specs.declared.schema.TableSchema.{TableSchema}
 use Rattle.alt_views.specs.ItemRows.{item_columns}
 use Rattle.alt_opening.specs.private.Opening.{IsCatalog, IsGood, AreApart}

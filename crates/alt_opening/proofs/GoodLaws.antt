@@ -11,7 +11,7 @@ use Rattle.std.proofs.lemmas.Slice.Eq.{bytes_eq-Decides}
 use Rattle.alt_machine.specs.Building.{IsBuilt}
 use Rattle.alt_machine.specs.State.{Texts, families_of}
 use Rattle.alt_schema.specs.Described.{IsDescription}
-use Rattle.alt_schema.specs.Held.{IsHeld}
+use Rattle.alt_schemabytes.specs.Held.{IsHeld}
 use Rattle.alt_schema.specs.declared.schema.TableSchema.{TableSchema}
 use Rattle.alt_opening.specs.private.Opening.{IsApart, IsGood, are_within, are_apart, passes, shares}
 use Rattle.alt_opening.proofs.MadeLaws.{as_made, made_as}

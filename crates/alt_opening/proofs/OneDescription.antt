@@ -13,15 +13,15 @@ use Rattle.alt_machine.proofs.Inserted.{head_pairs, tail_pairs}
 use Rattle.alt_machine.specs.Lists.{start_beside, start_value}
 use Rattle.alt_schema.specs.Bare.{as_whole, bare, is_whole}
 use Rattle.alt_schema.specs.Described.{IsDescription}
-use Rattle.alt_schema.specs.Format.{description_bytes}
-use Rattle.alt_schema.specs.Held.{IsHeld, IsHeldBuilt, IsHeldIndex}
+use Rattle.alt_schemabytes.specs.Format.{description_bytes}
+use Rattle.alt_schemabytes.specs.Held.{IsHeld, IsHeldBuilt, IsHeldIndex}
 use Rattle.alt_schema.specs.Indexes.{indexes, is_key}
 use Rattle.alt_schema.specs.declared.schema.Built.{Built}
 use Rattle.alt_schema.specs.declared.schema.Built.TheVariants.{Whole, UpTo}
 use Rattle.alt_schema.specs.declared.schema.IndexSchema.{IndexSchema}
 use Rattle.alt_schema.specs.declared.schema.TableSchema.{TableSchema}
 use Rattle.alt_schema.proofs.BareLaws.{all_whole, map-as_whole}
-use Rattle.alt_schema.proofs.WholeDescriptions.{one_spelling}
+use Rattle.alt_schemabytes.proofs.WholeDescriptions.{one_spelling}
 use Rattle.alt_opening.proofs.OneIndex.{at_each, behind_any, family_in, found_at, one_of_family, only_one}
 use Rattle.alt_opening.specs.Families.{HasOwnFamilies}
 use Rattle.alt_opening.specs.StateRows.{built_bytes, built_cell, table_row}

@@ -11,10 +11,11 @@ use Rattle.alt_cells.specs.Changes.{Columns}
 use Rattle.alt_cells.specs.Keys.{key_cmp}
 use Rattle.alt_schema.specs.Bare.{bare, is_whole}
 use Rattle.alt_schema.specs.Described.{IsDescription}
-use Rattle.alt_schema.specs.Format.{description_bytes}
+use Rattle.alt_schemabytes.specs.Format.{description_bytes}
 use Rattle.alt_schema.specs.Indexes.{indexes}
 use Rattle.alt_schema.specs.declared.schema.TableSchema.{TableSchema}
-use Rattle.alt_schema.proofs.BareLaws.{bare_whole, description_bytes-timed, timed_described}
+use Rattle.alt_schema.proofs.BareLaws.{bare_whole, timed_described}
+use Rattle.alt_schemabytes.proofs.BareBytes.{description_bytes-timed}
 use Rattle.alt_opening.specs.StateRows.{described_row, one_column, table_cells, table_row, plain_row, built_cell, with_built_cell}
 use Rattle.alt_opening.proofs.OneColumn.{entries-one_column}
 

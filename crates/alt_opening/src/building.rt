@@ -8,7 +8,7 @@ ghost use Rattle.std.specs.List.{count_by, list_all};
 ghost use Rattle.alt_cells.specs.Keys.{key_cmp};
 ghost use Rattle.alt_machine.specs.Building.{IsBuilt};
 ghost use Rattle.alt_schema.specs.Bare.{bare, is_whole};
-ghost use Rattle.alt_schema.specs.Held.{IsHeld, IsHeldBuilt};
+ghost use Rattle.alt_schemabytes.specs.Held.{IsHeld, IsHeldBuilt};
 ghost use Rattle.alt_schema.specs.Indexes.{indexes};
 ghost use Rattle.alt_schema.specs.declared.schema.Built.{Built};
 ghost use Rattle.alt_schema.specs.declared.schema.IndexSchema.{IndexSchema};

@@ -9,7 +9,7 @@ ghost use Rattle.alt_layout.specs.Layout.{Layout};
 ghost use Rattle.alt_machine.specs.Building.{IsBuilt};
 ghost use Rattle.alt_machine.specs.State.{families_of};
 ghost use Rattle.alt_schema.specs.Described.{IsDescription};
-ghost use Rattle.alt_schema.specs.Held.{IsHeld};
+ghost use Rattle.alt_schemabytes.specs.Held.{IsHeld};
 ghost use Rattle.alt_schema.specs.Indexes.{indexes};
 ghost use Rattle.alt_schema.specs.declared.schema.TableSchema.{TableSchema};
 ghost use Rattle.alt_opening.specs.private.Opening.{IsApart, IsCatalog, IsGood, IsRowFault, IsNextFamily, IsReadOn, IsReadUpTo, IsTableAt, MayStand, are_families, are_within, are_apart, is_number, passes};

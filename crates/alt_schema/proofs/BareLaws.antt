@@ -1,12 +1,9 @@
--- What stands beside the bytes of a description changes none of them, and nothing of what the others tell.
-use Rattle.std.proofs.Common.{◌≡◌, refl, sym, ap, subst, ◌∙◌, suc, ◌<◌, ◌^◌, Bool, true, ◌&&◌, List, [], ◌∷◌, ◌++◌, map, length, ℕ, Option, None}
-use Rattle.std.specs.Int.{w64, to_be_bytes}
+-- What stands beside the bytes of a description changes nothing of what they tell.
+use Rattle.std.proofs.Common.{◌≡◌, refl, sym, ap, ◌∙◌, suc, Bool, true, ◌&&◌, List, [], ◌∷◌, ◌++◌, map, length, ℕ, Option, None}
 use Rattle.std.specs.List.{list_all, AllByRecursion}
 use Rattle.std.proofs.lemmas.List.Folds.{list_all-append}
 use Rattle.alt_schema.specs.Bare.{as_whole, bare, is_whole}
 use Rattle.alt_schema.specs.Described.{IsDescription, keys_defined}
-use Rattle.alt_schema.specs.Format.{each, counted, view_byte, stream_bytes, definition_bytes, keys_bytes, index_bytes, head_bytes, description_bytes}
-use Rattle.alt_schema.specs.Held.{IsHeldIndex, IsHeld}
 use Rattle.alt_schema.specs.Indexes.{indexes}
 use Rattle.alt_schema.specs.declared.schema.Built.{Built}
 use Rattle.alt_schema.specs.declared.schema.Built.TheVariants.{Whole, UpTo}
@@ -55,17 +52,6 @@ pub length-as_whole : (is : List IndexSchema) → length (map as_whole is) ≡ l
 length-as_whole [] = refl
 length-as_whole (i ∷ is) = ap suc (length-as_whole is)
 
--- the bytes of each
-pub each-as_whole : (is : List IndexSchema) → each index_bytes (map as_whole is)
-    ≡ each index_bytes is
-each-as_whole [] = refl
-each-as_whole (i ∷ is) = ap (λ m. index_bytes i ++ m) (each-as_whole is)
-
--- the bytes of several
-pub counted-as_whole : (is : List IndexSchema) → counted index_bytes (map as_whole is)
-    ≡ counted index_bytes is
-counted-as_whole is = λ j. to_be_bytes w64 (length-as_whole is j) ++ each-as_whole is j
-
 -- a test that doesn't look at how far an index is built
 pub tests-as_whole : (test : IndexSchema → Bool) → ((i : IndexSchema) → test (as_whole i) ≡ test i)
     → (ls gs : List IndexSchema) → list_all test (map as_whole ls ++ map as_whole gs)
@@ -74,32 +60,9 @@ tests-as_whole test same [] [] = refl
 tests-as_whole test same [] (g ∷ gs) = λ j. same g j && tests-as_whole test same [] gs j
 tests-as_whole test same (l ∷ ls) gs = λ j. same l j && tests-as_whole test same ls gs j
 
--- each is held
-held-as_whole : (is : List IndexSchema) → AllByRecursion IsHeldIndex is
-    → AllByRecursion IsHeldIndex (map as_whole is)
-held-as_whole [] h = tt
-held-as_whole (i ∷ is) h = (
-  record {
-    name = h.0.name;
-    family = h.0.family;
-    hash = h.0.hash;
-    range = h.0.range;
-    projection = h.0.projection;
-    built = tt;
-  },
-  held-as_whole is h.1,
-)
-
 -- ---- the whole
 
 module _ (d : TableSchema) where
-  -- the bytes are those of what they tell
-  pub description_bytes-bare : description_bytes (bare d) ≡ description_bytes d
-  unfolding description_bytes
-  description_bytes-bare = λ j. head_bytes d ++ (view_byte d.view ∷ stream_bytes d.stream_family
-      ++ (counted definition_bytes d.definitions ++ (keys_bytes d.hash d.range
-      ++ (counted-as_whole d.locals j ++ counted-as_whole d.globals j))))
-
   -- what they tell of a description is one
   pub bare_described : IsDescription d → IsDescription (bare d)
   bare_described is = record {
@@ -110,40 +73,12 @@ module _ (d : TableSchema) where
         d.locals d.globals ∙ is.index_keys;
   }
 
-  -- and a program can hold it
-  pub bare_held : IsHeld d → IsHeld (bare d)
-  bare_held is = record {
-    name = is.name;
-    created = is.created;
-    number = is.number;
-    family = is.family;
-    stream_family = is.stream_family;
-    definitions = is.definitions;
-    hash = is.hash;
-    range = is.range;
-    locals = (
-      subst (λ n. n < 2 ^ 64) (sym (length-as_whole d.locals)) is.locals.0,
-      held-as_whole d.locals is.locals.1,
-    );
-    globals = (
-      subst (λ n. n < 2 ^ 64) (sym (length-as_whole d.globals)) is.globals.0,
-      held-as_whole d.globals is.globals.1,
-    );
-    ttl = tt;
-  }
-
   -- it has whole indexes
   pub bare_whole : list_all (λ i. is_whole i.built) (indexes (bare d)) ≡ true
   bare_whole = list_all-append (λ i. is_whole i.built) (map as_whole d.locals)
       (map as_whole d.globals) ∙ (λ j. all_as_whole d.locals j && all_as_whole d.globals j)
 
-  -- with another time to live a description has the same bytes
-  pub description_bytes-timed : (time : Option (List ℕ))
-      → description_bytes (record d { ttl = time }) ≡ description_bytes d
-  unfolding description_bytes
-  description_bytes-timed time = refl
-
-  -- and is one
+  -- with another time to live a description is one
   pub timed_described : (time : Option (List ℕ)) → IsDescription d
       → IsDescription (record d { ttl = time })
   timed_described time is = record {

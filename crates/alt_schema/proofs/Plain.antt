@@ -46,8 +46,8 @@ of_stream shown each (Some v) d e =
     let is : shown v ≡ d = cc in
     ap has_float (sym is) ∙ each v
 
--- keys
-key_schema_plain : (hash : KeyAttr) (range : Option KeyAttr)
+-- a key schema
+pub key_schema_plain : (hash : KeyAttr) (range : Option KeyAttr)
     → has_float (key_schema_json hash range) ≡ false
 key_schema_plain hash None = refl
 key_schema_plain hash (Some k) = refl

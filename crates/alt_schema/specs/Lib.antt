@@ -1,13 +1,9 @@
 pub mod Altered
 pub mod Bare
 pub mod Described
-pub mod Format
-pub mod Held
 pub mod Indexes
 pub mod Json
 pub mod Named
-pub mod Parts
-pub mod Places
 pub mod Rules
 pub mod SoFar
 pub mod Stated

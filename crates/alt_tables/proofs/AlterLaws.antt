@@ -31,7 +31,7 @@ use Rattle.alt_machine.proofs.Lacks.{index_room, number_room}
 use Rattle.alt_machine.proofs.Redescribed.{IsAlike, built_part-alike, with_description_valid}
 use Rattle.alt_machine.proofs.Removed.{alike_removed, differ_removed, families_removed, own_removed}
 use Rattle.alt_schema.specs.Altered.{index_added, with_index, without_index}
-use Rattle.alt_schema.specs.Held.{IsHeld}
+use Rattle.alt_schemabytes.specs.Held.{IsHeld}
 use Rattle.alt_schema.specs.Indexes.{indexes, is_named}
 use Rattle.alt_schema.specs.declared.schema.Built.TheVariants.{UpTo}
 use Rattle.alt_schema.specs.declared.schema.IndexSchema.{IndexSchema}

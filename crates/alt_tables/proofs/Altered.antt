@@ -20,7 +20,7 @@ use Rattle.alt_machine.specs.declared.TheConstants.{FAMILIES_END, NUMBERS_END}
 use Rattle.alt_machine.proofs.Added.{differ_added}
 use Rattle.alt_machine.proofs.Lacks.{has_number, lacks_number}
 use Rattle.alt_machine.proofs.Removed.{differ_removed}
-use Rattle.alt_schema.specs.Held.{IsHeld}
+use Rattle.alt_schemabytes.specs.Held.{IsHeld}
 use Rattle.alt_schema.specs.declared.schema.TableSchema.{TableSchema}
 use Rattle.alt_value.specs.Members.{text_order}
 use Rattle.alt_value.proofs.Texts.{text_total}

@@ -34,7 +34,7 @@ use Rattle.alt_machine.proofs.Looks.{at_insert}
 use Rattle.alt_machine.proofs.Redescribed.{IsAlike, built_part-alike}
 use Rattle.alt_machine.proofs.Rekeying.{AreApart}
 use Rattle.alt_schema.specs.Bare.{is_whole}
-use Rattle.alt_schema.specs.Held.{IsHeld}
+use Rattle.alt_schemabytes.specs.Held.{IsHeld}
 use Rattle.alt_schema.specs.Indexes.{indexes}
 use Rattle.alt_schema.specs.declared.schema.Built.{Built}
 use Rattle.alt_schema.specs.declared.schema.IndexSchema.{IndexSchema}

@@ -23,7 +23,7 @@ use Rattle.alt_machine.proofs.BuildParts.{Placed, in_order, sorted_taken}
 use Rattle.alt_machine.proofs.BuildSteps.{all_stored, families_same}
 use Rattle.alt_machine.proofs.Entries.{each_entry, first, second}
 use Rattle.alt_machine.proofs.Indexing.{index_apart}
-use Rattle.alt_schema.specs.Held.{IsHeld}
+use Rattle.alt_schemabytes.specs.Held.{IsHeld}
 use Rattle.alt_schema.specs.declared.schema.Built.{Built}
 use Rattle.alt_schema.specs.declared.schema.Built.TheVariants.{Whole, UpTo}
 use Rattle.alt_schema.specs.declared.schema.IndexSchema.{IndexSchema}

@@ -34,8 +34,8 @@ use Rattle.alt_machine.proofs.Looks.{at_insert, at_remove, not_there}
 use Rattle.alt_machine.proofs.Rekeying.{given_by}
 use Rattle.alt_machine.proofs.States.{with_table_valid, without_table_valid}
 use Rattle.alt_schema.specs.Described.{IsNew}
-use Rattle.alt_schema.specs.Format.{description_bytes}
-use Rattle.alt_schema.specs.Held.{IsHeld}
+use Rattle.alt_schemabytes.specs.Format.{description_bytes}
+use Rattle.alt_schemabytes.specs.Held.{IsHeld}
 use Rattle.alt_schema.specs.Rules.{is_name}
 use Rattle.alt_schema.specs.declared.schema.Built.{Built}
 use Rattle.alt_schema.specs.declared.schema.IndexSchema.{IndexSchema}

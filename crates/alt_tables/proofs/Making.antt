@@ -24,7 +24,7 @@ use Rattle.alt_machine.specs.Writes.{with_write_by, after_item_by, item_writes_b
 use Rattle.alt_machine.proofs.Descriptions.{len-descriptions}
 use Rattle.alt_machine.proofs.Lacks.{has_table, one_has, one_lacks}
 use Rattle.alt_schema.specs.Described.{IsNew}
-use Rattle.alt_schema.specs.Held.{IsHeld}
+use Rattle.alt_schemabytes.specs.Held.{IsHeld}
 use Rattle.alt_schema.specs.declared.schema.TableSchema.{TableSchema}
 use Rattle.alt_tables.specs.Faults.{AreMade, AreSome, BreakOff, IsFindFault, IsLastFile, Writes}
 use Rattle.alt_opening.specs.Live.{with_all, without_all}

@@ -23,7 +23,7 @@ use Rattle.alt_machine.specs.Valid.{IsHeldChange, IsValid}
 use Rattle.alt_machine.proofs.Looks.{at_insert}
 use Rattle.alt_machine.proofs.Redescribed.{built_part-alike}
 use Rattle.alt_machine.proofs.Timing.{alike_same, with_time_valid}
-use Rattle.alt_schema.specs.Held.{IsHeld, IsHeldText, Where}
+use Rattle.alt_schemabytes.specs.Held.{IsHeld, IsHeldText, Where}
 use Rattle.alt_schema.specs.declared.schema.IndexSchema.{IndexSchema}
 use Rattle.alt_schema.specs.declared.schema.TableSchema.{TableSchema}
 use Rattle.alt_opening.specs.StateRows.{HasMoment, IsHeldWhole, IsLeftover, Shows, catalog_family, catalog_rows, item_rows, index_rows, change_rows, table_row, next_row}

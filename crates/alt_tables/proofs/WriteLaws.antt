@@ -36,7 +36,7 @@ use Rattle.alt_machine.proofs.Looks.{at_insert}
 use Rattle.alt_machine.proofs.States.{after_item_valid, change_is, changes_with, with_item_stored}
 use Rattle.alt_machine.proofs.Trimming.{kept_all}
 use Rattle.alt_machine.specs.Trimming.{kept}
-use Rattle.alt_schema.specs.Held.{IsHeld}
+use Rattle.alt_schemabytes.specs.Held.{IsHeld}
 use Rattle.alt_schema.specs.Indexes.{indexes}
 use Rattle.alt_schema.specs.declared.schema.IndexSchema.{IndexSchema}
 use Rattle.alt_views.specs.ItemRows.{item_columns}

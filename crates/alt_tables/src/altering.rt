@@ -23,7 +23,8 @@ use alt_disk::Disk;
 use alt_fields::Bytes;
 use alt_machine::{FAMILIES_END, NUMBERS_END};
 use alt_opening::{CATALOG, row_of_family, row_of_schema};
-use alt_schema::{IndexSchema, TableSchema, held};
+use alt_schema::{IndexSchema, TableSchema};
+use alt_schemabytes::held;
 use std::alloc::Global;
 
 impl Tables {

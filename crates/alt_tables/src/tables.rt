@@ -15,7 +15,7 @@ ghost use Rattle.alt_machine.specs.State.{State, Table, families_of};
 ghost use Rattle.alt_machine.specs.Valid.{IsMade, IsValid};
 ghost use Rattle.alt_machine.specs.Wanted.{table_lack};
 ghost use Rattle.alt_schema.specs.Described.{IsNew};
-ghost use Rattle.alt_schema.specs.Held.{IsHeldText, Where};
+ghost use Rattle.alt_schemabytes.specs.Held.{IsHeldText, Where};
 ghost use Rattle.alt_tables.specs.Faults.{IsFindFault, Writes};
 ghost use Rattle.alt_tables.specs.Images.{Leaves};
 ghost use Rattle.alt_opening.specs.Order.{first_after};
@@ -38,7 +38,8 @@ use alt_opening::{
     CATALOG, Catalog, Engine, Live, Trimmed, forget, row_of_family, row_of_schema, row_with_time,
     trimmed_number,
 };
-use alt_schema::{TableSchema, held};
+use alt_schema::TableSchema;
+use alt_schemabytes::held;
 use alt_value::Text;
 use std::alloc::Global;
 

@@ -1,4 +1,4 @@
-//! The tests of alt_shape and of alt_schema, in a crate above both, so that neither is proved again for
+//! The tests of alt_shape, alt_schema and alt_schemabytes, in a crate above these, so that none is proved again for
 //! them.
 #![tactic(auto)]
 

@@ -13,7 +13,7 @@ use Rattle.alt_machine.specs.State.{State, Texts, descriptions, families_of}
 use Rattle.alt_machine.specs.Valid.{IsMade, IsValid}
 use Rattle.alt_machine.specs.Building.{is_built_to}
 use Rattle.alt_schema.specs.Bare.{is_whole}
-use Rattle.alt_schema.specs.Held.{IsHeld}
+use Rattle.alt_schemabytes.specs.Held.{IsHeld}
 use Rattle.alt_schema.specs.declared.schema.Built.{Built}
 use Rattle.alt_schema.specs.declared.schema.TableSchema.{TableSchema}
 use Rattle.alt_opening.specs.private.Made.{is_as_made}

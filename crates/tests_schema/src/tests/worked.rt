@@ -1,7 +1,8 @@
 //! A worked description: its bytes, its indexes, and the rows of items in these.
 
 use alt_fields::BytesFault;
-use alt_schema::{TableSchema, held, schema_bytes, schema_of_bytes, schema_of_json};
+use alt_schema::{TableSchema, schema_of_json};
+use alt_schemabytes::{held, schema_bytes, schema_of_bytes};
 use alt_value::{Attr, Item, Text};
 use alt_views::{index_item, index_keys_fit, index_named};
 use serde_json::Value;

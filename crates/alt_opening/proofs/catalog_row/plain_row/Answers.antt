@@ -1,6 +1,6 @@
 -- The row has the bytes of the description, and that time to live.
 use Rattle.std.proofs.Common.{◌∙◌, ◌++◌, ap, refl, Some, option_map, Result, Ok, Err, IfOk}
-use Rattle.alt_schema.specs.Format.{description_bytes}
+use Rattle.alt_schemabytes.specs.Format.{description_bytes}
 use Rattle.alt_opening.proofs.TableRow.{one_described, row_timed}
 use Rattle.alt_opening.proofs.catalog_row.plain_row.Goals as goal
 

@@ -2,8 +2,8 @@
 use Rattle.std.proofs.Common.{◌≡◌, ◌∙◌, ap, sym, subst, Err}
 use Rattle.std.specs.Result.{IsErrAnd}
 use Rattle.alt_fields.specs.declared.bytes.BytesFault.{BytesFault}
-use Rattle.alt_schema.specs.Held.{IsHeldText, IsReadAs, Where}
-use Rattle.alt_schema.specs.Format.{description_bytes}
+use Rattle.alt_schemabytes.specs.Held.{IsHeldText, IsReadAs, Where}
+use Rattle.alt_schemabytes.specs.Format.{description_bytes}
 use Rattle.alt_opening.proofs.TableRow.{row_timed, timed_is, timed_whole, told_alike}
 use Rattle.alt_opening.proofs.catalog_row.plain_schema.Goals as goal
 

@@ -7,7 +7,7 @@ use Rattle.alt_machine.proofs.Lacks.{has_number}
 use Rattle.alt_machine.specs.Ops.UpdateTimeToLive.{with_time}
 use Rattle.alt_machine.specs.Outcomes.{a_number}
 use Rattle.alt_machine.specs.State.{Texts}
-use Rattle.alt_schema.specs.Held.{IsHeldText, Where}
+use Rattle.alt_schemabytes.specs.Held.{IsHeldText, Where}
 use Rattle.alt_schema.specs.declared.schema.TableSchema.{TableSchema}
 use Rattle.alt_due.specs.declared.due.Due.{Due}
 use Rattle.alt_tables.specs.RowChanges.{time_changes}

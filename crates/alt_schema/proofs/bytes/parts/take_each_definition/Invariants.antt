@@ -1,8 +1,0 @@
--- The whole is read as what is left is, behind those so far.
-use Rattle.std.proofs.Common.{◌≡◌, ◌-◌, []}
-use Rattle.alt_schema.specs.Parts.{read_more, read_definition}
-use Rattle.alt_schema.proofs.bytes.parts.take_each_definition.Given as goal
-
-abbrev pub invariant-loop-done : goal.invariant-loop-done
-invariant-loop-done l = read_more read_definition l.count [] l.bytes
-    ≡ read_more read_definition (l.count - l._done) l.definitions l.rest

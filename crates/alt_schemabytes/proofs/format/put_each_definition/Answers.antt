@@ -1,0 +1,10 @@
+-- What was there before stays in front.
+use Rattle.alt_base.proofs.Prefixes.{prefix_trans, on_err_holds}
+use Rattle.alt_schemabytes.proofs.format.put_each_definition.Goals as goal
+
+pub returns-in_err-put_definition-clause-begun : goal.returns-in_err-put_definition-clause-begun
+returns-in_err-put_definition-clause-begun c =
+    on_err_holds c.from_residual.result
+    (prefix_trans c.args.out.now.items c.loop-definition.out.items
+    c.put_definition.new.out.items c.loop-definition.invariant.begun
+    c.in_err-put_definition.ensures.begun)

@@ -1,0 +1,18 @@
+-- A number that stands there is read, and what is behind it is left.
+use Rattle.std.proofs.Common.{rules, arith}
+use Rattle.alt_schemabytes.proofs.Fields.{u64_within, u64_part, u64_short}
+use Rattle.alt_schemabytes.proofs.parts.take_u64.Goals as goal
+
+pub split_at-requires : goal.split_at-requires
+split_at-requires c =
+    u64_within c.args.bytes.now c.in-Ok.number c.in-Ok.end c.in-Ok.ensures.ok.0
+    c.in-Ok.ensures.ok.1
+
+pub returns-in-Ok-clause-part : goal.returns-in-Ok-clause-part
+returns-in-Ok-clause-part c =
+    u64_part c.args.bytes.now c.in-Ok.number c.in-Ok.end c.split_at.result.1.now
+    (search rules) c.in-Ok.ensures.ok.0 c.in-Ok.ensures.ok.1 c.split_at.ensures.back
+
+pub returns-in-Err-clause-stop : goal.returns-in-Err-clause-stop
+returns-in-Err-clause-stop c =
+    u64_short c.args.bytes.now (omega (arith, c.in-Err.ensures.short.1))

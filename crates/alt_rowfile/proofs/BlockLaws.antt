@@ -16,10 +16,13 @@ use Rattle.alt_cells.proofs.Entries.{both, first, second, less, is_less, below_l
 use Rattle.alt_cells.proofs.Rising.{sorted_front}
 use Rattle.alt_fields.proofs.Apart.{field-apart, all_append, all_back, flat_map_snoc}
 use Rattle.alt_rowfile.specs.Format.{Entry, Mark, entry_bytes, rows_bytes, block_bytes, front, rows_of, first_key, marks_from, IsBlock, IsFull, AreBlocks, IsHeldEntry, IsHeldBlock}
+use Rattle.alt_filter.specs.declared.filter.Filter.{Filter}
 use Rattle.alt_rowfile.specs.Decoding.{AreRows, StandBefore}
+use Rattle.alt_rowfile.specs.Filtering.{AreFilters, HoldsRows}
 use Rattle.alt_rowfile.specs.Blocks.{IsAbove, IsNext, IsNextBlock, IsReadBlock, AreBlocksOf, IsFoundAs}
 use Rattle.alt_rowfile.specs.Summaries.{joined, last_key, summary_of}
 use Rattle.alt_rowfile.specs.declared.summary.Summary.{Summary}
+use Rattle.alt_rowfile.proofs.FilterLaws.{filters-push}
 use Rattle.alt_rowfile.proofs.SummaryLaws.{summary-append}
 use Rattle.alt_rowfile.proofs.OneFile.{one_block, block-apart, block_some, length-block, length-entry}
 use Rattle.alt_rowfile.proofs.WriterLaws.{rows_of-push, front-push, length-front, marks-push, is_some}
@@ -103,17 +106,21 @@ split_last x (y ∷ rows) = let s = split_last y rows in
 -- rows that were read of a block's bytes, all of them, are the next block
 pub block_read : (rows : List Entry) (bytes : List ℕ) (before : ℕ) (f l : Entry)
     (after : Option (List ℕ)) (is_last : Bool) (one two : List ℕ) (count : ℕ) (summary : Summary)
+    (filter : Filter)
     → AreRows rows
     → bytes ≡ rows_bytes rows → StandBefore before rows
     → before < 4096 → (is_last ≡ false → 4096 ≤ length bytes) → length bytes < 2 ^ 64
     → Some f ≡ slice_get rows 0 → Some l ≡ slice_get rows (length rows - 1) → IsAbove after f.0
-    → one ≡ f.0 → two ≡ l.0 → count ≡ length rows → summary ≡ summary_of rows → (b : List Entry)
-    × IsNextBlock after is_last bytes b × IsReadBlock one two count summary b
-block_read [] bytes before f l after is_last one two count summary are is place short full small fst
-    lst above p q n told = absurd (let g : ⊥ = cc in g)
+    → one ≡ f.0 → two ≡ l.0 → count ≡ length rows → summary ≡ summary_of rows
+    → HoldsRows filter rows → (b : List Entry)
+    × IsNextBlock after is_last bytes b × IsReadBlock one two count summary filter b
+block_read [] bytes before f l after is_last one two count summary filter are is place short full
+    small fst
+    lst above p q n told holds = absurd (let g : ⊥ = cc in g)
 block_read (x ∷ rows)
-    bytes before f l after is_last one two count summary are is place short full small fst lst above
-    p q n told =
+    bytes before f l after is_last one two count summary filter are is place short full small fst
+    lst above
+    p q n told holds =
     let s = split_last x rows in
     let key : f.0 ≡ x.0 = first_at (x ∷ rows) f fst in (
       x ∷ rows,
@@ -137,6 +144,7 @@ block_read (x ∷ rows)
             ∙ last_at (x ∷ rows) l lst;
         rows_is = n;
         summary_is = told;
+        filter_is = holds;
       },
     )
 
@@ -163,7 +171,7 @@ rows_of-append xs ys = flat_map-append (λ (b : List Entry). b) xs ys
 
 -- The blocks so far, of bytes of which some are left.
 pub record BlocksSoFar (bytes rest : List ℕ) (at : ℕ) (after : Option (List ℕ)) (marks : List Mark)
-    (rows : ℕ) (summary : Summary) : Type 0 where
+    (rows : ℕ) (summary : Summary) (filters : List Filter) : Type 0 where
   pub blocks : List (List Entry)
   pub is : bytes ≡ flat_map block_bytes blocks ++ rest
   pub each : AllByRecursion IsBlock blocks
@@ -173,7 +181,7 @@ pub record BlocksSoFar (bytes rest : List ℕ) (at : ℕ) (after : Option (List 
   pub rising : T (is_sorted key_cmp (rows_of blocks))
   pub at_is : at ≡ length (front blocks)
   pub after_is : after ≡ last_key (rows_of blocks)
-  pub found : IsFoundAs marks rows summary blocks
+  pub found : IsFoundAs marks rows summary filters blocks
 
 -- a block has a first row
 pub block_key : (b : List Entry) → IsBlock b → (e : Entry) × (es : List Entry) × (b ≡ e ∷ es)
@@ -268,10 +276,11 @@ blocks_few (b ∷ blocks) =
     )
 
 -- before the first block none was read
-pub no_blocks_yet : (bytes : List ℕ) (marks : List Mark) (summary : Summary) → marks ≡ []
-    → summary ≡ summary_of [] → BlocksSoFar bytes bytes 8 None marks 0 summary
+pub no_blocks_yet : (bytes : List ℕ) (marks : List Mark) (summary : Summary)
+    (filters : List Filter) → marks ≡ [] → summary ≡ summary_of [] → filters ≡ []
+    → BlocksSoFar bytes bytes 8 None marks 0 summary filters
 unfolding Rattle.alt_rowfile.specs.Format.header
-no_blocks_yet bytes marks summary none told = record {
+no_blocks_yet bytes marks summary filters none told unfiltered = record {
   blocks = [];
   is = refl;
   each = tt;
@@ -281,19 +290,25 @@ no_blocks_yet bytes marks summary none told = record {
   rising = tt;
   at_is = refl;
   after_is = refl;
-  found = record { marks_are = none; rows_is = refl; summary_is = told };
+  found = record {
+    marks_are = none;
+    rows_is = refl;
+    summary_is = told;
+    filters_are = subst (λ (l : List Filter). AreFilters l []) (sym unfiltered) tt;
+  };
 }
 
 -- one block more
 pub one_block_more : (bytes rest behind : List ℕ) (at next : ℕ) (after : Option (List ℕ))
-    (marks new : List Mark) (rows count : ℕ) (summary more joint : Summary) (first last : List ℕ)
-    (b : List Entry) → BlocksSoFar bytes rest at after marks rows summary
-    → 0 < length rest → IsNext after rest behind b → IsReadBlock first last count more b
+    (marks new : List Mark) (rows count : ℕ) (summary more joint : Summary)
+    (filters new_filters : List Filter) (filter : Filter) (first last : List ℕ)
+    (b : List Entry) → BlocksSoFar bytes rest at after marks rows summary filters
+    → 0 < length rest → IsNext after rest behind b → IsReadBlock first last count more filter b
     → next ≡ at + (length rest - length behind) → new ≡ marks ++ (at, first) ∷ []
-    → joint ≡ joined summary more
-    → BlocksSoFar bytes behind next (Some last) new (rows + count) joint
-one_block_more bytes rest behind at next after marks new rows count summary more joint first last b
-    so_far some n r place added told =
+    → joint ≡ joined summary more → new_filters ≡ filters ++ filter ∷ []
+    → BlocksSoFar bytes behind next (Some last) new (rows + count) joint new_filters
+one_block_more bytes rest behind at next after marks new rows count summary more joint filters
+    new_filters filter first last b so_far some n r place added told filtered =
     let key = block_key b n.block in
     let joined_rows : rows_of (so_far.blocks ++ b ∷ []) ≡ rows_of so_far.blocks ++ b =
     rows_of-push so_far.blocks b in
@@ -334,6 +349,9 @@ one_block_more bytes rest behind at next after marks new rows count summary more
         );
         summary_is = told ∙ (λ i. joined (so_far.found.summary_is i) (r.summary_is i))
             ∙ sym (summary-append (rows_of so_far.blocks) b) ∙ ap summary_of (sym joined_rows);
+        filters_are = subst (λ (l : List Filter). AreFilters l (so_far.blocks ++ b ∷ []))
+            (sym filtered)
+            (filters-push filters so_far.blocks filter b so_far.found.filters_are r.filter_is);
       };
     }
   where
@@ -353,8 +371,8 @@ one_block_more bytes rest behind at next after marks new rows count summary more
         ∙ ap (λ (l : List Entry). last_key (rows_of so_far.blocks ++ l)) (sym same)
 
 -- no block that could be the next, no blocks
-pub no_more_blocks : {summary : Summary} (bytes rest : List ℕ) (at : ℕ) (after : Option (List ℕ)) (marks : List Mark)
-    (rows : ℕ) → BlocksSoFar bytes rest at after marks rows summary → 0 < length rest
+pub no_more_blocks : {summary : Summary} {filters : List Filter} (bytes rest : List ℕ) (at : ℕ) (after : Option (List ℕ)) (marks : List Mark)
+    (rows : ℕ) → BlocksSoFar bytes rest at after marks rows summary filters → 0 < length rest
     → ((b : List Entry) (behind : List ℕ) → IsNext after rest behind b → ⊥)
     → (blocks : List (List Entry)) → AreBlocksOf blocks bytes → ⊥
 no_more_blocks bytes rest at after marks rows so_far some none blocks are =
@@ -398,9 +416,10 @@ no_more_blocks bytes rest at after marks rows so_far some none blocks are =
         })
 
 -- all were read
-pub blocks_read : {summary : Summary} (bytes rest : List ℕ) (at : ℕ) (after : Option (List ℕ)) (marks : List Mark)
-    (rows : ℕ) → BlocksSoFar bytes rest at after marks rows summary → length rest ≡ 0
-    → (blocks : List (List Entry)) × AreBlocksOf blocks bytes × IsFoundAs marks rows summary blocks
+pub blocks_read : {summary : Summary} {filters : List Filter} (bytes rest : List ℕ) (at : ℕ) (after : Option (List ℕ)) (marks : List Mark)
+    (rows : ℕ) → BlocksSoFar bytes rest at after marks rows summary filters → length rest ≡ 0
+    → (blocks : List (List Entry)) × AreBlocksOf blocks bytes
+    × IsFoundAs marks rows summary filters blocks
 blocks_read bytes rest at after marks rows so_far none = (
   so_far.blocks,
   record {
@@ -419,10 +438,10 @@ blocks_read bytes rest at after marks rows so_far none = (
     nil (x ∷ l) e = absurd (omega (arith, e))
 
 -- the counts stay within the bytes
-pub counts_fit : {summary more : Summary} (bytes rest behind : List ℕ) (at : ℕ) (after : Option (List ℕ)) (marks : List Mark)
+pub counts_fit : {summary more : Summary} {filters : List Filter} {filter : Filter} (bytes rest behind : List ℕ) (at : ℕ) (after : Option (List ℕ)) (marks : List Mark)
     (rows count : ℕ) (first last : List ℕ) (b : List Entry)
-    → BlocksSoFar bytes rest at after marks rows summary
-    → IsNext after rest behind b → IsReadBlock first last count more b → (rows + count ≤ length bytes)
+    → BlocksSoFar bytes rest at after marks rows summary filters
+    → IsNext after rest behind b → IsReadBlock first last count more filter b → (rows + count ≤ length bytes)
     × (at + (length rest - length behind) ≤ 8 + length bytes) × (length behind < length rest)
 counts_fit bytes rest behind at after marks rows count first last b so_far n r =
     let size : length rest ≡ length (block_bytes b) + length behind = ap length n.is

@@ -6,6 +6,7 @@ use Rattle.std.proofs.lemmas.List.{take_at, drop_at, take-append-drop, take-take
 use Rattle.alt_fields.proofs.Apart.{number-apart}
 use Rattle.alt_rowfile.specs.Format.{Entry, Mark, header, front, rows_of, marks_from, mark_bytes, tail_bytes, body}
 use Rattle.alt_rowfile.specs.Blocks.{AreBlocksOf, IsFoundAs, IsBody}
+use Rattle.alt_filter.specs.declared.filter.Filter.{Filter}
 use Rattle.alt_rowfile.specs.declared.summary.Summary.{Summary}
 use Rattle.alt_rowfile.proofs.OneFile.{one_front}
 
@@ -109,10 +110,12 @@ body_parts bytes end fits last blocks is =
     )
 
 -- bytes that have the header, blocks and the tail of these are the body of these blocks
-pub body_whole : {summary : Summary} (bytes made : List ℕ) (end rows : ℕ) (marks : List Mark)
+pub body_whole : {summary : Summary} {filters : List Filter} (bytes made : List ℕ) (end rows : ℕ)
+    (marks : List Mark)
     (blocks : List (List Entry)) → 8 ≤ end → end ≤ length bytes → end < 2 ^ 64
     → take 8 bytes ≡ header → AreBlocksOf blocks (drop 8 (take end bytes))
-    → IsFoundAs marks rows summary blocks → made ≡ tail_bytes marks rows end → made ≡ drop end bytes
+    → IsFoundAs marks rows summary filters blocks → made ≡ tail_bytes marks rows end → made ≡ drop
+    end bytes
     → IsBody blocks bytes × (marks ≡ marks_from 8 blocks) × (end ≡ length (front blocks))
 body_whole bytes made end rows marks blocks low high fits head are found tail same =
     let eight : take 8 (take end bytes) ≡ take 8 bytes = take-take 8 end bytes low in
@@ -137,10 +140,12 @@ body_whole bytes made end rows marks blocks low high fits head are found tail sa
     )
 
 -- bytes whose tail isn't that of their blocks are no body
-pub other_tail : {summary : Summary} (bytes made : List ℕ) (end rows : ℕ) (marks : List Mark)
+pub other_tail : {summary : Summary} {filters : List Filter} (bytes made : List ℕ) (end rows : ℕ)
+    (marks : List Mark)
     (found : List (List Entry)) → end < 2 ^ 64 → drop (length bytes - 8) bytes ≡ to_be_bytes w64 end
     → AreBlocksOf found (drop 8 (take end bytes))
-    → IsFoundAs marks rows summary found → made ≡ tail_bytes marks rows end → made ≢ drop end bytes
+    → IsFoundAs marks rows summary filters found → made ≡ tail_bytes marks rows end → made ≢ drop
+    end bytes
     → (blocks : List (List Entry)) → IsBody blocks bytes → ⊥
 other_tail bytes made end rows marks found fits last are found_as tail other blocks is =
     let parts = body_parts bytes end fits last blocks is in

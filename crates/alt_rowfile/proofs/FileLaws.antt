@@ -4,12 +4,14 @@ use Rattle.std.specs.Prelude.{IfSome, IfNone}
 use Rattle.std.proofs.lemmas.List.{take_at, take_all, length-drop, take-append-drop}
 use Rattle.sha2.specs.Sha256.{sha256}
 use Rattle.sha2.proofs.Facts256.{length-sha256}
+use Rattle.alt_rowfile.specs.Filtering.{AreFilters}
 use Rattle.alt_rowfile.specs.Format.{Entry, Mark, body, front, rows_of, marks_from, IsFileOf}
 use Rattle.alt_rowfile.specs.Blocks.{IsBody}
 use Rattle.alt_rowfile.specs.InHand.{FileAs, ReadsAs}
 use Rattle.alt_disk.specs.Disk.{DiskState, contents, bytes_or_none}
 use Rattle.alt_rowfile.specs.Recovery.{HasDigest, NoRowFile}
 use Rattle.alt_rowfile.specs.Summaries.{summary_of}
+use Rattle.alt_filter.specs.declared.filter.Filter.{Filter}
 use Rattle.alt_rowfile.specs.declared.summary.Summary.{Summary}
 
 -- a file without its digest is the body of its blocks
@@ -34,10 +36,12 @@ body_of_file bytes blocks is =
 
 -- a body with its digest behind it is a file of its blocks' rows
 pub file_of_body : (bytes : List ℕ) (marks : List Mark) (end : ℕ) (summary : Summary)
-    (blocks : List (List Entry)) → HasDigest bytes → IsBody blocks (take (length bytes - 32) bytes) → marks ≡ marks_from 8 blocks
+    (filters : List Filter) (blocks : List (List Entry)) → HasDigest bytes → IsBody blocks
+    (take (length bytes - 32) bytes) → marks ≡ marks_from 8 blocks
     → end ≡ length (front blocks) → summary ≡ summary_of (rows_of blocks)
-    → (rows : List Entry) × FileAs bytes marks end summary rows
-file_of_body bytes marks end summary blocks digest is are place told = (
+    → AreFilters filters blocks
+    → (rows : List Entry) × FileAs bytes marks end summary filters rows
+file_of_body bytes marks end summary filters blocks digest is are place told filtered = (
   rows_of blocks,
   record {
     blocks = blocks;
@@ -53,6 +57,7 @@ file_of_body bytes marks end summary blocks digest is are place told = (
     marks_are = are;
     end_is = place;
     summary_is = told;
+    filters_are = filtered;
   },
 )
 
@@ -69,9 +74,10 @@ there_is None some = absurd (omega (arith, some))
 there_is (Some bytes) some = refl
 
 -- what a file is stays while it reads the same
-pub reads_after : {summary : Summary} (s t : DiskState) (f : ℕ) (marks : List Mark) (end : ℕ) (rows : List Entry)
-    → t.file f ≡ s.file f → FileAs (contents s f) marks end summary rows
-    → ReadsAs t f marks end summary rows
+pub reads_after : {summary : Summary} {filters : List Filter} (s t : DiskState) (f : ℕ)
+    (marks : List Mark) (end : ℕ) (rows : List Entry)
+    → t.file f ≡ s.file f → FileAs (contents s f) marks end summary filters rows
+    → ReadsAs t f marks end summary filters rows
 reads_after s t f marks end rows same is =
     let size : 0 < length (contents s f) =
     omega (

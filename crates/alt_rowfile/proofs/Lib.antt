@@ -1,6 +1,7 @@
 pub mod OneFile
 pub mod SinkLaws
 pub mod SummaryLaws
+pub mod FilterLaws
 pub mod LatestLaws
 pub mod WriterLaws
 pub mod Loops

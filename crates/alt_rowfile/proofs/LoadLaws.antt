@@ -11,6 +11,7 @@ use Rattle.alt_rowfile.specs.InHand.{FileAs, ReadsAs, count_of, file_of}
 use Rattle.alt_rowfile.specs.Reading.{ReadIs, ReadsOnce, ReadsAtMostABlock, place_of, length_of}
 use Rattle.alt_rowfile.specs.declared.rowfile.RowFile.{RowFile}
 use Rattle.alt_rowfile.specs.Loading.{place_at, next_place, LoadedAt}
+use Rattle.alt_filter.specs.declared.filter.Filter.{Filter}
 use Rattle.alt_rowfile.specs.declared.summary.Summary.{Summary}
 use Rattle.alt_rowfile.proofs.WriterLaws.{length-front, front-push}
 use Rattle.alt_rowfile.proofs.OneFile.{block_some}
@@ -171,8 +172,9 @@ all_at xs b ys sorted =
     (subst (λ (l : List Entry). T (is_sorted key_cmp l)) (rows_of-append xs (b ∷ ys)) sorted))
 
 -- at the place that its mark tells, up to the next one, stands a block
-pub loaded_at : {summary : Summary} (bytes : List ℕ) (marks : List Mark) (end i : ℕ) (rows : List Entry)
-    (is : FileAs bytes marks end summary rows) → i < length marks
+pub loaded_at : {summary : Summary} {filters : List Filter} (bytes : List ℕ) (marks : List Mark)
+    (end i : ℕ) (rows : List Entry)
+    (is : FileAs bytes marks end summary filters rows) → i < length marks
     → LoadedAt bytes marks end i (get_or is.blocks i [])
 loaded_at bytes marks end i rows is less =
     let s = split_at is.blocks i
@@ -235,8 +237,10 @@ module _ (bytes : List ℕ) (marks : List Mark) (end i : ℕ) (b : List Entry)
         length-drop (place_at marks i) bytes,
       )
 
-module _ {summary : Summary} (s : DiskState) (f : ℕ) (marks : List Mark) (end i : ℕ)
-    (rows : List Entry) (reads : ReadsAs s f marks end summary rows) (less : i < length marks) where
+module _ {summary : Summary} {filters : List Filter} (s : DiskState) (f : ℕ) (marks : List Mark)
+    (end i : ℕ)
+    (rows : List Entry) (reads : ReadsAs s f marks end summary filters rows)
+    (less : i < length marks) where
   -- the block at hand
   abbrev pub here : List Entry
   here = get_or reads.as_file.blocks i []

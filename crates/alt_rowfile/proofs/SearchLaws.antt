@@ -14,6 +14,7 @@ use Rattle.alt_rowfile.specs.Format.{Entry, Mark, block_bytes, rows_of, first_ke
 use Rattle.alt_rowfile.specs.InHand.{FileAs}
 use Rattle.alt_rowfile.specs.Searching.{key_at, EndsAt, EndsBelow}
 use Rattle.alt_rowfile.specs.Summaries.{last_key}
+use Rattle.alt_filter.specs.declared.filter.Filter.{Filter}
 use Rattle.alt_rowfile.specs.declared.summary.Summary.{Summary}
 use Rattle.alt_rowfile.proofs.BlockLaws.{rows_of-append, no_block, block_within}
 use Rattle.alt_rowfile.proofs.LoadLaws.{split_at, length-marks, marks-append}
@@ -202,8 +203,9 @@ pub record AtBlock (blocks : List (List Entry)) (i : ℕ) (q : List ℕ) : Type 
       → is_gt (key_cmp (first_key y) q) ≡ true
 
 -- where the search ended, the key is in the block before, or nowhere
-pub at_block : {summary : Summary} (bytes : List ℕ) (marks : List Mark) (end n i : ℕ) (rows : List Entry)
-    (is : FileAs bytes marks end summary rows) (q : List ℕ) → EndsAt marks q n → n ≡ i + 1
+pub at_block : {summary : Summary} {filters : List Filter} (bytes : List ℕ) (marks : List Mark)
+    (end n i : ℕ) (rows : List Entry)
+    (is : FileAs bytes marks end summary filters rows) (q : List ℕ) → EndsAt marks q n → n ≡ i + 1
     → AtBlock is.blocks i q
 at_block bytes marks end n i rows is q ends place =
     let size : length marks ≡ length is.blocks = ap length is.marks_are
@@ -243,8 +245,9 @@ at_block bytes marks end n i rows is q ends place =
     }
 
 -- so a look into that block is one into the whole
-pub found_in : {summary : Summary} (bytes : List ℕ) (marks : List Mark) (end n i : ℕ) (rows : List Entry)
-    (is : FileAs bytes marks end summary rows) (q : List ℕ) → EndsAt marks q n → n ≡ i + 1
+pub found_in : {summary : Summary} {filters : List Filter} (bytes : List ℕ) (marks : List Mark)
+    (end n i : ℕ) (rows : List Entry)
+    (is : FileAs bytes marks end summary filters rows) (q : List ℕ) → EndsAt marks q n → n ≡ i + 1
     → find key_cmp q rows ≡ find key_cmp q (get_or is.blocks i [])
 found_in bytes marks end n i rows is q ends place =
     let at = at_block bytes marks end n i rows is q ends place in
@@ -253,8 +256,9 @@ found_in bytes marks end n i rows is q ends place =
     ∙ ap (find key_cmp q) (sym at.at)
 
 -- where no block begins at or below the key, all begin above it
-pub above_first : {summary : Summary} (bytes : List ℕ) (marks : List Mark) (end n : ℕ) (rows : List Entry)
-    (is : FileAs bytes marks end summary rows) (q : List ℕ) → EndsAt marks q n → n ≡ 0
+pub above_first : {summary : Summary} {filters : List Filter} (bytes : List ℕ) (marks : List Mark)
+    (end n : ℕ) (rows : List Entry)
+    (is : FileAs bytes marks end summary filters rows) (q : List ℕ) → EndsAt marks q n → n ≡ 0
     → (y : List Entry) (more : List (List Entry)) → is.blocks ≡ y ∷ more
     → is_gt (key_cmp (first_key y) q) ≡ true
 above_first bytes marks end n rows is q ends none y more same =
@@ -265,8 +269,9 @@ above_first bytes marks end n rows is q ends none y more same =
     (arith, none, ap length is.marks_are, length-marks 8 is.blocks, ap length same))
 
 -- and there is nothing at the key
-pub found_nowhere : {summary : Summary} (bytes : List ℕ) (marks : List Mark) (end n : ℕ) (rows : List Entry)
-    (is : FileAs bytes marks end summary rows) (q : List ℕ) → EndsAt marks q n → n ≡ 0
+pub found_nowhere : {summary : Summary} {filters : List Filter} (bytes : List ℕ)
+    (marks : List Mark) (end n : ℕ) (rows : List Entry)
+    (is : FileAs bytes marks end summary filters rows) (q : List ℕ) → EndsAt marks q n → n ≡ 0
     → find key_cmp q rows ≡ None
 found_nowhere bytes marks end n rows is q ends none =
     ap (find key_cmp q) is.are

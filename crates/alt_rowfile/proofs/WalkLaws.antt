@@ -14,6 +14,7 @@ use Rattle.alt_rowfile.specs.Loading.{LoadedAt}
 use Rattle.alt_rowfile.specs.Walking.{rows_ahead, walk_left, LeftAs, IsLeft, IsNext, IsEnd, IsUnreadIn, passed}
 use Rattle.alt_rowfile.specs.declared.hand.Hand.{Hand}
 use Rattle.alt_rowfile.specs.declared.rowfile.RowFile.{RowFile}
+use Rattle.alt_filter.specs.declared.filter.Filter.{Filter}
 use Rattle.alt_rowfile.specs.declared.summary.Summary.{Summary}
 use Rattle.alt_rowfile.specs.declared.walk.RowFileWalk.{RowFileWalk}
 use Rattle.alt_rowfile.proofs.HandLaws.{all_in_hand}
@@ -65,20 +66,24 @@ next_within false at count i next = next.1
 -- ---- what is left
 
 -- a file that reads the same is the same file
-abbrev pub reads_at : {summary : Summary} (s t : DiskState) (f : ℕ) (marks : List Mark) (end : ℕ) (rows : List Entry)
-    → t.file f ≡ s.file f → ReadsAs s f marks end summary rows
-    → ReadsAs t f marks end summary rows
+abbrev pub reads_at : {summary : Summary} {filters : List Filter} (s t : DiskState) (f : ℕ)
+    (marks : List Mark) (end : ℕ) (rows : List Entry)
+    → t.file f ≡ s.file f → ReadsAs s f marks end summary filters rows
+    → ReadsAs t f marks end summary filters rows
 reads_at s t f marks end rows same r =
     record { bytes = r.bytes; there = same ∙ r.there; as_file = r.as_file }
 
 -- there are as many marks as blocks
-pub count_blocks : {summary : Summary} (s : DiskState) (f : ℕ) (marks : List Mark) (end : ℕ) (rows : List Entry)
-    (r : ReadsAs s f marks end summary rows) → length marks ≡ length r.as_file.blocks
+pub count_blocks : {summary : Summary} {filters : List Filter} (s : DiskState) (f : ℕ)
+    (marks : List Mark) (end : ℕ) (rows : List Entry)
+    (r : ReadsAs s f marks end summary filters rows) → length marks ≡ length r.as_file.blocks
 count_blocks s f marks end rows r = ap length r.as_file.marks_are ∙ length-marks 8 r.as_file.blocks
 
 -- no block is empty
-some_block : {summary : Summary} (s : DiskState) (f : ℕ) (marks : List Mark) (end : ℕ) (rows : List Entry)
-    (r : ReadsAs s f marks end summary rows) (i : ℕ) → i < length marks → get_or r.as_file.blocks i [] ≡ []
+some_block : {summary : Summary} {filters : List Filter} (s : DiskState) (f : ℕ)
+    (marks : List Mark) (end : ℕ) (rows : List Entry)
+    (r : ReadsAs s f marks end summary filters rows) (i : ℕ) → i < length marks → get_or
+    r.as_file.blocks i [] ≡ []
     → ⊥
 some_block s f marks end rows r i less none =
     let p = split_at r.as_file.blocks i (omega (arith, less, count_blocks s f marks end rows r)) in

@@ -10,7 +10,10 @@ use Rattle.alt_cells.specs.declared.row.RowCells.{RowCells}
 use Rattle.alt_cells.specs.Format.{bytes_of_row}
 use Rattle.alt_cells.specs.Keys.{key_cmp}
 use Rattle.alt_fields.proofs.Apart.{all_append}
+use Rattle.alt_filter.specs.Filters.{Holds}
+use Rattle.alt_filter.specs.declared.filter.Filter.{Filter}
 use Rattle.alt_rowfile.specs.Format.{Entry, Mark, entry_bytes, rows_bytes, block_bytes, header, front, rows_of, first_key, marks_from, tail_bytes, body, file_bytes, IsBlock, IsFull, AreBlocks, IsHeldEntry, IsHeldBlock}
+use Rattle.alt_rowfile.specs.Filtering.{AreFilters}
 use Rattle.alt_rowfile.specs.Sinks.{IsPut, Lasts}
 use Rattle.alt_rowfile.specs.InHand.{StandsAs}
 use Rattle.sha2.specs.Sha256.{sha256}
@@ -20,6 +23,7 @@ use Rattle.alt_rowfile.specs.Summaries.{joined, summary_of}
 use Rattle.alt_rowfile.specs.declared.sink.Sink.{Sink}
 use Rattle.alt_rowfile.specs.declared.summary.Summary.{Summary}
 use Rattle.alt_rowfile.proofs.OneFile.{length-entry}
+use Rattle.alt_rowfile.proofs.FilterLaws.{filters-push, holds_more}
 use Rattle.alt_rowfile.proofs.SummaryLaws.{summary-append}
 
 -- the bytes of rows with one more are theirs, and its own behind them
@@ -115,16 +119,21 @@ marks_more closed (x ∷ waiting) e at block marks new place is are set kept =
 -- one row more in the open block
 pub row_more : (s : DiskState) (sink : Sink) (block new_block : List ℕ)
     (marks new_marks : List Mark) (count new_count : ℕ) (summary new_summary : Summary)
-    (closed : List (List Entry)) (waiting : List Entry) (e : Entry)
-    → WritesAs s sink block marks count summary closed waiting → length (rows_bytes waiting) < 4096
+    (filters : List Filter) (filter new_filter : Filter) (closed : List (List Entry))
+    (waiting : List Entry) (e : Entry)
+    → WritesAs s sink block marks count summary filters filter closed waiting → length
+    (rows_bytes waiting) < 4096
     → T (is_sorted key_cmp (rows_of closed ++ (waiting ++ e ∷ []))) → IsHeldEntry e
     → new_block ≡ block ++ entry_bytes e
     → (length block ≡ 0 → new_marks ≡ marks ++ (sink.at, e.0) ∷ [])
     → (0 < length block → new_marks ≡ marks) → new_count ≡ count + 1
     → new_summary ≡ joined summary (summary_of (e ∷ []))
-    → WritesAs s sink new_block new_marks new_count new_summary closed (waiting ++ e ∷ [])
-row_more s sink block new_block marks new_marks count new_count summary new_summary closed waiting e
-    w short rising held bytes set kept counted told = record {
+    → ((key : List ℕ) → Holds filter key → Holds new_filter key) → Holds new_filter e.0
+    → WritesAs s sink new_block new_marks new_count new_summary filters new_filter closed
+    (waiting ++ e ∷ [])
+row_more s sink block new_block marks new_marks count new_count summary new_summary filters filter
+    new_filter closed waiting e w short rising held bytes set kept counted told holds_on holds =
+    record {
       put = w.put;
       blocks = w.blocks;
       held = w.held;
@@ -146,6 +155,8 @@ row_more s sink block new_block marks new_marks count new_count summary new_summ
       summary_is = told ∙ ap (λ (x : Summary). joined x (summary_of (e ∷ []))) w.summary_is
           ∙ sym (summary-append (rows_of closed ++ waiting) (e ∷ []))
           ∙ ap summary_of (append_assoc (rows_of closed) waiting (e ∷ []));
+      filters_are = w.filters_are;
+      open_holds = holds_more filter new_filter waiting e holds_on holds w.open_holds;
     }
 
 -- a block that has a row is a piece
@@ -155,15 +166,18 @@ piece_some (x ∷ waiting) b = refl
 
 -- the open block, written
 pub block_more : {summary : Summary} (s t : DiskState) (sink new_sink : Sink) (block written cleared : List ℕ)
-    (marks : List Mark) (count : ℕ) (closed : List (List Entry)) (waiting : List Entry)
-    → WritesAs s sink block marks count summary closed waiting → IsBlock waiting
+    (marks : List Mark) (count : ℕ) (filters new_filters : List Filter) (filter new_filter : Filter)
+    (closed : List (List Entry)) (waiting : List Entry)
+    → WritesAs s sink block marks count summary filters filter closed waiting → IsBlock waiting
     → length block < 2 ^ 64
     → written ≡ field block
     → ((done : List ℕ) → IsPut s sink done → IsPut t new_sink (done ++ written)) → cleared ≡ []
-    → WritesAs t new_sink cleared marks count summary (closed ++ waiting ∷ []) []
+    → new_filters ≡ filters ++ filter ∷ []
+    → WritesAs t new_sink cleared marks count summary new_filters new_filter
+    (closed ++ waiting ∷ []) []
 unfolding block_bytes
-block_more s t sink new_sink block written cleared marks count closed waiting w is small
-    bytes puts none =
+block_more s t sink new_sink block written cleared marks count filters new_filters filter new_filter
+    closed waiting w is small bytes puts none added =
     let here : written ≡ block_bytes waiting = bytes ∙ ap field w.bytes in
     let rows : rows_of (closed ++ waiting ∷ []) ++ [] ≡ rows_of closed ++ waiting =
     append-nil (rows_of (closed ++ waiting ∷ [])) ∙ rows_of-push closed waiting in
@@ -182,6 +196,9 @@ block_more s t sink new_sink block written cleared marks count closed waiting w 
           ∙ ap (marks_from 8) (sym (append-nil (closed ++ waiting ∷ [])));
       count_is = w.count_is ∙ ap length (sym rows);
       summary_is = w.summary_is ∙ ap summary_of (sym rows);
+      filters_are = subst (λ (l : List Filter). AreFilters l (closed ++ waiting ∷ [])) (sym added)
+          (filters-push filters closed filter waiting w.filters_are w.open_holds);
+      open_holds = tt;
     }
 
 -- the open block may be the last, with less
@@ -201,33 +218,38 @@ rows_of-piece closed [] = ap rows_of (append-nil closed) ∙ sym (append-nil (ro
 rows_of-piece closed (x ∷ waiting) = rows_of-push closed (x ∷ waiting)
 
 -- what was empty was empty
-pub nothing_waits : {summary : Summary} (s t : DiskState) (sink : Sink) (block : List ℕ) (marks : List Mark) (count : ℕ)
+pub nothing_waits : {summary : Summary} {filters : List Filter} {filter : Filter} (s t : DiskState)
+    (sink : Sink) (block : List ℕ) (marks : List Mark) (count : ℕ)
     (closed : List (List Entry)) (waiting : List Entry)
-    → WritesAs s sink block marks count summary closed waiting → length block ≡ 0
-    → WritesAs s sink block marks count summary (closed ++ piece waiting) []
-nothing_waits {summary} s t sink block marks count closed waiting w none =
+    → WritesAs s sink block marks count summary filters filter closed waiting → length block ≡ 0
+    → WritesAs s sink block marks count summary filters filter (closed ++ piece waiting) []
+nothing_waits {summary} {filters} {filter} s t sink block marks count closed waiting w none =
     let empty : waiting ≡ [] = rows_none waiting (omega (arith, none, ap length w.bytes)) in
     let same : closed ++ piece waiting ≡ closed = ap (λ (r : List Entry). closed ++ piece r) empty
     ∙ append-nil closed in
-    subst (λ (c : List (List Entry)). WritesAs s sink block marks count summary c []) (sym same)
-    (subst (WritesAs s sink block marks count summary closed) empty w)
+    subst (λ (c : List (List Entry)). WritesAs s sink block marks count summary filters filter c [])
+    (sym same) (subst (WritesAs s sink block marks count summary filters filter closed) empty w)
 
 -- where the open block has bytes it has a row
-pub something_waits : {summary : Summary} (s : DiskState) (sink : Sink) (block : List ℕ) (marks : List Mark) (count : ℕ)
+pub something_waits : {summary : Summary} {filters : List Filter} {filter : Filter} (s : DiskState)
+    (sink : Sink) (block : List ℕ) (marks : List Mark) (count : ℕ)
     (closed : List (List Entry)) (waiting : List Entry)
-    → WritesAs s sink block marks count summary closed waiting → 0 < length block → IsBlock waiting
+    → WritesAs s sink block marks count summary filters filter closed waiting → 0 < length block →
+    IsBlock waiting
     × (piece waiting ≡ waiting ∷ [])
 something_waits s sink block marks count closed [] w some =
     absurd (omega (arith, some, ap length w.bytes))
 something_waits s sink block marks count closed (x ∷ waiting) w some = (w.opens, refl)
 
 -- a file of blocks that lasts stands for its rows
-pub stands_after : {summary : Summary} (s t : DiskState) (sink : Sink) (block tail : List ℕ) (marks : List Mark)
-    (count : ℕ) (closed : List (List Entry)) → WritesAs s sink block marks count summary closed []
+pub stands_after : {summary : Summary} {filters : List Filter} {filter : Filter} (s t : DiskState)
+    (sink : Sink) (block tail : List ℕ) (marks : List Mark)
+    (count : ℕ) (closed : List (List Entry)) → WritesAs s sink block marks count summary filters
+    filter closed []
     → AreBlocks closed
     → sink.at ≤ 2 ^ 62 → tail ≡ tail_bytes marks count sink.at
     → Lasts t sink.file ((front closed ++ tail) ++ sha256 (front closed ++ tail))
-    → StandsAs t sink.file marks sink.at summary (rows_of closed)
+    → StandsAs t sink.file marks sink.at summary filters (rows_of closed)
 stands_after s t sink block tail marks count closed w cut small is lasts =
     let here : marks ≡ marks_from 8 closed = w.marks_are ∙ ap (marks_from 8) (append-nil closed) in
     let rows : count ≡ length (rows_of closed) = w.count_is
@@ -257,6 +279,7 @@ stands_after s t sink block tail marks count closed w cut small is lasts =
           marks_are = here;
           end_is = w.put.at;
           summary_is = w.summary_is ∙ ap summary_of (append-nil (rows_of closed));
+          filters_are = w.filters_are;
         };
       };
       settled = synced_settled t sink.file

@@ -1,5 +1,6 @@
 pub mod Blocks
 pub mod Format
+pub mod Filtering
 pub mod Summaries
 pub mod InHand
 pub mod Sinks

@@ -6,6 +6,8 @@ use Rattle.std.specs.FinMap.Entries.{is_sorted}
 use Rattle.alt_disk.specs.Disk.{DiskState, bytes_or_none}
 use Rattle.alt_cells.specs.Walks.{SameFiles}
 use Rattle.alt_cells.specs.Keys.{key_cmp}
+use Rattle.alt_filter.specs.declared.filter.Filter.{Filter}
+use Rattle.alt_rowfile.specs.Filtering.{AreFilters, HoldsRows}
 use Rattle.alt_rowfile.specs.Format.{Entry, Mark, rows_bytes, front, rows_of, marks_from, IsBlock, IsFull, IsHeldEntry, IsHeldBlock}
 use Rattle.alt_rowfile.specs.Sinks.{IsPut}
 use Rattle.alt_rowfile.specs.Summaries.{summary_of}
@@ -29,7 +31,8 @@ IsOpen (e ∷ es) = IsBlock (e ∷ es)
 
 -- These blocks were written, and these rows wait in the open one.
 pub record WritesAs (s : DiskState) (sink : Sink) (block : List ℕ) (marks : List Mark) (count : ℕ)
-    (summary : Summary) (closed : List (List Entry)) (waiting : List Entry) : Type 0 where
+    (summary : Summary) (filters : List Filter) (filter : Filter) (closed : List (List Entry))
+    (waiting : List Entry) : Type 0 where
   pub put : IsPut s sink (front closed)
   pub blocks : AllByRecursion IsBlock closed
   pub held : AllByRecursion IsHeldBlock closed
@@ -40,11 +43,14 @@ pub record WritesAs (s : DiskState) (sink : Sink) (block : List ℕ) (marks : Li
   pub marks_are : marks ≡ marks_from 8 (closed ++ piece waiting)
   pub count_is : count ≡ length (rows_of closed ++ waiting)
   pub summary_is : summary ≡ summary_of (rows_of closed ++ waiting)
+  pub filters_are : AreFilters filters closed
+  pub open_holds : HoldsRows filter waiting
 
 -- the same of a writer, by its parts
 abbrev pub WritesTo : DiskState → RowFileWriter → List (List Entry) → List Entry → Type 0
 WritesTo s w closed waiting =
-    WritesAs s w.sink w.block.items w.marks.items w.count w.summary closed waiting
+    WritesAs s w.sink w.block.items w.marks.items w.count w.summary w.filters.items w.filter closed
+    waiting
 
 -- The writer has added these rows: full blocks, and an open one that isn't full.
 pub record Writes (s : DiskState) (w : RowFileWriter) (rows : List Entry) : Type 0 where
@@ -85,6 +91,8 @@ writes_on old new w rows same writes = record {
     marks_are = writes.to.marks_are;
     count_is = writes.to.count_is;
     summary_is = writes.to.summary_is;
+    filters_are = writes.to.filters_are;
+    open_holds = writes.to.open_holds;
   };
   full = writes.full;
   short = writes.short;

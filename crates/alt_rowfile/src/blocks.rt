@@ -10,28 +10,32 @@ ghost use Rattle.alt_rowfile.specs.Format.{Entry, Mark, rows_bytes, block_bytes}
 ghost use Rattle.alt_rowfile.specs.Blocks.{IsNext, IsNextBlock, IsReadBlock, AreBlocksOf, IsFoundAs, IsAbove};
 
 use crate::decode::decode;
+use crate::filters::filter_of;
 use crate::pieces::{bytes_at, fill, number_of};
 use crate::summary::Summary;
 use alt_base::NoMemory;
 use alt_disk::{Disk, DiskFault, Failed};
 use alt_fields::Bytes;
+use alt_filter::Filter;
 use std::alloc::Global;
 
-/// What stands of a block in the index, its last key, how many rows it has, and their summary.
+/// What stands of a block in the index, its last key, how many rows it has, their summary, and the filter of their keys.
 #[derive(Drop)]
 pub(crate) struct BlockRead {
     pub(crate) first: Bytes,
     pub(crate) last: Bytes,
     pub(crate) rows: u64,
     pub(crate) summary: Summary,
+    pub(crate) filter: Filter,
 }
 
-/// The places and first keys of blocks, how many rows they have, and their summary.
+/// The places and first keys of blocks, how many rows they have, their summary, and a filter for each block.
 #[derive(Drop)]
 pub(crate) struct Found {
     pub(crate) marks: Vec<(u64, Bytes)>,
     pub(crate) rows: u64,
     pub(crate) summary: Summary,
+    pub(crate) filters: Vec<Filter>,
 }
 
 /// The blocks of a file behind its header, up to a place; none where no writer makes them. It holds one of them at a time.
@@ -45,7 +49,7 @@ pub(crate) fn read_blocks<D: Disk>(
     ensures some { IsTrue (D.state disk.old).tells → end ≤ length (contents (D.state disk.old) f)
         → IfOk result (λ o. IfSome o (λ found. (blocks : List (List Entry))
         × AreBlocksOf blocks (drop 8 (take end (contents (D.state disk.old) f)))
-        × IsFoundAs found.marks.items found.rows found.summary blocks)) }
+        × IsFoundAs found.marks.items found.rows found.summary found.filters.items blocks)) }
     ensures none { IsTrue (D.state disk.old).tells → end ≤ length (contents (D.state disk.old) f)
         → IfOk result (λ o. IfNone o ((blocks : List (List Entry))
         → AreBlocksOf blocks (drop 8 (take end (contents (D.state disk.old) f))) → ⊥)) }
@@ -60,6 +64,7 @@ pub(crate) fn read_blocks<D: Disk>(
     let mut marks = Vec::new(alloc);
     let mut rows: u64 = 0;
     let mut summary = Summary::new();
+    let mut filters = Vec::new(alloc);
     let mut at: u64 = 8;
     let mut after: Option<Bytes> = None;
     'each: while at < end {
@@ -70,8 +75,10 @@ pub(crate) fn read_blocks<D: Disk>(
                     last,
                     rows: count,
                     summary: more,
+                    filter,
                 } = read;
                 marks.push((at, first))?;
+                filters.push(filter)?;
                 rows += count;
                 summary.join(more);
                 after = Some(last);
@@ -84,6 +91,7 @@ pub(crate) fn read_blocks<D: Disk>(
         marks,
         rows,
         summary,
+        filters,
     }))
 }
 
@@ -101,7 +109,7 @@ fn next_block<D: Disk>(
         → IfOk result (λ o. IfSome o (λ p. (b : List Entry)
         × IsNext after.now (drop at (take end (contents (D.state disk.old) f)))
         (drop p.1 (take end (contents (D.state disk.old) f))) b
-        × IsReadBlock p.0.first p.0.last p.0.rows p.0.summary b)) }
+        × IsReadBlock p.0.first p.0.last p.0.rows p.0.summary p.0.filter b)) }
     ensures none { IsTrue (D.state disk.old).tells → end ≤ length (contents (D.state disk.old) f)
         → IfOk result (λ o. IfNone o ((b : List Entry) (behind : List ℕ)
         → IsNext after.now (drop at (take end (contents (D.state disk.old) f))) behind b → ⊥)) }
@@ -170,7 +178,7 @@ pub(crate) fn read_block(
 ) -> Result<Option<BlockRead>, NoMemory>
     ensures some { IfOk result
         (λ o. IfSome o (λ r. (b : List Entry) × IsNextBlock after.now is_last bytes.now b
-        × IsReadBlock r.first r.last r.rows r.summary b)) }
+        × IsReadBlock r.first r.last r.rows r.summary r.filter b)) }
     ensures none { IfOk result
         (λ o. IfNone o ((b : List Entry) → IsNextBlock after.now is_last bytes.now b → ⊥)) }
 {
@@ -184,6 +192,7 @@ pub(crate) fn read_block(
             }
             let rows = decoded.rows.len() as u64;
             let summary = Summary::of_rows(&decoded.rows)?;
+            let filter = filter_of(&decoded.rows);
             match decoded.rows.first() {
                 Some(first) => match decoded.rows.last() {
                     Some(last) => {
@@ -197,6 +206,7 @@ pub(crate) fn read_block(
                             last,
                             rows,
                             summary,
+                            filter,
                         }))
                     }
                     None => Ok(None),

@@ -8,6 +8,7 @@ ghost use Rattle.alt_disk.specs.Disk.{Goes, contents};
 ghost use Rattle.alt_disk.specs.Runs.{Quiet};
 ghost use Rattle.alt_rowfile.specs.Format.{Entry, front, header, marks_from, rows_of, tail_bytes};
 ghost use Rattle.alt_rowfile.specs.Blocks.{IsBody};
+ghost use Rattle.alt_rowfile.specs.Filtering.{AreFilters};
 ghost use Rattle.alt_rowfile.specs.Summaries.{summary_of};
 
 use crate::blocks::{Found, read_blocks};
@@ -28,7 +29,7 @@ pub(crate) fn body_of<D: Disk>(
         → IfOk result (λ o. IfSome o (λ p. (blocks : List (List Entry))
         × IsBody blocks (take size (contents (D.state disk.old) f))
         × (p.0.marks.items ≡ marks_from 8 blocks) × (p.1 ≡ length (front blocks))
-        × (p.0.summary ≡ summary_of (rows_of blocks)))) }
+        × (p.0.summary ≡ summary_of (rows_of blocks)) × AreFilters p.0.filters.items blocks)) }
     ensures none { IsTrue (D.state disk.old).tells → size ≤ length (contents (D.state disk.old) f)
         → IfOk result (λ o. IfNone o ((blocks : List (List Entry))
         → IsBody blocks (take size (contents (D.state disk.old) f)) → ⊥)) }

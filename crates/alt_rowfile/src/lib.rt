@@ -6,6 +6,7 @@ mod body;
 mod decode;
 mod digest;
 mod fault;
+mod filters;
 mod hand;
 mod law;
 mod load;

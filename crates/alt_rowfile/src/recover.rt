@@ -24,7 +24,8 @@ pub(crate) fn recover_file<D: Disk>(
 ) -> Result<RowFile, RowFileFault>
     ensures file { IfOk result (λ file. file_of file ≡ f) }
     ensures reads { IfOk result (λ file. IsTrue (D.state disk.old).tells → (rows : List Entry)
-        × FileAs (contents (D.state disk.old) f) file.marks.items file.end file.summary rows) }
+        × FileAs (contents (D.state disk.old) f) file.marks.items file.end file.summary
+        file.filters.items rows) }
     ensures explained { IsTrue (D.state disk.old).tells
         → IfErr result (ExplainsFile f (contents (D.state disk.old) f)) }
     ensures quiet { IsTrue (D.state disk.old).tells
@@ -50,6 +51,7 @@ pub(crate) fn recover_file<D: Disk>(
             marks: found.marks,
             end,
             summary: found.summary,
+            filters: found.filters,
         }),
         Ok(None) => Err(RowFileFault::Damaged { file: f, at: 0 }),
         Err(DiskFault::Failed) => Err(RowFileFault::Failed),

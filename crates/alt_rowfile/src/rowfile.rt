@@ -1,6 +1,7 @@
 //! A finished row file in hand.
 
 use crate::fault::RowFileFault;
+use crate::filters::is_denied;
 use crate::hand::Hand;
 use crate::load::load_row;
 use crate::recover::recover_file;
@@ -10,9 +11,11 @@ use crate::walk::RowFileWalk;
 use alt_cells::{RowCells, SourceFault};
 use alt_disk::Disk;
 use alt_fields::Bytes;
+use alt_filter::Filter;
 use std::alloc::Global;
 
-/// A row file: the places and first keys of its blocks, the place of its index, and a summary of its rows. The rows lie on the disk.
+/// A row file: the places and first keys of its blocks, the place of its index, a summary of its rows, and a filter for each block. The
+/// rows lie on the disk.
 #[derive(Drop)]
 pub struct RowFile {
     pub(crate) alloc: Global,
@@ -20,6 +23,7 @@ pub struct RowFile {
     pub(crate) marks: Vec<(u64, Bytes)>,
     pub(crate) end: u64,
     pub(crate) summary: Summary,
+    pub(crate) filters: Vec<Filter>,
 }
 
 impl RowFile {
@@ -58,7 +62,8 @@ impl RowFile {
         recover_file(alloc, disk, f)
     }
 
-    /// The row of a key, None exactly where there is none. It reads one block at most, and none for a key below the first or above the last.
+    /// The row of a key, None exactly where there is none. It reads one block at most, and none for a key below the first, above
+    /// the last, or not in the filter of its block.
     pub fn row<D: Disk>(&self, disk: &mut D, key: &[u8]) -> Result<Option<RowCells>, SourceFault>
         ensures row { IsTrue (D.state disk.old).tells → (rows : List Entry)
             → Reads (D.state disk.old) self.now rows
@@ -83,6 +88,9 @@ impl RowFile {
         }
         let count = blocks_up_to(&self.marks, key);
         if count == 0 {
+            return Ok(None);
+        }
+        if is_denied(&self.filters, count - 1, key) {
             return Ok(None);
         }
         load_row(self, disk, count - 1, key)

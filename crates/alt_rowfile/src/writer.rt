@@ -10,10 +10,11 @@ use alt_base::NoMemory;
 use alt_cells::{RowCells, RowWriter, row_bytes};
 use alt_disk::{Disk, DiskFault};
 use alt_fields::{Bytes, put_bytes};
+use alt_filter::Filter;
 use std::alloc::Global;
 
-/// A row file that is being written: the file so far, the rows of the block that is open, and the marks of all blocks, with the count
-/// and the summary of their rows.
+/// A row file that is being written: the file so far, the rows of the block that is open and their filter, the marks of all blocks, with the
+/// count and the summary of their rows, and the filters of the blocks before.
 #[derive(Drop)]
 pub struct RowFileWriter {
     pub(crate) alloc: Global,
@@ -22,6 +23,8 @@ pub struct RowFileWriter {
     pub(crate) marks: Vec<(u64, Bytes)>,
     pub(crate) count: u64,
     pub(crate) summary: Summary,
+    pub(crate) filters: Vec<Filter>,
+    pub(crate) filter: Filter,
     ghost few: { count ≤ sink.at + length block.items },
 }
 
@@ -60,6 +63,8 @@ impl RowFileWriter {
             marks: Vec::new(alloc),
             count: 0,
             summary: Summary::new(),
+            filters: Vec::new(alloc),
+            filter: Filter::new(),
         })
     }
 
@@ -82,6 +87,7 @@ impl RowFileWriter {
         self.count += 1;
         let last = Bytes::new(self.alloc, key)?;
         self.summary.add(last, row);
+        self.filter.add(key);
         Ok(())
     }
 
@@ -107,8 +113,10 @@ impl RowFileWriter {
             Ok(()) => {}
             Err(_) => return Err(DiskFault::NoMemory),
         }
+        self.filters.push(self.filter)?;
         self.sink.put(disk, &bytes)?;
         self.block.clear();
+        self.filter = Filter::new();
         Ok(())
     }
 
@@ -185,6 +193,7 @@ impl RowFileWriter {
                     marks: self.marks,
                     end,
                     summary: self.summary,
+                    filters: self.filters,
                 })
             }
             Err(_) => Err(DiskFault::NoMemory),

@@ -1,5 +1,6 @@
 mod cached;
 mod changed;
+mod denied;
 mod doubted;
 mod failed;
 mod files;

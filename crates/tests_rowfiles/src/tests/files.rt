@@ -41,7 +41,7 @@ fn a_writer_writes_what_the_format_says(rt: HostRuntime) {
     assert!(rt; is_spelled(rt.alloc(), &MANY) == Some(true));
 }
 
-// Whether the row of a number is found, and none at the key with a byte more.
+// Whether the row of a number is found by one read, and none at the key with a byte more.
 fn finds(
     alloc: Global,
     file: &RowFile,
@@ -50,24 +50,26 @@ fn finds(
     i: u32,
 ) -> Option<bool> {
     let key = key_of(alloc, shape, i, b"")?;
+    let (_, before) = disk.counts();
     let found = file.row(disk, &key).ok()??;
+    let (_, after) = disk.counts();
     let mut bytes = Vec::new(alloc);
     row_bytes(&found, &mut bytes).ok()?;
     let mut want = Vec::new(alloc);
     row_bytes(&row_of_shape(alloc, shape, i)?, &mut want).ok()?;
     let behind = key_of(alloc, shape, i, b"!")?;
     let none = file.row(disk, &behind).ok()?;
-    Some(bytes.as_slice() == want.as_slice() && none.is_none())
+    let one = after == before.checked_add(1)?;
+    Some(one && bytes.as_slice() == want.as_slice() && none.is_none())
 }
 
-// Whether each row is found, by one read, and with none that there is none below the first key or behind the last.
+// Whether each row is found, and without a read that there is none below the first key.
 fn finds_each(alloc: Global, shape: &Shape) -> Option<bool> {
     let (bytes, _) = spelled(alloc, shape)?;
     let mut disk = disk_of(alloc, &bytes)?;
     let Ok(file) = RowFile::recover(alloc, &mut disk, FILE) else {
         return None;
     };
-    let (_, before) = disk.counts();
     for i in 0..shape.0 {
         if !finds(alloc, &file, &mut disk, shape, i)? {
             return Some(false);
@@ -76,8 +78,7 @@ fn finds_each(alloc: Global, shape: &Shape) -> Option<bool> {
     let (_, after) = disk.counts();
     let none = file.row(&mut disk, b"").ok()?.is_none();
     let (_, last) = disk.counts();
-    let each = (2 * shape.0 as u64).saturating_sub(1);
-    Some(none && last == after && after == before.checked_add(each)?)
+    Some(none && last == after)
 }
 
 #[test]

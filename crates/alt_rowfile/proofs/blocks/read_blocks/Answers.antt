@@ -19,7 +19,8 @@ each-init g c = record {
   quiet = λ told. quiet_start (g.D.Disk.state c.args.disk.now);
   read = λ told room. no_blocks_yet
       (drop 8 (take c.args.end (contents (g.D.Disk.state c.args.disk.now) c.args.f)))
-      c.new-marks.result.items c.new-summary.result c.new-marks.ensures.items c.new-summary.ensures;
+      c.new-marks.result.items c.new-summary.result c.new-filters.result.items
+      c.new-marks.ensures.items c.new-summary.ensures c.new-filters.ensures.items;
 }
 
 pub each-preserved : goal.each-preserved
@@ -47,7 +48,8 @@ each-preserved g c =
           (c.in_ok-read.ensures.some (told_b told) (omega (arith, room, ap length same))) in
           let p = subst (λ (l : List ℕ). (x : List Entry)
           × IsNext c.each.after (drop at (take end l)) (drop next (take end l)) x
-          × IsReadBlock c.in-Some.read.first c.in-Some.read.last c.in-Some.read.rows c.in-Some.read.summary x)
+          × IsReadBlock c.in-Some.read.first c.in-Some.read.last c.in-Some.read.rows c.in-Some.read.summary
+          c.in-Some.read.filter x)
           same found in
           let long = length_up_to bytes at end room in
           let left = length_up_to bytes next end room in
@@ -55,10 +57,11 @@ each-preserved g c =
           (drop next (take end bytes))
           at next c.each.after c.each.marks.items c.push.new.self.items c.each.rows
           c.in-Some.read.rows c.each.summary c.in-Some.read.summary c.join.new.self
+          c.each.filters.items c.push-in-Some.new.self.items c.in-Some.read.filter
           c.in-Some.read.first c.in-Some.read.last p.0 (inv.read told room)
           (omega (arith, long, c.each-test.true)) p.1 p.2
           (omega (arith, long, left, place.0, place.1)) c.in_ok-push-in-Some.ensures.items
-          c.join.ensures;
+          c.join.ensures c.in_ok-push-in-Some-2.ensures.items;
     }
 
 pub returns-in-None-clause-none : goal.returns-in-None-clause-none

@@ -17,7 +17,7 @@ invariant-each g l =
       read : IsTrue (state l.fn.disk).tells → l.end ≤ length (contents (state l.fn.disk) l.f)
           → BlocksSoFar (drop 8 (take l.end (contents (state l.fn.disk) l.f)))
           (drop l.at (take l.end (contents (state l.fn.disk) l.f)))
-          l.at l.after l.marks.items l.rows l.summary;
+          l.at l.after l.marks.items l.rows l.summary l.filters.items;
     }
 
 abbrev pub decreases-each : goal.decreases-each

@@ -45,7 +45,7 @@ returns-then-branch-clause-some g c = λ told room.
     c.in_ok-is_tail-in-Some-2.ensures.yes told_u room_u c.if-branch.true ∙ behind in
     let p = body_whole whole tail end found.rows found.marks.items blocks.0 bounds.0
     (omega (arith, bounds, long)) fits place.0 are blocks.2 refl same in
-    (blocks.0, p.0, p.1, p.2, blocks.2.summary_is)
+    (blocks.0, p.0, p.1, p.2, blocks.2.summary_is, blocks.2.filters_are)
 
 pub returns-else-branch-clause-none : goal.returns-else-branch-clause-none
 returns-else-branch-clause-none g c = λ told room.

@@ -30,7 +30,8 @@ returns-in-Ok-Some-clause-reads g c = λ told.
     let room : size - 32 ≤ length (contents u f) = omega (arith, ap length second, long) in
     let b = rw c.in-Ok-Some.field-0-is at (c.in-Ok-Some.ensures.some told_u room) in
     file_of_body (contents s f) c.in-Ok-Some.found.marks.items c.in-Ok-Some.end
-    c.in-Ok-Some.found.summary b.0 digest (subst (IsBody b.0) body b.1) b.2 b.3 b.4
+    c.in-Ok-Some.found.summary c.in-Ok-Some.found.filters.items b.0 digest
+    (subst (IsBody b.0) body b.1) b.2 b.3 b.4 b.5
 
 pub returns-in-Ok-None-clause-explained : goal.returns-in-Ok-None-clause-explained
 returns-in-Ok-None-clause-explained g c = λ told.

@@ -2,8 +2,8 @@
 use Rattle.std.proofs.Common.{◌≡◌, ◌≤◌, ◌∙◌, None, ap, sym, subst}
 use Rattle.alt_changes.specs.KeyOf.{with_attribute}
 use Rattle.alt_changes.proofs.KeyPut.{key_of_both, key_of_hash, key_size}
-use Rattle.alt_changes.proofs.records.key_attributes.Goals as goal
-use Rattle.alt_changes.proofs.records.key_attributes.Goals.{in-Some+in_ok-put_attribute-2, in_default}
+use Rattle.alt_streams.proofs.record.key_attributes.Goals as goal
+use Rattle.alt_streams.proofs.record.key_attributes.Goals.{in-Some+in_ok-put_attribute-2, in_default}
 use Rattle.alt_machine.specs.Lists.{key_attributes}
 use Rattle.alt_value.specs.Item.{at_name}
 use Rattle.alt_value.specs.Size.{item_size}

@@ -1,16 +1,12 @@
-pub mod Altering
 pub mod Built
 pub mod Faults
 pub mod FilesLeft
 pub mod Foreseen
 pub mod Found
-pub mod Fronts
 pub mod Images
 pub mod Laws
-pub mod Leftovers
 pub mod Merged
 pub mod Reading
-pub mod RowChanges
 pub mod Several
 pub mod Stands
 pub mod private

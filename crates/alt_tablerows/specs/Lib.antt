@@ -1,0 +1,5 @@
+pub mod Altering
+pub mod Faults
+pub mod Pages
+pub mod RowChanges
+pub mod Steps

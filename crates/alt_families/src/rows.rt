@@ -138,7 +138,7 @@ fn go_on<'a, D: Disk>(
             if is_out(range, forward, &key) {
                 return Ok(Step::Ended);
             }
-            match row.shown()? {
+            match row.into_shown(*out.allocator())? {
                 Some(shown) => {
                     give(out, key, shown)?;
                     Ok(Step::Gave)

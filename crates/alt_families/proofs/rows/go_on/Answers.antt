@@ -37,7 +37,7 @@ returns-in_ok-give-in-Some-clause-gives g c told p bound n shows passes ahead =
     c.next.ensures.way e c.in-Ok-Some.field-0-is (sym (passes c.in-Ok-Some.key)
     ∙ passed_first c.args.forward c.args.range.now.from c.args.range.now.to e more shows n are same
     in_range) more left)
-    _ (sym c.in_ok-shown-in-Ok-Some.ensures.row ∙ c.in-Some.is) in
+    _ (sym c.in_ok-shown-in-Ok-Some.ensures ∙ c.in-Some.is) in
     ((c.in-Ok-Some.key, c.in-Some.shown), s.0, s.1, c.in_ok-give-in-Some.ensures.ok, s.2)
 
 pub returns-in-None-clause-gives : goal.returns-in-None-clause-gives
@@ -56,7 +56,7 @@ returns-in-None-clause-gives g c told p bound n shows passes ahead =
     c.next.ensures.way e c.in-Ok-Some.field-0-is (sym (passes c.in-Ok-Some.key)
     ∙ passed_first c.args.forward c.args.range.now.from c.args.range.now.to e more shows n are same
     in_range) more left)
-    _ (sym c.in_ok-shown-in-Ok-Some.ensures.row ∙ c.in-None.is) in (
+    _ (sym c.in_ok-shown-in-Ok-Some.ensures ∙ c.in-None.is) in (
       refl,
       subst (Ahead (IsPaid p bound b c.next.new.self c.args.forward)
           c.args.forward c.args.range.now.from c.args.range.now.to) (sym s.1) s.2,

@@ -71,12 +71,12 @@ fn put_one(
     let row = RowCells::of_change(alloc, number, change)?;
     match families.get_mut(&change.family) {
         Some(family) => {
-            family.table.put(change.key.as_slice(), &row)?;
+            family.table.put(change.key.as_slice(), row)?;
             Ok(())
         }
         None => {
             let mut table = Memtable::new(alloc);
-            table.put(change.key.as_slice(), &row)?;
+            table.put(change.key.as_slice(), row)?;
             let family = Family {
                 table,
                 files: Vec::new(alloc),

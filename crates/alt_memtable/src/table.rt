@@ -57,15 +57,15 @@ impl Memtable {
         }
     }
 
-    /// Joins a row to the one of its key. Where memory is wanting, the table is as it was.
-    pub fn put(&mut self, key: &[u8], row: &RowCells) -> Result<(), NoMemory>
+    /// Joins a row to the one of its key; one of a new key is moved and not copied. Where memory is wanting, the table is as it was.
+    pub fn put(&mut self, key: &[u8], row: RowCells) -> Result<(), NoMemory>
         ensures rows { OnOk result (self.new.0
-            ≡ joined_map join_row self.old.0 (map.from_sorted ((key.now, row.now) ∷ []))) }
+            ≡ joined_map join_row self.old.0 (map.from_sorted ((key.now, row) ∷ []))) }
         ensures bytes { OnOk result (self.new.1
-            ≡ more_bytes self.old.1 (length key.now + length (bytes_of_row row.now))) }
+            ≡ more_bytes self.old.1 (length key.now + length (bytes_of_row row))) }
         ensures err { OnErr result (self.new ≡ self.old) }
     {
-        let bytes = with_row(with_more(self.bytes, key.len()), row);
+        let bytes = with_row(with_more(self.bytes, key.len()), &row);
         let key = Bytes::new(self.alloc, key)?;
         let joined = joined_row(&self.rows, &key, row)?;
         self.rows.insert(key, joined)?;
@@ -117,21 +117,21 @@ impl Memtable {
     }
 }
 
-/// The row with the one of the key that is there already.
+/// The row with the one of the key that is there already, or the row itself where there is none.
 fn joined_row(
     rows: &BTreeMap<Bytes, RowCells>,
     key: &Bytes,
-    row: &RowCells,
+    row: RowCells,
 ) -> Result<RowCells, NoMemory>
     ensures { IfOk result (λ new. Some new
-        ≡ either join_row (tree_get key_cmp rows.now key.now) (Some row.now)) }
+        ≡ either join_row (tree_get key_cmp rows.now key.now) (Some row)) }
 {
     match rows.get(key) {
         Some(old) => {
             let mut new = old.copy()?;
-            new.join(row)?;
+            new.join(&row)?;
             Ok(new)
         }
-        None => row.copy(),
+        None => Ok(row),
     }
 }

@@ -67,7 +67,7 @@ pub(crate) fn write(alloc: Global, disk: &mut Doubted, f: u32, rows: &[GivenRow]
 pub(crate) fn table_of_given(alloc: Global, rows: &[GivenRow]) -> Option<Memtable> {
     let mut table = Memtable::new(alloc);
     for given in rows {
-        table.put(given.0, &row_of_given(alloc, given)?).ok()?;
+        table.put(given.0, row_of_given(alloc, given)?).ok()?;
     }
     Some(table)
 }

@@ -106,7 +106,7 @@ fn table_of(alloc: Global, shape: &Shape) -> Option<Memtable> {
         let i = shape.0 - 1 - j;
         let key = key_of(alloc, shape, i, b"")?;
         let row = crate::tests::shapes::row_of_shape(alloc, shape, i)?;
-        table.put(&key, &row).ok()?;
+        table.put(&key, row).ok()?;
     }
     Some(table)
 }

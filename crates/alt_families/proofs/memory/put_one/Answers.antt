@@ -11,8 +11,8 @@ use Rattle.alt_families.proofs.MemoryLaws.{put_written}
 use Rattle.alt_families.specs.declared.family.Family.{Family}
 use Rattle.alt_families.proofs.memory.put_one.Goals as goal
 
-pub returns-in-Some-clause-written : goal.returns-in-Some-clause-written
-returns-in-Some-clause-written c =
+pub returns-in_ok-put-in-Some-clause-written : goal.returns-in_ok-put-in-Some-clause-written
+returns-in_ok-put-in-Some-clause-written c =
     let w : Family = record { table = c.put.new.self; files = c.in-Some.family.now.files } in
     put_written c.args.families.now (c.get_mut.follows.lender w) c.args.number c.args.change.now w
     ((c.get_mut.follows.holds w).3 (subst IsSome c.in-Some.ensures.value refl)).0
@@ -21,8 +21,8 @@ returns-in-Some-clause-written c =
     (from_sorted ((c.as_slice.ensures.same i, c.in_ok-row.ensures i) ∷ []))))
     (ap files_in c.in-Some.ensures.value)
 
-pub returns-clause-written : goal.returns-clause-written
-returns-clause-written c =
+pub returns-in_ok-insert-in-None-clause-written : goal.returns-in_ok-insert-in-None-clause-written
+returns-in_ok-insert-in-None-clause-written c =
     let w : Family = record { table = c.put-in-None.new.self; files = c.new.result } in
     put_written c.args.families.now c.insert.new.self c.args.number c.args.change.now w
     (λ q. c.in_ok-insert-in-None.ensures.updates.0 q

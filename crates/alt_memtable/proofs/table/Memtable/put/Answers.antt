@@ -10,7 +10,7 @@ use Rattle.alt_memtable.proofs.table.Memtable.put.Goals as goal
 pub returns-clause-rows : goal.returns-clause-rows
 returns-clause-rows c =
     let es = c.self.inside.rows.entries in
-    let row = c.args.row.now in
+    let row = c.args.row in
     ap (from_sorted {R = key_cmp}) c.in_ok-insert.ensures.entries
     ∙ put_joined es c.in_ok-key.key row c.in_ok-joined.joined c.in_ok-insert.ensures.was_ordered
     c.in_ok-joined.ensures

@@ -34,11 +34,14 @@ impl<'a, D: Disk> RowSource<D> for RowFileWalk<'a> {
     ghost use Rattle.std.specs.Prelude.{IfOk};
     ghost use Rattle.std.specs.Option.{option_copied};
     ghost use Rattle.alt_cells.specs.Walks.{RowMap, RowList, rows_from, Gives, Keeps, Fails};
+    ghost use Rattle.alt_rowfile.specs.Given.{walk_seeks};
     ghost use Rattle.alt_rowfile.specs.Walking.{walk_reads, walk_width, walk_holds, walk_left, walk_holds_on, walk_left_on};
 
     ghost reads = { walk_reads };
 
     ghost width = { walk_width };
+
+    ghost seeks = { walk_seeks };
 
     ghost holds = { walk_holds };
 

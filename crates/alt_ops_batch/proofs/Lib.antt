@@ -7,6 +7,7 @@ pub mod Gets
 pub mod Plain
 pub mod Showing
 pub mod Stopping
+pub mod Tables
 pub mod Taking
 pub mod Writes
 pub mod Writing

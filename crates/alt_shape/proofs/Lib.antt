@@ -1,3 +1,4 @@
+pub mod ObjectPieces
 pub mod Pieces
 pub mod Places
 pub mod Plain

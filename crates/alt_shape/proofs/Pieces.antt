@@ -9,9 +9,10 @@ use Rattle.json.specs.Token as token
 use Rattle.json.specs.Token.{Token}
 use Rattle.json.specs.Tree.{json_tokens, items_tokens, members_tokens}
 use Rattle.alt_value.specs.Tree.{Pair}
-use Rattle.alt_shape.specs.Body.{items_json, members_json}
-use Rattle.alt_shape.specs.Pieces.{item_tokens, member_tokens}
+use Rattle.alt_shape.specs.Body.{items_json, members_json, tables_json}
+use Rattle.alt_shape.specs.Pieces.{item_tokens, member_tokens, table_tokens}
 use Rattle.alt_shape.specs.declared.body.Member.{Member}
+use Rattle.alt_shape.specs.declared.body.TableItems.{TableItems}
 
 -- the items, and the bracket behind them
 items_closed : (is : List (List Pair)) → flat_map item_tokens is ++ token.end_array ∷ []
@@ -31,8 +32,17 @@ members_closed (m ∷ ms) =
     ∙ append_assoc (member_tokens m) (flat_map member_tokens ms) (token.end_object ∷ [])
     ∙ ap (λ ts. member_tokens m ++ ts) (members_closed ms)
 
+-- the tables, and the bracket behind them
+tables_closed : (ts : List TableItems) → flat_map table_tokens ts ++ token.end_object ∷ []
+    ≡ members_tokens (members_outline (tables_json ts))
+tables_closed [] = refl
+tables_closed (t ∷ ts) =
+    ap (λ xs. xs ++ token.end_object ∷ []) (flat_map-cons table_tokens t ts)
+    ∙ append_assoc (table_tokens t) (flat_map table_tokens ts) (token.end_object ∷ [])
+    ∙ ap (λ xs. table_tokens t ++ xs) (tables_closed ts)
+
 -- an opened bracket, the pieces and a closed one, behind what stood there
-in_brackets : (old more : List Token) (left right : Token)
+pub in_brackets : (old more : List Token) (left right : Token)
     → ((old ++ left ∷ []) ++ more) ++ right ∷ [] ≡ old ++ left ∷ (more ++ right ∷ [])
 in_brackets old more left right =
     append_assoc (old ++ left ∷ []) more (right ∷ [])
@@ -50,3 +60,10 @@ pub object_written : (ms : List Member)
     → ((token.begin_object ∷ []) ++ flat_map member_tokens ms) ++ token.end_object ∷ []
     ≡ json_tokens (outline (object (members_json ms)))
 object_written ms = ap (λ ts. token.begin_object ∷ ts) (members_closed ms)
+
+-- the tokens of an object of tables
+pub tables_written : (old : List Token) (ts : List TableItems)
+    → ((old ++ token.begin_object ∷ []) ++ flat_map table_tokens ts) ++ token.end_object ∷ []
+    ≡ old ++ json_tokens (outline (object (tables_json ts)))
+tables_written old ts = in_brackets old (flat_map table_tokens ts) token.begin_object token.end_object
+    ∙ ap (λ xs. old ++ token.begin_object ∷ xs) (tables_closed ts)

@@ -4,14 +4,23 @@ use Rattle.std.proofs.Common.{◌≡◌, ℕ, List, [], ◌∷◌, Bool, true, f
 use Rattle.std.specs.Prelude.{◌||◌}
 use Rattle.std.specs.Ordering.{match_ordering}
 use Rattle.std.specs.Cmp.Lexicographic.{slice_cmp}
-use Rattle.serde_json.specs.Data.{Data, Items, item, Members, no_members, member, put}
+use Rattle.serde_json.specs.Data.{Data, object, Items, item, Members, no_members, member, put}
 use Rattle.serde_json.specs.Written.{has_float, items_have_float, members_have_float}
 use Rattle.alt_codec.specs.Writing.{json_of_pairs}
 use Rattle.alt_codec.proofs.Plain.{pairs_plain}
-use Rattle.alt_shape.specs.Body.{items_json, members_json, part_json}
+use Rattle.alt_shape.specs.Body.{items_json, members_json, part_json, tables_json}
+use Rattle.alt_shape.specs.Objects.{entries_json, fields_json, inner_json, leaf_json, objects_json}
 use Rattle.alt_shape.specs.declared.body.Member.{Member}
 use Rattle.alt_shape.specs.declared.body.Part.{Part}
 use Rattle.alt_shape.specs.declared.body.Part.TheVariants as part
+use Rattle.alt_shape.specs.declared.body.TableItems.{TableItems}
+use Rattle.alt_shape.specs.declared.object.Entry.{Entry}
+use Rattle.alt_shape.specs.declared.object.Field.{Field}
+use Rattle.alt_shape.specs.declared.object.Inner.{Inner}
+use Rattle.alt_shape.specs.declared.object.Inner.TheVariants as inner
+use Rattle.alt_shape.specs.declared.object.Leaf.{Leaf}
+use Rattle.alt_shape.specs.declared.object.Leaf.TheVariants as leaf
+use Rattle.alt_shape.specs.declared.object.Object.{Object}
 use Rattle.alt_value.specs.Tree.{Pair}
 
 -- where neither of two has one, none of them has
@@ -62,12 +71,51 @@ items_plain [] = refl
 items_plain (i ∷ items) = items_have_float-item (json_of_pairs i) (items_json items)
     (pairs_plain i) (items_plain items)
 
+-- tables
+pub tables_plain : (ts : List TableItems) → members_have_float (tables_json ts) ≡ false
+tables_plain [] = refl
+tables_plain (t ∷ ts) = no_float_either (items_have_float (items_json t.items.items))
+    (members_have_float (tables_json ts)) (items_plain t.items.items) (tables_plain ts)
+
+-- a plain value
+leaf_plain : (l : Leaf) → has_float (leaf_json l) ≡ false
+leaf_plain (leaf.Word w) = refl
+leaf_plain (leaf.Text t) = refl
+leaf_plain (leaf.Count n) = refl
+leaf_plain (leaf.Item i) = pairs_plain i
+
+-- fields
+fields_plain : (fs : List Field) → members_have_float (fields_json fs) ≡ false
+fields_plain [] = refl
+fields_plain (f ∷ fs) = no_float_either (has_float (leaf_json f.value))
+    (members_have_float (fields_json fs)) (leaf_plain f.value) (fields_plain fs)
+
+-- what stands at an entry
+inner_plain : (i : Inner) → has_float (inner_json i) ≡ false
+inner_plain (inner.Leaf l) = leaf_plain l
+inner_plain (inner.Fields fs) = fields_plain fs.items
+
+-- entries
+entries_plain : (es : List Entry) → members_have_float (entries_json es) ≡ false
+entries_plain [] = refl
+entries_plain (e ∷ es) = no_float_either (has_float (inner_json e.value))
+    (members_have_float (entries_json es)) (inner_plain e.value) (entries_plain es)
+
+-- the objects of a list
+objects_plain : (os : List Object) → items_have_float (objects_json os) ≡ false
+objects_plain [] = refl
+objects_plain (o ∷ os) = items_have_float-item (object (entries_json o.entries.items))
+    (objects_json os) (entries_plain o.entries.items) (objects_plain os)
+
 -- the value of a member
 part_plain : (p : Part) → has_float (part_json p) ≡ false
 part_plain (part.Text text) = refl
+part_plain (part.Owned text) = refl
 part_plain (part.Count n) = refl
 part_plain (part.Item i) = pairs_plain i
 part_plain (part.Items is) = items_plain is.items
+part_plain (part.Tables ts) = tables_plain ts.items
+part_plain (part.Objects os) = objects_plain os.items
 
 -- the members
 pub members_plain : (ms : List Member) → members_have_float (members_json ms) ≡ false

@@ -1,5 +1,7 @@
 pub mod Bodies
 pub mod Body
+pub mod ObjectPieces
+pub mod Objects
 pub mod Pieces
 pub mod Refusals
 pub mod Shape

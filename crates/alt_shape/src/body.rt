@@ -5,12 +5,13 @@ ghost use Rattle.std.specs.List.{flat_map};
 ghost use Rattle.serde_json.specs.Data.{object, array};
 ghost use Rattle.serde_json.specs.Written.{has_float, compact_text, outline};
 ghost use Rattle.json.specs.Tree.{json_tokens};
-ghost use Rattle.alt_shape.specs.Body.{body_json, items_json, members_json, part_json};
-ghost use Rattle.alt_shape.specs.Pieces.{item_tokens, member_tokens};
+ghost use Rattle.alt_shape.specs.Body.{body_json, items_json, members_json, part_json, tables_json};
+ghost use Rattle.alt_shape.specs.Pieces.{item_tokens, member_tokens, table_tokens};
 
+use crate::object::{Object, write_list};
 use alt_base::NoMemory;
 use alt_codec::write_item;
-use alt_value::Item;
+use alt_value::{Item, Text};
 use json::Writer;
 use serde_json::Value;
 use std::alloc::Global;
@@ -35,9 +36,21 @@ pub struct Member {
 #[derive(Drop)]
 pub enum Part {
     Text(&'static str),
+    Owned(String),
     Count(u64),
     Item(Item),
     Items(Vec<Item>),
+    /// An object of these tables, in this order: their names are to rise by their bytes too.
+    Tables(Vec<TableItems>),
+    /// A list of these objects.
+    Objects(Vec<Object>),
+}
+
+/// A table with items of it.
+#[derive(Drop)]
+pub struct TableItems {
+    pub table: Text,
+    pub items: Vec<Item>,
 }
 
 impl Body {
@@ -87,9 +100,12 @@ fn write_part(alloc: Global, out: &mut Writer, part: &Part) -> Result<(), NoMemo
 {
     match part {
         Part::Text(text) => Ok(out.string(text)?),
+        Part::Owned(text) => Ok(out.string(text.as_str())?),
         Part::Count(number) => Ok(out.u64(*number)?),
         Part::Item(item) => write_item(alloc, out, item),
         Part::Items(items) => write_array(alloc, out, items.as_slice()),
+        Part::Tables(tables) => write_object(alloc, out, tables.as_slice()),
+        Part::Objects(objects) => write_list(alloc, out, objects.as_slice()),
     }
 }
 
@@ -110,6 +126,29 @@ fn write_items(alloc: Global, out: &mut Writer, items: &[Item]) -> Result<(), No
 {
     for item in items {
         write_item(alloc, out, item)?;
+    }
+    Ok(())
+}
+
+/// An object of these tables, each an array of its items.
+fn write_object(alloc: Global, out: &mut Writer, tables: &[TableItems]) -> Result<(), NoMemory>
+    ensures written { OnOk result (out.new.tokens
+        ≡ out.old.tokens ++ json_tokens (outline (object (tables_json tables.now)))) }
+    ensures before { out.new.before ≡ out.old.before }
+{
+    out.begin_object()?;
+    write_tables(alloc, out, tables)?;
+    Ok(out.end_object()?)
+}
+
+fn write_tables(alloc: Global, out: &mut Writer, tables: &[TableItems]) -> Result<(), NoMemory>
+    ensures written { OnOk result (out.new.tokens
+        ≡ out.old.tokens ++ flat_map table_tokens tables.now) }
+    ensures before { out.new.before ≡ out.old.before }
+{
+    for table in tables {
+        out.key(table.table.as_str())?;
+        write_array(alloc, out, table.items.as_slice())?;
     }
     Ok(())
 }

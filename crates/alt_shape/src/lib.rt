@@ -7,13 +7,15 @@ mod body;
 mod checking;
 mod fields;
 mod inside;
+mod object;
 mod older;
 mod refusal;
 mod rule;
 pub mod tables;
 
-pub use body::{Body, Member, Part};
+pub use body::{Body, Member, Part, TableItems};
 pub use checking::{check, given};
 pub use fields::{array_at, object_at, text_at, truth_at, whole_at};
+pub use object::{Entry, Field, Inner, Leaf, Object};
 pub use refusal::{Refusal, Reply, refuse, refuse_with};
 pub use rule::{Broken, Kind, Rule, ShapeFault};

@@ -3,8 +3,7 @@ use Rattle.std.proofs.Common.{◌≡◌, refl, sym, ap, ◌∙◌, ℕ, ◌+◌,
 use Rattle.std.proofs.lemmas.List.{map_push}
 use Rattle.std.proofs.lemmas.List.Sums.{sum_by_push}
 use Rattle.serde_json.specs.Data.{Data, string, array, item, member, no_members}
-use Rattle.serde_json.specs.View.{view, items_view, items_of}
-use Rattle.serde_json.specs.declared.value.Value.{Value}
+use Rattle.serde_json.specs.View.{items_of}
 use Rattle.alt_expr.specs.Pages.{page_bytes}
 use Rattle.alt_machine.specs.Changes.{record_json, record_size}
 use Rattle.alt_machine.specs.Ops.GetRecords.{fills, page_of, records_answer}
@@ -13,7 +12,9 @@ use Rattle.alt_machine.specs.Streams.{iterator_text}
 use Rattle.alt_schema.specs.Json.{items_by}
 use Rattle.alt_schema.specs.declared.schema.TableSchema.{TableSchema}
 use Rattle.alt_schema.specs.declared.schema.View.{View}
+use Rattle.alt_shape.specs.Objects.{object_json, objects_json}
 use Rattle.alt_shape.specs.Refusals.{answered}
+use Rattle.alt_shape.specs.declared.object.Object.{Object}
 use Rattle.alt_streams.specs.private.Paged.{HasRead, is_full, iterator_at, page_answer}
 use Rattle.alt_streams.specs.declared.page.Page.{Page}
 use Rattle.alt_streams.proofs.Prefixes.{first_push, page_full, page_whole}
@@ -23,6 +24,11 @@ items_of-map : {A : Type 0} (shown : A → Data) (xs : List A) → items_of (map
     ≡ items_by shown xs
 items_of-map shown [] = refl
 items_of-map shown (x ∷ xs) = ap (λ ds. item (shown x) ds) (items_of-map shown xs)
+
+-- objects as JSON, one by one
+objects_each : (os : List Object) → objects_json os ≡ items_of (map object_json os)
+objects_each [] = refl
+objects_each (o ∷ os) = ap (λ ds. item (object_json o) ds) (objects_each os)
 
 -- nothing is left exactly where it was reached
 none_left : (most count : ℕ) → (most - count == 0) ≡ nat_le most count
@@ -42,7 +48,7 @@ module _ (d : TableSchema) (shows : View) (most from : ℕ) where
   pub begun : (page : Page) → page.records.items ≡ [] → page.room ≡ most
       → page.left ≡ page_bytes → page.next ≡ from → HasRead d shows most from page []
   begun page records room left next = record {
-    records = ap (map view) records;
+    records = ap (map object_json) records;
     room = omega (arith, room);
     left = omega (arith, left);
     next = next;
@@ -50,9 +56,9 @@ module _ (d : TableSchema) (shows : View) (most from : ℕ) where
   }
 
   -- a record more
-  pub put_on : (old new : Page) (seen : List Change) (c : Change) (one : Value)
+  pub put_on : (old new : Page) (seen : List Change) (c : Change) (one : Object)
       → HasRead d shows most from old seen → is_full old ≡ false
-      → new.records.items ≡ old.records.items ++ one ∷ [] → view one ≡ record_json d shows c
+      → new.records.items ≡ old.records.items ++ one ∷ [] → object_json one ≡ record_json d shows c
       → new.room ≡ old.room - 1 → new.left ≡ old.left - size c → new.next ≡ c.number + 1
       → HasRead d shows most from new (seen ++ c ∷ [])
   put_on old new seen c one h going put is room left next =
@@ -61,7 +67,7 @@ module _ (d : TableSchema) (shows : View) (most from : ℕ) where
       let was_room = h.room in
       let was_left = h.left in
       record {
-        records = ap (map view) put ∙ map_push view old.records.items one
+        records = ap (map view) put ∙ map_push object_json old.records.items one
             ∙ (λ i. h.records i ++ is i ∷ []) ∙ sym (map_push (record_json d shows) seen c);
         room = omega (arith, room, was_room, count);
         left = omega (arith, left, was_left, total);
@@ -84,8 +90,9 @@ module _ (d : TableSchema) (shows : View) (most from : ℕ) where
   pub page_records : (page : Page) (changes : List Change) → HasRead d shows most from page changes
       → page_answer d page ≡ records_answer d (iterator_at d from) changes shows
   page_records page changes h =
-      let items : items_view page.records.items ≡ items_by (record_json d shows) changes =
-      ap items_of h.records ∙ items_of-map (record_json d shows) changes in
+      let items : objects_json page.records.items ≡ items_by (record_json d shows) changes =
+      objects_each page.records.items ∙ ap items_of h.records
+      ∙ items_of-map (record_json d shows) changes in
       (λ j. answered
       (member (codes "NextShardIterator") (string (iterator_text (iterator_at d (h.next j))))
       (member (codes "Records") (array (items j)) no_members)))

@@ -9,8 +9,8 @@ pub mod Naming
 pub mod Numbers
 pub mod Pieces
 pub mod Placing
-pub mod Plain
 pub mod Prefixes
 pub mod Reached
 pub mod Reaching
+pub mod Recorded
 pub mod Rising

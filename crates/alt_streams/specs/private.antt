@@ -3,3 +3,4 @@ pub mod Listed
 pub mod Named
 pub mod Paged
 pub mod Placed
+pub mod Recorded

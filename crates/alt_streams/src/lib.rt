@@ -7,6 +7,7 @@ mod iterators;
 mod list;
 mod page;
 mod paging;
+mod record;
 mod records;
 mod shown;
 mod streams;

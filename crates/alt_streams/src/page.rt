@@ -1,14 +1,11 @@
 //! A page of records that is being filled (Streams API Reference, "GetRecords").
 
-ghost use Rattle.std.specs.Prelude.{◌≡◌, false};
-ghost use Rattle.serde_json.specs.View.{items_view};
-ghost use Rattle.serde_json.specs.Written.{items_have_float};
-
-use alt_changes::{Change, record_json, record_size};
+use crate::record::{record_of, record_size};
+use alt_changes::Change;
 use alt_fields::{Bytes, put_u64};
 use alt_schema::TableSchema;
+use alt_shape::Object;
 use alt_tables::TableFault;
-use serde_json::Value;
 use std::alloc::Global;
 
 /// The sizes of records with which a page ends: 1 MB.
@@ -23,11 +20,10 @@ const PIECE: u64 = 64;
 /// behind them begin with.
 #[derive(Drop)]
 pub(crate) struct Page {
-    pub(crate) records: Vec<Value>,
+    pub(crate) records: Vec<Object>,
     pub(crate) room: u64,
     pub(crate) left: u64,
     pub(crate) next: u64,
-    ghost plain: { items_have_float (items_view records.items) ≡ false },
 }
 
 impl Page {
@@ -77,25 +73,26 @@ impl Page {
         &mut self,
         alloc: Global,
         schema: &TableSchema,
-        change: &Change,
+        change: Change,
     ) -> Result<(), TableFault>
         requires going { is_full self.old ≡ false }
         requires stream { IsSome schema.now.view }
         ensures read { (shows : View) (most from : ℕ) (seen : List machine.Change)
             → schema.now.view ≡ Some shows → HasRead schema.now shows most from self.old seen
-            → IsFit (change_in change.now)
+            → IsFit (change_in change)
             → OnOk result (HasRead schema.now shows most from self.new
-            (seen ++ change_in change.now ∷ [])) }
-        ensures fault { IsFit (change_in change.now) → IfErr result IsReadFault }
+            (seen ++ change_in change ∷ [])) }
+        ensures fault { IsFit (change_in change) → IfErr result IsReadFault }
         ensures unfailed { IsErrOf result TableFault.Failed → ⊥ }
     {
-        let Some(size) = record_size(alloc, schema, change)? else {
-            return Err(bad_change(alloc, schema, change.number));
+        let number = change.number;
+        let Some(size) = record_size(alloc, schema, &change)? else {
+            return Err(bad_change(alloc, schema, number));
         };
-        self.records.push(record_json(alloc, schema, change)?)?;
+        self.records.push(record_of(alloc, schema, change)?)?;
         self.room -= 1;
         self.left = self.left.saturating_sub(size);
-        self.next = change.number.saturating_add(1);
+        self.next = number.saturating_add(1);
         Ok(())
     }
 }

@@ -121,7 +121,7 @@ fn put_all(
     ensures unfailed { IsErrOf result TableFault.Failed → ⊥ }
 {
     for change in changes {
-        page.put(alloc, schema, &change)?;
+        page.put(alloc, schema, change)?;
         if page.is_full() {
             return Ok(false);
         }

@@ -28,7 +28,7 @@ use alt_disk::Disk;
 use alt_machine::MOST_RECORDS;
 use alt_request::Stop;
 use alt_schema::TableSchema;
-use alt_shape::{Refusal, Reply, bodies, text_at, whole_at};
+use alt_shape::{Body, Member, Part, Refusal, Reply, bodies, text_at, whole_at};
 use alt_tables::{TableFault, Tables};
 use alt_value::Text;
 use serde_json::{Map, Value};
@@ -163,14 +163,24 @@ fn page_at<D: Disk>(
 }
 
 /// The reply with the records of a page, and the iterator for the changes behind them.
+#[tactic(auto, using(alt_shape::proofs::Plain::members_plain))]
 fn page_reply(alloc: Global, schema: &TableSchema, page: Page) -> Result<Reply, NoMemory>
     ensures reply { IfOk result (λ reply. answer_of reply ≡ page_answer schema.now page) }
     ensures plain { IfOk result (λ reply. has_float (body_json reply.body) ≡ false) }
 {
     let next = iterator_text(alloc, schema, page.next)?;
-    let next = Value::String(String::from_str(alloc, next.as_str())?);
-    let mut members = Map::new(alloc);
-    serde_json::put(&mut members, alloc, "NextShardIterator", next)?;
-    serde_json::put(&mut members, alloc, "Records", Value::Array(page.records))?;
-    Ok(Reply::answered(members))
+    let next = String::from_str(alloc, next.as_str())?;
+    let mut members = Vec::with_capacity(alloc, 2)?;
+    members.push(Member {
+        name: "NextShardIterator",
+        value: Part::Owned(next),
+    })?;
+    members.push(Member {
+        name: "Records",
+        value: Part::Objects(page.records),
+    })?;
+    Ok(Reply {
+        status: 200,
+        body: Body::Members(members),
+    })
 }

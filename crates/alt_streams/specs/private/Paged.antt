@@ -2,7 +2,6 @@
 use Rattle.std.specs.Prelude.{◌≡◌, ◌-◌, ◌<◌, ◌^◌, ◌==◌, ◌||◌, ◌⊎◌, ◌++◌, ℕ, Bool, true, false, if◌then◌else◌, List, [], length, map, sum_by, Option, Some, None, codes}
 use Rattle.std.specs.List.{find}
 use Rattle.serde_json.specs.Data.{string, array, member, no_members}
-use Rattle.serde_json.specs.View.{view, items_view}
 use Rattle.alt_changes.specs.KeyOf.{HasSizes}
 use Rattle.alt_expr.specs.Pages.{page_bytes, prefixes}
 use Rattle.alt_machine.specs.Changes.{record_json, record_size}
@@ -12,6 +11,7 @@ use Rattle.alt_machine.specs.Streams.{Iterator, iterator_text}
 use Rattle.alt_schema.specs.Json.{stream_arn}
 use Rattle.alt_schema.specs.declared.schema.TableSchema.{TableSchema}
 use Rattle.alt_schema.specs.declared.schema.View.{View}
+use Rattle.alt_shape.specs.Objects.{object_json, objects_json}
 use Rattle.alt_shape.specs.Refusals.{Answer, answered}
 use Rattle.alt_streams.specs.declared.page.Page.{Page}
 
@@ -28,7 +28,7 @@ IsFirst most size changes =
 -- prefixes fills a page, but for all of them.
 pub record HasRead (d : TableSchema) (shows : View) (most from : ℕ) (page : Page)
     (seen : List Change) : Type 0 where
-  pub records : map view page.records.items ≡ map (record_json d shows) seen
+  pub records : map object_json page.records.items ≡ map (record_json d shows) seen
   pub room : page.room ≡ most - length seen
   pub left : page.left ≡ page_bytes - sum_by (record_size d shows) seen
   pub next : page.next ≡ next_from from seen
@@ -69,4 +69,4 @@ iterator_at d from = record { arn = stream_arn d.name d.number; from = from }
 abbrev pub page_answer : TableSchema → Page → Answer
 page_answer d page = answered
     (member (codes "NextShardIterator") (string (iterator_text (iterator_at d page.next)))
-    (member (codes "Records") (array (items_view page.records.items)) no_members))
+    (member (codes "Records") (array (objects_json page.records.items)) no_members))

@@ -1,33 +1,24 @@
 -- The record stands behind the others.
-use Rattle.std.proofs.Common.{◌≡◌, false, ◌-◌, refl, sym, ap, subst, ◌∙◌, IfSome, arith}
-use Rattle.serde_json.specs.View.{view, items_view}
-use Rattle.serde_json.specs.Written.{items_have_float}
+use Rattle.std.proofs.Common.{◌≡◌, ◌-◌, refl, ap, subst, ◌∙◌, IfSome, arith}
 use Rattle.alt_changes.specs.ChangeRows.{change_in}
 use Rattle.alt_machine.specs.Changes.{record_json, record_size}
+use Rattle.alt_shape.specs.Objects.{object_json}
 use Rattle.alt_streams.proofs.Filled.{put_on}
-use Rattle.alt_streams.proofs.Plain.{plain_push}
 use Rattle.alt_streams.proofs.page.Page.put.Goals as goal
-
-pub invariant_of-self-2 : goal.invariant_of-self-2
-invariant_of-self-2 c = record {
-  plain = subst (λ vs. items_have_float (items_view vs) ≡ false) (sym c.in_ok-push.ensures.items)
-      (plain_push c.args.self.now.records.items c.in_ok-record_json.field-0 c.args.self.now.plain
-      c.in_ok-record_json.ensures.no_float);
-}
 
 pub returns-clause-read : goal.returns-clause-read
 returns-clause-read c shows most from seen is h fit =
     let d = c.args.schema.now in
-    let one = change_in c.args.change.now in
+    let one = change_in c.args.change in
     let size : c.in-Some.size ≡ record_size d shows one =
     subst (λ o. IfSome o (λ n. n ≡ record_size d shows one)) c.in-Some.is
     (subst (λ o. IfSome o (λ view. IfSome c.in_ok-size.field-0 (λ n. n ≡ record_size d view one)))
     is
     c.in_ok-size.ensures.size) in
-    put_on d shows most from c.args.self.now _ seen one c.in_ok-record_json.field-0 h
+    put_on d shows most from c.args.self.now _ seen one c.in_ok-record_of.field-0 h
     c.requires.going c.in_ok-push.ensures.items
-    (subst (λ o. IfSome o (λ s. view c.in_ok-record_json.field-0 ≡ record_json d s one)) is
-    c.in_ok-record_json.ensures.json)
+    (subst (λ o. IfSome o (λ s. object_json c.in_ok-record_of.field-0 ≡ record_json d s one)) is
+    c.in_ok-record_of.ensures.json)
     refl
     (c.saturating_sub-self.ensures ∙ ap (λ n. c.args.self.now.left - n) size)
     (omega (arith, c.saturating_add-self.ensures, fit.0))

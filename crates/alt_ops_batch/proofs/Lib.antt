@@ -5,6 +5,7 @@ pub mod Finding
 pub mod Founds
 pub mod Gets
 pub mod Plain
+pub mod Repeats
 pub mod Showing
 pub mod Stopping
 pub mod Tables

@@ -1,4 +1,3 @@
-pub mod Floats
 pub mod Found
 pub mod IteratorTexts
 pub mod KeyPut

@@ -1,6 +1,5 @@
--- What the members of a record are put together from: sizes that are bounded, the key of an item, and members that may apply.
+-- What a record of a change is put together from: sizes that are bounded, and the key of an item.
 use Rattle.std.specs.Prelude.{◌≤◌, ℕ, List, [], ◌∷◌, Option, Some, None, IfSome}
-use Rattle.serde_json.specs.Data.{Data, Members, put}
 use Rattle.alt_machine.specs.State.{Change}
 use Rattle.alt_machine.specs.declared.TheConstants.{LARGEST_ITEM}
 use Rattle.alt_schema.specs.declared.schema.KeyAttr.{KeyAttr}
@@ -15,11 +14,6 @@ IsSized item = IfSome item (λ i. item_size i ≤ LARGEST_ITEM)
 -- both items of a change are
 abbrev pub HasSizes : Change → Type 0
 HasSizes c = IsSized c.old × IsSized c.new
-
--- with a member, where it applies
-abbrev pub put_if : List ℕ → Option Data → Members → Members
-put_if name None ms = ms
-put_if name (Some d) ms = put name d ms
 
 -- with the value of an attribute, where it is there; no attribute has the empty name
 abbrev pub with_attribute : List ℕ → Option Tree → List Pair → List Pair

@@ -154,7 +154,7 @@ pub(crate) fn table_named<'t>(tables: &'t Tables, name: &str) -> Result<&'t Tabl
 }
 
 /// Whether a key stands twice.
-#[tactic(auto, using(crate::proofs::Repeats::repeats_start, crate::proofs::Repeats::repeats_end))]
+#[tactic(auto, using(crate::proofs::Repeats::repeats_start))]
 pub(crate) fn has_repeat(alloc: Global, members: &[PlacedMember]) -> Result<bool, NoMemory>
     ensures { IfOk result (λ repeat. repeat ≡ machine.has_repeat members.now) }
 {

@@ -67,7 +67,7 @@ module _ (d : TableSchema) (shows : View) (most from : ℕ) where
       let was_room = h.room in
       let was_left = h.left in
       record {
-        records = ap (map view) put ∙ map_push object_json old.records.items one
+        records = ap (map object_json) put ∙ map_push object_json old.records.items one
             ∙ (λ i. h.records i ++ is i ∷ []) ∙ sym (map_push (record_json d shows) seen c);
         room = omega (arith, room, was_room, count);
         left = omega (arith, left, was_left, total);

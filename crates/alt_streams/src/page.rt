@@ -1,5 +1,7 @@
 //! A page of records that is being filled (Streams API Reference, "GetRecords").
 
+ghost use Rattle.std.specs.Prelude.{◌≡◌};
+
 use crate::record::{record_of, record_size};
 use alt_changes::Change;
 use alt_fields::{Bytes, put_u64};

@@ -10,6 +10,7 @@ ghost use Rattle.alt_machine.specs.Changes as machine;
 ghost use Rattle.alt_machine.specs.Lists.{key_attributes};
 ghost use Rattle.alt_machine.specs.declared.TheConstants.{LARGEST_ITEM};
 ghost use Rattle.alt_schema.specs.Json.{member_if};
+ghost use Rattle.alt_schema.specs.declared.schema.TableSchema.{TableSchema};
 ghost use Rattle.alt_shape.specs.Objects.{entries_json, fields_json, inner_json, leaf_json, object_json};
 ghost use Rattle.alt_streams.specs.private.Recorded.{behind};
 ghost use Rattle.alt_value.specs.Item.{at_name};
@@ -164,7 +165,17 @@ fn size_shown(
         ≡ machine.record_size schema.now shows (change_in change.now)) }
 {
     let key = changed_key(alloc, schema, change)?;
-    Ok(size_of(Some(&key)) + images_size(shows, change))
+    Ok(size_with(&key, shows, change))
+}
+
+/// The size of the record of a change, whose items have that key.
+fn size_with(key: &Item, shows: View, change: &Change) -> u64
+    requires key { item_size key.now ≤ LARGEST_ITEM }
+    requires sizes { HasSizes (change_in change.now) }
+    ensures size { (d : TableSchema) → key.now ≡ machine.changed_key d (change_in change.now)
+        → result ≡ machine.record_size d shows (change_in change.now) }
+{
+    size_of(Some(key)) + images_size(shows, change)
 }
 
 /// Puts a field behind those that are there.
@@ -189,7 +200,7 @@ fn changed_fields(
         ≡ machine.changed_json schema.now shows (change_in change)) }
 {
     let key = changed_key(alloc, schema, &change)?;
-    let size = size_of(Some(&key)) + images_size(shows, &change);
+    let size = size_with(&key, shows, &change);
     let number = label(alloc, change.number)?;
     let Change {
         moment,

@@ -168,7 +168,8 @@ fn page_reply(alloc: Global, schema: &TableSchema, page: Page) -> Result<Reply, 
     ensures reply { IfOk result (λ reply. answer_of reply ≡ page_answer schema.now page) }
     ensures plain { IfOk result (λ reply. has_float (body_json reply.body) ≡ false) }
 {
-    let next = iterator_text(alloc, schema, page.next)?;
+    let Page { records, next, .. } = page;
+    let next = iterator_text(alloc, schema, next)?;
     let next = String::from_str(alloc, next.as_str())?;
     let mut members = Vec::with_capacity(alloc, 2)?;
     members.push(Member {
@@ -177,7 +178,7 @@ fn page_reply(alloc: Global, schema: &TableSchema, page: Page) -> Result<Reply, 
     })?;
     members.push(Member {
         name: "Records",
-        value: Part::Objects(page.records),
+        value: Part::Objects(records),
     })?;
     Ok(Reply {
         status: 200,

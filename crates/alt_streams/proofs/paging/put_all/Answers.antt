@@ -29,28 +29,6 @@ loop-change-preserved c = record {
   going = sym c.is_full.ensures.full ∙ c.if-is_full.false;
 }
 
-pub loop-change-preserved-else-is_full : goal.loop-change-preserved-else-is_full
-loop-change-preserved-else-is_full c = record {
-  put = λ shows most from seen is h all.
-      let d = c.args.schema.now in
-      let changes = map change_in c.args.changes.items in
-      let ahead = into_iter_items c.next.new.self in
-      let one = change_in c.in-Some.change in
-      let so : SoFar d shows most from seen changes c.loop-change.page (one ∷ map change_in ahead) =
-      subst (λ l. SoFar d shows most from seen changes c.loop-change.page (map change_in l))
-      c.in-Some.ensures.steps.0 (c.loop-change.invariant.put shows most from seen is h all) in
-      one_more d shows most from seen changes c.loop-change.page c.put.new.self one
-      (map change_in ahead) so
-      (c.in_ok-put.ensures.read shows most from (seen ++ so.front) is so.read
-      (next_fit d shows most from seen changes c.loop-change.page c.put.new.self one
-      (map change_in ahead) so all));
-  fit = λ all. All-tail IsFit (change_in c.in-Some.change)
-      (map change_in (into_iter_items c.next.new.self))
-      (subst (λ l. All IsFit (map change_in l)) c.in-Some.ensures.steps.0
-      (c.loop-change.invariant.fit all));
-  going = sym c.is_full.ensures.full ∙ c.if-is_full.false;
-}
-
 pub returns-then-is_full-clause-puts : goal.returns-then-is_full-clause-puts
 returns-then-is_full-clause-puts c shows most from seen is h all =
     let d = c.args.schema.now in

@@ -1,9 +1,9 @@
 -- Tables with their items, put one after another: where their names rise, they stand in that order.
-use Rattle.std.proofs.Common.{◌≡◌, ◌<◌, refl, sym, ap, ◌∙◌, subst, ℕ, zero, suc, ◌+◌, ◌&&◌, ◌||◌, Bool, true, false, List, [], ◌∷◌, map, length, drop, get_or, Ordering, Less, Equal, Greater, ordering_reverse, nat_cmp, add-one, arith}
+use Rattle.std.proofs.Common.{◌≡◌, ◌<◌, refl, sym, ap, ◌∙◌, subst, ℕ, zero, suc, ◌+◌, ◌&&◌, ◌||◌, Bool, true, false, List, [], ◌∷◌, map, length, drop, get_or, Ordering, Less, Equal, Greater, nat_cmp, add-one, arith}
 use Rattle.std.specs.Prelude.{String}
 use Rattle.std.specs.declared.alloc.Global.{Global}
 use Rattle.std.specs.Cmp.Lexicographic.{slice_cmp}
-use Rattle.std.specs.Ordering.{is_lt, match_ordering}
+use Rattle.std.specs.Ordering.{is_lt, match_ordering, ordering_reverse}
 use Rattle.std.proofs.lemmas.Cmp.{nat_list_cmp_total}
 use Rattle.serde_json.specs.Data.{Data, array, item, Members, no_members, member, put}
 use Rattle.serde_json.specs.View.{members_view}
@@ -70,7 +70,7 @@ pub rises_from : (name : List ℕ) (ts : List TableItems) (i : ℕ) (t : TableIt
 rises_from name ts i t h = rw add-one (rises_from_suc name ts i t h)
 
 -- members behind others
-joined : Members → Members → Members
+abbrev joined : Members → Members → Members
 joined no_members ns = ns
 joined (member l d ms) ns = member l d (joined ms ns)
 
@@ -84,7 +84,7 @@ joined-one k d no_members ns = refl
 joined-one k d (member l e ms) ns = ap (λ xs. member l e xs) (joined-one k d ms ns)
 
 -- A name is behind all of these.
-IsBehind : List ℕ → Members → Type 0
+abbrev IsBehind : List ℕ → Members → Type 0
 IsBehind k no_members = Unit {0}
 IsBehind k (member l d ms) = (slice_cmp nat_cmp k l ≡ Greater) × IsBehind k ms
 

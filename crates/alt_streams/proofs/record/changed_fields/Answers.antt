@@ -15,6 +15,6 @@ returns c = record {
       c.in_ok-put_field-5.ensures)
       ∙ changed_is c.args.schema.now c.args.shows (change_in c.args.change) _ _ _ _ _ _
       c.in_ok-key.ensures.key c.in_ok-number.ensures.digits c.view_word.ensures.word
-      (c.size_with.ensures.size c.args.schema.now c.in_ok-key.ensures.key)
+      (c.size_with-size.ensures.size c.args.schema.now c.in_ok-key.ensures.key)
       c.shows_new.ensures c.shows_old.ensures;
 }

@@ -14,5 +14,5 @@ returns c = record {
       c.in_ok-put_leaf-3.ensures c.in_ok-put_leaf-4.ensures c.in_ok-put_leaf-5.ensures
       c.in_ok-put_identity.ensures)
       ∙ record_is c.args.schema.now c.args.shows (change_in c.args.change) _ _ _
-      c.in_ok-changed.ensures.json c.in_ok-number.ensures.digits c.event_name.ensures;
+      c.in_ok-changed.ensures.json c.in_ok-number.ensures.digits c.event_name-name.ensures;
 }

@@ -1,5 +1,6 @@
 -- Keys that stand twice: each that is left was seen before, or stands again behind itself, or does neither.
-use Rattle.std.proofs.Common.{◌≡◌, ◌<◌, refl, sym, ap, ◌∙◌, ℕ, zero, suc, ◌+◌, ◌&&◌, ◌||◌, Bool, true, false, List, [], ◌∷◌, length, drop, get_or, add-one, arith}
+use Rattle.std.proofs.Common.{◌≡◌, ◌<◌, refl, sym, ap, ◌∙◌, ℕ, zero, suc, ◌+◌, ◌&&◌, ◌||◌, Bool, true, false, not, List, [], ◌∷◌, length, drop, get_or, add-one, arith}
+use Rattle.std.specs.Bool.{MatchBool}
 use Rattle.std.specs.Borrow.{Bor}
 use Rattle.std.specs.List.{list_any}
 use Rattle.std.specs.List.Sorted.{IsPermutation}
@@ -84,6 +85,19 @@ pub repeats_here : (ks : List Key) (m : PlacedMember) (ns : List PlacedMember)
     → is_seen ks m ≡ true → repeats ks (m ∷ ns) ≡ true
 repeats_here ks m ns e =
     ap (λ b. (b || list_any (is_seen ks) ns) || (list_any (is_same_key m) ns || has_repeat ns)) e
+
+-- ---- what an insertion says
+
+-- what is new wasn't there
+pub absent : (added there : Bool) → added ≡ not there → not added ≡ false → there ≡ false
+absent true true e n = absurd (let f : ⊥ = cc in f)
+absent true false e n = refl
+absent false there e n = absurd (let f : ⊥ = cc in f)
+
+-- and is there then
+pub inserted : {P Q : Type 0} (added : Bool) → not added ≡ false → MatchBool added P Q → P
+inserted true n p = p
+inserted false n p = absurd (let f : ⊥ = cc in f)
 
 -- ---- from a place on
 

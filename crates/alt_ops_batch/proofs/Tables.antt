@@ -37,6 +37,11 @@ responses_plain ms [] h = h
 responses_plain ms (t ∷ ts) h = responses_plain (put t.table (shown_of t) ms) ts
     (members_have_float-put t.table (shown_of t) ms (items_plain t.items.items) h)
 
+-- nor where nothing stands before them
+pub all_plain : (ms : Members) (ts : List TableItems) → ms ≡ responses_of no_members ts
+    → members_have_float ms ≡ false
+all_plain ms ts e = ap members_have_float e ∙ responses_plain no_members ts refl
+
 -- from a place on
 responses_from_suc : (ms : Members) (ts : List TableItems) (i : ℕ) (t : TableItems) → i < length ts
     → responses_of ms (drop i ts)

@@ -95,7 +95,6 @@ fn whole_reply(alloc: Global, responses: Vec<TableItems>) -> Result<Reply, NoMem
 }
 
 /// The reply as a tree.
-#[tactic(auto, using(crate::proofs::Tables::responses_plain))]
 fn tree_reply(
     alloc: Global,
     responses: &[TableItems],
@@ -119,9 +118,11 @@ fn tree_reply(
 }
 
 /// Tables with their items.
-#[tactic(auto, using(crate::proofs::Tables::responses_from))]
+#[tactic(auto, using(crate::proofs::Tables::responses_from, crate::proofs::Tables::all_plain))]
 fn tables_tree(alloc: Global, tables: &[TableItems]) -> Result<Map<String, Value>, NoMemory>
-    ensures { IfOk result (λ m. members_view m.entries ≡ responses_of no_members tables.now) }
+    ensures tables { IfOk result (λ m. members_view m.entries
+        ≡ responses_of no_members tables.now) }
+    ensures plain { IfOk result (λ m. members_have_float (members_view m.entries) ≡ false) }
 {
     let mut members = Map::new(alloc);
     for table in tables {

@@ -89,15 +89,15 @@ repeats_here ks m ns e =
 -- ---- what an insertion says
 
 -- what is new wasn't there
-pub absent : (added there : Bool) → added ≡ not there → not added ≡ false → there ≡ false
+pub absent : (added there : Bool) → added ≡ not there → added ≡ true → there ≡ false
 absent true true e n = absurd (let f : ⊥ = cc in f)
 absent true false e n = refl
 absent false there e n = absurd (let f : ⊥ = cc in f)
 
 -- and is there then
-pub inserted : {P Q : Type 0} (added : Bool) → not added ≡ false → MatchBool added P Q → P
-inserted true n p = p
-inserted false n p = absurd (let f : ⊥ = cc in f)
+pub inserted : (P Q : Type 0) (added : Bool) → added ≡ true → MatchBool added P Q → P
+inserted P Q true n p = p
+inserted P Q false n p = absurd (let f : ⊥ = cc in f)
 
 -- ---- from a place on
 

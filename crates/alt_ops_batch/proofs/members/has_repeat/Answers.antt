@@ -20,5 +20,5 @@ loop-member-preserved c =
     ∙ ap (repeats keys) (members_at ms i m (omega arith)
     ∙ ap (λ x. x ∷ drop (i + 1) ms) (sym c.member-item.is))
     ∙ repeats_behind m (c.as_str.result, c.as_slice.result) table place keys c.insert.new.self.keys
-    (inserted c.in_ok-insert.field-0 c.if-not-branch.false c.in_ok-insert.ensures.keys)
+    (inserted _ _ c.in_ok-insert.field-0 c.if-not-branch.false c.in_ok-insert.ensures.keys)
     (drop (i + 1) ms) unseen

@@ -6,7 +6,8 @@ while :; do
       /work/st/*) n=-10;;
       /work/v1/*) n=6;;
       /work/v2/*) n=-7;;
-      /work/v3/*|/work/rf/*) n=-9;;
+      /work/v3/*|/work/v4/*|/work/v5/*|/work/rf*) n=-9;;
+      /work/tools/bc3/*) n=-9;;
       /work/h/cuttab*|/work/e/cuttab*) n=15;;
       /work/h/filt*) n=-7;;
       /work/h/speed*) n=-6;;

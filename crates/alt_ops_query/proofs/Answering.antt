@@ -2,6 +2,7 @@
 use Rattle.std.proofs.Common.{◌≡◌, refl, sym, ap, subst, ◌∙◌, ℕ, Bool, true, false, List, [], length, map, Option, Some, None, Result, Ok, Err, IfOk, IfErr, IfSome, OnOk, option_map}
 use Rattle.std.specs.Prelude.{if◌then◌else◌, codes}
 use Rattle.std.specs.FinMap as finite
+use Rattle.std.specs.List.{last_or}
 use Rattle.std.specs.Result.{IsErr, IsErrAnd}
 use Rattle.serde_json.specs.Data.{Data, Members, member, no_members, number, unsigned, array}
 use Rattle.serde_json.specs.Written.{has_float}
@@ -17,7 +18,7 @@ use Rattle.alt_ops_query.specs.private.Filled.{HasFilled}
 use Rattle.alt_ops_query.specs.private.Paged.{AnswersPage, HasLimit, answer_with, asked_page}
 use Rattle.alt_ops_query.specs.private.Replied.{page_of}
 use Rattle.alt_ops_query.specs.private.Stops.{IsFault}
-use Rattle.alt_ops_query.specs.declared.walking.Filling.{Filling}
+use Rattle.alt_paging.specs.declared.pager.Pager.{Pager}
 use Rattle.alt_paging.specs.Offered.{IsPage, asked_of, unless_counts}
 use Rattle.alt_paging.specs.declared.ask.Page.{Page}
 use Rattle.alt_paging.specs.declared.ask.PageAsk.{PageAsk}
@@ -47,11 +48,11 @@ page_with ask seen ended = record {
 }
 
 -- the page of what a page of the list examines is that of the list
-same_page : (ask : PageAsk) (list : List (List Pair)) (filling : Filling)
-    → HasFilled filling ask list
+same_page : (ask : PageAsk) (list : List (List Pair)) (pager : Pager)
+    → HasFilled pager ask list
     → pages.page_of (asked_of ask) (examined ask.limit list) ≡ pages.page_of (asked_of ask) list
 unfolding page_with
-same_page ask list filling filled = λ i. page_with (asked_of ask) (filled.whole.offered.whole i)
+same_page ask list pager filled = λ i. page_with (asked_of ask) (filled.whole.whole i)
     (filled.ends i)
 
 -- where counts alone are wanted no items are shown
@@ -67,7 +68,7 @@ counts_shown ms items true is = none_shown ms [] (sym is) ∙ sym (none_shown ms
 
 module _ (d : TableSchema) (x : Option IndexSchema) (ms : Members) (ask : PageAsk)
     (list : List (List Pair))
-    (filling : Filling) (filled : HasFilled filling ask list)
+    (pager : Pager) (filled : HasFilled pager ask list)
     (counts : ask.count_only ≡ selects (codes "COUNT") ms) (page : Page)
     (is : IsPage ask (examined ask.limit list) page) where
   -- the page of the list
@@ -77,18 +78,18 @@ module _ (d : TableSchema) (x : Option IndexSchema) (ms : Members) (ask : PageAs
   page_is : page_of page ≡ record whole { items = unless_counts ask.count_only whole.items }
   page_is = λ i. record {
     items = (is.items ∙ ap (λ (p : pages.Page). unless_counts ask.count_only p.items)
-        (same_page ask list filling filled)) i;
-    count = (is.count ∙ ap (λ (p : pages.Page). p.count) (same_page ask list filling filled)) i;
+        (same_page ask list pager filled)) i;
+    count = (is.count ∙ ap (λ (p : pages.Page). p.count) (same_page ask list pager filled)) i;
     scanned = (is.scanned
-        ∙ ap (λ (p : pages.Page). p.scanned) (same_page ask list filling filled)) i;
-    ended = (is.ended ∙ ap (λ (p : pages.Page). p.ended) (same_page ask list filling filled)) i;
+        ∙ ap (λ (p : pages.Page). p.scanned) (same_page ask list pager filled)) i;
+    ended = (is.ended ∙ ap (λ (p : pages.Page). p.ended) (same_page ask list pager filled)) i;
   }
 
-  last_is : (if page.ended then filling.last else None) ≡ last_examined (asked_of ask) list
-  last_is = λ i. if ap (λ (p : pages.Page). p.ended) page_is i then filled.whole.last i else None
+  last_is : page.last ≡ last_examined (asked_of ask) list
+  last_is = is.last ∙ (λ i. if filled.ends i then last_or None (filled.whole.whole i) else None)
 
   -- the page that was filled is answered as the machine answers the whole list
-  pub answered_so : page_answer d x ms (page_of page) (if page.ended then filling.last else None)
+  pub answered_so : page_answer d x ms (page_of page) page.last
       ≡ answer_with d x ms ask list
   answered_so = (λ i. page_answer d x ms (page_is i) (last_is i))
       ∙ ap with_shown (counts_shown ms whole.items ask.count_only counts)
@@ -101,25 +102,24 @@ module _ (d : TableSchema) (x : Option IndexSchema) (ms : Members) (ask : PageAs
           (member (codes "ScannedCount") (number (unsigned whole.scanned)) no_members))))
 
   -- so is a reply that has it
-  pub answered_by : (answer : Answer) (last : Option (List Pair))
-      → answer ≡ page_answer d x ms (page_of page) last
-      → last ≡ (if page.ended then filling.last else None) → answer ≡ answer_with d x ms ask list
-  answered_by answer last e f = e ∙ ap (page_answer d x ms (page_of page)) f ∙ answered_so
+  pub answered_by : (answer : Answer) → answer ≡ page_answer d x ms (page_of page) page.last
+      → answer ≡ answer_with d x ms ask list
+  answered_by answer e = e ∙ answered_so
 
 -- ---- what is done
 
 -- the page is answered, or memory was wanting for it
 pub page_does : (file : ℕ) (now : State → Type 0) (s : State) (d : TableSchema)
     (x : Option IndexSchema) (ms : Members) (ask : PageAsk)
-    (list : List (List Pair)) (filling : Filling) (r : Result Reply Stop) → now s
-    → HasFilled filling ask list → ask.count_only ≡ selects (codes "COUNT") ms
-    → IfOk r (λ reply. AnswersPage d x ms filling (answer_of reply))
+    (list : List (List Pair)) (pager : Pager) (r : Result Reply Stop) → now s
+    → HasFilled pager ask list → ask.count_only ≡ selects (codes "COUNT") ms
+    → IfOk r (λ reply. AnswersPage d x ms pager (answer_of reply))
     → IfOk r (λ reply. has_float (body_json reply.body) ≡ false) → IfErr r IsMemory
     → Does file now s (says (answer_with d x ms ask list)) r
-page_does file now s d x ms ask list filling (Ok reply) stands filled counts told plain cause =
+page_does file now s d x ms ask list pager (Ok reply) stands filled counts told plain cause =
     does_say file now (answer_with d x ms ask list) s (Ok reply)
     (told ask list filled counts, plain) stands
-page_does file now s d x ms ask list filling (Err stop) stands filled counts told plain cause =
+page_does file now s d x ms ask list pager (Err stop) stands filled counts told plain cause =
     subst (λ e. Does file now s (says (answer_with d x ms ask list)) (Err e)) (sym cause)
     (does_say file now (answer_with d x ms ask list) s (Err (Fault NoMemory)) refl stands)
 
@@ -170,15 +170,15 @@ some_same : (d x : TableSchema) → Some d ≡ Some x → d ≡ x
 some_same d x same = cc
 
 -- the description of a table is the one that was found
-pub told_of : (found : Option TableSchema) (index : Option ℕ) (ms : Members) (filling : Filling)
+pub told_of : (found : Option TableSchema) (index : Option ℕ) (ms : Members) (pager : Pager)
     (r : Result Reply Stop) (d : TableSchema) → Some d ≡ found
-    → IfOk r (λ reply. AnswersPage d (index_at d index) ms filling (answer_of reply))
+    → IfOk r (λ reply. AnswersPage d (index_at d index) ms pager (answer_of reply))
     → IfOk r (λ reply. (x : TableSchema) → found ≡ Some x
-    → AnswersPage x (index_at x index) ms filling (answer_of reply))
-told_of found index ms filling (Ok reply) d is h =
-    λ x at. subst (λ y. AnswersPage y (index_at y index) ms filling (answer_of reply))
+    → AnswersPage x (index_at x index) ms pager (answer_of reply))
+told_of found index ms pager (Ok reply) d is h =
+    λ x at. subst (λ y. AnswersPage y (index_at y index) ms pager (answer_of reply))
     (some_same d x (is ∙ at)) h
-told_of found index ms filling (Err stop) d is h = tt
+told_of found index ms pager (Err stop) d is h = tt
 
 -- and so is what holds of each description that is there
 pub within_of : (catalog : Texts TableSchema) (name : List ℕ) (index : Option ℕ) (d : TableSchema)
@@ -190,10 +190,10 @@ within_of catalog name index d is h x at = subst (λ y. IfSome index (λ n. CanR
 
 -- the reply is that of the description at hand
 pub told_at : (catalog : Texts TableSchema) (name : List ℕ) (index : Option ℕ) (ms : Members)
-    (filling : Filling) (r : Result Reply Stop) (d : TableSchema)
+    (pager : Pager) (r : Result Reply Stop) (d : TableSchema)
     → finite.get catalog name ≡ Some d
     → IfOk r (λ reply. (x : TableSchema) → finite.get catalog name ≡ Some x
-    → AnswersPage x (index_at x index) ms filling (answer_of reply))
-    → IfOk r (λ reply. AnswersPage d (index_at d index) ms filling (answer_of reply))
-told_at catalog name index ms filling (Ok reply) d at h = h d at
-told_at catalog name index ms filling (Err stop) d at h = tt
+    → AnswersPage x (index_at x index) ms pager (answer_of reply))
+    → IfOk r (λ reply. AnswersPage d (index_at d index) ms pager (answer_of reply))
+told_at catalog name index ms pager (Ok reply) d at h = h d at
+told_at catalog name index ms pager (Err stop) d at h = tt

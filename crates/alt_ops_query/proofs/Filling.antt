@@ -1,38 +1,32 @@
 -- What was examined, item by item and step by step.
-use Rattle.std.proofs.Common.{◌≡◌, refl, sym, ap, subst, ◌∙◌, true, List, [], ◌∷◌, ◌++◌, Option, Some, is_some}
-use Rattle.std.specs.List.{last_or}
+use Rattle.std.proofs.Common.{◌≡◌, sym, ap, subst, ◌∙◌, true, List, ◌++◌, is_some}
 use Rattle.alt_expr.specs.Pages as pages
 use Rattle.alt_expr.specs.Pages.{ends_early}
-use Rattle.alt_ops_query.specs.private.Filled.{HasExamined, HasFilled}
-use Rattle.alt_ops_query.specs.declared.walking.Filling.{Filling}
+use Rattle.alt_ops_query.specs.private.Filled.{HasFilled}
+use Rattle.alt_paging.specs.declared.pager.Pager.{Pager}
+use Rattle.alt_paging.specs.Offered.{WasOffered}
 use Rattle.alt_paging.specs.declared.ask.PageAsk.{PageAsk}
 use Rattle.alt_paging.proofs.PageLaws.{full_prefix-ended, examined-ended}
 use Rattle.alt_value.specs.Tree.{Pair}
 
--- the last of a list with one more
-pub last_push : {A : Type 0} (o : Option A) (xs : List A) (x : A)
-    → last_or o (xs ++ x ∷ []) ≡ Some x
-last_push o [] x = refl
-last_push o (y ∷ ys) x = last_push (Some y) ys x
-
-module _ (filling : Filling) (ask : PageAsk) (list : List (List Pair)) where
+module _ (pager : Pager) (ask : PageAsk) (list : List (List Pair)) where
   -- all was examined, and the page goes on
-  pub filled_all : HasExamined filling ask list → HasFilled filling ask list
+  pub filled_all : WasOffered pager ask list → HasFilled pager ask list
   filled_all h = record {
-    whole = subst (HasExamined filling ask) (sym h.offered.whole) h;
-    ends = ap (ends_early ask.limit) h.offered.whole;
+    whole = subst (WasOffered pager ask) (sym h.whole) h;
+    ends = ap (ends_early ask.limit) h.whole;
   }
 
   -- a front was, which ended it
   pub filled_front : (front rest : List (List Pair)) → list ≡ front ++ rest
-      → HasExamined filling ask front → ends_early ask.limit front ≡ true
-      → HasFilled filling ask list
+      → WasOffered pager ask front → ends_early ask.limit front ≡ true
+      → HasFilled pager ask list
   filled_front front rest is h ended =
       let seen : pages.examined ask.limit list ≡ front =
       ap (pages.examined ask.limit) is ∙ examined-ended ask.limit front rest ended
-      ∙ h.offered.whole in
+      ∙ h.whole in
       record {
-        whole = subst (HasExamined filling ask) (sym seen) h;
+        whole = subst (WasOffered pager ask) (sym seen) h;
         ends = ap (ends_early ask.limit) seen ∙ ended ∙ sym (longer_ends
             ∙ ended);
       }

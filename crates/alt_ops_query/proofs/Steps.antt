@@ -21,17 +21,17 @@ use Rattle.alt_machine.specs.Walks.{end_bound, is_beyond, items_between, placed_
 use Rattle.alt_keyorder.specs.declared.range.KeyRange.{KeyRange}
 use Rattle.alt_ops_query.specs.PageReads.{is_passed, page_end}
 use Rattle.alt_ops_query.specs.Places.{place_in}
-use Rattle.alt_ops_query.specs.private.Filled.{EndsPage, Examines, GoesOn, HasExamined, is_behind, paid_for}
+use Rattle.alt_ops_query.specs.private.Filled.{EndsPage, Examines, GoesOn, is_behind, paid_for}
 use Rattle.alt_ops_query.specs.private.Ranges.{IsBeyond}
 use Rattle.alt_ops_query.specs.private.Stops.{IsFault}
-use Rattle.alt_ops_query.specs.declared.walking.Filling.{Filling}
-use Rattle.alt_ops_query.proofs.Filling.{last_push, filled_all, filled_front}
+use Rattle.alt_paging.specs.declared.pager.Pager.{Pager}
+use Rattle.alt_ops_query.proofs.Filling.{filled_all, filled_front}
 use Rattle.alt_ops_query.proofs.Lists.{each_entry}
 use Rattle.alt_ops_query.proofs.Passing.{reached_all, reached_last}
 use Rattle.alt_ops_query.proofs.Rests.{HasLast, has_last, walked, items_walked, rest_is}
-use Rattle.alt_paging.specs.Offered.{asked_of}
+use Rattle.alt_paging.specs.Offered.{WasOffered, asked_of}
 use Rattle.alt_paging.specs.declared.ask.PageAsk.{PageAsk}
-use Rattle.alt_paging.proofs.PageLaws.{examined-ended, full_prefix-ended}
+use Rattle.alt_paging.proofs.PageLaws.{examined-ended, full_prefix-ended, last_push}
 use Rattle.alt_request.specs.Steps.{IsMemory}
 use Rattle.alt_request.specs.declared.stop.Stop.{Stop}
 use Rattle.alt_schema.specs.declared.schema.IndexSchema.{IndexSchema}
@@ -215,7 +215,7 @@ paid_as x y p q maps same paid =
 module _ (a b : DiskState) (t : Table) (i : Option IndexSchema) (stored : (place : List ℕ)
     (item : List Pair) → finite.get (items_of t i) place ≡ Some item
     → place_in t.description i item ≡ Some place) (forward : Bool) (range : KeyRange)
-    (filling : Filling) (ask : PageAsk) (seen items : List (List Pair)) (most : ℕ)
+    (pager : Pager) (ask : PageAsk) (seen items : List (List Pair)) (most : ℕ)
     (last : Option (List ℕ))
     (given : items ≡ take most (items_between t i range.from range.to forward))
     (told : last ≡ last_or None (take most (places_between t i range.from range.to forward)))
@@ -232,9 +232,9 @@ module _ (a b : DiskState) (t : Table) (i : Option IndexSchema) (stored : (place
       ∙ ap (λ l. l ++ drop most list) (sym given)) ∙ sym (append_assoc seen items (drop most list))
 
   -- the walk goes on: the range beyond its last item has the others
-  pub step_on : HasExamined filling ask (seen ++ items) → most ≤ length items → (rest : KeyRange)
+  pub step_on : WasOffered pager ask (seen ++ items) → most ≤ length items → (rest : KeyRange)
       → IsBeyond forward last range.from range.to rest.from rest.to
-      → GoesOn a b t i forward ask seen filling range rest
+      → GoesOn a b t i forward ask seen pager range rest
   step_on h many rest beyond =
       let end = last_of_step t i stored forward range.from range.to most items last given told some
       many in
@@ -257,7 +257,7 @@ module _ (a b : DiskState) (t : Table) (i : Option IndexSchema) (stored : (place
 
   -- ---- an item of the step ended the page
 
-  module _ (h : HasExamined filling ask (seen ++ items))
+  module _ (h : WasOffered pager ask (seen ++ items))
       (ends : ends_early ask.limit (seen ++ items) ≡ true)
       (end : IsLast t i forward range.from range.to most items last) where
     -- then the page of the whole list has ended there
@@ -267,7 +267,7 @@ module _ (a b : DiskState) (t : Table) (i : Option IndexSchema) (stored : (place
 
     examined_list : pages.examined ask.limit (seen ++ list) ≡ seen ++ items
     examined_list = ap (pages.examined ask.limit) whole_list
-        ∙ examined-ended ask.limit (seen ++ items) (drop most list) ends ∙ h.offered.whole
+        ∙ examined-ended ask.limit (seen ++ items) (drop most list) ends ∙ h.whole
 
     last_item : last_or None (seen ++ items) ≡ Some end.item
     last_item = ap (last_or None) (ap (λ l. seen ++ l) end.are
@@ -279,9 +279,9 @@ module _ (a b : DiskState) (t : Table) (i : Option IndexSchema) (stored : (place
         ((λ j. if ends_list j then last_or None (examined_list j) else None) ∙ last_item)
         ∙ end.stands
 
-    page_ended : EndsPage a b t i forward ask seen list filling range
+    page_ended : EndsPage a b t i forward ask seen list pager range
     page_ended = record {
-      filled = filled_front filling ask (seen ++ list) (seen ++ items) (drop most list) whole_list h
+      filled = filled_front pager ask (seen ++ list) (seen ++ items) (drop most list) whole_list h
           ends;
       more = omega (arith, ap length examined_list, length-append seen items);
       within = subst (λ o. IfSome o (λ place. is_within range.from range.to place ≡ true))
@@ -295,10 +295,10 @@ module _ (a b : DiskState) (t : Table) (i : Option IndexSchema) (stored : (place
     }
 
   -- Fewer items than the step asked for never end the page, so where one does it is the last of them.
-  pub step_ended : Examines filling ask seen items false → All (λ x. item_size x ≤ LARGEST_ITEM) items
+  pub step_ended : Examines pager ask seen items false → All (λ x. item_size x ≤ LARGEST_ITEM) items
       → ((more : List (List Pair)) → All (λ x. item_size x ≤ LARGEST_ITEM) more
       → length more < most → ends_early ask.limit (seen ++ more) ≡ false)
-      → EndsPage a b t i forward ask seen list filling range
+      → EndsPage a b t i forward ask seen list pager range
   step_ended (front, rest, is, h, ends) sized sure =
       let long : most < length front + 1 = lt_of_not-le (λ short.
       let unended : ends_early ask.limit (seen ++ front) ≡ false = sure front
@@ -308,30 +308,30 @@ module _ (a b : DiskState) (t : Table) (i : Option IndexSchema) (stored : (place
       let taken : length items ≤ most =
       omega (arith, ap length given, length-take most list) in
       let same : front ≡ items = front_all items front rest is (omega (arith, long, taken)) in
-      page_ended (subst (λ l. HasExamined filling ask (seen ++ l)) same h)
+      page_ended (subst (λ l. WasOffered pager ask (seen ++ l)) same h)
       (subst (λ l. ends_early ask.limit (seen ++ l) ≡ true) same ends)
       (last_of_step t i stored forward range.from range.to most items last given told some
       (omega (arith, long, ap length same)))
 
   -- ---- the step was the last of the list
 
-  pub step_last : Examines filling ask seen items true → length items < most
-      → EndsPage a b t i forward ask seen list filling range
+  pub step_last : Examines pager ask seen items true → length items < most
+      → EndsPage a b t i forward ask seen list pager range
   step_last (h, going) few =
       let short : length list ≤ most =
       omega (arith, few, ap length given, length-take most list) in
       let same : items ≡ list = given ∙ take_all most list short in
-      let all : HasExamined filling ask (seen ++ list) =
-      subst (λ l. HasExamined filling ask (seen ++ l)) same h in
-      let unended : ends_early ask.limit (seen ++ list) ≡ false = sym all.offered.ended ∙ going in
+      let all : WasOffered pager ask (seen ++ list) =
+      subst (λ l. WasOffered pager ask (seen ++ l)) same h in
+      let unended : ends_early ask.limit (seen ++ list) ≡ false = sym all.ended ∙ going in
       let none : page_end t i (asked_of ask) (seen ++ list) ≡ None =
       ap (option_and_then (place_in t.description i))
       (λ j. if unended j then last_or None (pages.examined ask.limit (seen ++ list)) else None) in
       let fewer : length (places_between t i range.from range.to forward) < most =
       omega (arith, few, ap length same, same_length t i forward range.from range.to) in
       record {
-        filled = filled_all filling ask (seen ++ list) all;
-        more = omega (arith, ap length all.offered.whole, length-append seen list);
+        filled = filled_all pager ask (seen ++ list) all;
+        more = omega (arith, ap length all.whole, length-append seen list);
         within = subst (λ o. IfSome o (λ place. is_within range.from range.to place ≡ true))
             (sym none) tt;
         paid = λ maps has. subst

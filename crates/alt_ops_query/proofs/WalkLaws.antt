@@ -9,11 +9,11 @@ use Rattle.alt_keyorder.specs.declared.range.KeyRange.{KeyRange}
 use Rattle.alt_machine.specs.State.{Table}
 use Rattle.alt_machine.specs.Walks.{items_between}
 use Rattle.alt_ops_query.specs.PageReads.{is_passed, most_reads, page_end}
-use Rattle.alt_ops_query.specs.private.Filled.{EndsPage, GoesOn, HasExamined, HasFilled, is_behind, paid_for}
+use Rattle.alt_ops_query.specs.private.Filled.{EndsPage, GoesOn, HasFilled, is_behind, paid_for}
 use Rattle.alt_ops_query.specs.private.Ranges.{IsBeyond}
-use Rattle.alt_ops_query.specs.declared.walking.Filling.{Filling}
+use Rattle.alt_paging.specs.declared.pager.Pager.{Pager}
 use Rattle.alt_ops_query.proofs.Passing.{beyond_on, fits_behind, fits_passed, paid_more}
-use Rattle.alt_paging.specs.Offered.{asked_of}
+use Rattle.alt_paging.specs.Offered.{WasOffered, asked_of}
 use Rattle.alt_paging.specs.declared.ask.PageAsk.{PageAsk}
 use Rattle.alt_schema.specs.declared.schema.IndexSchema.{IndexSchema}
 use Rattle.alt_tables.specs.Reading.{HasRowFiles, family_read}
@@ -22,20 +22,20 @@ use Rattle.alt_value.specs.Tree.{Pair}
 -- ---- the items of a step
 
 -- a front of the items was examined behind those seen before, and these are ahead
-pub record SoFar (before now : Filling) (items ahead : List (List Pair)) (ask : PageAsk)
+pub record SoFar (before now : Pager) (items ahead : List (List Pair)) (ask : PageAsk)
     (seen : List (List Pair)) : Type 0 where
   pub front : List (List Pair)
   pub is : items ≡ front ++ ahead
-  pub examined : HasExamined now ask (seen ++ front)
+  pub examined : WasOffered now ask (seen ++ front)
 
 -- before a step nothing more was examined, and all of its items are ahead
-pub none_yet : (filling : Filling) (items : List (List Pair)) (ask : PageAsk)
-    (seen : List (List Pair)) → HasExamined filling ask seen
-    → SoFar filling filling items items ask seen
-none_yet filling items ask seen h = record {
+pub none_yet : (pager : Pager) (items : List (List Pair)) (ask : PageAsk)
+    (seen : List (List Pair)) → WasOffered pager ask seen
+    → SoFar pager pager items items ask seen
+none_yet pager items ask seen h = record {
   front = [];
   is = refl;
-  examined = subst (HasExamined filling ask) (sym (append-nil seen)) h;
+  examined = subst (WasOffered pager ask) (sym (append-nil seen)) h;
 }
 
 -- no item ahead is empty where none is
@@ -46,30 +46,30 @@ All-ahead P (y ∷ ys) x ahead all =
     All-ahead P ys x ahead (All-tail P y (ys ++ x ∷ ahead) all)
 
 -- the next item isn't empty where none of the step's is
-pub next_some : (before now : Filling) (items ahead : List (List Pair)) (item : List Pair)
+pub next_some : (before now : Pager) (items ahead : List (List Pair)) (item : List Pair)
     (ask : PageAsk) (seen : List (List Pair)) → SoFar before now items (item ∷ ahead) ask seen
     → All (λ i. i ≢ []) items → item ≢ []
 next_some before now items ahead item ask seen so all =
     All-ahead (λ i. i ≢ []) so.front item ahead (subst (All (λ i. i ≢ [])) so.is all)
 
 -- one item more
-pub one_more : (before now then : Filling) (items ahead : List (List Pair)) (item : List Pair)
+pub one_more : (before now then : Pager) (items ahead : List (List Pair)) (item : List Pair)
     (ask : PageAsk) (seen : List (List Pair)) (so : SoFar before now items (item ∷ ahead) ask seen)
-    → HasExamined then ask ((seen ++ so.front) ++ item ∷ [])
+    → WasOffered then ask ((seen ++ so.front) ++ item ∷ [])
     → SoFar before then items ahead ask seen
 one_more before now then items ahead item ask seen so h = record {
   front = so.front ++ item ∷ [];
   is = so.is ∙ sym (append_assoc so.front (item ∷ []) ahead);
-  examined = subst (HasExamined then ask) (append_assoc seen so.front (item ∷ [])) h;
+  examined = subst (WasOffered then ask) (append_assoc seen so.front (item ∷ [])) h;
 }
 
 -- ---- the steps of a walk
 
 -- Those were examined, and the range that is left has the others and lies beyond a place, up to which the walk paid.
-pub record IsWalked (a b : DiskState) (now : Filling) (ask : PageAsk) (t : Table)
+pub record IsWalked (a b : DiskState) (now : Pager) (ask : PageAsk) (t : Table)
     (i : Option IndexSchema) (forward : Bool) (range rest : KeyRange) : Type 0 where
   pub seen : List (List Pair)
-  pub examined : HasExamined now ask seen
+  pub examined : WasOffered now ask seen
   pub whole : items_between t i range.from range.to forward
       ≡ seen ++ items_between t i rest.from rest.to forward
   pub place : Option (List ℕ)
@@ -79,8 +79,8 @@ pub record IsWalked (a b : DiskState) (now : Filling) (ask : PageAsk) (t : Table
       + paid_for (is_behind forward range.from range.to place) maps (length seen)
 
 -- before the first step nothing is paid
-pub walk_starts : (a : DiskState) (now : Filling) (ask : PageAsk) (t : Table)
-    (i : Option IndexSchema) (forward : Bool) (range : KeyRange) → HasExamined now ask []
+pub walk_starts : (a : DiskState) (now : Pager) (ask : PageAsk) (t : Table)
+    (i : Option IndexSchema) (forward : Bool) (range : KeyRange) → WasOffered now ask []
     → IsWalked a a now ask t i forward range range
 walk_starts a now ask t i forward range h = record {
   seen = [];
@@ -103,7 +103,7 @@ pub same_row_files : (a b : DiskState) (family : ℕ) (maps : List RowMap)
 same_row_files a b family maps same has =
     subst (λ files. HasRowFiles files family maps) (λ i f. sym (same f) i) has
 
-module _ (a b c : DiskState) (now then : Filling) (ask : PageAsk) (t : Table)
+module _ (a b c : DiskState) (now then : Pager) (ask : PageAsk) (t : Table)
     (i : Option IndexSchema) (forward : Bool) (range rest : KeyRange)
     (so : IsWalked a b now ask t i forward range rest)
     (same : (f : ℕ) → b.file f ≡ a.file f) where

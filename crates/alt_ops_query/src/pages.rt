@@ -1,6 +1,6 @@
 //! The page of a range of a table, or of one of its indexes.
 
-ghost use Rattle.std.specs.Prelude.{◌≡◌, ◌<◌, ◌≤◌, ◌+◌, true, false, List, Some, None, if◌then◌else◌, IfOk, IfErr, IfSome, OnOk, codes};
+ghost use Rattle.std.specs.Prelude.{◌≡◌, ◌<◌, ◌≤◌, ◌+◌, true, false, List, Some, IfOk, IfErr, IfSome, OnOk, codes};
 ghost use Rattle.std.specs.FinMap as map;
 ghost use Rattle.serde_json.specs.View.{members_view};
 ghost use Rattle.serde_json.specs.Written.{has_float};
@@ -27,7 +27,7 @@ ghost use Rattle.alt_views.specs.Readable.{CanRead};
 use crate::asking::page_ask;
 use crate::replies::page_reply;
 use crate::sources::index_of;
-use crate::walking::{Filling, fill};
+use crate::walking::fill;
 use alt_disk::Disk;
 use alt_keyorder::KeyRange;
 use alt_machine::Expressions;
@@ -36,7 +36,6 @@ use alt_request::{Stop, table_name};
 use alt_schema::TableSchema;
 use alt_shape::Reply;
 use alt_tables::{TableFault, Tables};
-use alt_value::Item;
 use serde_json::{Map, Value};
 use std::alloc::Global;
 
@@ -126,21 +125,9 @@ fn page_of_ask<D: Disk>(
     ensures limits { bounds_of tables.new ≡ bounds_of tables.old }
 {
     let name = table_name(body);
-    let mut filling = Filling {
-        pager: Pager::new(alloc, ask),
-        last: None,
-    };
-    fill(
-        alloc,
-        tables,
-        disk,
-        name,
-        index,
-        range,
-        forward,
-        &mut filling,
-    )?;
-    answered(alloc, tables, body, index, filling)
+    let mut pager = Pager::new(alloc, ask);
+    fill(alloc, tables, disk, name, index, range, forward, &mut pager)?;
+    answered(alloc, tables, body, index, pager)
 }
 
 /// The reply with the page that was filled.
@@ -149,7 +136,7 @@ fn answered(
     tables: &Tables,
     body: &Map<String, Value>,
     index: Option<usize>,
-    filling: Filling,
+    pager: Pager,
 ) -> Result<Reply, Stop>
     requires there { map.contains_key (catalog_of tables.now)
         (table_name (members_view body.now.entries)) ≡ true }
@@ -158,7 +145,7 @@ fn answered(
         → IfSome index (λ n. CanRead d n) }
     ensures reply { IfOk result (λ reply. (d : TableSchema)
         → map.get (catalog_of tables.now) (table_name (members_view body.now.entries)) ≡ Some d
-        → AnswersPage d (index_at d index) (members_view body.now.entries) filling
+        → AnswersPage d (index_at d index) (members_view body.now.entries) pager
         (answer_of reply)) }
     ensures plain { IfOk result (λ reply. has_float (body_json reply.body) ≡ false) }
     ensures cause { IfErr result IsMemory }
@@ -166,7 +153,7 @@ fn answered(
     let Some(schema) = tables.table(table_name(body)) else {
         unreachable!();
     };
-    filled_reply(alloc, schema, index, body, filling)
+    filled_reply(alloc, schema, index, body, pager)
 }
 
 /// The reply with the page that was filled from a table of that description.
@@ -175,26 +162,17 @@ fn filled_reply(
     schema: &TableSchema,
     index: Option<usize>,
     body: &Map<String, Value>,
-    filling: Filling,
+    pager: Pager,
 ) -> Result<Reply, Stop>
     requires index { IfSome index (λ n. CanRead schema.now n) }
     ensures reply { IfOk result (λ reply. AnswersPage schema.now (index_at schema.now index)
-        (members_view body.now.entries) filling (answer_of reply)) }
+        (members_view body.now.entries) pager (answer_of reply)) }
     ensures plain { IfOk result (λ reply. has_float (body_json reply.body) ≡ false) }
     ensures cause { IfErr result IsMemory }
 {
-    let Filling { pager, last } = filling;
     let page = pager.finish();
-    let last = last_of(page.ended, last);
-    match page_reply(alloc, schema, index_of(schema, index), body, page, &last) {
+    match page_reply(alloc, schema, index_of(schema, index), body, page) {
         Ok(reply) => Ok(reply),
         Err(_) => Err(Stop::Fault(TableFault::NoMemory)),
     }
-}
-
-/// The last item that was examined, where the page has ended early.
-fn last_of(ended: bool, last: Option<Item>) -> Option<Item>
-    ensures last { result ≡ (if ended then last else None) }
-{
-    if ended { last } else { None }
 }

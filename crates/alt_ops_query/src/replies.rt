@@ -27,22 +27,22 @@ pub(crate) fn page_reply(
     index: Option<&IndexSchema>,
     body: &Map<String, Value>,
     page: Page,
-    last: &Option<Item>,
 ) -> Result<Reply, NoMemory>
     ensures reply { IfOk result (λ reply. answer_of reply ≡ machine.page_answer schema.now
         (option_map (λ i. i.now) index.entry) (members_view body.now.entries) (page_of page)
-        last.now) }
+        page.last) }
 {
     let Page {
         items,
         count,
         scanned,
+        last,
         ..
     } = page;
     let mut members = Vec::with_capacity(alloc, 4)?;
     put(&mut members, "Count", Part::Count(u64::from(count)))?;
     put_items(&mut members, body, items.into_vec())?;
-    put_last(alloc, &mut members, schema, index, last)?;
+    put_last(alloc, &mut members, schema, index, &last)?;
     put(
         &mut members,
         "ScannedCount",

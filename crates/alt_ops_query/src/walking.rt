@@ -10,9 +10,9 @@ ghost use Rattle.alt_machine.specs.Sources.{index_at};
 ghost use Rattle.alt_machine.specs.State.{State, Table};
 ghost use Rattle.alt_machine.specs.Walks.{items_between};
 ghost use Rattle.alt_ops_query.specs.PageReads.{most_reads};
-ghost use Rattle.alt_ops_query.specs.private.Filled.{HasExamined, HasFilled, Examines, Steps};
+ghost use Rattle.alt_ops_query.specs.private.Filled.{HasFilled, Examines, Steps};
 ghost use Rattle.alt_ops_query.specs.private.Stops.{IsFault, IfErrFailed};
-ghost use Rattle.alt_paging.specs.Offered.{asked_of, has_ended};
+ghost use Rattle.alt_paging.specs.Offered.{WasOffered, asked_of, has_ended};
 ghost use Rattle.alt_paging.specs.declared.ask.PageAsk.{PageAsk};
 ghost use Rattle.alt_request.specs.Steps.{IsMemory};
 ghost use Rattle.alt_schema.specs.declared.schema.TableSchema.{TableSchema};
@@ -31,13 +31,6 @@ use alt_tables::{TableFault, Tables};
 use alt_value::Item;
 use std::alloc::Global;
 
-/// A page that is being filled, and the last item that was examined for it.
-#[derive(Drop)]
-pub(crate) struct Filling {
-    pub(crate) pager: Pager,
-    pub(crate) last: Option<Item>,
-}
-
 /// Examines the items of a table, or of its index of that number, in a range, from its front on or from its end down, until the page ends
 /// or the range does.
 pub(crate) fn fill<D: Disk>(
@@ -48,21 +41,21 @@ pub(crate) fn fill<D: Disk>(
     index: Option<usize>,
     range: KeyRange,
     forward: bool,
-    filling: &mut Filling,
+    pager: &mut Pager,
 ) -> Result<(), Stop>
     requires ready { AreReady (D.state disk.old) tables.old }
     requires there { map.contains_key (catalog_of tables.old) table.now ≡ true }
     requires index { (d : TableSchema) → map.get (catalog_of tables.old) table.now ≡ Some d
         → IfSome index (λ n. CanRead d n) }
-    requires going { has_ended filling.old.pager ≡ false }
+    requires going { has_ended pager.old ≡ false }
     ensures filled { (s : State) (t : Table) (ask : PageAsk)
         → Stands (D.state disk.old) tables.old s
-        → map.get s.tables table.now ≡ Some t → HasExamined filling.old ask []
-        → OnOk result (HasFilled filling.new ask
+        → map.get s.tables table.now ≡ Some t → WasOffered pager.old ask []
+        → OnOk result (HasFilled pager.new ask
         (items_between t (index_at t.description index) range.from range.to forward)) }
     ensures reads { (s : State) (t : Table) (ask : PageAsk) (maps : List RowMap)
         → Stands (D.state disk.old) tables.old s
-        → map.get s.tables table.now ≡ Some t → HasExamined filling.old ask []
+        → map.get s.tables table.now ≡ Some t → WasOffered pager.old ask []
         → HasRowFiles (D.state disk.old).file
         (family_read t.description (index_at t.description index)) maps
         → OnOk result ((D.state disk.new).reads ≤ (D.state disk.old).reads
@@ -72,14 +65,14 @@ pub(crate) fn fill<D: Disk>(
         (D.state disk.new) tables.new s }
     ensures catalog { KeepsCatalog tables.old tables.new }
     ensures fault { (s : State) (t : Table) (ask : PageAsk) → Stands (D.state disk.old) tables.old s
-        → map.get s.tables table.now ≡ Some t → HasExamined filling.old ask []
+        → map.get s.tables table.now ≡ Some t → WasOffered pager.old ask []
         → IfErr result IsFault }
     ensures disk { Reads (D.state disk.old) (D.state disk.new) }
     ensures failed { IfErrFailed result (Rose (D.state disk.old).faults (D.state disk.new).faults) }
 {
     let mut range = range;
     'steps: for _ in 0..u64::MAX {
-        match step(alloc, tables, disk, table, index, range, forward, filling) {
+        match step(alloc, tables, disk, table, index, range, forward, pager) {
             Ok(Some(rest)) => range = rest,
             Ok(None) => return Ok(()),
             Err(stop) => return Err(stop),
@@ -98,34 +91,34 @@ fn step<D: Disk>(
     index: Option<usize>,
     range: KeyRange,
     forward: bool,
-    filling: &mut Filling,
+    pager: &mut Pager,
 ) -> Result<Option<KeyRange>, Stop>
     requires ready { AreReady (D.state disk.old) tables.old }
     requires there { map.contains_key (catalog_of tables.old) table.now ≡ true }
     requires index { (d : TableSchema) → map.get (catalog_of tables.old) table.now ≡ Some d
         → IfSome index (λ n. CanRead d n) }
-    requires going { has_ended filling.old.pager ≡ false }
+    requires going { has_ended pager.old ≡ false }
     ensures steps { (s : State) (t : Table) (ask : PageAsk) (seen : List (List Pair))
         → Stands (D.state disk.old) tables.old s → map.get s.tables table.now ≡ Some t
-        → HasExamined filling.old ask seen → IfOk result
+        → WasOffered pager.old ask seen → IfOk result
         (Steps (D.state disk.old) (D.state disk.new) t (index_at t.description index) forward ask
-        seen filling.new range) }
+        seen pager.new range) }
     ensures going { IfOk result (λ rest. IfSome rest
-        (λ r. has_ended filling.new.pager ≡ false)) }
+        (λ r. has_ended pager.new ≡ false)) }
     ensures stays { (s : State) → Stands (D.state disk.old) tables.old s ↔ Stands
         (D.state disk.new) tables.new s }
     ensures catalog { KeepsCatalog tables.old tables.new }
     ensures fault { (s : State) (t : Table) (ask : PageAsk) (seen : List (List Pair))
         → Stands (D.state disk.old) tables.old s → map.get s.tables table.now ≡ Some t
-        → HasExamined filling.old ask seen → IfErr result IsFault }
+        → WasOffered pager.old ask seen → IfErr result IsFault }
     ensures disk { Reads (D.state disk.old) (D.state disk.new) }
     ensures failed { IfErrFailed result (Rose (D.state disk.old).faults (D.state disk.new).faults) }
 {
-    let most = filling.pager.certain(LARGEST_ITEM);
+    let most = pager.certain(LARGEST_ITEM);
     let mut items = Vec::new(alloc);
     let last = tables.rows(disk, table, index, &range, forward, most, &mut items)?;
     let got = items.len();
-    let more = examine(filling, items)?;
+    let more = examine(pager, items)?;
     if !more || got < most as usize {
         return Ok(None);
     }
@@ -133,41 +126,37 @@ fn step<D: Disk>(
 }
 
 /// Examines these items in their order, until one of them ends the page: whether it goes on.
-fn examine(filling: &mut Filling, items: Vec<Item>) -> Result<bool, Stop>
-    requires going { has_ended filling.old.pager ≡ false }
+fn examine(pager: &mut Pager, items: Vec<Item>) -> Result<bool, Stop>
+    requires going { has_ended pager.old ≡ false }
     ensures examines { IfOk result (λ more. (ask : PageAsk) (seen : List (List Pair))
-        → HasExamined filling.old ask seen → All (λ i. i ≢ []) items.items
-        → Examines filling.new ask seen items.items more) }
-    ensures ended { IfOk result (λ more. has_ended filling.new.pager ≡ not more) }
+        → WasOffered pager.old ask seen → All (λ i. i ≢ []) items.items
+        → Examines pager.new ask seen items.items more) }
+    ensures ended { IfOk result (λ more. has_ended pager.new ≡ not more) }
     ensures cause { IfErr result IsMemory }
 {
     for item in items {
-        if !offered(filling, item)? {
+        if !offered(pager, item)? {
             return Ok(false);
         }
     }
     Ok(true)
 }
 
-/// Examines the next item: whether the page goes on. No item is empty on a disk that keeps what was written.
-fn offered(filling: &mut Filling, item: Item) -> Result<bool, Stop>
-    requires going { has_ended filling.old.pager ≡ false }
+/// Examines the next item, which is moved: whether the page goes on. No item is empty on a disk that keeps what was written.
+fn offered(pager: &mut Pager, item: Item) -> Result<bool, Stop>
+    requires going { has_ended pager.old ≡ false }
     ensures examines { IfOk result (λ more. (ask : PageAsk) (seen : List (List Pair))
-        → HasExamined filling.old ask seen → item ≢ []
-        → HasExamined filling.new ask (seen ++ item ∷ [])
+        → WasOffered pager.old ask seen → item ≢ []
+        → WasOffered pager.new ask (seen ++ item ∷ [])
         × (more ≡ not (ends_early ask.limit (seen ++ item ∷ [])))) }
-    ensures ended { IfOk result (λ more. has_ended filling.new.pager ≡ not more) }
+    ensures ended { IfOk result (λ more. has_ended pager.new ≡ not more) }
     ensures cause { IfErr result IsMemory }
 {
     if item.len() == 0 {
-        filling.last = Some(item);
         return Ok(true);
     }
-    match filling.pager.offer(&item) {
-        Ok(more) => {
-            filling.last = Some(item);
-            Ok(more)
-        }
+    match pager.offer(item) {
+        Ok(more) => Ok(more),
         Err(_) => Err(Stop::Fault(TableFault::NoMemory)),
     }
 }

@@ -1,16 +1,17 @@
 -- One item more is offered.
 use Rattle.std.proofs.Common.{◌≡◌, refl, sym, ap, ◌∙◌, cond, ℕ, ◌+◌, ◌-◌, ◌<◌, Bool, true, false, not, ◌&&◌, ◌||◌, List, [], ◌∷◌, ◌++◌, length, map, Option, Some, None, is_some, IfSome, unwrap_or, nat_le, ◌==◌, sum_by, arith, length-append}
 use Rattle.std.specs.Prelude.{if◌then◌else◌}
+use Rattle.std.specs.List.{last_or}
 use Rattle.std.proofs.lemmas.List.{map-append}
 use Rattle.std.proofs.lemmas.List.Elements.{filter-append}
 use Rattle.std.proofs.lemmas.List.Sums.{sum_by_push}
 use Rattle.alt_expr.specs.Pages.{page_bytes, reaches, fills, examined, ends_early, passes, parts, passed}
 use Rattle.alt_paging.specs.Counted.{reached}
-use Rattle.alt_paging.specs.Offered.{WasOffered, IsPage, Grows, asked_of, shown_of, unless_counts}
+use Rattle.alt_paging.specs.Offered.{WasOffered, IsPage, Grows, asked_of, last_of, shown_of, unless_counts}
 use Rattle.alt_paging.specs.declared.ask.Page.{Page}
 use Rattle.alt_paging.specs.declared.ask.PageAsk.{PageAsk}
 use Rattle.alt_paging.specs.declared.pager.Pager.{Pager}
-use Rattle.alt_paging.proofs.PageLaws.{ends_early_push, examined_push}
+use Rattle.alt_paging.proofs.PageLaws.{ends_early_push, examined_push, last_push}
 use Rattle.alt_value.specs.Size.{item_size}
 use Rattle.alt_value.specs.Tree.{Pair}
 
@@ -95,6 +96,11 @@ module _ (ask : PageAsk) (old new : Pager) (items : List (List Pair)) (item : Li
       then 1 else 0))
       ∙ sym (count_push ask items item)
 
+  last_so : new.last ≡ last_of ask (items ++ item ∷ [])
+  last_so = grows.last ∙ (λ i. if ended_so i then sym (last_push None items item) i else None)
+      ∙ ap (λ seen. if ends_early ask.limit (items ++ item ∷ []) then last_or None seen else None)
+      (sym (examined_push ask.limit items item goes_on))
+
   -- with one item more, what was offered is offered
   pub offered_one : WasOffered new ask (items ++ item ∷ [])
   offered_one = record {
@@ -106,6 +112,7 @@ module _ (ask : PageAsk) (old new : Pager) (items : List (List Pair)) (item : Li
     left = left_so;
     whole = examined_push ask.limit items item goes_on;
     ended = ended_so;
+    last = last_so;
   }
 
 -- ---- the first and the last
@@ -136,6 +143,11 @@ none_examined limit = by (fills limit [])
     by true = refl
     by false = refl
 
+-- no item ends a page that goes on
+pub none_last : (ask : PageAsk) → IfSome ask.limit (λ most. 0 < most) → None ≡ last_of ask []
+none_last ask above = ap (λ b. if b then last_or None (examined ask.limit []) else None)
+    (sym (none_ends ask.limit above))
+
 -- of no items none is kept
 pub none_kept : (counts : Bool) → unless_counts counts [] ≡ []
 none_kept true = refl
@@ -145,11 +157,12 @@ none_kept false = refl
 pub page_is : (ask : PageAsk) (pager : Pager) (items : List (List Pair))
     → WasOffered pager ask items → (page : Page) → page.items ≡ pager.kept
     → page.count ≡ pager.count → page.scanned ≡ pager.scanned → page.ended ≡ pager.ended
-    → IsPage ask items page
-page_is ask pager items was page kept count scanned ended = record {
+    → page.last ≡ pager.last → IsPage ask items page
+page_is ask pager items was page kept count scanned ended last = record {
   items = kept ∙ was.kept ∙ ap (λ seen. unless_counts ask.count_only
       (map (parts ask.paths) (passed (asked_of ask) seen))) (sym was.whole);
   count = count ∙ was.count ∙ ap (λ seen. length (passed (asked_of ask) seen)) (sym was.whole);
   scanned = scanned ∙ was.scanned ∙ ap length (sym was.whole);
   ended = ended ∙ was.ended;
+  last = last ∙ was.last;
 }

@@ -1,6 +1,6 @@
 -- How the page of a list grows with the list: up to its end every item is examined, and from then on none.
 use Rattle.std.proofs.Common.{◌≡◌, ◌⊎◌, inl, inr, refl, sym, ap, ◌∙◌, cond, ℕ, ◌+◌, ◌*◌, ◌<◌, ◌≤◌, Bool, true, false, ◌||◌, List, [], ◌∷◌, ◌++◌, length, map, Option, Some, None, is_some, IfSome, unwrap_or, nat_le, sum_by, All, arith, append_assoc, append-nil, length-append}
-use Rattle.std.specs.List.{find}
+use Rattle.std.specs.List.{find, last_or}
 use Rattle.std.specs.Option.{option_or}
 use Rattle.std.proofs.lemmas.List.{map-append}
 use Rattle.std.proofs.lemmas.List.Elements.{All-head, All-tail}
@@ -9,6 +9,14 @@ use Rattle.std.proofs.lemmas.List.Sums.{sum_by-cons, sum_by_push}
 use Rattle.alt_expr.specs.Pages.{Asked, Page, page_bytes, reaches, fills, prefixes, full_prefix, examined, ends_early, parts, passed, page_of}
 use Rattle.alt_value.specs.Size.{item_size}
 use Rattle.alt_value.specs.Tree.{Pair}
+
+-- ---- the last of a list
+
+-- the last of a list with one more
+pub last_push : {A : Type 0} (o : Option A) (xs : List A) (x : A)
+    → last_or o (xs ++ x ∷ []) ≡ Some x
+last_push o [] x = refl
+last_push o (y ∷ ys) x = last_push (Some y) ys x
 
 -- ---- prefixes
 

@@ -1,5 +1,6 @@
 -- What a pager was offered, and the page of it.
-use Rattle.std.specs.Prelude.{◌≡◌, Bool, not, ◌&&◌, ◌||◌, ◌==◌, ◌+◌, ◌-◌, List, [], ◌∷◌, ◌++◌, length, map, sum_by, if◌then◌else◌}
+use Rattle.std.specs.Prelude.{◌≡◌, Bool, not, ◌&&◌, ◌||◌, ◌==◌, ◌+◌, ◌-◌, List, [], ◌∷◌, ◌++◌, length, map, sum_by, Option, Some, None, if◌then◌else◌}
+use Rattle.std.specs.List.{last_or}
 use Rattle.alt_expr.specs.Pages.{Asked, page_bytes, examined, ends_early, passes, parts, passed, page_of}
 use Rattle.alt_paging.specs.Counted.{reached}
 use Rattle.alt_paging.specs.Looked.{IsLooked}
@@ -17,12 +18,18 @@ asked_of ask = record { limit = ask.limit; condition = ask.filter; paths = ask.p
 abbrev pub unless_counts : Bool → List (List Pair) → List (List Pair)
 unless_counts count_only items = if count_only then [] else items
 
--- The page is that of the list; where counts alone are wanted, it has none of them.
+-- the last of the items that a page of a list examines, where the page ends early
+abbrev pub last_of : PageAsk → List (List Pair) → Option (List Pair)
+last_of ask list =
+    if ends_early ask.limit list then last_or None (examined ask.limit list) else None
+
+-- The page is that of the list, and tells the item that ended it; where counts alone are wanted, it has none of the items.
 pub record IsPage (ask : PageAsk) (list : List (List Pair)) (page : Page) : Type 0 where
   pub items : page.items ≡ unless_counts ask.count_only (page_of (asked_of ask) list).items
   pub count : page.count ≡ (page_of (asked_of ask) list).count
   pub scanned : page.scanned ≡ (page_of (asked_of ask) list).scanned
   pub ended : page.ended ≡ (page_of (asked_of ask) list).ended
+  pub last : page.last ≡ last_of ask list
 
 -- the page has ended
 abbrev pub has_ended : Pager → Bool
@@ -39,6 +46,7 @@ pub record WasOffered (pager : Pager) (ask : PageAsk) (items : List (List Pair))
   pub left : pager.left ≡ page_bytes - sum_by item_size items
   pub whole : examined ask.limit items ≡ items
   pub ended : pager.ended ≡ ends_early ask.limit items
+  pub last : pager.last ≡ last_of ask items
 
 -- ---- for private contracts
 
@@ -47,7 +55,7 @@ abbrev pub shown_of : PageAsk → List Pair → List (List Pair)
 shown_of ask item =
     if passes ask.filter item && not ask.count_only then parts ask.paths item ∷ [] else []
 
--- an item is examined: it is kept and counted where it meets the filter, and its bytes are counted
+-- an item is examined: it is kept and counted where it meets the filter, its bytes are counted, and it is at hand where it ends the page
 pub record Grows (old : Pager) (item : List Pair) (new : Pager) : Type 0 where
   pub ask : new.ask ≡ old.ask
   pub looked : IsLooked old.look old.ask → IsLooked new.look new.ask
@@ -57,3 +65,4 @@ pub record Grows (old : Pager) (item : List Pair) (new : Pager) : Type 0 where
   pub scanned : new.scanned ≡ old.scanned + 1
   pub left : new.left ≡ old.left - item_size item
   pub ended : new.ended ≡ (reached old.ask.limit new.scanned || (new.left == 0))
+  pub last : new.last ≡ (if new.ended then Some item else None)

@@ -16,11 +16,13 @@ pub struct PageAsk {
     pub count_only: bool,
 }
 
-/// The items of a page, how many they are, how many were examined, and whether the page ended early.
+/// The items of a page, how many they are, how many were examined, whether the page ended early, and the item that ended it.
 #[derive(Drop)]
 pub struct Page {
     pub items: ItemList,
     pub count: u32,
     pub scanned: u32,
     pub ended: bool,
+    /// The last item that was examined, whole, where the page ended early.
+    pub last: Option<Item>,
 }

@@ -27,14 +27,14 @@ pub(crate) fn keep(
     alloc: Global,
     ask: &PageAsk,
     look: &mut Option<Look>,
-    item: &Item,
+    item: Item,
     kept: &mut ItemList,
 ) -> Result<bool, NoMemory>
     ensures met { IfOk result (λ met. IsLooked look.old ask.now
-        → met ≡ spec.passes ask.now.filter item.now) }
+        → met ≡ spec.passes ask.now.filter item) }
     ensures ok { OnOk result (IsLooked look.old ask.now → kept.new ≡ kept.old
-        ++ (if spec.passes ask.now.filter item.now && not ask.now.count_only
-        then parts ask.now.paths item.now ∷ [] else [])) }
+        ++ (if spec.passes ask.now.filter item && not ask.now.count_only
+        then parts ask.now.paths item ∷ [] else [])) }
     ensures looked { IsLooked look.old ask.now → IsLooked look.new ask.now }
     ensures err { OnErr result (kept.new ≡ kept.old) }
     ensures as_it_was { OnErr result (look.new ≡ look.old) }
@@ -60,16 +60,16 @@ fn keep_by(
     alloc: Global,
     look: &Look,
     count_only: bool,
-    item: &Item,
+    item: Item,
     kept: &mut ItemList,
 ) -> Result<bool, NoMemory>
-    ensures met { IfOk result (λ met. met ≡ spec.passes look.now.filter item.now) }
+    ensures met { IfOk result (λ met. met ≡ spec.passes look.now.filter item) }
     ensures ok { OnOk result (kept.new ≡ kept.old
-        ++ (if spec.passes look.now.filter item.now && not count_only
-        then parts look.now.paths item.now ∷ [] else [])) }
+        ++ (if spec.passes look.now.filter item && not count_only
+        then parts look.now.paths item ∷ [] else [])) }
     ensures err { OnErr result (kept.new ≡ kept.old) }
 {
-    let met = passes(&look.filter, item);
+    let met = passes(&look.filter, &item);
     if met && !count_only {
         let shown = shown(alloc, &look.paths, item)?;
         kept.push(shown)?;
@@ -121,12 +121,12 @@ fn passes(filter: &Option<Cond>, item: &Item) -> bool
     }
 }
 
-/// What paths choose of an item, or all of it where there are none.
-fn shown(alloc: Global, paths: &Option<Projection>, item: &Item) -> Result<Item, NoMemory>
-    ensures { IfOk result (λ i. i ≡ parts paths.now item.now) }
+/// What paths choose of an item; where there are none, the item itself, which is moved and not copied.
+fn shown(alloc: Global, paths: &Option<Projection>, item: Item) -> Result<Item, NoMemory>
+    ensures { IfOk result (λ i. i ≡ parts paths.now item) }
 {
     match paths {
-        Some(paths) => paths.of(alloc, item),
-        None => item.copy(),
+        Some(paths) => paths.of(alloc, &item),
+        None => Ok(item),
     }
 }

@@ -1,6 +1,6 @@
 //! A pager examines the items of a list one after the other, and tells where the page ends.
 
-ghost use Rattle.std.specs.Prelude.{◌≡◌, ◌≢◌, ◌+◌, ◌-◌, ◌<◌, ◌≤◌, [], false, if◌then◌else◌};
+ghost use Rattle.std.specs.Prelude.{◌≡◌, ◌≢◌, ◌+◌, ◌-◌, ◌<◌, ◌≤◌, [], false, Some, None, IfOk, if◌then◌else◌};
 ghost use Rattle.std.specs.Option.{ForSome};
 ghost use Rattle.alt_paging.specs.Counted.{reached};
 ghost use Rattle.alt_value.specs.Size.{item_size};
@@ -15,7 +15,7 @@ use std::alloc::Global;
 /// The bytes of examined items after which a page ends: 1 MB (Developer Guide, "Paginating table query results").
 const PAGE_BYTES: u64 = 1_048_576;
 
-/// A page that isn't whole yet. It holds what it gives, and of the other items only counts.
+/// A page that isn't whole yet. It holds what it gives and the item that ended it, and of the other items only counts.
 #[derive(Drop)]
 pub struct Pager {
     alloc: Global,
@@ -28,6 +28,8 @@ pub struct Pager {
     /// The bytes that examined items may still have before the page ends.
     left: u64,
     ended: bool,
+    /// The item that ended the page.
+    last: Option<Item>,
     ghost counted: { count ≤ scanned },
     ghost bounded: { scanned + left ≤ 1048576 },
     ghost going: { ended ≡ false → 0 < left },
@@ -57,19 +59,20 @@ impl Pager {
             scanned: 0,
             left: PAGE_BYTES,
             ended: false,
+            last: None,
         }
     }
 
-    /// Examines the next item. False says that the page ends with it, and then no further one may be offered. Where memory is wanting,
+    /// Examines the next item, which is moved. False says that the page ends with it, and then no further one may be offered. Where memory is wanting,
     /// the pager is as it was.
-    pub fn offer(&mut self, item: &Item) -> Result<bool, NoMemory>
-        requires some { item.now ≢ [] }
+    pub fn offer(&mut self, item: Item) -> Result<bool, NoMemory>
+        requires some { item ≢ [] }
         requires open { has_ended self.old ≡ false }
         ensures offered { OnOk result ((ask : PageAsk) (items : List (List Pair))
-            → WasOffered self.old ask items → WasOffered self.new ask (items ++ item.now ∷ [])) }
+            → WasOffered self.old ask items → WasOffered self.new ask (items ++ item ∷ [])) }
         ensures more { IfOk result (λ more. (ask : PageAsk) (items : List (List Pair))
             → WasOffered self.old ask items
-            → more ≡ not (ends_early ask.limit (items ++ item.now ∷ []))) }
+            → more ≡ not (ends_early ask.limit (items ++ item ∷ []))) }
         ensures ended { IfOk result (λ more. has_ended self.new ≡ not more) }
         ensures err { OnErr result (self.new ≡ self.old) }
     {
@@ -109,21 +112,27 @@ impl Pager {
             count: self.count,
             scanned: self.scanned,
             ended: self.ended,
+            last: self.last,
         }
     }
 
     /// Keeps what is shown of an item, where it meets the filter, and counts it and its bytes.
-    fn examine(&mut self, item: &Item) -> Result<(), NoMemory>
-        requires some { item.now ≢ [] }
+    fn examine(&mut self, item: Item) -> Result<(), NoMemory>
+        requires some { item ≢ [] }
         requires open { has_ended self.old ≡ false }
-        ensures grows { OnOk result (Grows self.old item.now self.new) }
+        ensures grows { OnOk result (Grows self.old item self.new) }
         ensures err { OnErr result (self.new ≡ self.old) }
     {
+        let scanned = self.scanned + 1;
+        let left = left_after(self.left, &item);
+        let ended = reaches(self.ask.limit, scanned) || left == 0;
+        let last = copy_if(ended, &item)?;
         let met = keep(self.alloc, &self.ask, &mut self.look, item, &mut self.kept)?;
-        self.scanned += 1;
         self.count += one_if(met);
-        self.left = left_after(self.left, item);
-        self.ended = reaches(self.ask.limit, self.scanned) || self.left == 0;
+        self.scanned = scanned;
+        self.left = left;
+        self.ended = ended;
+        self.last = last;
         Ok(())
     }
 }
@@ -132,6 +141,17 @@ fn one_if(met: bool) -> u32
     ensures { result ≡ (if met then 1 else 0) }
 {
     if met { 1 } else { 0 }
+}
+
+/// A copy of the item that ends a page; of the others none is kept.
+fn copy_if(ended: bool, item: &Item) -> Result<Option<Item>, NoMemory>
+    ensures copy { IfOk result (λ last. last ≡ (if ended then Some item.now else None)) }
+{
+    if ended {
+        Ok(Some(item.copy()?))
+    } else {
+        Ok(None)
+    }
 }
 
 /// What an item leaves of so many bytes, none where it has more.

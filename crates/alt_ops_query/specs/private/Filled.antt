@@ -1,6 +1,5 @@
 -- What a walk has examined for a page.
 use Rattle.std.specs.Prelude.{◌≡◌, ◌<◌, ◌≤◌, ◌+◌, ◌*◌, ◌&&◌, ℕ, Bool, true, false, not, List, ◌++◌, length, Option, Some, None, IfSome}
-use Rattle.std.specs.List.{last_or}
 use Rattle.alt_cells.specs.Walks.{RowMap}
 use Rattle.alt_disk.specs.Disk.{DiskState}
 use Rattle.alt_expr.specs.Pages as pages
@@ -11,29 +10,24 @@ use Rattle.alt_machine.specs.State.{Table}
 use Rattle.alt_machine.specs.Walks.{is_beyond, items_between}
 use Rattle.alt_ops_query.specs.PageReads.{is_passed, page_end}
 use Rattle.alt_ops_query.specs.private.Ranges.{IsBeyond}
-use Rattle.alt_ops_query.specs.declared.walking.Filling.{Filling}
+use Rattle.alt_paging.specs.declared.pager.Pager.{Pager}
 use Rattle.alt_paging.specs.Offered.{WasOffered, asked_of, has_ended}
 use Rattle.alt_paging.specs.declared.ask.PageAsk.{PageAsk}
 use Rattle.alt_schema.specs.declared.schema.IndexSchema.{IndexSchema}
 use Rattle.alt_tables.specs.Reading.{HasRowFiles, family_read, is_within}
 use Rattle.alt_value.specs.Tree.{Pair}
 
--- these items were examined, and the last of them is at hand
-pub record HasExamined (filling : Filling) (ask : PageAsk) (items : List (List Pair)) : Type 0 where
-  pub offered : WasOffered filling.pager ask items
-  pub last : filling.last ≡ last_or None items
-
 -- Behind those that were seen all of the items were examined, and the page goes on; or the first of them, the last of which ended it.
-abbrev pub Examines : Filling → PageAsk → List (List Pair) → List (List Pair) → Bool → Type 0
-Examines filling ask seen items true = HasExamined filling ask (seen ++ items)
-    × (has_ended filling.pager ≡ false)
-Examines filling ask seen items false = (front : List (List Pair)) × (rest : List (List Pair))
-    × (items ≡ front ++ rest) × HasExamined filling ask (seen ++ front)
+abbrev pub Examines : Pager → PageAsk → List (List Pair) → List (List Pair) → Bool → Type 0
+Examines pager ask seen items true = WasOffered pager ask (seen ++ items)
+    × (has_ended pager ≡ false)
+Examines pager ask seen items false = (front : List (List Pair)) × (rest : List (List Pair))
+    × (items ≡ front ++ rest) × WasOffered pager ask (seen ++ front)
     × (ends_early ask.limit (seen ++ front) ≡ true)
 
 -- What a page of the list examines was examined, and the page has ended where that of the list does.
-pub record HasFilled (filling : Filling) (ask : PageAsk) (list : List (List Pair)) : Type 0 where
-  pub whole : HasExamined filling ask (pages.examined ask.limit list)
+pub record HasFilled (pager : Pager) (ask : PageAsk) (list : List (List Pair)) : Type 0 where
+  pub whole : WasOffered pager ask (pages.examined ask.limit list)
   pub ends : ends_early ask.limit (pages.examined ask.limit list) ≡ ends_early ask.limit list
 
 -- ---- the steps of a walk
@@ -49,11 +43,11 @@ paid_for p maps times = versions_of p maps + 2 * length maps * times
 -- A step examined a front of the list of its range, which has one item or more; the rest of the range lies beyond the last of these and
 -- has the others; and the places up to there were paid for.
 pub record GoesOn (a b : DiskState) (t : Table) (i : Option IndexSchema) (forward : Bool)
-    (ask : PageAsk) (seen : List (List Pair)) (filling : Filling) (range rest : KeyRange)
+    (ask : PageAsk) (seen : List (List Pair)) (pager : Pager) (range rest : KeyRange)
     : Type 0 where
   pub front : List (List Pair)
   pub some : 0 < length front
-  pub examined : HasExamined filling ask (seen ++ front)
+  pub examined : WasOffered pager ask (seen ++ front)
   pub whole : items_between t i range.from range.to forward
       ≡ front ++ items_between t i rest.from rest.to forward
   pub last : List ℕ
@@ -64,9 +58,9 @@ pub record GoesOn (a b : DiskState) (t : Table) (i : Option IndexSchema) (forwar
 
 -- A step examined all that the page examines, and no less than what was seen; and the places up to the page's end were paid for.
 pub record EndsPage (a b : DiskState) (t : Table) (i : Option IndexSchema) (forward : Bool)
-    (ask : PageAsk) (seen list : List (List Pair)) (filling : Filling) (range : KeyRange)
+    (ask : PageAsk) (seen list : List (List Pair)) (pager : Pager) (range : KeyRange)
     : Type 0 where
-  pub filled : HasFilled filling ask (seen ++ list)
+  pub filled : HasFilled pager ask (seen ++ list)
   pub more : length seen ≤ length (pages.examined ask.limit (seen ++ list))
   pub within : IfSome (page_end t i (asked_of ask) (seen ++ list))
       (λ place. is_within range.from range.to place ≡ true)
@@ -76,8 +70,8 @@ pub record EndsPage (a b : DiskState) (t : Table) (i : Option IndexSchema) (forw
 
 -- A step of a walk goes on with the rest of the range, or is the last one.
 abbrev pub Steps : DiskState → DiskState → Table → Option IndexSchema → Bool → PageAsk
-    → List (List Pair) → Filling → KeyRange → Option KeyRange → Type 0
-Steps a b t i forward ask seen filling range None = EndsPage a b t i forward ask seen
-    (items_between t i range.from range.to forward) filling range
-Steps a b t i forward ask seen filling range (Some rest) =
-    GoesOn a b t i forward ask seen filling range rest
+    → List (List Pair) → Pager → KeyRange → Option KeyRange → Type 0
+Steps a b t i forward ask seen pager range None = EndsPage a b t i forward ask seen
+    (items_between t i range.from range.to forward) pager range
+Steps a b t i forward ask seen pager range (Some rest) =
+    GoesOn a b t i forward ask seen pager range rest

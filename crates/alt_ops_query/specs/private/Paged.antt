@@ -8,7 +8,7 @@ use Rattle.alt_machine.specs.Lists.{last_examined, page_answer}
 use Rattle.alt_machine.specs.Ops.Scan.{whole_at}
 use Rattle.alt_machine.specs.Sources.{selects}
 use Rattle.alt_ops_query.specs.private.Filled.{HasFilled}
-use Rattle.alt_ops_query.specs.declared.walking.Filling.{Filling}
+use Rattle.alt_paging.specs.declared.pager.Pager.{Pager}
 use Rattle.alt_paging.specs.Offered.{asked_of}
 use Rattle.alt_paging.specs.declared.ask.PageAsk.{PageAsk}
 use Rattle.alt_schema.specs.declared.schema.IndexSchema.{IndexSchema}
@@ -41,7 +41,7 @@ answer_with d i ms ask list = page_answer d i ms (pages.page_of (asked_of ask) l
     (last_examined (asked_of ask) list)
 
 -- What was filled is answered as the page of each list of which it is one.
-abbrev pub AnswersPage : TableSchema → Option IndexSchema → Members → Filling → Answer → Type 0
-AnswersPage d i ms filling answer = (ask : PageAsk) (list : List (List Pair))
-    → HasFilled filling ask list → ask.count_only ≡ selects (codes "COUNT") ms
+abbrev pub AnswersPage : TableSchema → Option IndexSchema → Members → Pager → Answer → Type 0
+AnswersPage d i ms pager answer = (ask : PageAsk) (list : List (List Pair))
+    → HasFilled pager ask list → ask.count_only ≡ selects (codes "COUNT") ms
     → answer ≡ answer_with d i ms ask list

@@ -8,7 +8,7 @@ use Rattle.alt_ops_query.proofs.pages.answered.Goals as goal
 
 pub returns-clause-reply : goal.returns-clause-reply
 returns-clause-reply c = told_of _ c.args.index (members_view c.args.body.now.entries)
-    c.args.filling c.filled_reply.result _
+    c.args.pager c.filled_reply.result _
     (c.in-Some.ensures.table
     ∙ ap (map.get (catalog_of c.args.tables.now)) c.table_name.ensures.name)
     c.filled_reply.ensures.reply

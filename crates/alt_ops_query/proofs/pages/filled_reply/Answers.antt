@@ -14,16 +14,14 @@ use Rattle.alt_ops_query.proofs.pages.filled_reply.Goals as goal
 pub returns-in-Ok-clause-reply : goal.returns-in-Ok-clause-reply
 returns-in-Ok-clause-reply c ask list filled counts =
     answered_by c.args.schema.now (index_at c.args.schema.now c.args.index)
-    (members_view c.args.body.now.entries) ask list c.args.filling filled counts
+    (members_view c.args.body.now.entries) ask list c.args.pager filled counts
     c.finish-page.result
-    (c.finish-page.ensures.page ask (examined ask.limit list) filled.whole.offered)
-    (answer_of c.in-Ok.reply) c.last_of-last.result
-    (c.in-Ok.ensures.reply
+    (c.finish-page.ensures.page ask (examined ask.limit list) filled.whole)
+    (answer_of c.in-Ok.reply) (c.in-Ok.ensures.reply
     ∙ ap (λ x. page_answer c.args.schema.now x (members_view c.args.body.now.entries)
-    (page_of c.finish-page.result) c.last_of-last.result) c.index_of.ensures.index)
-    c.last_of-last.ensures.last
+    (page_of c.finish-page.result) c.finish-page.result.last) c.index_of.ensures.index)
 
 pub returns-in-Ok-clause-plain : goal.returns-in-Ok-clause-plain
 returns-in-Ok-clause-plain c = ap (λ (a : Answer). has_float a.body) c.in-Ok.ensures.reply
     ∙ answer_plain c.args.schema.now (option_map (λ i. i.now) c.index_of.result)
-    (members_view c.args.body.now.entries) (page_of c.finish-page.result) c.last_of-last.result
+    (members_view c.args.body.now.entries) (page_of c.finish-page.result) c.finish-page.result.last

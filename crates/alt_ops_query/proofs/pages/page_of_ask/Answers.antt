@@ -1,5 +1,5 @@
 -- The page that was filled is answered.
-use Rattle.std.proofs.Common.{refl, ap, ◌∙◌, List, option_map}
+use Rattle.std.proofs.Common.{ap, ◌∙◌, List, option_map}
 use Rattle.std.specs.FinMap as map
 use Rattle.serde_json.specs.Data.{Members}
 use Rattle.serde_json.specs.View.{members_view}
@@ -24,11 +24,11 @@ returns-clause-does g c s t stands at =
     let then = (c.fill.ensures.stays s).0 stands in
     let filled = c.in_ok-fill.ensures.filled s t c.args.ask stands
     (ap (map.get s.tables) c.table_name-name.ensures.name ∙ at)
-    (record { offered = c.new.ensures.offered; last = refl }) in
+    c.new-pager.ensures.offered in
     page_does (bounds_of c.args.tables.now).file
     (Stands (g.D.Disk.state c.fill.new.disk) c.fill.new.tables) s t.description i ms
-    c.args.ask list c.fill.new.filling c.answered.result then filled c.requires.counts
-    (told_at (catalog_of c.fill.new.tables) (table_name ms) c.args.index ms c.fill.new.filling
+    c.args.ask list c.fill.new.pager c.answered.result then filled c.requires.counts
+    (told_at (catalog_of c.fill.new.tables) (table_name ms) c.args.index ms c.fill.new.pager
     c.answered.result
     t.description
     (ap (λ m. map.get m (table_name ms)) then.catalog ∙ get-descriptions s.tables (table_name ms)
@@ -46,10 +46,10 @@ returns-in_err-fill-clause-does g c s t stands at =
     c.from_residual.result c.in_err-fill.field-0.0 c.from_residual.ensures
     (c.in_err-fill.ensures.fault s t c.args.ask stands
     (ap (map.get s.tables) c.table_name-name.ensures.name ∙ at)
-    (record { offered = c.new.ensures.offered; last = refl })) ((c.fill.ensures.stays s).0 stands)
+    c.new-pager.ensures.offered) ((c.fill.ensures.stays s).0 stands)
 
 pub returns-clause-reads : goal.returns-clause-reads
 returns-clause-reads g c s t maps stands at has =
     on_ok c.answered.result (c.in_ok-fill.ensures.reads s t c.args.ask maps stands
     (ap (map.get s.tables) c.table_name-name.ensures.name ∙ at)
-    (record { offered = c.new.ensures.offered; last = refl }) has)
+    c.new-pager.ensures.offered has)

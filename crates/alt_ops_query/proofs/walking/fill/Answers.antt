@@ -21,7 +21,7 @@ same_files a b reads trusted = (reads.quiet (tells_of a trusted)).file
 
 pub steps-init : goal.steps-init
 steps-init g c = record {
-  walked = λ s t ask stands at h. walk_starts (g.D.Disk.state c.args.disk.now) c.args.filling.now
+  walked = λ s t ask stands at h. walk_starts (g.D.Disk.state c.args.disk.now) c.args.pager.now
       ask t (index_at t.description c.args.index) c.args.forward c.args.range h;
   stays = λ s. (λ stands. stands, λ stands. stands);
   catalog = record { catalog = refl; number = refl; family = refl; limits = refl };
@@ -36,10 +36,10 @@ returns-in-Ok-None-clause-filled g c s t ask stands at h =
     let last = g.D.Disk.state c.step.new.disk in
     let i = index_at t.description c.args.index in
     let so = c.steps.invariant.walked s t ask stands at h in
-    walk_ended a b last c.steps.filling c.step.new.filling ask t i c.args.forward c.args.range
+    walk_ended a b last c.steps.pager c.step.new.pager ask t i c.args.forward c.args.range
     c.steps.range so
     (same_files a b c.steps.invariant.disk stands.rows.trusted)
-    (subst (λ o. Steps b last t i c.args.forward ask so.seen c.step.new.filling c.steps.range o)
+    (subst (λ o. Steps b last t i c.args.forward ask so.seen c.step.new.pager c.steps.range o)
     c.in-Ok-None.field-0-is
     (c.in-Ok-None.ensures.steps s t ask so.seen ((c.steps.invariant.stays s).0 stands) at
     so.examined))
@@ -51,10 +51,10 @@ returns-in-Ok-None-clause-reads g c s t ask maps stands at h =
     let last = g.D.Disk.state c.step.new.disk in
     let i = index_at t.description c.args.index in
     let so = c.steps.invariant.walked s t ask stands at h in
-    walk_paid a b last c.steps.filling c.step.new.filling ask t i c.args.forward c.args.range
+    walk_paid a b last c.steps.pager c.step.new.pager ask t i c.args.forward c.args.range
     c.steps.range so
     (same_files a b c.steps.invariant.disk stands.rows.trusted)
-    (subst (λ o. Steps b last t i c.args.forward ask so.seen c.step.new.filling c.steps.range o)
+    (subst (λ o. Steps b last t i c.args.forward ask so.seen c.step.new.pager c.steps.range o)
     c.in-Ok-None.field-0-is
     (c.in-Ok-None.ensures.steps s t ask so.seen ((c.steps.invariant.stays s).0 stands) at
     so.examined)) maps
@@ -67,10 +67,10 @@ steps-preserved g c = record {
       let last = g.D.Disk.state c.step.new.disk in
       let i = index_at t.description c.args.index in
       let so = c.steps.invariant.walked s t ask stands at h in
-      walk_on a b last c.steps.filling c.step.new.filling ask t i c.args.forward c.args.range
+      walk_on a b last c.steps.pager c.step.new.pager ask t i c.args.forward c.args.range
       c.steps.range so (same_files a b c.steps.invariant.disk stands.rows.trusted)
       c.in-Ok-Some.rest
-      (subst (λ o. Steps b last t i c.args.forward ask so.seen c.step.new.filling c.steps.range o)
+      (subst (λ o. Steps b last t i c.args.forward ask so.seen c.step.new.pager c.steps.range o)
       c.in-Ok-Some.field-0-is
       (c.in-Ok-Some.ensures.steps s t ask so.seen ((c.steps.invariant.stays s).0 stands) at
       so.examined));
@@ -86,7 +86,7 @@ steps-preserved g c = record {
   };
   disk = reads_then (g.D.Disk.state c.args.disk.now) (g.D.Disk.state c.steps.disk)
       (g.D.Disk.state c.step.new.disk) c.steps.invariant.disk c.step.ensures.disk;
-  going = subst (λ o. IfSome o (λ r. has_ended c.step.new.filling.pager ≡ false))
+  going = subst (λ o. IfSome o (λ r. has_ended c.step.new.pager ≡ false))
       c.in-Ok-Some.field-0-is c.in-Ok-Some.ensures.going;
 }
 

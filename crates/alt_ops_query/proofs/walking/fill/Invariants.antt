@@ -4,9 +4,8 @@ use Rattle.std.specs.Prelude.{◌↔◌}
 use Rattle.std.specs.FinMap as map
 use Rattle.alt_machine.specs.State.{State, Table}
 use Rattle.alt_machine.specs.Sources.{index_at}
-use Rattle.alt_ops_query.specs.private.Filled.{HasExamined}
 use Rattle.alt_ops_query.proofs.WalkLaws.{IsWalked}
-use Rattle.alt_paging.specs.Offered.{has_ended}
+use Rattle.alt_paging.specs.Offered.{WasOffered, has_ended}
 use Rattle.alt_paging.specs.declared.ask.PageAsk.{PageAsk}
 use Rattle.alt_tables.specs.Stands.{KeepsCatalog, Reads, Stands}
 use Rattle.alt_ops_query.proofs.walking.fill.Given as goal
@@ -14,12 +13,12 @@ use Rattle.alt_ops_query.proofs.walking.fill.Given as goal
 abbrev pub invariant-steps : goal.invariant-steps
 invariant-steps g l = record {
   walked : (s : State) (t : Table) (ask : PageAsk) → Stands (g.D.Disk.state l.fn.disk) l.fn.tables s
-      → map.get s.tables l.table ≡ Some t → HasExamined l.fn.filling ask []
-      → IsWalked (g.D.Disk.state l.fn.disk) (g.D.Disk.state l.disk) l.filling ask t
+      → map.get s.tables l.table ≡ Some t → WasOffered l.fn.pager ask []
+      → IsWalked (g.D.Disk.state l.fn.disk) (g.D.Disk.state l.disk) l.pager ask t
       (index_at t.description l.index) l.forward l.fn.range l.range;
   stays : (s : State) → Stands (g.D.Disk.state l.fn.disk) l.fn.tables s
       ↔ Stands (g.D.Disk.state l.disk) l.tables s;
   catalog : KeepsCatalog l.fn.tables l.tables;
   disk : Reads (g.D.Disk.state l.fn.disk) (g.D.Disk.state l.disk);
-  going : has_ended l.filling.pager ≡ false;
+  going : has_ended l.pager ≡ false;
 }

@@ -20,7 +20,7 @@ returns-then-not-more-clause-steps g c s t ask seen stands at h =
     let to = c.args.range.to in
     let most = c.certain-most.result in
     let items = c.rows.new.out.items in
-    let filling = c.examine.new.filling in
+    let pager = c.examine.new.pager in
     let list : List (List Pair) = items_between t i from to c.args.forward in
     let given : items ≡ take most list = c.in_ok-last.ensures.rows s t stands at
     ∙ ap (λ l. l ++ take most list) c.new-items.ensures.items in
@@ -34,20 +34,20 @@ returns-then-not-more-clause-steps g c s t ask seen stands at h =
     (items_all t i c.args.forward from to (λ x. item_size x ≤ LARGEST_ITEM)
     (sized_at a c.args.tables.now s stands c.args.table.now t at c.args.index c.requires.index)
     most) in
-    let examined : Examines filling ask seen items c.in_ok-more.more =
+    let examined : Examines pager ask seen items c.in_ok-more.more =
     c.in_ok-more.ensures.examines ask seen h some in
     elim c.then-not-more.branch [
       | then-not-more-via-then-not-more w ↦ step_ended a b t i stored c.args.forward c.args.range
-          filling ask seen items most c.in_ok-last.last given (c.in_ok-last.ensures.last s t stands
+          pager ask seen items most c.in_ok-last.last given (c.in_ok-last.ensures.last s t stands
           at) c.certain-most.ensures.some
           (λ maps. c.in_ok-last.ensures.reads s t maps stands at)
-          (subst (λ b. Examines filling ask seen items b) w.if-not-more.true examined) sized
-          (λ more all few. c.certain-most.ensures.certain ask seen more h.offered all few)
+          (subst (λ b. Examines pager ask seen items b) w.if-not-more.true examined) sized
+          (λ more all few. c.certain-most.ensures.certain ask seen more h all few)
       | then-not-more-via-else-not-more+then-got-most w ↦ step_last a b t i stored c.args.forward
-          c.args.range filling ask seen items most c.in_ok-last.last given
+          c.args.range pager ask seen items most c.in_ok-last.last given
           (c.in_ok-last.ensures.last s t stands at) c.certain-most.ensures.some
           (λ maps. c.in_ok-last.ensures.reads s t maps stands at)
-          (subst (λ b. Examines filling ask seen items b) w.if-not-more.false examined)
+          (subst (λ b. Examines pager ask seen items b) w.if-not-more.false examined)
           (omega (arith, w.if-got-most.true, c.len-got.ensures))
     ]
 
@@ -60,7 +60,7 @@ returns-clause-steps g c s t ask seen stands at h =
     let to = c.args.range.to in
     let most = c.certain-most.result in
     let items = c.rows.new.out.items in
-    let filling = c.examine.new.filling in
+    let pager = c.examine.new.pager in
     let list : List (List Pair) = items_between t i from to c.args.forward in
     let given : items ≡ take most list = c.in_ok-last.ensures.rows s t stands at
     ∙ ap (λ l. l ++ take most list) c.new-items.ensures.items in
@@ -69,11 +69,11 @@ returns-clause-steps g c s t ask seen stands at h =
     let some : All (λ i. i ≢ []) items = subst (All (λ i. i ≢ [])) (sym given)
     (items_all t i c.args.forward from to (λ x. x ≢ [])
     (λ place item here. placed_some t i item place (stored place item here)) most) in
-    let examined : Examines filling ask seen items c.in_ok-more.more =
+    let examined : Examines pager ask seen items c.in_ok-more.more =
     c.in_ok-more.ensures.examines ask seen h some in
     let many : most ≤ length items = omega (arith, c.if-got-most.false, c.len-got.ensures) in
-    step_on a b t i stored c.args.forward c.args.range filling ask seen items most
+    step_on a b t i stored c.args.forward c.args.range pager ask seen items most
     c.in_ok-last.last given (c.in_ok-last.ensures.last s t stands at)
     c.certain-most.ensures.some (λ maps. c.in_ok-last.ensures.reads s t maps stands at)
-    (subst (λ b. Examines filling ask seen items b) c.if-not-more.false examined).0 many
+    (subst (λ b. Examines pager ask seen items b) c.if-not-more.false examined).0 many
     c.in_ok-beyond.field-0 c.in_ok-beyond.ensures.beyond

@@ -9,6 +9,7 @@ pub mod Keeping
 pub mod KeyBack
 pub mod Moved
 pub mod Numbers
+pub mod OwnKeys
 pub mod Parts
 pub mod Placing
 pub mod Reached

@@ -97,7 +97,7 @@ pub fn item_of_row(alloc: Global, row: &ShownRow) -> Result<Item, Unread>
 }
 
 /// The columns behind the marker, None where the marker isn't there.
-fn behind_marker(columns: &[(Bytes, Bytes)]) -> Option<&[(Bytes, Bytes)]>
+pub(crate) fn behind_marker(columns: &[(Bytes, Bytes)]) -> Option<&[(Bytes, Bytes)]>
     ensures behind { IfSome result (λ rest. columns.now ≡ ([], []) ∷ rest.now) }
     ensures none { IfNone result ((rest : List (List ℕ × List ℕ))
         → columns.now ≡ ([], []) ∷ rest → ⊥) }
@@ -131,7 +131,10 @@ fn item_of_columns(alloc: Global, columns: &[(Bytes, Bytes)]) -> Result<Item, Un
 }
 
 /// The name and the value of an attribute.
-fn attribute_of<'r>(alloc: Global, column: &'r (Bytes, Bytes)) -> Result<(&'r str, Attr), Unread>
+pub(crate) fn attribute_of<'r>(
+    alloc: Global,
+    column: &'r (Bytes, Bytes),
+) -> Result<(&'r str, Attr), Unread>
     ensures attribute { IfOk result (λ p. IsAttribute (p.0.now, tree_of p.1)
         × (column.now ≡ column_of (p.0.now, tree_of p.1))) }
     ensures none { result ≡ Err Unread.Bad → (p : Pair) → IsAttribute p

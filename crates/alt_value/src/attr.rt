@@ -193,6 +193,15 @@ impl Item {
         }
     }
 
+    /// The item without attributes, with room for so many.
+    pub fn with_capacity(alloc: Global, count: usize) -> Result<Self, NoMemory>
+        ensures empty { IfOk result (λ item. item ≡ []) }
+    {
+        Ok(Item {
+            entries: Vec::with_capacity(alloc, count)?,
+        })
+    }
+
     /// How many attributes there are.
     pub fn len(&self) -> usize
         ensures count { result ≡ length self.now }
@@ -231,7 +240,7 @@ impl Item {
     {
         held(&a);
         text_held(name);
-        match place(&self.entries, name) {
+        match place_to_put(&self.entries, name) {
             Ok(i) => {
                 replace(&mut self.entries, i, a);
                 let _count = self.entries.len();
@@ -277,6 +286,21 @@ fn place(entries: &Vec<Pair>, name: &str) -> Result<usize, usize>
         }
     }
     Err(low)
+}
+
+/// The same, at once for a name above all others, as names come that are read in their order.
+fn place_to_put(entries: &Vec<Pair>, name: &str) -> Result<usize, usize>
+    requires { IsItem (map pair_of entries.now.items) }
+    ensures { MatchResult result (StandsAt name.now entries.now.items)
+        (GoesTo name.now entries.now.items) }
+{
+    let count = entries.len();
+    if count > 0 {
+        if let Ordering::Less = entries[count - 1].name.as_str().cmp(name) {
+            return Err(count);
+        }
+    }
+    place(entries, name)
 }
 
 /// Puts a value in the place of the one that stands there.

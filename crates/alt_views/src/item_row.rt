@@ -121,7 +121,7 @@ fn item_of_columns(alloc: Global, columns: &[(Bytes, Bytes)]) -> Result<Item, Un
     ensures none { result ≡ Err Unread.Bad → (item : List Pair) → IsReadItem item
         → columns.now ≡ each column_of item → ⊥ }
 {
-    let mut item = Item::new(alloc);
+    let mut item = Item::with_capacity(alloc, columns.len())?;
     for column in columns {
         let (name, value) = attribute_of(alloc, column)?;
         item.put(name, value)?;

@@ -13,7 +13,8 @@ returns-in_err-name-clause-none c bad item is same =
     let (p, attribute, at) = read_attribute item is c.args.columns.now same
     c.loop-column.column-index c.column-item.result (omega arith) c.column-item.is in
     c.in_err-name.ensures.none
-    (ap Err (bad_is c.from_residual.result c.in_err-name.field-0.0 _ c.from_residual.ensures bad))
+    (ap Err (bad_is c.from_residual-in_err-name.result c.in_err-name.field-0.0 _
+    c.from_residual-in_err-name.ensures bad))
     p attribute at
 
 pub loop-column-preserved : goal.loop-column-preserved

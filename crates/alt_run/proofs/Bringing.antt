@@ -13,9 +13,10 @@ use Rattle.alt_tables.specs.Merged.{IsMergedFor}
 use Rattle.alt_talks.specs.Works.{HasFewEntries, HasMergedFiles, HasNoEntries}
 use Rattle.alt_run.specs.declared.words.Job.{Job}
 use Rattle.alt_run.specs.declared.words.Job.TheVariants.{Replay, Serve, Trial}
-use Rattle.alt_run.specs.Behind.{AfterJob, ComesWithin, SaysSummary, LastLine, last_of, AreReadable, Behind, Brings, BringsAtHand, BringsSome, BringsRest}
+use Rattle.alt_run.specs.Behind.{AfterJob, ComesWithin, SaysSummary, LastLine, last_of, AreReadable, Behind}
+use Rattle.alt_run.specs.private.Brought.{Brings, BringsAtHand, BringsSome, BringsRest}
 use Rattle.alt_run.specs.Endings.{IsReadable}
-use Rattle.alt_run.specs.Runs.{HandsOut, asked_now, asked_later}
+use Rattle.alt_run.specs.private.Rungs.{HandsOut, asked_now, asked_later}
 use Rattle.alt_run.specs.Turns.{Asked, request, control, unread, asks}
 use Rattle.alt_run.specs.declared.lines.Control.TheVariants.{Flush, Merge, Step, Reopen}
 use Rattle.alt_talks.specs.declared.fault.RunFault.{RunFault}

@@ -4,7 +4,7 @@ use Rattle.alt_base.specs.Counts.{Rose}
 use Rattle.alt_disk.specs.Disk.{DiskState, IsTrusted}
 use Rattle.alt_talks.specs.declared.fault.RunFault.{RunFault}
 use Rattle.alt_talks.specs.declared.fault.RunFault.TheVariants.{Failed, NoMemory, Spent, Damaged, DigestDiffers, BadRow}
-use Rattle.alt_run.specs.EndingOf.{ending_of}
+use Rattle.alt_run.specs.private.EndingOf.{ending_of}
 use Rattle.alt_run.specs.Endings.{HasRun, Broken, IsReadable}
 use Rattle.alt_run.specs.Faults.{IsUnreadable}
 use Rattle.alt_run.specs.Runs.{IsOpening, Opened}

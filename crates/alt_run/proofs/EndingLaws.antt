@@ -9,7 +9,8 @@ use Rattle.alt_shell.specs.Calls.{Aside}
 use Rattle.alt_shell.specs.Log.{Log, Grows, moments_of, taken}
 use Rattle.alt_shell.proofs.Telling.{Grows-then}
 use Rattle.alt_talks.specs.Connections.{ServedSome, turns_of}
-use Rattle.alt_run.specs.Endings.{BrokenFrom, status_of, HasDone, HasMade, HasRun, HasNumbers, Makes, BreaksOff, WasDamaged, IsReadable, Done, Broken, LacksNumber, SaysNothing, SaysSome}
+use Rattle.alt_run.specs.Endings.{BrokenFrom, status_of, HasDone, HasMade, HasRun, Makes, BreaksOff, WasDamaged, IsReadable, Done, Broken, LacksNumber, SaysNothing, SaysSome}
+use Rattle.alt_run.specs.private.EndingOf.{HasNumbers}
 use Rattle.alt_run.specs.Runs.{Answers, AnswersSome, LeftThen, IsOpening, Opened}
 use Rattle.alt_talks.specs.Stretches.{DoesSome}
 use Rattle.alt_talks.specs.TalkRules.{rules}

@@ -10,9 +10,9 @@ use Rattle.alt_machine.specs.State.{State}
 use Rattle.alt_tables.specs.FilesLeft.{most_files}
 use Rattle.alt_tables.specs.Stands.{Stands, bounds_of}
 use Rattle.alt_tables.specs.declared.tables.Tables.{Tables}
-use Rattle.alt_run.specs.Behind.{BringsAtHand}
+use Rattle.alt_run.specs.private.Brought.{BringsAtHand}
 use Rattle.alt_talks.specs.Runs.{Stretch, Leads}
-use Rattle.alt_run.specs.Runs.{ServesAtHand, BreaksAtHand, HandsOut, asked_now, asked_later}
+use Rattle.alt_run.specs.private.Rungs.{ServesAtHand, BreaksAtHand, HandsOut, asked_now, asked_later}
 use Rattle.alt_run.specs.Turns.{Asked, asked_of, control_of, tasks}
 use Rattle.alt_talks.specs.declared.fault.RunFault.{RunFault}
 use Rattle.alt_talks.specs.declared.fault.RunFault.TheVariants.{NoMemory}

@@ -15,7 +15,8 @@ use Rattle.alt_tables.specs.Stands.{Stands, bounds_of}
 use Rattle.alt_tables.specs.declared.tables.Tables.{Tables}
 use Rattle.alt_talks.specs.Turns.{Turn, text_of, after}
 use Rattle.alt_talks.specs.Runs.{OfStretch, Stretch, Leads}
-use Rattle.alt_run.specs.Runs.{Rests, Serves, Breaks, ServesAtHand, BreaksAtHand, HandsOut, Goes, Ends, GoesOrEnds, GoesSome, LeftBy, Answers, AnswersSome, asked_now, asked_later, LeftAtHand}
+use Rattle.alt_run.specs.Runs.{Rests, Breaks, Answers, AnswersSome}
+use Rattle.alt_run.specs.private.Rungs.{Serves, ServesAtHand, BreaksAtHand, HandsOut, Goes, Ends, GoesOrEnds, GoesSome, LeftBy, asked_now, asked_later, LeftAtHand}
 use Rattle.alt_talks.specs.Stops.{Image, IsLeft, AtEach, AreWithin}
 use Rattle.alt_tables.specs.Images.{StandsFor}
 use Rattle.alt_tables.proofs.Left.{stands_left}

@@ -10,7 +10,8 @@ use Rattle.alt_machine.specs.Wanted.{Lack}
 use Rattle.alt_shell.specs.Calls.{Adds, ShellCall, Untold}
 use Rattle.alt_shell.specs.Log.{Log, Grows, Tells, moments_of, until, entry, told_count, said, say_failed, says_failed, says_missed, taken, said_in, ended, crosses}
 use Rattle.alt_talks.specs.Runs.{Stretch, Leads}
-use Rattle.alt_run.specs.Runs.{Serves, Breaks, BreaksFor, IsAtWork, Rests, ServesAtHand, BreaksAtHand, LeftAtHand, IsWorking, IsWriting}
+use Rattle.alt_run.specs.Runs.{Breaks, BreaksFor, IsAtWork, Rests, IsWorking, IsWriting}
+use Rattle.alt_run.specs.private.Rungs.{Serves, ServesAtHand, BreaksAtHand, LeftAtHand, IsControlFault}
 use Rattle.alt_talks.specs.Stops.{IsLeft, IsUncut, AtEach, AreWithin}
 use Rattle.alt_tables.specs.Stands.{Stands}
 use Rattle.alt_tables.specs.declared.tables.Tables.{Tables}
@@ -18,7 +19,6 @@ use Rattle.alt_tables.specs.FilesLeft.{most_files}
 use Rattle.alt_talks.specs.Faults.{IsAnswerFault, IsCausedBy, IsFileFault}
 use Rattle.alt_talks.specs.declared.fault.RunFault.{RunFault}
 use Rattle.alt_talks.specs.declared.fault.RunFault.TheVariants.{Failed, NoMemory}
-use Rattle.alt_run.specs.Faults.{IsControlFault}
 use Rattle.alt_run.specs.Turns.{Asked, request, control, unread, turns, requests, tasks, obeyed}
 use Rattle.alt_run.specs.declared.lines.Control.{Control}
 use Rattle.alt_run.specs.declared.lines.Control.TheVariants.{Flush, Merge, Step, Reopen}

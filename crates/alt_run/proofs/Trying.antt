@@ -26,8 +26,10 @@ use Rattle.alt_talks.specs.Works.{Follows}
 use Rattle.alt_talks.specs.Runs.{Stretch}
 use Rattle.alt_run.specs.Runs.{Rests}
 use Rattle.alt_talks.specs.Stops.{Image, StandsBehind, AtEach, IsAmong, IsUncut, AreWithin}
-use Rattle.alt_run.specs.Trials.{trial_asks, trial_moment, trial_turns, beginning, all_turns, trial_text, IsTried, LeftOfTrial, Tries, TriesFor, TriesSome, IsTally, Counted, CountedSome}
-use Rattle.alt_run.specs.Turns.{Asked, request, control_of, asked_as, asked_by, is_space, carried_out, left_by, outcome_of, turns, requests}
+use Rattle.alt_run.specs.Trials.{trial_asks, trial_moment, trial_turns, beginning, all_turns, trial_text, IsTried, LeftOfTrial, Tries, TriesFor, TriesSome}
+use Rattle.alt_run.specs.private.Tallies.{IsTally, Counted, CountedSome}
+use Rattle.alt_run.specs.Turns.{Asked, request, control_of, asked_as, asked_by, is_space, carried_out, outcome_of, turns, requests}
+use Rattle.alt_run.specs.private.Rungs.{left_by}
 use Rattle.alt_talks.specs.Turns.{Turn, WritesLast, after, wanted, or_next}
 use Rattle.alt_talks.specs.declared.fault.RunFault.{RunFault}
 use Rattle.alt_talks.specs.declared.fault.RunFault.TheVariants.{Failed, NoMemory}

@@ -14,8 +14,8 @@ use Rattle.alt_talks.specs.Works.{Follows}
 use Rattle.alt_talks.specs.declared.fault.RunFault.{RunFault}
 use Rattle.alt_talks.proofs.FileFaults.{file_more}
 use Rattle.alt_talks.proofs.Owning.{answer_behind, enough_both}
-use Rattle.alt_run.specs.Runs.{ServesAtHand, BreaksAtHand}
-use Rattle.alt_run.specs.Turns.{request, carried_out, left_by, outcome_of}
+use Rattle.alt_run.specs.private.Rungs.{ServesAtHand, BreaksAtHand, left_by}
+use Rattle.alt_run.specs.Turns.{request, carried_out, outcome_of}
 use Rattle.alt_run.proofs.Serving.{Begins, all_said, own_broke, turn_served, work_broke}
 
 module _ (old mid done new : DiskState) (tables : Tables) (s : State) (name body : List ℕ) (m : ℕ)

@@ -1,12 +1,11 @@
 -- What the last line of an input promises of the disk from then on, what a trial does, and how many connections come.
-use Rattle.std.specs.Prelude.{◌≡◌, ℕ, List, [], ◌∷◌, ◌++◌, Bool, true, false, IsTrue, Option, Some, None, ⊤}
+use Rattle.std.specs.Prelude.{◌≡◌, ℕ, List, [], ◌∷◌, true, IsTrue, Option, Some, None, ⊤}
 use Rattle.alt_disk.specs.Disk.{DiskState}
-use Rattle.alt_lines.specs.Unread.{Unread}
 use Rattle.alt_shell.specs.Log.{Log, Grows, taken, said_in, ended}
 use Rattle.alt_talks.specs.Arrivals.{CameAll, CameAtMost}
 use Rattle.alt_talks.specs.Works.{HasFewEntries, HasMergedFiles, HasNoEntries}
 use Rattle.alt_run.specs.Endings.{IsReadable}
-use Rattle.alt_run.specs.Runs.{Rests, asked_later}
+use Rattle.alt_run.specs.Runs.{Rests}
 use Rattle.alt_run.specs.Trials.{IsSummary}
 use Rattle.alt_run.specs.Turns.{Asked, request, control, unread, asks}
 use Rattle.alt_run.specs.declared.lines.Control.TheVariants.{Flush, Merge, Step, Reopen}
@@ -65,39 +64,3 @@ abbrev pub ComesWithin : Job → DiskState → DiskState → Type 0
 ComesWithin Replay old new = ⊤
 ComesWithin (Serve per connections) old new = CameAtMost connections old new
 ComesWithin (Trial seed count) old new = ⊤
-
--- ---- the parts of a replay
-
--- These lines were served. If the disk was as the last line before them promises, it is as the last of them does.
-abbrev pub Brings : ℕ → List Asked → DiskState → DiskState → Type 0
-Brings flush ls old new = (was : Option Asked) → Behind flush was old
-    → Behind flush (last_of was ls) new
-
--- so of lines that were at hand: nothing was taken
-pub record BringsAtHand (flush : ℕ) (ls : List Asked) (old new : DiskState) : Type 0 where
-  pub entries : Log
-  pub grows : Grows old.beside new.beside entries
-  pub rests : Rests entries
-  pub brings : Brings flush ls old new
-
--- so of the lines that became whole while some of the input was taken, which has not ended
-pub record BringsSome (flush : ℕ) (u v : Unread) (old new : DiskState) : Type 0 where
-  pub done : List Asked
-  pub entries : Log
-  pub grows : Grows old.beside new.beside entries
-  pub lines : (more : List ℕ) (ended : Bool) → asked_later u (taken entries ++ more) ended
-      ≡ done ++ asked_later v more ended
-  pub goes_on : ended entries ≡ false
-  pub brings : Brings flush done old new
-
--- so of all lines up to the end of the input
-pub record BringsRest (flush : ℕ) (u : Unread) (old new : DiskState) : Type 0 where
-  pub entries : Log
-  pub grows : Grows old.beside new.beside entries
-  pub at_end : ended entries ≡ true
-  pub brings : Brings flush (asked_later u (taken entries) true) old new
-
--- there is more, or the end was taken
-abbrev pub BringsOn : ℕ → Bool → Unread → Unread → DiskState → DiskState → Type 0
-BringsOn flush true u v = BringsSome flush u v
-BringsOn flush false u v = BringsRest flush u

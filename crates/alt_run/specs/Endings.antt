@@ -52,18 +52,6 @@ note_of Device = codes "alternator: device\n"
 note_of Memory = codes "alternator: memory\n"
 note_of (Spent number) = codes "alternator: numbers spent: " ++ (decimal number ++ 10 ∷ [])
 
--- its note has numbers in it
-abbrev pub HasNumbers : Ending → Type 0
-HasNumbers Whole = ⊥
-HasNumbers Words = ⊥
-HasNumbers (NotEmpty first) = Unit {0}
-HasNumbers (Damaged file at) = Unit {0}
-HasNumbers (DigestDiffers file kept found) = Unit {0}
-HasNumbers (BadRow family key) = Unit {0}
-HasNumbers Device = ⊥
-HasNumbers Memory = ⊥
-HasNumbers (Spent number) = Unit {0}
-
 -- nothing was touched: no call that takes a moment was made, none failed, nothing was taken or said, and the clock wasn't asked
 pub record Untouched (old new : DiskState) : Type 0 where
   pub moment : new.moment ≡ old.moment

@@ -1,6 +1,5 @@
 pub mod Behind
 pub mod Chains
-pub mod EndingOf
 pub mod Endings
 pub mod Faults
 pub mod Moments
@@ -9,3 +8,4 @@ pub mod Trials
 pub mod Turns
 pub mod Wholes
 pub mod Words
+pub mod private

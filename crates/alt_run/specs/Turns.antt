@@ -82,10 +82,6 @@ line_of a = decimal a.status ++ (32 ∷ (compact_text a.body ++ 10 ∷ []))
 abbrev pub outcome_of : State → List ℕ → List ℕ → ℕ → Outcome
 outcome_of s name body moment = step s (operation_named name) body moment
 
--- the state that it leaves by itself
-abbrev pub left_by : State → List ℕ → List ℕ → ℕ → State
-left_by s name body moment = last_state s (outcome_of s name body moment).atoms
-
 -- the turn that an outcome makes from a state, with what the server does behind it
 abbrev pub turn_of : State → Outcome → Turn
 turn_of s o = record {

@@ -3,7 +3,8 @@
 ghost use Rattle.std.specs.Prelude.{◌≡◌, ◌⊎◌, ℕ, [], string_bytes, IfOk, IfSome, IfNone};
 ghost use Rattle.alt_shell.specs.Calls.{Aside};
 ghost use Rattle.alt_shell.specs.Log.{Grows, StillGrows, notes_of, moments_of, talks};
-ghost use Rattle.alt_run.specs.Endings.{status_of, note_of, HasNumbers};
+ghost use Rattle.alt_run.specs.Endings.{status_of, note_of};
+ghost use Rattle.alt_run.specs.private.EndingOf.{HasNumbers};
 ghost use Rattle.alt_run.specs.declared.ending.Ending.TheVariants.{Memory};
 
 use alt_base::NoMemory;

@@ -1,7 +1,7 @@
 //! How a run ends that was broken off.
 
 ghost use Rattle.std.specs.Prelude.{◌≡◌};
-ghost use Rattle.alt_run.specs.EndingOf.{ending_of};
+ghost use Rattle.alt_run.specs.private.EndingOf.{ending_of};
 
 use crate::ending::Ending;
 use alt_talks::RunFault;

@@ -12,7 +12,8 @@ ghost use Rattle.alt_tables.specs.Stands.{AreReady, Stands, bounds_of};
 ghost use Rattle.alt_talks.specs.Faults.{IsAnswerFault};
 ghost use Rattle.alt_talks.specs.declared.fault.RunFault.TheVariants.{Failed};
 ghost use Rattle.alt_talks.specs.Stops.{AtEach, IsUncut};
-ghost use Rattle.alt_run.specs.Turns.{carried_out, left_by, line_of, outcome_of};
+ghost use Rattle.alt_run.specs.Turns.{carried_out, line_of, outcome_of};
+ghost use Rattle.alt_run.specs.private.Rungs.{left_by};
 
 use alt_base::NoMemory;
 use alt_disk::Disk;

@@ -15,9 +15,9 @@ ghost use Rattle.alt_tables.specs.Stands.{AreReady, Stands, bounds_of, limits_of
 ghost use Rattle.alt_talks.specs.Faults.{IsCausedBy};
 ghost use Rattle.alt_talks.specs.Runs.{Stretch, Passes, Leads};
 ghost use Rattle.alt_talks.specs.Works.{Works};
-ghost use Rattle.alt_run.specs.Behind.{AreReadable, Behind, BringsAtHand, BringsOn};
-ghost use Rattle.alt_run.specs.Faults.{IsControlFault};
-ghost use Rattle.alt_run.specs.Runs.{ServesAtHand, BreaksAtHand, HandsOut, GoesOrEnds, GoesSome, asked_now};
+ghost use Rattle.alt_run.specs.Behind.{AreReadable, Behind};
+ghost use Rattle.alt_run.specs.private.Brought.{BringsAtHand, BringsOn};
+ghost use Rattle.alt_run.specs.private.Rungs.{IsControlFault, ServesAtHand, BreaksAtHand, HandsOut, GoesOrEnds, GoesSome, asked_now};
 ghost use Rattle.alt_run.specs.Turns.{request, control, unread as no_request, asked_by, asked_of, tasks};
 
 use crate::lines::{Control, control_of, parts};

@@ -2,7 +2,8 @@
 
 ghost use Rattle.std.specs.Prelude.{◌≡◌, ◌≤◌, ◌<◌, ◌+◌, ◌^◌, ◌-◌, ◌++◌, ◌∷◌, [], List, length, nat_eq, IfOk, string_bytes};
 ghost use Rattle.std.specs.List.{starts_with};
-ghost use Rattle.alt_run.specs.Trials.{IsSummary, IsTally, beginning, summary};
+ghost use Rattle.alt_run.specs.Trials.{IsSummary, beginning, summary};
+ghost use Rattle.alt_run.specs.private.Tallies.{IsTally};
 ghost use Rattle.alt_talks.specs.Turns.{Turn};
 
 use alt_base::NoMemory;

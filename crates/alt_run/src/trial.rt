@@ -13,7 +13,8 @@ ghost use Rattle.alt_tables.specs.Stands.{AreReady, Stands, bounds_of, limits_of
 ghost use Rattle.alt_talks.specs.Runs.{Stretch, Passes};
 ghost use Rattle.alt_talks.specs.Works.{HasFewEntries};
 ghost use Rattle.alt_run.specs.Behind.{SaysSummary};
-ghost use Rattle.alt_run.specs.Trials.{trial_asks, IsTally, Counted, CountedSome, Tries, TriesSome};
+ghost use Rattle.alt_run.specs.Trials.{trial_asks, Tries, TriesSome};
+ghost use Rattle.alt_run.specs.private.Tallies.{IsTally, Counted, CountedSome};
 ghost use Rattle.alt_run.specs.Turns.{request, asked_by, is_space};
 
 use crate::lines::parts;

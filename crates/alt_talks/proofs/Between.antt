@@ -9,11 +9,13 @@ use Rattle.alt_tables.specs.Stands.{Stands, bounds_of}
 use Rattle.alt_tables.specs.declared.tables.Tables.{Tables}
 use Rattle.alt_talks.specs.Connections.{after_own}
 use Rattle.alt_talks.specs.Faults.{reach}
-use Rattle.alt_talks.specs.Own.{BetweenNot, Own, after_between, last_told, own_between}
-use Rattle.alt_talks.specs.Runs.{Counting, LeadsOn, OfStretch, Stretch, Timed}
+use Rattle.alt_talks.specs.Own.{BetweenNot, Own, last_told, own_between}
+use Rattle.alt_talks.specs.private.Rungs.{after_between, Timed}
+use Rattle.alt_talks.specs.Runs.{Counting, LeadsOn, OfStretch, Stretch}
 use Rattle.alt_talks.specs.Stops.{AreWithin, AtEach, IsAmong}
 use Rattle.alt_talks.specs.TalkRules.{rules}
-use Rattle.alt_talks.specs.TalkStops.{ComesOn, LeftBetween, ServedSomeOn}
+use Rattle.alt_talks.specs.TalkStops.{LeftBetween, ServedSomeOn}
+use Rattle.alt_talks.specs.private.RungStops.{ComesOn}
 use Rattle.alt_talks.specs.Works.{Follows}
 use Rattle.alt_talks.specs.declared.fault.RunFault.{RunFault}
 use Rattle.alt_talks.proofs.FileFaults.{between_more, reach_both}

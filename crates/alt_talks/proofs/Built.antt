@@ -1,5 +1,5 @@
 -- An index that is built further behind a request, and the work behind that.
-use Rattle.std.proofs.Common.{◌≡◌, ◌≤◌, ◌+◌, inl, inr, sym, ap, subst, ◌∙◌, ℕ, List, [], ◌++◌, Bool, true, None, append-nil}
+use Rattle.std.proofs.Common.{◌≡◌, ◌+◌, inl, inr, sym, ap, subst, ◌∙◌, ℕ, List, [], Bool, true, None, append-nil}
 use Rattle.alt_disk.specs.Disk.{DiskState, Goes}
 use Rattle.alt_machine.specs.Building.{build}
 use Rattle.alt_machine.specs.Outcomes.{a_number, last_state}

@@ -7,11 +7,14 @@ use Rattle.alt_disk.specs.Disk.{DiskState}
 use Rattle.alt_machine.specs.State.{State}
 use Rattle.alt_shell.specs.Calls.{Adds, Keeps}
 use Rattle.alt_shell.specs.Log.{Log, Grows, moments_of, told_count, entry, none_came, hung_up, taken, said_in, says_failed}
-use Rattle.alt_talks.specs.Runs.{Stretch, Timed}
-use Rattle.alt_talks.specs.Talks.{Turn, Rules, Lawful, Place, at, turns, closes}
-use Rattle.alt_talks.specs.TalkStops.{ComesOn, ComesSomeOn, LeavesNow}
+use Rattle.alt_talks.specs.Runs.{Stretch}
+use Rattle.alt_talks.specs.private.Rungs.{Timed, GoesSome, Ends}
+use Rattle.alt_talks.specs.Talks.{Turn, Rules, Place, at, turns, closes}
+use Rattle.alt_talks.specs.private.Lawful.{Lawful}
+use Rattle.alt_talks.specs.TalkStops.{LeavesNow}
+use Rattle.alt_talks.specs.private.RungStops.{ComesOn, ComesSomeOn}
 use Rattle.alt_talks.specs.TalkTexts.{text}
-use Rattle.alt_talks.specs.Stretches.{SaidOf, over, Hushes, TakesIdle, Does, DoesSome, GoesSome, Ends}
+use Rattle.alt_talks.specs.Stretches.{SaidOf, over, Hushes, TakesIdle, Does, DoesSome}
 use Rattle.alt_talks.specs.Connections.{Serves, Breaks, start}
 use Rattle.alt_talks.proofs.Breaking.{breaks_same}
 use Rattle.alt_talks.proofs.Stretching.{taken-append, said_in-append}

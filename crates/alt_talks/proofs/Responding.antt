@@ -10,12 +10,15 @@ use Rattle.alt_shell.specs.Log.{Log}
 use Rattle.alt_tables.specs.FilesLeft.{most_files}
 use Rattle.alt_talks.specs.Faults.{IsAnswerFault, IsFileFault, reach}
 use Rattle.alt_talks.specs.Own.{FollowsNot, own_behind}
-use Rattle.alt_talks.specs.Runs.{OfStretch, Stretch, Timed}
+use Rattle.alt_talks.specs.Runs.{OfStretch, Stretch}
+use Rattle.alt_talks.specs.private.Rungs.{Timed, Utters}
 use Rattle.alt_talks.specs.Stops.{AreWithin}
-use Rattle.alt_talks.specs.Stretches.{Does, Heard, Utters}
-use Rattle.alt_talks.specs.Talks.{asked, has_refused, Rules, Lawful, Request}
+use Rattle.alt_talks.specs.Stretches.{Does, Heard}
+use Rattle.alt_talks.specs.Talks.{asked, has_refused, Rules, Request}
+use Rattle.alt_talks.specs.private.Lawful.{Lawful}
 use Rattle.alt_talks.specs.TalkRules.{rules, left_by, outcome_of}
-use Rattle.alt_talks.specs.TalkStops.{AnswersOn, AnswersSomeOn, LeavesNow}
+use Rattle.alt_talks.specs.TalkStops.{LeavesNow}
+use Rattle.alt_talks.specs.private.RungStops.{AnswersOn, AnswersSomeOn}
 use Rattle.alt_talks.specs.Turns.{or_next}
 use Rattle.alt_talks.specs.Works.{Follows}
 use Rattle.alt_talks.specs.declared.fault.RunFault.{RunFault}

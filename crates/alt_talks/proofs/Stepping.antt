@@ -6,10 +6,11 @@ use Rattle.alt_machine.specs.State.{State}
 use Rattle.alt_shell.specs.Log.{Log, said_in}
 use Rattle.alt_talks.specs.Faults.{IsCausedBy}
 use Rattle.alt_talks.specs.Turns.{or_next}
-use Rattle.alt_talks.specs.TalkViews.{asking}
+use Rattle.alt_talks.specs.private.InHand.{asking}
 use Rattle.alt_talks.specs.Talks.{Turn, onward, asked, refused, Rules, Head, unread, bad, good, Place, at, turns, final, greets, is_whole, size_of, request_of, has_refused}
 use Rattle.alt_talks.specs.TalkTexts.{asks, wanted}
-use Rattle.alt_talks.specs.Stretches.{Utters, Answers, AnswersSome, Begins, BreaksFor, IsWorking, IsWriting, Moves, MovesSome, Steps}
+use Rattle.alt_talks.specs.Stretches.{Begins, BreaksFor, IsWorking, IsWriting}
+use Rattle.alt_talks.specs.private.Rungs.{Utters, Answers, AnswersSome, Moves, MovesSome, Steps}
 use Rattle.alt_talks.proofs.TalkCuts.{at_unread, at_bad, at_hello, at_whole, at_short}
 use Rattle.alt_talks.proofs.TalkFolds.{text-more, asks-append}
 use Rattle.alt_talks.proofs.Uttering.{does_none, does_onward, quiet_none, moves_none}

@@ -5,7 +5,8 @@ use Rattle.std.proofs.Common.{◌≡◌, ◌<◌, ◌+◌, inl, inr, ℕ, suc, L
 use Rattle.std.proofs.lemmas.Grind.{flat_map-append}
 use Rattle.alt_machine.specs.State.{State}
 use Rattle.alt_shell.specs.Log.{Log, entry, accepted}
-use Rattle.alt_talks.specs.Connections.{Breaks, Connection, Serves, ServesAll, Served, ServedSome, Comes, ComesSome, entries_of, told_of, after_all, after_own}
+use Rattle.alt_talks.specs.Connections.{Breaks, Connection, Serves, ServesAll, Served, ServedSome, entries_of, told_of, after_all, after_own}
+use Rattle.alt_talks.specs.private.Rungs.{Comes, ComesSome}
 use Rattle.alt_talks.specs.Faults.{reach}
 use Rattle.alt_talks.specs.Own.{BetweenNot, last_told}
 use Rattle.alt_talks.specs.Talks.{Rules}

@@ -10,8 +10,10 @@ use Rattle.alt_talks.specs.Faults.{reach}
 use Rattle.alt_talks.specs.Own.{BetweenNot, last_told}
 use Rattle.alt_talks.specs.Runs.{OfStretch}
 use Rattle.alt_talks.specs.Stops.{Image, state_behind, IsLeft, AtEach, AreWithin}
-use Rattle.alt_talks.specs.Talks.{Turn, Rules, Lawful, turns_at}
-use Rattle.alt_talks.specs.TalkStops.{LeavesNow, LeftOn, LeftTaken, ComesOn, ComesSomeOn, LeftAmong, LeftBetween, ServedOn, ServedSomeOn}
+use Rattle.alt_talks.specs.Talks.{Turn, Rules, turns_at}
+use Rattle.alt_talks.specs.private.Lawful.{Lawful}
+use Rattle.alt_talks.specs.TalkStops.{LeavesNow, LeftOn, LeftTaken, LeftAmong, LeftBetween, ServedOn, ServedSomeOn}
+use Rattle.alt_talks.specs.private.RungStops.{ComesOn, ComesSomeOn}
 use Rattle.alt_talks.specs.TalkTexts.{after}
 use Rattle.alt_talks.specs.Turns.{Turn as Deed}
 use Rattle.alt_talks.specs.declared.fault.RunFault.{RunFault}

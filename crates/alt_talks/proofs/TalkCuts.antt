@@ -3,7 +3,8 @@ use Rattle.std.proofs.Common.{◌≡◌, ◌≤◌, ◌<◌, ℕ, zero, suc, Lis
 use Rattle.std.specs.Prelude.{◌||◌, ◌==◌}
 use Rattle.std.proofs.lemmas.Bool.{leb-true, le-leb}
 use Rattle.std.proofs.lemmas.List.{drop-append-le, take-append-le}
-use Rattle.alt_talks.specs.Talks.{Head, Scanned, unread, bad, good, by_scan, Turn, onward, asked, refused, Rules, Lawful, Place, at, turns, final, turns_at, final_at, greets, is_whole, size_of, request_of, closes}
+use Rattle.alt_talks.specs.Talks.{Head, Scanned, unread, bad, good, by_scan, Turn, onward, asked, refused, Rules, Place, at, turns, final, turns_at, final_at, greets, is_whole, size_of, request_of, closes}
+use Rattle.alt_talks.specs.private.Lawful.{Lawful}
 
 -- one step of both
 abbrev step_turns : Rules → ℕ → Bool → List ℕ → Scanned → List Turn

@@ -6,7 +6,8 @@ use Rattle.alt_machine.specs.State.{State}
 use Rattle.alt_shell.specs.Log.{Log, until, said_in}
 use Rattle.alt_talks.specs.Stops.{Image, StandsBehind, IsLeft, AtEach}
 use Rattle.alt_talks.specs.Stretches.{SaidOf, Does}
-use Rattle.alt_talks.specs.Talks.{Turn, onward, asked, refused, Rules, Lawful, has_refused}
+use Rattle.alt_talks.specs.Talks.{Turn, onward, asked, refused, Rules, has_refused}
+use Rattle.alt_talks.specs.private.Lawful.{Lawful}
 use Rattle.alt_talks.specs.TalkStops.{deeds, saying, carrying, LeftOn}
 use Rattle.alt_talks.specs.TalkTexts.{text, after, asks}
 use Rattle.alt_talks.specs.Turns.{answered, Turn as Deed, text_of, after as deed_after}

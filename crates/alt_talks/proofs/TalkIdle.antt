@@ -3,9 +3,11 @@ use Rattle.std.proofs.Common.{◌≡◌, ◌<◌, inl, inr, ℕ, List, [], ◌�
 use Rattle.std.specs.Prelude.{◌||◌}
 use Rattle.alt_machine.specs.State.{State}
 use Rattle.alt_shell.specs.Log.{Log, Event, took, said, take_failed, say_failed, accepted, none_came, hung_up, event_of, bytes_taken, is_say_failed, bytes_said, taken, said_in, says_failed}
-use Rattle.alt_talks.specs.Talks.{Turn, onward, asked, refused, Rules, Lawful, Place, turns, final, turns_at, final_at, has_refused}
+use Rattle.alt_talks.specs.Talks.{Turn, onward, asked, refused, Rules, Place, turns, final, turns_at, final_at, has_refused}
+use Rattle.alt_talks.specs.private.Lawful.{Lawful}
 use Rattle.alt_talks.specs.TalkTexts.{text, asks}
-use Rattle.alt_talks.specs.Stretches.{is_over, over, is_take, AtRest, Idle, TakesIdle, Heard, Counted, Does}
+use Rattle.alt_talks.specs.Stretches.{is_over, over, is_take, Idle, TakesIdle, Heard, Counted, Does}
+use Rattle.alt_talks.specs.private.Rungs.{AtRest}
 use Rattle.alt_talks.proofs.Stretching.{taken-append, said_in-append}
 use Rattle.alt_talks.proofs.TalkCuts.{turns_cut, final_cut}
 use Rattle.alt_talks.proofs.TalkFolds.{asks-append, asks-requests, text-append}

@@ -20,7 +20,8 @@ use Rattle.alt_talks.specs.Own.{after_behind, own_behind, own_between}
 use Rattle.alt_talks.specs.TalkRules.{rules, outcome_of, left_by, http_text}
 use Rattle.alt_talks.specs.TalkViews.{scanned}
 use Rattle.alt_talks.specs.Turns.{or_next}
-use Rattle.alt_talks.specs.Talks.{Lawful, unread, bad, good, Request, Head as TalkHead}
+use Rattle.alt_talks.specs.Talks.{unread, bad, good, Request, Head as TalkHead}
+use Rattle.alt_talks.specs.private.Lawful.{Lawful}
 
 -- ---- the rules
 

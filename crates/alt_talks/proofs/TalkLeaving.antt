@@ -13,11 +13,14 @@ use Rattle.alt_shell.specs.Log.{Log, Grows, Tells, moments_of, until, entry, tol
 use Rattle.alt_shell.proofs.Telling.{Grows-then, Tells-then}
 use Rattle.alt_tables.specs.Images.{StandsFor}
 use Rattle.alt_talks.specs.Faults.{IsAnswerFault, IsFileFault, reach}
-use Rattle.alt_talks.specs.Runs.{OfStretch, Stretch, Timed}
+use Rattle.alt_talks.specs.Runs.{OfStretch, Stretch}
+use Rattle.alt_talks.specs.private.Rungs.{Timed, Utters, AtRest, Goes}
 use Rattle.alt_talks.specs.Stops.{Image, IsLeft, IsAmong, IsUncut, AtEach, AreWithin}
-use Rattle.alt_talks.specs.Stretches.{Utters, AtRest, Idle, Goes, Does, DoesSome}
-use Rattle.alt_talks.specs.Talks.{Turn, onward, asked, refused, Rules, Lawful, Request, Head, Place, at, unread, bad, good, greets, is_whole, size_of, request_of, turns, final, turns_at}
-use Rattle.alt_talks.specs.TalkStops.{deeds, carrying, saying, LeavesNow, LeftOn, LeftTaken, AnswersOn, AnswersSomeOn, CarriesOn, CarriesSomeOn, MovesOn, StepsOn, MovesAllOn, MovesSomeOn, GoesOn, GoesSomeOn}
+use Rattle.alt_talks.specs.Stretches.{Idle, Does, DoesSome}
+use Rattle.alt_talks.specs.Talks.{Turn, onward, asked, refused, Rules, Request, Head, Place, at, unread, bad, good, greets, is_whole, size_of, request_of, turns, final, turns_at}
+use Rattle.alt_talks.specs.private.Lawful.{Lawful}
+use Rattle.alt_talks.specs.TalkStops.{deeds, carrying, saying, LeavesNow, LeftOn, LeftTaken}
+use Rattle.alt_talks.specs.private.RungStops.{AnswersOn, AnswersSomeOn, CarriesOn, CarriesSomeOn, MovesOn, StepsOn, MovesAllOn, MovesSomeOn, GoesOn, GoesSomeOn}
 use Rattle.alt_talks.specs.TalkTexts.{asks}
 use Rattle.alt_talks.specs.Turns.{Turn as Deed}
 use Rattle.alt_talks.specs.declared.fault.RunFault.{RunFault}

@@ -5,10 +5,12 @@ use Rattle.std.proofs.Common.{◌≡◌, ◌<◌, inl, ℕ, List, [], ◌∷◌,
 use Rattle.std.specs.Prelude.{◌||◌}
 use Rattle.alt_machine.specs.State.{State}
 use Rattle.alt_shell.specs.Log.{Log, entry, took, take_failed, taken, crosses}
-use Rattle.alt_talks.specs.Talks.{Turn, Rules, Lawful, Place, at, turns, final, turns_at, final_at, has_refused}
+use Rattle.alt_talks.specs.Talks.{Turn, Rules, Place, at, turns, final, turns_at, final_at, has_refused}
+use Rattle.alt_talks.specs.private.Lawful.{Lawful}
 use Rattle.alt_talks.specs.TalkTexts.{text}
 use Rattle.alt_talks.specs.Faults.{reach}
-use Rattle.alt_talks.specs.Stretches.{is_over, over, Does, DoesSome, MovesAll, MovesSome, Goes, GoesSome, AtRest, Idle, TakesIdle}
+use Rattle.alt_talks.specs.Stretches.{is_over, over, Does, DoesSome, Idle, TakesIdle}
+use Rattle.alt_talks.specs.private.Rungs.{MovesAll, MovesSome, Goes, GoesSome, AtRest}
 use Rattle.alt_talks.proofs.Breaking.{breaks_same}
 use Rattle.alt_talks.proofs.Stretching.{taken-append}
 use Rattle.alt_talks.proofs.TalkLogs.{over-append, crosses-append}

@@ -5,7 +5,7 @@ use Rattle.alt_machine.specs.State.{State}
 use Rattle.alt_shell.specs.Log.{Log, taken}
 use Rattle.alt_talks.specs.Connections.{turns_of}
 use Rattle.alt_talks.specs.Talks.{Place, Rules, Turn, turns, turns_at}
-use Rattle.alt_talks.specs.TalkStops.{AnswersSomeOn, ComesSomeOn, GoesSomeOn, MovesSomeOn}
+use Rattle.alt_talks.specs.private.RungStops.{AnswersSomeOn, ComesSomeOn, GoesSomeOn, MovesSomeOn}
 use Rattle.alt_talks.specs.declared.fault.RunFault.{RunFault}
 use Rattle.alt_talks.proofs.Breaking.{some_wider}
 

@@ -15,7 +15,8 @@ use Rattle.alt_talks.specs.declared.fault.RunFault.TheVariants.{NoMemory}
 use Rattle.alt_talks.specs.Turns.{or_next}
 use Rattle.alt_talks.specs.Talks.{Turn, onward, asked, refused, Rules, Request, Place, at, turns, final, has_refused}
 use Rattle.alt_talks.specs.TalkTexts.{text, after, requests, asks, wanted}
-use Rattle.alt_talks.specs.Stretches.{SaidOf, Quiet, Utters, Does, DoesSome, AnswersSome, BreaksFor, Moves, MovesAll, MovesSome, AtRest, over, says, Counted, Begins}
+use Rattle.alt_talks.specs.Stretches.{SaidOf, Does, DoesSome, BreaksFor, over, says, Counted, Begins}
+use Rattle.alt_talks.specs.private.Rungs.{Quiet, Utters, AnswersSome, Moves, MovesAll, MovesSome, AtRest}
 use Rattle.alt_talks.proofs.Breaking.{breaks_behind}
 use Rattle.alt_talks.proofs.FileFaults.{IsTurnFault, file_more}
 use Rattle.alt_talks.proofs.Stretching.{said_in-append, taken-append}

@@ -1,5 +1,5 @@
 -- How many connections came while connections were served, whatever disk it is.
-use Rattle.std.specs.Prelude.{◌≡◌, ◌≤◌, ◌<◌, ◌⊎◌, ℕ, [], ◌∷◌, ◌++◌, sum_by, Bool, true, false, Option, Some, None}
+use Rattle.std.specs.Prelude.{◌≡◌, ◌≤◌, ◌<◌, ◌⊎◌, ℕ, [], ◌∷◌, ◌++◌, sum_by, Option, Some, None}
 use Rattle.alt_disk.specs.Disk.{DiskState}
 use Rattle.alt_shell.specs.Log as event
 use Rattle.alt_shell.specs.Log.{Log, Event, Grows, entry, event_of, none_came}
@@ -32,11 +32,6 @@ pub record NoneWill (count : ℕ) (old new : DiskState) : Type 0 where
   pub clocked : ℕ
   pub grows : Grows old.beside new.beside (before ++ entry at clocked none_came ∷ [])
   pub many : arrivals before ≡ count
-
--- one came, or none will come
-abbrev pub CameOne : Bool → DiskState → DiskState → Type 0
-CameOne true old new = Came 1 old new
-CameOne false old new = NoneWill 0 old new
 
 -- so many came at most
 abbrev pub CameAtMost : ℕ → DiskState → DiskState → Type 0

@@ -1,5 +1,5 @@
 -- What serving connections promises.
-use Rattle.std.specs.Prelude.{◌≡◌, ◌<◌, ◌≤◌, ◌+◌, ◌⊎◌, ℕ, suc, List, [], ◌∷◌, ◌++◌, length, Bool, true, false, Option, None}
+use Rattle.std.specs.Prelude.{◌≡◌, ◌<◌, ◌≤◌, ◌+◌, ◌⊎◌, ℕ, suc, List, [], ◌∷◌, ◌++◌, length, true, false, Option, None}
 use Rattle.std.specs.List.{flat_map}
 use Rattle.alt_machine.specs.Outcomes.{last_state}
 use Rattle.alt_machine.specs.State.{State}
@@ -48,15 +48,6 @@ pub record Serves (r : Rules) (per : ℕ) (s : State) (k : Connection) (t : Stat
   pub hung : k.entries ≡ before ++ entry at clocked hung_up ∷ []
   pub inside : crosses before ≡ false
 
--- a connection came and was served, or none came any more
-abbrev pub Comes : Rules → ℕ → Bool → State → State → Log → List ℕ → Type 0
-Comes r per true s t entries told = (k : Connection) × Serves r per s k t × (entries ≡ entry k.moment k.clocked accepted ∷ k.entries) × (told ≡ k.told)
-Comes r per false s t entries told = (t ≡ s) × ((m n : ℕ) × (entries ≡ entry m n none_came ∷ [])) × (told ≡ [])
-
--- none came, since the wait failed
-abbrev pub Missed : RunFault → Log → List ℕ → Type 0
-Missed fault entries told = (entries ≡ []) × (told ≡ []) × IsCausedBy None fault
-
 -- Serving a connection broke off, and it was hung up; bytes were taken as on one that was served, and no other connection came or went.
 pub record Breaks (r : Rules) (per : ℕ) (fault : RunFault) (next : ℕ) (s : State) (k : Connection) : Type 0 where
   pub some : DoesSome r fault next s false (turns_of r per k) k.entries k.told
@@ -66,17 +57,6 @@ pub record Breaks (r : Rules) (per : ℕ) (fault : RunFault) (next : ℕ) (s : S
   pub clocked : ℕ
   pub hung : k.entries ≡ before ++ entry at clocked hung_up ∷ []
   pub inside : crosses before ≡ false
-
--- one came, broke off and was hung up
-abbrev pub Broke : Rules → ℕ → RunFault → ℕ → State → Log → List ℕ → Type 0
-Broke r per fault next s entries told = (k : Connection)
-    × Breaks r per fault next s k
-    × (entries ≡ entry k.moment k.clocked accepted ∷ k.entries) × (told ≡ k.told)
-
--- either
-abbrev pub ComesSome : Rules → ℕ → RunFault → ℕ → State → Log → List ℕ → Type 0
-ComesSome r per fault next s entries told = Missed fault entries told
-    ⊎ Broke r per fault next s entries told
 
 -- the state after what the server does by itself behind the connection of a number, where this was the last moment told by then
 abbrev pub after_own : Rules → ℕ → Option ℕ → State → State

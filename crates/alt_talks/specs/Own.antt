@@ -61,9 +61,6 @@ own_between number moment s = if number % BETWEEN_EXPIRIES == 0
 abbrev pub after_behind : State → State
 after_behind s = last_state s (own_behind s).atoms
 
-abbrev pub after_between : ℕ → Option ℕ → State → State
-after_between number moment s = last_state s (own_between number moment s).atoms
-
 -- the last moment told, where one was told before or none
 abbrev pub last_told : Option ℕ → List ℕ → Option ℕ
 last_told before [] = before

@@ -1,12 +1,11 @@
 -- Calls that a part of a run made: what is told of them, what they keep, and where they lead.
-use Rattle.std.specs.Prelude.{◌≡◌, ◌≤◌, ℕ, List, Option}
+use Rattle.std.specs.Prelude.{◌≡◌, ◌≤◌, ℕ, List}
 use Rattle.alt_disk.specs.Disk.{DiskState, IsTrusted}
 use Rattle.alt_machine.specs.State.{State}
 use Rattle.alt_shell.specs.Log.{Log, Grows, Tells, moments_of, notes_of, talks}
 use Rattle.alt_tables.specs.Stands.{Stands, bounds_of}
 use Rattle.alt_tables.specs.declared.tables.Tables.{Tables}
 use Rattle.alt_talks.specs.Faults.{reach}
-use Rattle.alt_talks.specs.Own.{last_told}
 use Rattle.alt_talks.specs.Stops.{AreWithin}
 
 -- what is said of a stretch of calls: of the disk before and after it, its entries, and the moments told in it
@@ -23,11 +22,6 @@ pub record Stretch (old new : DiskState) (P : OfStretch) : Type 0 where
   pub later : old.moment ≤ new.moment
   pub trusts : IsTrusted old → IsTrusted new
   pub holds : P old new entries told
-
--- and the last moment that was told by its end is known, as it was before it
-abbrev pub Timed : Option ℕ → Option ℕ → OfStretch → OfStretch
-Timed before last P old new entries told =
-    P old new entries told × (last ≡ last_told before told)
 
 -- What every stretch of a run keeps: what the disk says of itself, what a stop left at the moments before, what was noted, and whether
 -- the shell talks.

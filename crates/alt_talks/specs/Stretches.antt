@@ -1,13 +1,13 @@
--- What a part of the serving of connections says, takes and leaves: one word for each rung.
-use Rattle.std.specs.Prelude.{◌≡◌, ◌<◌, ◌≤◌, ◌-◌, ◌⊎◌, if◌then◌else◌, drop, ℕ, List, [], ◌∷◌, ◌++◌, length, Bool, true, false, not, ◌||◌, Option, Some, None}
+-- What a part of the serving of connections says, takes and leaves.
+use Rattle.std.specs.Prelude.{◌≡◌, ◌<◌, ◌≤◌, ◌⊎◌, ℕ, List, [], ◌∷◌, ◌++◌, length, Bool, true, false, ◌||◌, Option, Some, None}
 use Rattle.std.specs.List.{list_any}
 use Rattle.alt_base.specs.Prefix.{IsPrefix}
 use Rattle.alt_machine.specs.State.{State}
 use Rattle.alt_shell.specs.Log as event
-use Rattle.alt_shell.specs.Log.{Log, Event, event_of, is_end, is_take_failed, is_say_failed, until, taken, said_in, says_failed, crosses}
+use Rattle.alt_shell.specs.Log.{Log, Event, event_of, is_end, is_take_failed, is_say_failed, taken, said_in, says_failed}
 use Rattle.alt_talks.specs.Faults.{IsCausedBy, IsFileFault, reach}
 use Rattle.alt_talks.specs.declared.fault.RunFault.{RunFault}
-use Rattle.alt_talks.specs.Talks.{Turn, asked, refused, Rules, Request, Head, Place, at, size_of, request_of, turns, final, turns_at, final_at, has_refused}
+use Rattle.alt_talks.specs.Talks.{Turn, asked, refused, Rules, Request, Place, turns_at, final_at, has_refused}
 use Rattle.alt_talks.specs.TalkTexts.{text, after, requests, asks, wanted}
 
 -- the end was taken, or a take failed
@@ -49,27 +49,10 @@ abbrev pub Hushes : Log → Type 0
 Hushes [] = Unit {0}
 Hushes (e ∷ es) = (is_say_failed (event_of e.1) ≡ true → says es ≡ false) × Hushes es
 
--- nothing was taken, and no connection came or went
-pub record Quiet (entries : Log) : Type 0 where
-  pub still : taken entries ≡ []
-  pub goes_on : over entries ≡ false
-  pub inside : crosses entries ≡ false
-
 -- all of a text was said; or, where a say failed, some of its front
 abbrev pub SaidOf : Bool → List ℕ → List ℕ → Type 0
 SaidOf true some whole = IsPrefix some whole
 SaidOf false some whole = some ≡ whole
-
--- A text was said, as far as no say failed before or now.
-pub record Utters (mute : Bool) (bytes : List ℕ) (after_it : Bool) (entries : Log) (told : List ℕ) : Type 0 where
-  pub said : SaidOf after_it (said_in entries) bytes
-  pub broke : after_it ≡ (mute || says_failed entries)
-  pub silent : mute ≡ true → said_in entries ≡ []
-  pub by : (moment : ℕ) → IsPrefix (said_in (until moment entries)) bytes
-  pub hush : Hushes entries
-  pub still : mute ≡ true → says entries ≡ false
-  pub quiet : Quiet entries
-  pub timeless : told ≡ []
 
 -- The moment of a refused head was asked for when the texts of all turns before it had been said, and no say had failed.
 pub record Heard (r : Rules) (s : State) (mute : Bool) (ts : List Turn) (entries : Log) (told : List ℕ) : Type 0 where
@@ -102,11 +85,6 @@ pub record Does (r : Rules) (s : State) (mute : Bool) (ts : List Turn) (t : Stat
   pub silent : mute ≡ true → (said_in entries ≡ []) × (length told ≡ requests ts)
   pub hush : Hushes entries
   pub still : mute ≡ true → says entries ≡ false
-
--- and nothing was taken
-pub record Answers (r : Rules) (s : State) (mute : Bool) (ts : List Turn) (t : State) (after_it : Bool) (entries : Log) (told : List ℕ) : Type 0 where
-  pub does : Does r s mute ts t after_it entries told
-  pub quiet : Quiet entries
 
 -- Of turns that broke off some were done, and at most one more was begun. Just these asked for their moments: each request, and a refused
 -- head unless a say had failed. No request that was done lacked a number or a family.
@@ -171,42 +149,6 @@ pub record DoesSome (r : Rules) (fault : RunFault) (next : ℕ) (s : State) (mut
   pub still : mute ≡ true → says entries ≡ false
   pub begins : Begins r s ts told
 
--- and nothing was taken
-pub record AnswersSome (r : Rules) (fault : RunFault) (next : ℕ) (s : State) (mute : Bool) (ts : List Turn) (entries : Log) (told : List ℕ) : Type 0 where
-  pub some : DoesSome r fault next s mute ts entries told
-  pub quiet : Quiet entries
-
--- Turns at hand were done, from a place to a place, and nothing was taken.
-pub record Moves (r : Rules) (p : Place) (s : State) (mute : Bool) (q : Place) (t : State) (after_it : Bool) (entries : Log) (told : List ℕ) : Type 0 where
-  pub done : List Turn
-  pub does : Does r s mute done t after_it entries told
-  pub splits : turns r p.left p.greeted p.bytes ≡ done ++ turns r q.left q.greeted q.bytes
-  pub same : final r p.left p.greeted p.bytes ≡ final r q.left q.greeted q.bytes
-  pub clear : 0 < q.left → has_refused done ≡ false
-  pub quiet : Quiet entries
-
--- no turn is at hand
-abbrev pub AtRest : Rules → Place → Type 0
-AtRest r q = (turns r q.left q.greeted q.bytes ≡ []) × (final r q.left q.greeted q.bytes ≡ q)
-
--- One turn was done, or none was at hand.
-pub record Steps (r : Rules) (more : Bool) (p : Place) (s : State) (mute : Bool) (q : Place) (t : State) (after_it : Bool) (entries : Log) (told : List ℕ) : Type 0 where
-  pub moves : Moves r p s mute q t after_it entries told
-  pub rests : more ≡ false → AtRest r q
-  pub fewer : more ≡ true → q.left < p.left
-
--- The whole request behind this head was carried out, and dropped from the front.
-pub record Carries (r : Rules) (h : Head) (p : Place) (s : State) (mute : Bool) (q : Place) (t : State) (after_it : Bool) (entries : Log) (told : List ℕ) : Type 0 where
-  pub answers : Answers r s mute (asked (request_of h p.bytes (p.left - 1)) ∷ []) t after_it entries told
-  pub place : q ≡ at (if h.close then 0 else p.left - 1) false (drop (size_of h) p.bytes)
-
--- Turns were done until none was left at hand.
-pub record MovesAll (r : Rules) (p : Place) (s : State) (mute : Bool) (q : Place) (t : State) (after_it : Bool) (entries : Log) (told : List ℕ) : Type 0 where
-  pub does : Does r s mute (turns r p.left p.greeted p.bytes) t after_it entries told
-  pub place : q ≡ final r p.left p.greeted p.bytes
-  pub clear : 0 < q.left → has_refused (turns r p.left p.greeted p.bytes) ≡ false
-  pub quiet : Quiet entries
-
 -- Bytes may be taken on a connection that began at a place and a state: the end hasn't come, no say failed, another request may come,
 -- and the turns of the bytes taken before were all done, with the first moments, and all of their text said.
 pub record Idle (r : Rules) (p : Place) (s : State) (mute : Bool) (told : List ℕ) (before : Log) : Type 0 where
@@ -225,29 +167,3 @@ TakesIdle r p s mute told before [] = Unit {0}
 TakesIdle r p s mute told before (e ∷ es) =
     (is_take (event_of e.1) ≡ true → Idle r p s mute told before)
     × TakesIdle r p s mute told (before ++ e ∷ []) es
-
--- Some bytes were taken, and the turns at hand then were done. There is more, or the end came.
-pub record Goes (r : Rules) (more : Bool) (p : Place) (s : State) (mute : Bool) (q : Place) (t : State) (after_it : Bool) (entries : Log) (told : List ℕ) : Type 0 where
-  pub does : Does r s mute (turns_at r p (taken entries)) t after_it entries told
-  pub place : q ≡ final_at r p (taken entries)
-  pub clear : 0 < q.left → has_refused (turns_at r p (taken entries)) ≡ false
-  pub ends : over entries ≡ not more
-  pub inside : crosses entries ≡ false
-  pub idle : TakesIdle r p s mute told [] entries
-
--- the turns at hand broke off, and nothing was taken
-pub record MovesSome (r : Rules) (fault : RunFault) (next : ℕ) (p : Place) (s : State) (mute : Bool) (entries : Log) (told : List ℕ) : Type 0 where
-  pub some : DoesSome r fault next s mute (turns r p.left p.greeted p.bytes) entries told
-  pub quiet : Quiet entries
-
--- Takes and turns went on until no more came, a say failed, or the turns ended.
-pub record Ends (r : Rules) (p : Place) (s : State) (mute : Bool) (q : Place) (t : State) (after_it : Bool) (entries : Log) (told : List ℕ) : Type 0 where
-  pub more : Bool
-  pub goes : Goes r more p s mute q t after_it entries told
-  pub cause : (more ≡ false) ⊎ (after_it ≡ true) ⊎ (q.left ≡ 0)
-
--- taking, and the turns at hand then, broke off
-pub record GoesSome (r : Rules) (fault : RunFault) (next : ℕ) (p : Place) (s : State) (mute : Bool) (entries : Log) (told : List ℕ) : Type 0 where
-  pub some : DoesSome r fault next s mute (turns_at r p (taken entries)) entries told
-  pub inside : crosses entries ≡ false
-  pub idle : TakesIdle r p s mute told [] entries

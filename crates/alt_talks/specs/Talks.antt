@@ -1,7 +1,6 @@
 -- The turns of a connection: what the bytes taken ask for, from the front.
-use Rattle.std.specs.Prelude.{◌≡◌, ◌<◌, ◌≤◌, ◌+◌, ◌==◌, ℕ, zero, suc, List, [], ◌∷◌, ◌++◌, length, take, drop, Bool, true, false, ◌||◌, if◌then◌else◌, nat_le, Option}
+use Rattle.std.specs.Prelude.{◌+◌, ◌==◌, ℕ, zero, suc, List, [], ◌∷◌, ◌++◌, length, take, drop, Bool, true, false, ◌||◌, if◌then◌else◌, nat_le, Option}
 use Rattle.std.specs.List.{list_any}
-use Rattle.alt_machine.specs.Outcomes.{last_state}
 use Rattle.alt_machine.specs.State.{State}
 use Rattle.alt_machine.specs.Wanted.{Lack}
 use Rattle.alt_talks.specs.Own.{Own}
@@ -51,19 +50,6 @@ pub record Rules : Type 0 where
   pub between : ℕ → Option ℕ → State → Own
   pub refusal : ℕ → ℕ → List ℕ
   pub greeting : List ℕ
-
--- A head is found or refused however the bytes are cut; the state after a request is that which it makes lasting, if any, and then that after the
--- last of the writes that follow it; and each text has a byte or more.
-pub record Lawful (r : Rules) : Type 0 where
-  pub nothing : r.scan [] ≡ unread
-  pub stays_bad : (a b : List ℕ) (k : ℕ) → r.scan a ≡ bad k → r.scan (a ++ b) ≡ bad k
-  pub stays_good : (a b : List ℕ) (h : Head) → r.scan a ≡ good h → r.scan (a ++ b) ≡ good h
-  pub within : (a : List ℕ) (h : Head) → r.scan a ≡ good h → (0 < h.taken) × (h.taken ≤ length a)
-  pub steps : (s : State) (q : Request) (m : ℕ)
-      → r.next s q m ≡ last_state (last_state s (r.atoms s q m)) (r.own s q m)
-  pub replies : (s : State) (q : Request) (m : ℕ) → 0 < length (r.reply s q m)
-  pub refuses : (k m : ℕ) → 0 < length (r.refusal k m)
-  pub greets : 0 < length r.greeting
 
 -- the bytes of a head and its body
 abbrev pub size_of : Head → ℕ

@@ -17,10 +17,6 @@ pub record Turn : Type 0 where
   pub alone : Option Lack
   pub lacks : Option Lack
 
--- all its writes
-abbrev pub all_of : Turn → List State
-all_of t = t.atoms ++ t.own
-
 -- the state after a turn, with what the server does behind it
 abbrev pub after_turn : State → Turn → State
 after_turn s t = last_state (last_state s t.atoms) t.own

@@ -8,7 +8,8 @@ ghost use Rattle.alt_tables.specs.EngineDeclaredTask.TheVariants.{Step};
 ghost use Rattle.alt_machine.specs.State.{State};
 ghost use Rattle.alt_tables.specs.FilesLeft.{most_files};
 ghost use Rattle.alt_tables.specs.Stands.{AreReady, Stands, bounds_of, limits_of};
-ghost use Rattle.alt_talks.specs.Own.{BetweenNot, FollowsNot, after_behind, after_between, own_behind, own_between};
+ghost use Rattle.alt_talks.specs.Own.{BetweenNot, FollowsNot, after_behind, own_behind, own_between};
+ghost use Rattle.alt_talks.specs.private.Rungs.{after_between};
 ghost use Rattle.alt_talks.specs.Works.{AfterWork, Follows};
 
 use crate::expiring::{BETWEEN_EXPIRIES, MOST_EXPIRIES, expire_all};

@@ -15,7 +15,7 @@ ghost use Rattle.alt_tables.specs.Stands.{AreReady, Stands, bounds_of};
 ghost use Rattle.alt_talks.specs.Faults.{IsAnswerFault};
 ghost use Rattle.alt_talks.specs.Stops.{AtEach, IsUncut};
 ghost use Rattle.alt_talks.specs.TalkRules.{outcome_of, http_text, status_said};
-ghost use Rattle.alt_talks.specs.TalkViews.{asking};
+ghost use Rattle.alt_talks.specs.private.InHand.{asking};
 ghost use Rattle.alt_talks.specs.declared.fault.RunFault.TheVariants.{Failed};
 
 use crate::fault::RunFault;

@@ -3,10 +3,11 @@ use Rattle.alt_lines.specs.Reader.{unread}
 use Rattle.alt_lines.specs.Unread.{Unread}
 use Rattle.alt_machine.specs.State.{State}
 use Rattle.alt_disk.specs.Disk.{DiskState}
-use Rattle.alt_run.specs.Behind.{BringsSome, BringsOn}
+use Rattle.alt_run.specs.private.Brought.{BringsSome, BringsOn}
 use Rattle.alt_tables.specs.Stands.{bounds_of}
 use Rattle.alt_talks.specs.Runs.{Leads}
-use Rattle.alt_run.specs.Runs.{Goes, GoesOrEnds, GoesSome, Ends, Answers, AnswersSome}
+use Rattle.alt_run.specs.Runs.{Answers, AnswersSome}
+use Rattle.alt_run.specs.private.Rungs.{Goes, GoesOrEnds, GoesSome, Ends}
 use Rattle.alt_talks.proofs.Passing.{passes_none, passes_then, passes_back}
 use Rattle.alt_run.proofs.Pulling.{fresh, goes_none, goes_then, goes_ends, goes_breaks, answers_all, answers_some}
 use Rattle.alt_run.proofs.Bringing.{some_none, some_then, rest_then, last_line}

@@ -2,9 +2,9 @@ use Rattle.std.proofs.Common.{◌≡◌, ◌-◌, ◌^◌, false}
 use Rattle.alt_lines.specs.Reader.{unread}
 use Rattle.alt_machine.specs.State.{State}
 use Rattle.alt_tables.specs.Stands.{Stands, bounds_of, limits_of}
-use Rattle.alt_run.specs.Behind.{BringsSome}
+use Rattle.alt_run.specs.private.Brought.{BringsSome}
 use Rattle.alt_talks.specs.Runs.{Passes, Leads}
-use Rattle.alt_run.specs.Runs.{Goes}
+use Rattle.alt_run.specs.private.Rungs.{Goes}
 use Rattle.alt_run.proofs.Pulling.{fresh}
 use Rattle.alt_run.proofs.running.pulls.Given as goal
 

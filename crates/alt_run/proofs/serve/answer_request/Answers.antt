@@ -7,7 +7,8 @@ use Rattle.alt_tables.specs.FilesLeft.{most_files}
 use Rattle.alt_tables.specs.Stands.{bounds_of}
 use Rattle.alt_talks.specs.Own.{FollowsNot, own_behind}
 use Rattle.alt_talks.specs.Works.{HasFewEntries}
-use Rattle.alt_run.specs.Turns.{request, carried_out, left_by, outcome_of}
+use Rattle.alt_run.specs.Turns.{request, carried_out, outcome_of}
+use Rattle.alt_run.specs.private.Rungs.{left_by}
 use Rattle.alt_run.proofs.Serving.{turn_cut, turn_unsaid}
 use Rattle.alt_run.proofs.Working.{request_broke, request_served}
 use Rattle.alt_talks.proofs.Owning.{answer_first}

@@ -3,7 +3,7 @@ use Rattle.alt_lines.specs.Reader.{unread}
 use Rattle.alt_lines.specs.Unread.{Tells}
 use Rattle.alt_tables.specs.Stands.{bounds_of}
 use Rattle.alt_talks.specs.Runs.{Stretch}
-use Rattle.alt_run.specs.Runs.{BreaksAtHand, asked_now}
+use Rattle.alt_run.specs.private.Rungs.{BreaksAtHand, asked_now}
 use Rattle.alt_run.proofs.Hands.{at_some, at_none, hands_none, hands_line, hands_break, hands_memory, hands_all, hands_brings, hands_files, hands_out}
 use Rattle.alt_talks.proofs.Passing.{passes_none, passes_then, passes_back}
 use Rattle.alt_talks.specs.declared.fault.RunFault.{RunFault}

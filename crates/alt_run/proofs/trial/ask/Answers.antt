@@ -6,7 +6,8 @@ use Rattle.alt_tables.specs.Stands.{bounds_of}
 use Rattle.alt_talks.specs.Own.{FollowsNot, own_behind}
 use Rattle.alt_talks.specs.Works.{HasFewEntries}
 use Rattle.alt_run.specs.Trials.{trial_moment}
-use Rattle.alt_run.specs.Turns.{carried_out, left_by}
+use Rattle.alt_run.specs.Turns.{carried_out}
+use Rattle.alt_run.specs.private.Rungs.{left_by}
 use Rattle.alt_run.proofs.Trying.{one_done, one_broke, one_followed_some}
 use Rattle.alt_run.proofs.trial.ask.Goals as goal
 

@@ -2,7 +2,7 @@ use Rattle.std.proofs.Common.{◌∷◌, ◌∙◌, [], sym, subst}
 use Rattle.std.specs.Prelude.{MatchResult}
 use Rattle.alt_lines.specs.Trial.{generator, next_line}
 use Rattle.alt_tables.specs.Stands.{bounds_of}
-use Rattle.alt_run.specs.Trials.{Counted, CountedSome}
+use Rattle.alt_run.specs.private.Tallies.{Counted, CountedSome}
 use Rattle.alt_run.specs.Turns.{Asked, asked_by}
 use Rattle.alt_talks.specs.declared.fault.RunFault.{RunFault}
 use Rattle.alt_run.proofs.Trying.{asked_parts, none_begun}

@@ -2,10 +2,10 @@ use Rattle.std.proofs.Common.{◌≡◌, ◌<◌, ◌++◌, ℕ, List, arith, �
 use Rattle.alt_machine.specs.State.{State}
 use Rattle.alt_shell.specs.Log.{Log}
 use Rattle.alt_tables.specs.Stands.{bounds_of}
-use Rattle.alt_talks.specs.Runs.{Timed}
-use Rattle.alt_talks.specs.TalkStops.{MovesOn, MovesAllOn, MovesSomeOn, StepsOn}
+use Rattle.alt_talks.specs.private.Rungs.{Timed}
+use Rattle.alt_talks.specs.private.RungStops.{MovesOn, MovesAllOn, MovesSomeOn, StepsOn}
 use Rattle.alt_talks.specs.TalkRules.{rules}
-use Rattle.alt_talks.specs.TalkViews.{place_of}
+use Rattle.alt_talks.specs.private.InHand.{place_of}
 use Rattle.alt_talks.proofs.Passing.{passes_none, passes_then, passes_back}
 use Rattle.alt_talks.proofs.TalkReach.{reach_none, reach_as, reach_then, reach_break}
 use Rattle.alt_talks.proofs.TalkWider.{moves_wider}

@@ -2,10 +2,11 @@ use Rattle.std.proofs.Common.{ℕ, List, [], ◌∷◌, false, subst}
 use Rattle.alt_machine.specs.State.{State}
 use Rattle.alt_shell.specs.Log.{Log}
 use Rattle.alt_tables.specs.Stands.{bounds_of}
-use Rattle.alt_talks.specs.Runs.{Stretch, Timed}
+use Rattle.alt_talks.specs.Runs.{Stretch}
+use Rattle.alt_talks.specs.private.Rungs.{Timed}
 use Rattle.alt_talks.specs.TalkRules.{rules}
-use Rattle.alt_talks.specs.TalkStops.{AnswersOn, AnswersSomeOn, CarriesOn}
-use Rattle.alt_talks.specs.TalkViews.{place_of, head_in, asking}
+use Rattle.alt_talks.specs.private.RungStops.{AnswersOn, AnswersSomeOn, CarriesOn}
+use Rattle.alt_talks.specs.private.InHand.{place_of, head_in, asking}
 use Rattle.alt_talks.specs.Talks.{asked, at, Request}
 use Rattle.alt_talks.proofs.Stepping.{asking_same, left_at}
 use Rattle.alt_talks.proofs.TalkReach.{reach_as}

@@ -2,12 +2,12 @@ use Rattle.std.proofs.Common.{◌∷◌, ◌++◌, ◌∙◌, [], inr, ℕ, List
 use Rattle.alt_shell.specs.Calls.{Accepted}
 use Rattle.alt_shell.specs.Log.{Log, entry, hung_up, told_count}
 use Rattle.alt_tables.specs.Stands.{bounds_of}
-use Rattle.alt_talks.specs.Runs.{Counting, LeadsOn, Stretch, Timed}
+use Rattle.alt_talks.specs.Runs.{Counting, LeadsOn, Stretch}
+use Rattle.alt_talks.specs.private.Rungs.{Timed, AtRest}
 use Rattle.alt_talks.specs.Stops.{AreWithin}
-use Rattle.alt_talks.specs.Stretches.{AtRest}
 use Rattle.alt_talks.specs.TalkRules.{rules}
-use Rattle.alt_talks.specs.TalkStops.{ComesOn, ComesSomeOn, EndsOn, GoesSomeOn}
-use Rattle.alt_talks.specs.TalkViews.{place_of}
+use Rattle.alt_talks.specs.private.RungStops.{ComesOn, ComesSomeOn, EndsOn, GoesSomeOn}
+use Rattle.alt_talks.specs.private.InHand.{place_of}
 use Rattle.alt_talks.specs.Talks.{at}
 use Rattle.alt_talks.proofs.FileFaults.{reach_least}
 use Rattle.alt_talks.proofs.Stretching.{stretch_as}

@@ -1,10 +1,12 @@
 use Rattle.std.proofs.Common.{◌≡◌, ◌<◌, ◌+◌, inl, inr, ℕ, List, Bool, None, refl, subst, arith}
 use Rattle.alt_machine.specs.State.{State}
 use Rattle.alt_shell.specs.Log.{Log}
-use Rattle.alt_talks.specs.Arrivals.{Came, CameOne, NoneWill}
-use Rattle.alt_talks.specs.Own.{BetweenNot, after_between, own_between}
-use Rattle.alt_talks.specs.Runs.{LeadsOn, Timed}
-use Rattle.alt_talks.specs.TalkStops.{ComesOn, ComesSomeOn, ServedOn, ServedSomeOn}
+use Rattle.alt_talks.specs.Arrivals.{Came, NoneWill}
+use Rattle.alt_talks.specs.private.Rungs.{CameOne, after_between, Timed}
+use Rattle.alt_talks.specs.Own.{BetweenNot, own_between}
+use Rattle.alt_talks.specs.Runs.{LeadsOn}
+use Rattle.alt_talks.specs.TalkStops.{ServedOn, ServedSomeOn}
+use Rattle.alt_talks.specs.private.RungStops.{ComesOn, ComesSomeOn}
 use Rattle.alt_talks.specs.TalkRules.{rules}
 use Rattle.alt_talks.specs.Works.{Follows}
 use Rattle.alt_talks.proofs.Passing.{passes_none, passes_then, passes_back, passes_goes}

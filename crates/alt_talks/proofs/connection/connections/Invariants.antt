@@ -2,7 +2,8 @@ use Rattle.std.proofs.Common.{◌≤◌, ◌-◌, None}
 use Rattle.alt_machine.specs.State.{State}
 use Rattle.alt_tables.specs.Stands.{Stands, bounds_of}
 use Rattle.alt_talks.specs.Arrivals.{Came}
-use Rattle.alt_talks.specs.Runs.{LeadsOn, Passes, Timed}
+use Rattle.alt_talks.specs.Runs.{LeadsOn, Passes}
+use Rattle.alt_talks.specs.private.Rungs.{Timed}
 use Rattle.alt_talks.specs.TalkRules.{rules}
 use Rattle.alt_talks.proofs.TalkAmong.{SofarOn}
 use Rattle.alt_talks.proofs.connection.connections.Given as goal

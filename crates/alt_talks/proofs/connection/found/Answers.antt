@@ -4,10 +4,12 @@ use Rattle.alt_shell.specs.Log.{Log}
 use Rattle.alt_tables.proofs.Left.{stands_left}
 use Rattle.alt_tables.specs.Stands.{bounds_of}
 use Rattle.alt_talks.specs.Faults.{reach}
-use Rattle.alt_talks.specs.Runs.{Counting, Timed}
+use Rattle.alt_talks.specs.Runs.{Counting}
+use Rattle.alt_talks.specs.private.Rungs.{Timed}
 use Rattle.alt_talks.specs.TalkRules.{rules}
-use Rattle.alt_talks.specs.TalkStops.{AnswersOn, CarriesOn, CarriesSomeOn, MovesSomeOn, StepsOn}
-use Rattle.alt_talks.specs.TalkViews.{place_of, head_in, scanned}
+use Rattle.alt_talks.specs.private.RungStops.{AnswersOn, CarriesOn, CarriesSomeOn, MovesSomeOn, StepsOn}
+use Rattle.alt_talks.specs.TalkViews.{scanned}
+use Rattle.alt_talks.specs.private.InHand.{place_of, head_in}
 use Rattle.alt_talks.specs.Talks.{greets, good, at, is_whole}
 use Rattle.alt_talks.proofs.FileFaults.{reach_behind, reach_least}
 use Rattle.alt_talks.proofs.TalkWider.{answers_wider}

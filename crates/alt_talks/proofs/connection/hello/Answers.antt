@@ -1,10 +1,11 @@
 use Rattle.std.proofs.Common.{List, ℕ, [], refl, sym, subst}
 use Rattle.alt_shell.specs.Log.{Log}
-use Rattle.alt_talks.specs.Runs.{Stretch, Timed}
+use Rattle.alt_talks.specs.Runs.{Stretch}
+use Rattle.alt_talks.specs.private.Rungs.{Timed, Utters}
 use Rattle.alt_talks.specs.Stops.{AreWithin, AtEach}
-use Rattle.alt_talks.specs.Stretches.{Utters}
 use Rattle.alt_talks.specs.TalkRules.{rules}
-use Rattle.alt_talks.specs.TalkStops.{AnswersOn, LeftOn}
+use Rattle.alt_talks.specs.TalkStops.{LeftOn}
+use Rattle.alt_talks.specs.private.RungStops.{AnswersOn}
 use Rattle.alt_talks.specs.Talks.{greets, Turn}
 use Rattle.alt_talks.proofs.Stretching.{stretch_none, stretch_as}
 use Rattle.alt_talks.proofs.Stepping.{answers_nothing, greets_off, greets_done}

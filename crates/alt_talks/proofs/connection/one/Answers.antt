@@ -7,10 +7,13 @@ use Rattle.alt_http.specs.Reading.{scan_of}
 use Rattle.alt_http.proofs.Answering.{scan_of-is, scan_of-within}
 use Rattle.alt_machine.specs.State.{State}
 use Rattle.alt_tables.specs.Stands.{Stands, bounds_of}
-use Rattle.alt_talks.specs.TalkStops.{deeds, AnswersOn, AnswersSomeOn, MovesSomeOn, StepsOn}
-use Rattle.alt_talks.specs.Runs.{Counting, LeadsOn, Stretch, Timed}
+use Rattle.alt_talks.specs.TalkStops.{deeds}
+use Rattle.alt_talks.specs.private.RungStops.{AnswersOn, AnswersSomeOn, MovesSomeOn, StepsOn}
+use Rattle.alt_talks.specs.Runs.{Counting, LeadsOn, Stretch}
+use Rattle.alt_talks.specs.private.Rungs.{Timed}
 use Rattle.alt_talks.specs.TalkRules.{rules}
-use Rattle.alt_talks.specs.TalkViews.{place_of, scanned}
+use Rattle.alt_talks.specs.TalkViews.{scanned}
+use Rattle.alt_talks.specs.private.InHand.{place_of}
 use Rattle.alt_talks.specs.Talks.{refused, unread, bad, at, turns}
 use Rattle.alt_talks.proofs.Stopping.{stands_kept}
 use Rattle.alt_tables.proofs.Left.{stands_left}

@@ -2,11 +2,12 @@ use Rattle.std.proofs.Common.{◌≡◌, ◌<◌, ◌++◌, ◌∷◌, [], ℕ, 
 use Rattle.alt_shell.specs.Log.{Log, Grows, entry, took, told_count}
 use Rattle.alt_tables.proofs.Left.{stands_left}
 use Rattle.alt_tables.specs.Stands.{bounds_of}
-use Rattle.alt_talks.specs.Runs.{Counting, LeadsOn, Stretch, Timed}
+use Rattle.alt_talks.specs.Runs.{Counting, LeadsOn, Stretch}
+use Rattle.alt_talks.specs.private.Rungs.{Timed}
 use Rattle.alt_talks.specs.Stops.{AreWithin}
 use Rattle.alt_talks.specs.TalkRules.{rules}
-use Rattle.alt_talks.specs.TalkStops.{MovesAllOn, MovesSomeOn, GoesOn, GoesSomeOn}
-use Rattle.alt_talks.specs.TalkViews.{place_of}
+use Rattle.alt_talks.specs.private.RungStops.{MovesAllOn, MovesSomeOn, GoesOn, GoesSomeOn}
+use Rattle.alt_talks.specs.private.InHand.{place_of}
 use Rattle.alt_talks.specs.Talks.{at}
 use Rattle.alt_talks.specs.declared.fault.RunFault.TheVariants.{NoMemory}
 use Rattle.alt_talks.proofs.Stopping.{ready_kept, stands_kept}

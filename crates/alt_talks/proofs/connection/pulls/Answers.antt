@@ -2,10 +2,10 @@ use Rattle.std.proofs.Common.{◌≡◌, ◌<◌, ◌++◌, inl, inr, ℕ, List,
 use Rattle.alt_machine.specs.State.{State}
 use Rattle.alt_shell.specs.Log.{Log}
 use Rattle.alt_tables.specs.Stands.{bounds_of}
-use Rattle.alt_talks.specs.Runs.{Timed}
-use Rattle.alt_talks.specs.TalkStops.{GoesOn, GoesSomeOn, EndsOn}
+use Rattle.alt_talks.specs.private.Rungs.{Timed}
+use Rattle.alt_talks.specs.private.RungStops.{GoesOn, GoesSomeOn, EndsOn}
 use Rattle.alt_talks.specs.TalkRules.{rules}
-use Rattle.alt_talks.specs.TalkViews.{place_of}
+use Rattle.alt_talks.specs.private.InHand.{place_of}
 use Rattle.alt_talks.proofs.Passing.{passes_none, passes_then, passes_back}
 use Rattle.alt_talks.proofs.TalkLaws.{lawful}
 use Rattle.alt_tables.proofs.Left.{stands_left}

@@ -3,11 +3,11 @@ use Rattle.alt_machine.specs.State.{State}
 use Rattle.alt_shell.specs.Log.{takes_missed, says_missed}
 use Rattle.alt_tables.specs.Stands.{Stands, bounds_of}
 use Rattle.alt_talks.specs.Arrivals.{Came}
-use Rattle.alt_talks.specs.Runs.{LeadsOn, Passes, Timed}
-use Rattle.alt_talks.specs.Stretches.{AtRest}
-use Rattle.alt_talks.specs.TalkStops.{GoesOn}
+use Rattle.alt_talks.specs.Runs.{LeadsOn, Passes}
+use Rattle.alt_talks.specs.private.Rungs.{Timed, AtRest}
+use Rattle.alt_talks.specs.private.RungStops.{GoesOn}
 use Rattle.alt_talks.specs.TalkRules.{rules}
-use Rattle.alt_talks.specs.TalkViews.{place_of}
+use Rattle.alt_talks.specs.private.InHand.{place_of}
 use Rattle.alt_talks.proofs.connection.pulls.Given as goal
 
 abbrev pub invariant-pulls : goal.invariant-pulls

@@ -1,10 +1,10 @@
 use Rattle.std.proofs.Common.{◌∙◌, List, ℕ, [], ◌∷◌, Some, true, Bool, refl, sym, subst}
 use Rattle.alt_shell.specs.Log.{Log}
-use Rattle.alt_talks.specs.Runs.{Stretch, Timed}
+use Rattle.alt_talks.specs.Runs.{Stretch}
+use Rattle.alt_talks.specs.private.Rungs.{Timed, Utters}
 use Rattle.alt_talks.specs.Stops.{AreWithin}
-use Rattle.alt_talks.specs.Stretches.{Utters}
 use Rattle.alt_talks.specs.TalkRules.{rules}
-use Rattle.alt_talks.specs.TalkStops.{AnswersOn, AnswersSomeOn}
+use Rattle.alt_talks.specs.private.RungStops.{AnswersOn, AnswersSomeOn}
 use Rattle.alt_talks.specs.Talks.{refused}
 use Rattle.alt_talks.specs.declared.fault.RunFault.TheVariants.{NoMemory}
 use Rattle.alt_talks.proofs.Stretching.{stretch_none}

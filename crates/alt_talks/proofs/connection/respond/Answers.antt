@@ -1,4 +1,4 @@
-use Rattle.std.proofs.Common.{◌∙◌, ◌≤◌, ◌+◌, List, [], ◌∷◌, not, Option, Some, sym, subst}
+use Rattle.std.proofs.Common.{◌∙◌, ◌≤◌, ◌+◌, List, [], ◌∷◌, not, Some, sym, subst}
 use Rattle.alt_disk.proofs.Runs.{trusted_back}
 use Rattle.alt_machine.specs.Outcomes.{last_state}
 use Rattle.alt_machine.specs.State.{State}
@@ -8,11 +8,12 @@ use Rattle.alt_tables.specs.Images.{StandsFor}
 use Rattle.alt_tables.specs.FilesLeft.{most_files}
 use Rattle.alt_tables.specs.Stands.{Stands, bounds_of}
 use Rattle.alt_talks.specs.Own.{FollowsNot, own_behind}
-use Rattle.alt_talks.specs.Runs.{Counting, Timed}
+use Rattle.alt_talks.specs.Runs.{Counting}
+use Rattle.alt_talks.specs.private.Rungs.{Timed}
 use Rattle.alt_talks.specs.Stops.{AtEach, IsUncut}
 use Rattle.alt_talks.specs.TalkRules.{rules, left_by, outcome_of}
-use Rattle.alt_talks.specs.TalkStops.{AnswersOn}
-use Rattle.alt_talks.specs.TalkViews.{asking}
+use Rattle.alt_talks.specs.private.RungStops.{AnswersOn}
+use Rattle.alt_talks.specs.private.InHand.{asking}
 use Rattle.alt_talks.specs.Talks.{asked}
 use Rattle.alt_talks.proofs.Owning.{enough_both}
 use Rattle.alt_talks.proofs.Responding.{asked_fault, asked_reach, follow_made, follow_broke, own_follows}

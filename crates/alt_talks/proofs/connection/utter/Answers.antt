@@ -1,6 +1,6 @@
 use Rattle.std.proofs.Common.{true, false, refl, sym, subst, arith, Bool}
 use Rattle.alt_talks.specs.Runs.{Stretch}
-use Rattle.alt_talks.specs.Stretches.{Utters}
+use Rattle.alt_talks.specs.private.Rungs.{Utters}
 use Rattle.alt_talks.proofs.Stretching.{stretch_none}
 use Rattle.alt_talks.proofs.TalkLogs.{stretch_one}
 use Rattle.alt_talks.proofs.Uttering.{utters_said, utters_failed, utters_none}

@@ -1,11 +1,11 @@
 -- An index is built further, and then there is work where it is wanted.
-use Rattle.std.proofs.Common.{◌∙◌, ◌≤◌, ◌+◌, ap, sym, subst, refl, arith}
+use Rattle.std.proofs.Common.{◌≤◌, ◌+◌, subst}
 use Rattle.alt_disk.proofs.Runs.{trusted_back}
 use Rattle.alt_tables.specs.EngineInHand.{Bounds}
 use Rattle.alt_machine.specs.Building.{build}
 use Rattle.alt_machine.specs.Outcomes.{last_state}
 use Rattle.alt_tables.specs.FilesLeft.{most_files}
-use Rattle.alt_tables.specs.Stands.{Stands, bounds_of, limits_of}
+use Rattle.alt_tables.specs.Stands.{Stands, bounds_of}
 use Rattle.alt_talks.specs.Faults.{IsFileFault}
 use Rattle.alt_talks.specs.Works.{HasFewEntries}
 use Rattle.alt_talks.proofs.Built.{built_broke, built_enough, built_follows, built_stands, work_behind, worked_follows}

@@ -1,6 +1,6 @@
 //! Sources of rows in the order of their keys, which may read files and may fail.
 
-ghost use Rattle.std.specs.Prelude.{◌≡◌, ◌≤◌, ◌+◌, ℕ, Bool, IsTrue, IfOk, IfErr, OnOk};
+ghost use Rattle.std.specs.Prelude.{◌≡◌, ◌≤◌, ◌+◌, ℕ, Bool, List, Option, IsTrue, IfOk, IfErr, OnOk};
 ghost use Rattle.std.specs.Option.{option_copied};
 ghost use Rattle.alt_disk.specs.Disk.{DiskState};
 ghost use Rattle.alt_cells.specs.Walks.{RowMap, RowList, rows_from, Gives, Keeps, Fails, SameFiles, answered_by};
@@ -55,6 +55,10 @@ pub trait RowSource<D: Disk> {
     /// The most reads that one call of `seek` or `next` costs.
     ghost width: { Self → ℕ };
 
+    /// What an Ok of `seek` says whatever the disk tells: of the disk's two states, the source before it, the place and the direction
+    /// that were sought, and the source behind it.
+    ghost seeks: { DiskState → DiskState → Self → Option (List ℕ) → Bool → Self → Type 0 };
+
     /// Goes to a key: forward to the first one at or above it, backward to the last one below it. With no
     /// key it goes to the first, or to the last.
     fn seek(&mut self, disk: &mut D, from: Option<&[u8]>, forward: bool) -> Result<(), SourceFault>
@@ -62,6 +66,8 @@ pub trait RowSource<D: Disk> {
             → (rows : RowMap) → holds (D.state disk.old) self.old rows
             → OnOk result (left (D.state disk.new) self.new
             (rows_from rows (option_copied from.entry) forward)) }
+        ensures given { OnOk result (seeks (D.state disk.old) (D.state disk.new) self.old
+            (option_copied from.entry) forward self.new) }
         ensures keeps { Keeps holds reads (D.state disk.old) (D.state disk.new) self.old self.new }
         ensures reads { (D.state disk.new).reads ≤ (D.state disk.old).reads + width self.old }
         ensures width { width self.new ≡ width self.old }

@@ -1,9 +1,10 @@
 -- The sources of a family's rows, its table in memory and its files, as sources of one type.
-use Rattle.std.specs.Prelude.{ℕ, Bool}
+use Rattle.std.specs.Prelude.{ℕ, Bool, List, Option}
 use Rattle.alt_disk.specs.Disk.{DiskState}
 use Rattle.alt_cells.specs.Walks.{RowMap, RowList, SameFiles}
 use Rattle.alt_memtable.specs.Walk as mem
 use Rattle.alt_rowfile.specs.Walking as row
+use Rattle.alt_rowfile.specs.Given as given
 use Rattle.alt_families.specs.declared.source.Source.{Source}
 use Rattle.alt_families.specs.declared.source.Source.TheVariants.{Memory, File}
 
@@ -16,6 +17,13 @@ source_reads (File w) = row.walk_reads w
 abbrev pub source_width : Source → ℕ
 source_width (Memory w) = mem.walk_width w
 source_width (File w) = row.walk_width w
+
+-- The source was sought so: its walk was, and it stays a walk of its kind.
+abbrev pub source_seeks : DiskState → DiskState → Source → Option (List ℕ) → Bool → Source → Type 0
+source_seeks old new (Memory w) from forward (Memory v) = mem.walk_seeks old new w from forward v
+source_seeks old new (Memory w) from forward (File v) = ⊥
+source_seeks old new (File w) from forward (Memory v) = ⊥
+source_seeks old new (File w) from forward (File v) = given.walk_seeks old new w from forward v
 
 -- The source stands for these rows.
 abbrev pub source_holds : DiskState → Source → RowMap → Type 0

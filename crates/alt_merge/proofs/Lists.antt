@@ -1,5 +1,5 @@
 -- Lists of sources, and what each has left, where one of them was called.
-use Rattle.std.proofs.Common.{◌≡◌, ◌<◌, ◌||◌, ℕ, zero, suc, Bool, IsTrue, List, [], ◌∷◌, length, get_or, set, map, refl, ap, ◌∙◌, arith}
+use Rattle.std.proofs.Common.{◌≡◌, ◌<◌, ◌||◌, ℕ, zero, suc, Bool, IsTrue, List, [], ◌∷◌, length, get_or, set, drop, map, refl, sym, subst, ap, ◌∙◌, arith}
 use Rattle.std.specs.FinMap.{empty}
 use Rattle.alt_disk.specs.Disk.{DiskState}
 use Rattle.alt_cells.specs.declared.source.SourceFault.{SourceFault}
@@ -7,7 +7,7 @@ use Rattle.alt_cells.specs.declared.source.SourceFault.TheVariants.{Damaged, Fai
 use Rattle.alt_cells.specs.Walks.{RowMap, RowList, HasCause, Keeps, Fails, SameFiles}
 use Rattle.alt_merge.specs.declared.head.Head.{Head}
 use Rattle.alt_merge.specs.MergeLaws.{or_left, or_right}
-use Rattle.alt_merge.specs.Merges.{Each2, with_head, with_heads, any_reads, HoldsEach, LeftWith, IsFilled, AllFilled}
+use Rattle.alt_merge.specs.Merges.{Each2, SoughtEach, with_head, with_heads, any_reads, HoldsEach, LeftWith, IsFilled, AllFilled}
 
 module _ {A B : Type 0} where
   -- what holds of each two holds of those at a place
@@ -187,3 +187,37 @@ get_or-map f (x ∷ xs) (suc i) d e lt = get_or-map f xs i d e (omega arith)
 pub length_map : {A B : Type 0} (f : A → B) (xs : List A) → length (map f xs) ≡ length xs
 length_map f [] = refl
 length_map f (x ∷ xs) = ap suc (length_map f xs)
+
+-- the first so many of these sources were sought, one after the other, and the others are as they were
+abbrev pub SoughtTo : {S : Type 0} → (DiskState → DiskState → S → S → Type 0) → ℕ → DiskState
+    → DiskState → List S → List S → Type 0
+SoughtTo Seeks zero old new xs ys = (new ≡ old) × (xs ≡ ys)
+SoughtTo Seeks (suc n) old new [] ys = ⊥
+SoughtTo Seeks (suc n) old new (x ∷ xs) [] = ⊥
+SoughtTo Seeks (suc n) old new (x ∷ xs) (y ∷ ys) =
+    (between : DiskState) × Seeks old between x y × SoughtTo Seeks n between new xs ys
+
+module _ {S : Type 0} (Seeks : DiskState → DiskState → S → S → Type 0) where
+  -- one more was
+  pub sought_set : (i : ℕ) (a b c : DiskState) (xs ys : List S) (d y : S) → i < length ys
+      → SoughtTo Seeks i a b xs ys → Seeks b c (get_or ys i d) y
+      → SoughtTo Seeks (suc i) a c xs (set ys i y)
+  sought_set zero a b c xs [] d y lt to one = absurd (omega arith)
+  sought_set zero a b c [] (y' ∷ ys) d y lt to one = absurd (omega (arith, ap length to.1))
+  sought_set zero a b c (x ∷ xs) (y' ∷ ys) d y lt to one = (
+    c,
+    subst (λ s. Seeks s c x y) to.0 (subst (λ l. Seeks b c (get_or l zero d) y) (sym to.1) one),
+    (refl, ap (drop 1) to.1),
+  )
+  sought_set (suc i) a b c [] ys d y lt to one = absurd to
+  sought_set (suc i) a b c (x ∷ xs) [] d y lt to one = absurd to
+  sought_set (suc i) a b c (x ∷ xs) (y' ∷ ys) d y lt to one =
+      (to.0, to.1, sought_set i to.0 b c xs ys d y (omega arith) to.2 one)
+
+  -- all were
+  pub sought_all : (a b : DiskState) (xs ys : List S) → SoughtTo Seeks (length ys) a b xs ys
+      → SoughtEach Seeks a b xs ys
+  sought_all a b [] [] to = to.0
+  sought_all a b (x ∷ xs) [] to = absurd (omega (arith, ap length to.1))
+  sought_all a b [] (y ∷ ys) to = absurd to
+  sought_all a b (x ∷ xs) (y ∷ ys) to = (to.0, to.1, sought_all to.0 b xs ys to.2)

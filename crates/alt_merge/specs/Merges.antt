@@ -18,6 +18,16 @@ Each2 P [] (y ∷ ys) = ⊥
 Each2 P (x ∷ xs) [] = ⊥
 Each2 P (x ∷ xs) (y ∷ ys) = P x y × Each2 P xs ys
 
+-- Each of the first sources was sought, one after the other, and is then the one at its place of the second: each began with the disk as
+-- the one before it left it.
+abbrev pub SoughtEach : {S : Type 0} → (DiskState → DiskState → S → S → Type 0) → DiskState
+    → DiskState → List S → List S → Type 0
+SoughtEach Seeks old new [] [] = new ≡ old
+SoughtEach Seeks old new [] (y ∷ ys) = ⊥
+SoughtEach Seeks old new (x ∷ xs) [] = ⊥
+SoughtEach Seeks old new (x ∷ xs) (y ∷ ys) =
+    (between : DiskState) × Seeks old between x y × SoughtEach Seeks between new xs ys
+
 -- what is left of a source, with the row in hand before it
 abbrev pub with_head : Head → RowList → RowList
 with_head Due rows = rows

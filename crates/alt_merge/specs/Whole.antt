@@ -1,11 +1,11 @@
 -- A merge: the rows that it stands for, and those that are left.
-use Rattle.std.specs.Prelude.{ℕ, Bool, List}
+use Rattle.std.specs.Prelude.{ℕ, Bool, List, Option}
 use Rattle.alt_disk.specs.Disk.{DiskState}
 use Rattle.alt_cells.specs.Walks.{RowMap, RowList}
 use Rattle.alt_merge.specs.declared.head.Head.{Head}
 use Rattle.alt_merge.specs.declared.merge.Merge.{Merge}
 use Rattle.alt_merge.specs.Costs.{all_width}
-use Rattle.alt_merge.specs.Merges.{MergeHolds, MergeLeft, any_reads}
+use Rattle.alt_merge.specs.Merges.{MergeHolds, MergeLeft, SoughtEach, any_reads}
 
 -- its sources
 abbrev pub sources_of : {S : Type 0} → Merge S → List S
@@ -26,6 +26,13 @@ merge_reads reads merge = any_reads reads merge.sources.items
 -- a call on a merge costs at most one of each source
 abbrev pub merge_width : {S : Type 0} → (S → ℕ) → Merge S → ℕ
 merge_width width merge = all_width width merge.sources.items
+
+-- a merge was sought where each of its sources was, one after the other
+abbrev pub merge_seeks : {S : Type 0}
+    → (DiskState → DiskState → S → Option (List ℕ) → Bool → S → Type 0)
+    → DiskState → DiskState → Merge S → Option (List ℕ) → Bool → Merge S → Type 0
+merge_seeks Seeks old new before from forward after =
+    SoughtEach (λ a b x y. Seeks a b x from forward y) old new before.sources.items after.sources.items
 
 -- the rows that a merge stands for: those of its sources, joined
 abbrev pub merge_holds : {S : Type 0} → (DiskState → S → RowMap → Type 0) → DiskState → Merge S

@@ -6,7 +6,7 @@ ghost use Rattle.std.specs.List.{All};
 ghost use Rattle.alt_disk.specs.Disk.{DiskState, IsTrusted};
 ghost use Rattle.alt_cells.specs.Walks.{RowMap, RowList, rows_from, Keeps, Fails, answered_by};
 ghost use Rattle.alt_merge.specs.Costs.{all_width, due_of, all_due};
-ghost use Rattle.alt_merge.specs.Merges.{Each2, with_head, with_heads, any_reads, IsFilled, AllFilled, HoldsEach, LeftWith};
+ghost use Rattle.alt_merge.specs.Merges.{Each2, SoughtEach, with_head, with_heads, any_reads, IsFilled, AllFilled, HoldsEach, LeftWith};
 
 use crate::head::Head;
 use alt_cells::{RowSource, SourceFault};
@@ -100,6 +100,9 @@ pub(crate) fn seek_all<D: Disk, S: RowSource<D>>(
         → HoldsEach S.holds (D.state disk.old) sources.old maps
         → OnOk result (Each2 (S.left (D.state disk.new)) sources.new
         (map (λ m. rows_from m (option_copied from.entry) forward) maps)) }
+    ensures given { OnOk result (SoughtEach
+        (λ a b x y. S.seeks a b x (option_copied from.entry) forward y)
+        (D.state disk.old) (D.state disk.new) sources.old sources.new) }
     ensures keeps { Keeps (HoldsEach S.holds) (any_reads S.reads) (D.state disk.old)
         (D.state disk.new) sources.old sources.new }
     ensures reads { (D.state disk.new).reads

@@ -35,7 +35,7 @@ impl<S> Merge<S> {
 }
 
 impl<D: Disk, S: RowSource<D>> RowSource<D> for Merge<S> {
-    ghost use Rattle.alt_merge.specs.Whole.{heads_of, is_forward, merge_reads, merge_width, merge_holds, merge_left};
+    ghost use Rattle.alt_merge.specs.Whole.{heads_of, is_forward, merge_reads, merge_width, merge_seeks, merge_holds, merge_left};
     ghost use Rattle.std.specs.Prelude.{◌≤◌, List, IsTrue, IfErr, map};
     ghost use Rattle.std.specs.Option.{option_copied};
     ghost use Rattle.alt_merge.specs.Merges.{AllDue, HoldsEach};
@@ -46,6 +46,8 @@ impl<D: Disk, S: RowSource<D>> RowSource<D> for Merge<S> {
     ghost reads = { merge_reads S.reads };
 
     ghost width = { merge_width S.width };
+
+    ghost seeks = { merge_seeks S.seeks };
 
     ghost holds = { merge_holds S.holds };
 
@@ -60,6 +62,8 @@ impl<D: Disk, S: RowSource<D>> RowSource<D> for Merge<S> {
             → (rows : RowMap) → merge_holds S.holds (D.state disk.old) self.old rows
             → OnOk result (merge_left S.left (D.state disk.new) self.new
             (rows_from rows (option_copied from.entry) forward)) }
+        ensures given { OnOk result (merge_seeks S.seeks (D.state disk.old) (D.state disk.new)
+            self.old (option_copied from.entry) forward self.new) }
         ensures keeps { Keeps (merge_holds S.holds) (merge_reads S.reads) (D.state disk.old)
             (D.state disk.new) self.old self.new }
         ensures reads { (D.state disk.new).reads

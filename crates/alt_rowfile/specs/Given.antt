@@ -11,6 +11,7 @@ use Rattle.alt_rowfile.specs.Picking.{Piece, piece_bytes, IsShortPiece, IsPicked
 use Rattle.alt_rowfile.specs.Reading.{length_of, place_of}
 use Rattle.alt_rowfile.specs.declared.hand.Hand.{Hand}
 use Rattle.alt_rowfile.specs.declared.rowfile.RowFile.{RowFile}
+use Rattle.alt_rowfile.specs.declared.walk.RowFileWalk.{RowFileWalk}
 
 -- They were read of a block of the file: as many as it has and, where the disk tells what it has, those that stand there.
 pub record AreRead (s : DiskState) (file : RowFile) (block : ℕ) (bytes : List ℕ) : Type 0 where
@@ -81,3 +82,9 @@ abbrev pub IsSought : DiskState → DiskState → RowFile → Option (List ℕ) 
 IsSought old new file from forward hand =
     ((new ≡ old) × IsNothing hand)
     ⊎ ((block : ℕ) × AreRead old file block hand.bytes.items × IsBegun hand from forward)
+
+-- A walk was sought so: it stays at its file, goes that way, and what it has in hand was sought there.
+abbrev pub walk_seeks : DiskState → DiskState → RowFileWalk → Option (List ℕ) → Bool → RowFileWalk
+    → Type 0
+walk_seeks old new before from forward after = (after.file ≡ before.file)
+    × (after.forward ≡ forward) × IsSought old new before.file.now from forward after.hand

@@ -6,7 +6,6 @@ ghost use Rattle.alt_disk.specs.Disk.{Goes};
 ghost use Rattle.alt_disk.specs.Runs.{Quiet};
 ghost use Rattle.alt_cells.specs.Walks.{Gives, IsDamaged, RowList, answered_by};
 ghost use Rattle.alt_rowfile.specs.Damage.{IsDamageIn};
-ghost use Rattle.alt_rowfile.specs.Given.{IsSought};
 ghost use Rattle.alt_rowfile.specs.Format.{Entry};
 ghost use Rattle.alt_rowfile.specs.Holding.{IsInHand};
 ghost use Rattle.alt_rowfile.specs.InHand.{Reads, count_of};
@@ -34,11 +33,14 @@ impl<'a, D: Disk> RowSource<D> for RowFileWalk<'a> {
     ghost use Rattle.std.specs.Prelude.{IfOk};
     ghost use Rattle.std.specs.Option.{option_copied};
     ghost use Rattle.alt_cells.specs.Walks.{RowMap, RowList, rows_from, Gives, Keeps, Fails};
+    ghost use Rattle.alt_rowfile.specs.Given.{walk_seeks};
     ghost use Rattle.alt_rowfile.specs.Walking.{walk_reads, walk_width, walk_holds, walk_left, walk_holds_on, walk_left_on};
 
     ghost reads = { walk_reads };
 
     ghost width = { walk_width };
+
+    ghost seeks = { walk_seeks };
 
     ghost holds = { walk_holds };
 
@@ -53,8 +55,8 @@ impl<'a, D: Disk> RowSource<D> for RowFileWalk<'a> {
             → (rows : RowMap) → walk_holds (D.state disk.old) self.old rows
             → OnOk result (walk_left (D.state disk.new) self.new
             (rows_from rows (option_copied from.entry) forward)) }
-        ensures given { OnOk result (IsSought (D.state disk.old) (D.state disk.new)
-            (walk_file self.old) (option_copied from.entry) forward self.new.hand) }
+        ensures given { OnOk result (walk_seeks (D.state disk.old) (D.state disk.new) self.old
+            (option_copied from.entry) forward self.new) }
         ensures keeps { Keeps walk_holds walk_reads (D.state disk.old) (D.state disk.new)
             self.old self.new }
         ensures reads { (D.state disk.new).reads ≤ (D.state disk.old).reads + walk_width self.old }

@@ -19,6 +19,8 @@ impl<'a, D: Disk> RowSource<D> for Source<'a> {
 
     ghost width = { λ source. 1 };
 
+    ghost seeks = { λ old new before from forward after. Unit {0} };
+
     ghost holds = { λ s source rows. ⊥ };
 
     ghost left = { λ s source rows. ⊥ };

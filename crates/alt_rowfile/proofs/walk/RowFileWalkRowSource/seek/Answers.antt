@@ -33,4 +33,4 @@ returns-in-Err-clause-fails g c =
     c.in-Err.ensures.damage
 
 pub returns-in-Ok-clause-given : goal.returns-in-Ok-clause-given
-returns-in-Ok-clause-given g c = c.in-Ok.ensures.given
+returns-in-Ok-clause-given g c = (refl, refl, c.in-Ok.ensures.given)

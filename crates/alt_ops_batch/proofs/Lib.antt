@@ -5,8 +5,10 @@ pub mod Finding
 pub mod Founds
 pub mod Gets
 pub mod Plain
+pub mod Repeats
 pub mod Showing
 pub mod Stopping
+pub mod Tables
 pub mod Taking
 pub mod Writes
 pub mod Writing

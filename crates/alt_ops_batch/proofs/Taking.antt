@@ -5,7 +5,7 @@ use Rattle.std.specs.List.{filter_map}
 use Rattle.std.proofs.lemmas.List.{map-append}
 use Rattle.std.proofs.lemmas.List.Elements.{All-tail, filter_map-append}
 use Rattle.std.proofs.lemmas.List.Sums.{sum_by-append}
-use Rattle.serde_json.specs.Data.{Members, array, item, put}
+use Rattle.serde_json.specs.Data.{Members, no_members, array, item, put}
 use Rattle.serde_json.specs.View.{view, items_of, items_view, members_view}
 use Rattle.alt_codec.specs.Writing.{json_of_pairs}
 use Rattle.alt_disk.specs.Disk.{DiskState}
@@ -15,11 +15,12 @@ use Rattle.alt_shape.specs.Body.{items_json}
 use Rattle.alt_machine.specs.Ops.BatchGetItem.{Reads as Asked, Shown, found_at, keys_object, size_at, read_of, with_left, with_reads, nothing_read}
 use Rattle.alt_machine.specs.Ops.GetItem.{parts}
 use Rattle.alt_machine.specs.State.{State}
-use Rattle.alt_ops_batch.specs.private.Readings.{AreAllKnown, AreKnown, IsBounded, IsPlainRead, IsPlainTaken, IsTaken, Takes, item_json, key_json, name_left, read_so}
+use Rattle.alt_ops_batch.specs.private.Readings.{AreAllKnown, AreKnown, IsBounded, IsPlainRead, IsPlainTaken, IsTaken, Takes, key_json, name_left, read_so, responses_of}
 use Rattle.alt_ops_batch.specs.declared.reading.Read.{Read}
 use Rattle.alt_ops_batch.specs.declared.reading.Taken.{Taken}
 use Rattle.alt_ops_batch.specs.private.Batches.{HasPlainNames, reads_of}
 use Rattle.alt_ops_batch.specs.declared.asked_reads.TableReads.{TableReads}
+use Rattle.alt_shape.specs.declared.body.TableItems.{TableItems}
 use Rattle.alt_tables.specs.Stands.{KeepsCatalog, Reads, Stands, catalog_of}
 use Rattle.alt_tables.specs.declared.tables.Tables.{Tables}
 use Rattle.alt_tables.proofs.Left.{reads_then}
@@ -115,9 +116,9 @@ parts_so s size k after rest e = by (nat_le BATCH_BYTES size) refl
 -- What is taken so far and what is read of the keys that are left is what is read of all.
 pub record SoFar (s : State) (paths : Shown) (before : ℕ) (keys : List PlacedMember) (taken : Taken)
     (now : ℕ) (rest : List PlacedMember) : Type 0 where
-  pub items : map view taken.items.items
-      ++ map (item_json paths) (filter_map (found_at s) (read_of s now rest))
-      ≡ map (item_json paths) (filter_map (found_at s) (read_of s before keys))
+  pub items : taken.items.items
+      ++ map (parts paths) (filter_map (found_at s) (read_of s now rest))
+      ≡ map (parts paths) (filter_map (found_at s) (read_of s before keys))
   pub left : map view taken.left.items ++ map key_json (drop (length (read_of s now rest)) rest)
       ≡ map key_json (drop (length (read_of s before keys)) keys)
   pub size : now + sum_by (size_at s) (read_of s now rest)
@@ -130,17 +131,17 @@ module _ (s : State) (paths : Shown) (before : ℕ) (keys : List PlacedMember) w
       → SoFar s paths before keys new after rest
   so_more old new size after k rest so takes =
       let shown : List PlacedMember → List _ =
-      λ ks. map (item_json paths) (filter_map (found_at s) ks) in
+      λ ks. map (parts paths) (filter_map (found_at s) ks) in
       let one : List PlacedMember = read_of s size (k ∷ []) in
       let others : List PlacedMember = read_of s after rest in
       let both = parts_so s size k after rest takes.size in
       record {
         items = ap (λ ds. ds ++ shown others) takes.items
-            ∙ append_assoc (map view old.items.items) (shown one) (shown others)
-            ∙ ap (λ ds. map view old.items.items ++ ds)
+            ∙ append_assoc old.items.items (shown one) (shown others)
+            ∙ ap (λ ds. old.items.items ++ ds)
             (sym (ap shown both.read
-            ∙ ap (map (item_json paths)) (filter_map-append (found_at s) one others)
-            ∙ map-append (item_json paths) (filter_map (found_at s) one)
+            ∙ ap (map (parts paths)) (filter_map-append (found_at s) one others)
+            ∙ map-append (parts paths) (filter_map (found_at s) one)
             (filter_map (found_at s) others)))
             ∙ so.items;
         left = ap (λ ds. ds ++ map key_json (drop (length others) rest)) takes.left
@@ -163,7 +164,7 @@ module _ (s : State) (paths : Shown) (before : ℕ) (keys : List PlacedMember) w
 pub all_taken : (s : State) (paths : Shown) (before : ℕ) (keys : List PlacedMember) (taken : Taken)
     (now : ℕ) → SoFar s paths before keys taken now [] → IsTaken s paths before keys taken now
 all_taken s paths before keys taken now so = record {
-  items = sym (append-nil (map view taken.items.items)) ∙ so.items;
+  items = sym (append-nil taken.items.items) ∙ so.items;
   left = sym (append-nil (map view taken.left.items)) ∙ so.left;
   size = sym (nothing now) ∙ so.size;
 }
@@ -207,21 +208,30 @@ left_named r [] ms = refl
 left_named r (k ∷ ks) ms = ap (λ ds. put r.table (keys_object r.body (array ds)) ms)
     (sym (json_of_each (λ (x : PlacedMember). x.item) (k ∷ ks)))
 
+-- one table more is put behind those before
+responses_push : (ms : Members) (ts : List TableItems) (t : TableItems)
+    → responses_of ms (ts ++ t ∷ [])
+    ≡ put t.table (array (items_json t.items.items)) (responses_of ms ts)
+responses_push ms [] t = refl
+responses_push ms (u ∷ ts) t =
+    responses_push (put u.table (array (items_json u.items.items)) ms) ts t
+
 -- what is taken of a table is read of it
-pub table_read : (s : State) (old new : Read) (r : TableReads) (taken : Taken)
+pub table_read : (s : State) (old new : Read) (r : TableReads) (taken : Taken) (t : TableItems)
     → IsTaken s r.projection old.size r.keys.items taken new.size
-    → members_view new.responses.entries
-    ≡ put r.table (array (items_view taken.items.items)) (members_view old.responses.entries)
+    → t.table ≡ r.table → t.items.items ≡ taken.items.items
+    → new.responses.items ≡ old.responses.items ++ t ∷ []
     → members_view new.unprocessed.entries
     ≡ name_left r.table (members_view r.body.now.entries) (map view taken.left.items)
     (members_view old.unprocessed.entries)
     → read_so new ≡ with_reads s (read_so old) (reads_of r)
-table_read s old new r taken is responses unprocessed =
+table_read s old new r taken t is named holds responses unprocessed =
     let read : List PlacedMember = read_of s old.size r.keys.items in
-    let shown = responses
-    ∙ ap (λ ds. put r.table (array ds) (members_view old.responses.entries))
-    (ap items_of is.items
-    ∙ sym (json_of_each (parts r.projection) (filter_map (found_at s) read))) in
+    let before : Members = responses_of no_members old.responses.items in
+    let shown = ap (responses_of no_members) responses
+    ∙ responses_push no_members old.responses.items t
+    ∙ ap (λ name. put name (array (items_json t.items.items)) before) named
+    ∙ ap (λ items. put r.table (array (items_json items)) before) (holds ∙ is.items) in
     let left = unprocessed
     ∙ ap (λ ds. name_left r.table (members_view r.body.now.entries) ds
     (members_view old.unprocessed.entries)) is.left

@@ -17,6 +17,7 @@ use crate::members::{
     Inside, all_are_names, elements_of, has_repeat, is_sized, known, place_all, table_named,
     tables_asked,
 };
+use alt_base::NoMemory;
 use alt_expr::Paths;
 use alt_machine::{BatchMember, Expressions, MOST_KEYS, PlacedMember, Sought};
 use alt_request::{Given, Stop, Texts, expressions, given_at, item_of};
@@ -51,7 +52,7 @@ pub fn reads_asked<'b>(
     known(tables, asked)?;
     let said = said_all(alloc, tables, read)?;
     let there = placed_tables(alloc, tables, said)?;
-    if any_repeat(&there) {
+    if any_repeat(alloc, &there)? {
         return Err(Stop::Refused(Refusal::BAD_BATCH));
     }
     Ok(there)
@@ -272,8 +273,14 @@ fn placed_table<'b>(
 }
 
 /// Whether a key stands twice in one of the tables.
-fn any_repeat(there: &[TableReads<'_>]) -> bool
-    ensures { result ≡ list_any (λ r. machine.has_repeat r.keys.items) there.now }
+fn any_repeat(alloc: Global, there: &[TableReads<'_>]) -> Result<bool, NoMemory>
+    ensures { IfOk result (λ repeat. repeat
+        ≡ list_any (λ r. machine.has_repeat r.keys.items) there.now) }
 {
-    there.iter().any(|reads| has_repeat(&reads.keys))
+    for reads in there {
+        if has_repeat(alloc, &reads.keys)? {
+            return Ok(true);
+        }
+    }
+    Ok(false)
 }

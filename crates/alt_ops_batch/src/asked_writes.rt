@@ -44,7 +44,7 @@ pub fn writes_asked(
     let read = read_all(alloc, requests)?;
     all_known(tables, body)?;
     let there = place_all(alloc, tables, read)?;
-    match members_refusal(tables, &there) {
+    match members_refusal(alloc, tables, &there) {
         Ok(()) => Ok(there),
         Err(stop) => Err(stop),
     }
@@ -189,11 +189,11 @@ fn all_known(tables: &Tables, body: &Map<String, Value>) -> Result<(), Stop>
 }
 
 /// Refuses members of which a key stands twice, or an item that its table can't have.
-fn members_refusal(tables: &Tables, members: &[PlacedMember]) -> Result<(), Stop>
+fn members_refusal(alloc: Global, tables: &Tables, members: &[PlacedMember]) -> Result<(), Stop>
     ensures tested { Tested (refuse_if (machine.has_repeat members.now) bad_batch
         ∷ write.of_members (catalog_of tables.now) members.now) result }
 {
-    if has_repeat(members) {
+    if has_repeat(alloc, members)? {
         return Err(Stop::Refused(Refusal::BAD_BATCH));
     }
     each_taken(tables, members)

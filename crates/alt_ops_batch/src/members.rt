@@ -1,7 +1,7 @@
 //! What both operations on batches do with their members: how many they are, their tables, their places, and that no key stands twice.
 
-ghost use Rattle.std.specs.Prelude.{◌≡◌, Some, None, length, codes, option_map, option_and_then};
-ghost use Rattle.std.specs.List.{list_any, list_all};
+ghost use Rattle.std.specs.Prelude.{◌≡◌, Some, None, IfOk, length, codes, option_map, option_and_then};
+ghost use Rattle.std.specs.List.{list_all};
 ghost use Rattle.std.specs.FinMap as map;
 ghost use Rattle.serde_json.specs.Find.{as_object};
 ghost use Rattle.serde_json.specs.View.{view, items_view, members_view};
@@ -14,6 +14,7 @@ ghost use Rattle.alt_shape.specs.Refusals.{not_found};
 ghost use Rattle.alt_shape.specs.Shape.{given};
 ghost use Rattle.alt_tables.specs.Stands.{catalog_of};
 
+use alt_base::NoMemory;
 use alt_machine::{BatchMember, PlacedMember};
 use alt_request::{Stop, fitting_place};
 use alt_schema::{TableSchema, is_name};
@@ -21,6 +22,7 @@ use alt_shape::{Refusal, array_at, object_at};
 use alt_tables::Tables;
 use serde_json::{Map, Value};
 use std::alloc::Global;
+use std::collections::HashSet;
 
 /// What the value of a table in a batch holds: an array of writes, or an object with the keys to read.
 #[derive(Clone, Copy)]
@@ -152,28 +154,15 @@ pub(crate) fn table_named<'t>(tables: &'t Tables, name: &str) -> Result<&'t Tabl
 }
 
 /// Whether a key stands twice.
-#[tactic(auto, using(crate::proofs::Founds::has_repeat_from))]
-pub(crate) fn has_repeat(members: &[PlacedMember]) -> bool
-    ensures { result ≡ machine.has_repeat members.now }
+#[tactic(auto, using(crate::proofs::Repeats::repeats_start))]
+pub(crate) fn has_repeat(alloc: Global, members: &[PlacedMember]) -> Result<bool, NoMemory>
+    ensures { IfOk result (λ repeat. repeat ≡ machine.has_repeat members.now) }
 {
-    for (i, member) in members.iter().enumerate() {
-        if is_among(&members[i + 1..], member) {
-            return true;
+    let mut seen = HashSet::new(alloc);
+    for member in members {
+        if !seen.insert((member.table.as_str(), member.place.as_slice()))? {
+            return Ok(true);
         }
     }
-    false
-}
-
-fn is_among(members: &[PlacedMember], member: &PlacedMember) -> bool
-    ensures { result ≡ list_any (machine.is_same_key member.now) members.now }
-{
-    members.iter().any(|other| is_same_key(member, other))
-}
-
-/// Whether two members have one key of one table.
-fn is_same_key(member: &PlacedMember, other: &PlacedMember) -> bool
-    ensures { result ≡ machine.is_same_key member.now other.now }
-{
-    member.table.as_str() == other.table.as_str()
-        && member.place.as_slice() == other.place.as_slice()
+    Ok(false)
 }

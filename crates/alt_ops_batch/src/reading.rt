@@ -2,8 +2,6 @@
 
 ghost use Rattle.std.specs.Prelude.{◌≡◌, ◌↔◌, ◌+◌, ◌<◌, ◌≤◌, ◌∷◌, [], true, false, Some, All, IfOk, IfErr, OnOk, fold, map as each};
 ghost use Rattle.std.specs.FinMap as map;
-ghost use Rattle.serde_json.specs.View.{items_view};
-ghost use Rattle.serde_json.specs.Written.{items_have_float};
 ghost use Rattle.alt_base.specs.Counts.{Rose};
 ghost use Rattle.alt_machine.specs.Ops.BatchGetItem as machine;
 ghost use Rattle.alt_machine.specs.State.{State};
@@ -14,13 +12,14 @@ ghost use Rattle.alt_tables.specs.Stands.{AreReady, KeepsCatalog, Reads, Stands,
 ghost use Rattle.alt_value.specs.Size.{item_size};
 
 use crate::asked_reads::TableReads;
-use crate::replies::{put_items, put_left, shown_parts};
+use crate::replies::{put_left, shown_parts};
 use alt_codec::json_of_item;
 use alt_disk::Disk;
 use alt_expr::Paths;
 use alt_machine::{BATCH_BYTES, LARGEST_ITEM, PlacedMember};
 use alt_request::Stop;
-use alt_tables::Tables;
+use alt_shape::TableItems;
+use alt_tables::{Found, Tables};
 use alt_value::{Item, item_size_within};
 use serde_json::{Map, Value};
 use std::alloc::Global;
@@ -29,14 +28,14 @@ use std::alloc::Global;
 #[derive(Drop)]
 pub(crate) struct Read {
     pub(crate) size: u64,
-    pub(crate) responses: Map<String, Value>,
+    pub(crate) responses: Vec<TableItems>,
     pub(crate) unprocessed: Map<String, Value>,
 }
 
 /// What is read of the keys of one table: the items as they are shown, and the keys that are left.
 #[derive(Drop)]
 struct Taken {
-    items: Vec<Value>,
+    items: Vec<Item>,
     left: Vec<Value>,
 }
 
@@ -64,7 +63,7 @@ pub(crate) fn read_all<D: Disk>(
 {
     let mut read = Read {
         size: 0,
-        responses: Map::new(alloc),
+        responses: Vec::new(alloc),
         unprocessed: Map::new(alloc),
     };
     for reads in asked {
@@ -108,9 +107,8 @@ fn read_table<D: Disk>(
     let taken = take(alloc, tables, disk, keys, &projection, &mut read.size);
     drop(projection);
     let Taken { items, left } = taken?;
-    let name = table.as_str();
-    put_items(alloc, &mut read.responses, name, items)?;
-    put_left(alloc, &mut read.unprocessed, name, body, left)?;
+    put_left(alloc, &mut read.unprocessed, table.as_str(), body, left)?;
+    read.responses.push(TableItems { table, items })?;
     Ok(())
 }
 
@@ -188,19 +186,17 @@ fn read_key<D: Disk>(
     disk: &mut D,
     key: PlacedMember,
     projection: &Option<Paths>,
-    items: &mut Vec<Value>,
+    items: &mut Vec<Item>,
     size: &mut u64,
 ) -> Result<(), Stop>
     requires ready { AreReady (D.state disk.old) tables.old }
     requires there { map.contains_key (catalog_of tables.old) key.table ≡ true }
-    requires plain { items_have_float (items_view items.old.items) ≡ false }
     requires below { size.old < BATCH_BYTES }
     ensures shown { (s : State) → Stands (D.state disk.old) tables.old s
         → OnOk result (ShowsMore projection.now (machine.found_at s key) items.old.items
         items.new.items) }
     ensures size { (s : State) → Stands (D.state disk.old) tables.old s
         → OnOk result (size.new ≡ size.old + machine.size_at s key) }
-    ensures plain { OnOk result (items_have_float (items_view items.new.items) ≡ false) }
     ensures bounded { OnOk result (IsBounded size.new) }
     ensures stays { (s : State) → Stands (D.state disk.old) tables.old s ↔ Stands
         (D.state disk.new) tables.new s }
@@ -212,7 +208,8 @@ fn read_key<D: Disk>(
 {
     let PlacedMember { table, place, .. } = key;
     let found = tables.find(disk, table.as_str(), place)?;
-    match &found.item {
+    let Found { item, .. } = found;
+    match item {
         Some(item) => show(alloc, projection, item, items, size),
         None => Ok(()),
     }
@@ -222,22 +219,21 @@ fn read_key<D: Disk>(
 fn show(
     alloc: Global,
     projection: &Option<Paths>,
-    item: &Item,
-    items: &mut Vec<Value>,
+    item: Item,
+    items: &mut Vec<Item>,
     size: &mut u64,
 ) -> Result<(), Stop>
-    requires plain { items_have_float (items_view items.old.items) ≡ false }
     requires below { size.old < BATCH_BYTES }
-    ensures shown { OnOk result (ShowsMore projection.now (Some item.now) items.old.items
+    ensures shown { OnOk result (ShowsMore projection.now (Some item) items.old.items
         items.new.items) }
-    ensures size { item_size item.now ≤ LARGEST_ITEM
-        → OnOk result (size.new ≡ size.old + item_size item.now) }
-    ensures plain { OnOk result (items_have_float (items_view items.new.items) ≡ false) }
+    ensures size { item_size item ≤ LARGEST_ITEM
+        → OnOk result (size.new ≡ size.old + item_size item) }
     ensures bounded { OnOk result (IsBounded size.new) }
     ensures cause { IfErr result IsMemory }
 {
+    let more = size_of(&item);
     items.push(shown_parts(alloc, projection, item)?)?;
-    *size += size_of(item);
+    *size += more;
     Ok(())
 }
 

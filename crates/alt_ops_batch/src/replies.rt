@@ -1,20 +1,19 @@
 //! What a BatchGetItem answers: the items, and the keys that it didn't read, as they may be asked for again.
 
-ghost use Rattle.std.specs.Prelude.{◌≡◌, false, IfOk, IfErr, OnOk, codes, map, option_and_then, option_map};
-ghost use Rattle.serde_json.specs.Data.{array, boolean, object, put, string};
+ghost use Rattle.std.specs.Prelude.{◌≡◌, [], true, false, IfOk, IfErr, OnOk, codes, map, option_and_then, option_map};
+ghost use Rattle.serde_json.specs.Data.{array, boolean, no_members, object, put, string};
 ghost use Rattle.serde_json.specs.Find.{as_bool, as_str};
 ghost use Rattle.serde_json.specs.View.{view, items_view, members_view};
 ghost use Rattle.serde_json.specs.Written.{has_float, items_have_float, members_have_float};
-ghost use Rattle.alt_codec.specs.Writing.{json_of_pairs};
 ghost use Rattle.alt_machine.specs.Expressions.{names_member};
 ghost use Rattle.alt_machine.specs.Ops.BatchGetItem as machine;
 ghost use Rattle.alt_machine.specs.Ops.BatchGetItem.{attributes_member};
 ghost use Rattle.alt_machine.specs.Ops.GetItem.{parts};
 ghost use Rattle.alt_ops_batch.specs.private.Names.{ArePlain};
-ghost use Rattle.alt_ops_batch.specs.private.Readings.{IsPlainRead, name_left, read_so};
+ghost use Rattle.alt_ops_batch.specs.private.Readings.{IsPlainRead, IsWhole, name_left, read_so, reply_of, responses_of, rises};
 ghost use Rattle.alt_request.specs.Steps.{IsMemory};
 ghost use Rattle.alt_schema.specs.Json.{put_if};
-ghost use Rattle.alt_shape.specs.Body.{body_json};
+ghost use Rattle.alt_shape.specs.Body.{body_json, items_json, tables_json};
 ghost use Rattle.alt_shape.specs.Refusals.{answer_of};
 ghost use Rattle.alt_shape.specs.Shape.{given};
 
@@ -24,12 +23,12 @@ use alt_codec::json_of_item;
 use alt_expr::Paths;
 use alt_projection::project;
 use alt_request::Stop;
-use alt_shape::{Reply, given, text_at, truth_at};
+use alt_shape::{Body, Member, Part, Reply, TableItems, given, text_at, truth_at};
 use alt_value::Item;
 use serde_json::{Map, Value};
 use std::alloc::Global;
 
-/// The reply.
+/// The reply. Where no keys are left, it is written without a tree.
 pub(crate) fn read_reply(alloc: Global, read: Read) -> Result<Reply, Stop>
     requires plain { IsPlainRead read }
     ensures reply { IfOk result (λ reply. answer_of reply ≡ machine.read_answer (read_so read)) }
@@ -41,6 +40,72 @@ pub(crate) fn read_reply(alloc: Global, read: Read) -> Result<Reply, Stop>
         unprocessed,
         ..
     } = read;
+    if is_whole(&responses, &unprocessed) {
+        return Ok(whole_reply(alloc, responses)?);
+    }
+    Ok(tree_reply(alloc, &responses, unprocessed)?)
+}
+
+/// Whether no keys are left, and the tables may stand in their order.
+fn is_whole(responses: &[TableItems], unprocessed: &Map<String, Value>) -> bool
+    ensures whole { result ≡ true → IsWhole responses.now (members_view unprocessed.now.entries) }
+{
+    if !unprocessed.is_empty() {
+        return false;
+    }
+    rise(responses)
+}
+
+/// Whether the names of tables rise. They do in the order of a request.
+#[tactic(auto, using(crate::proofs::Tables::rises_from))]
+fn rise(tables: &[TableItems]) -> bool
+    ensures { result ≡ rises [] tables.now }
+{
+    let mut last = "";
+    for table in tables {
+        let name = table.table.as_str();
+        if !last.cmp(name).is_lt() {
+            return false;
+        }
+        last = name;
+    }
+    true
+}
+
+/// The reply where no keys are left.
+#[tactic(auto, using(alt_shape::proofs::Plain::members_plain))]
+fn whole_reply(alloc: Global, responses: Vec<TableItems>) -> Result<Reply, NoMemory>
+    ensures reply { IfOk result (λ reply. answer_of reply
+        ≡ reply_of (tables_json responses.items) no_members) }
+    ensures plain { IfOk result (λ reply. has_float (body_json reply.body) ≡ false) }
+{
+    let mut members = Vec::with_capacity(alloc, 2)?;
+    members.push(Member {
+        name: "Responses",
+        value: Part::Tables(responses),
+    })?;
+    members.push(Member {
+        name: "UnprocessedKeys",
+        value: Part::Tables(Vec::new(alloc)),
+    })?;
+    Ok(Reply {
+        status: 200,
+        body: Body::Members(members),
+    })
+}
+
+/// The reply as a tree.
+fn tree_reply(
+    alloc: Global,
+    responses: &[TableItems],
+    unprocessed: Map<String, Value>,
+) -> Result<Reply, NoMemory>
+    requires plain { members_have_float (members_view unprocessed.entries) ≡ false }
+    ensures reply { IfOk result (λ reply. answer_of reply
+        ≡ reply_of (responses_of no_members responses.now) (members_view unprocessed.entries)) }
+    ensures plain { IfOk result (λ reply. has_float (body_json reply.body) ≡ false) }
+{
+    let responses = tables_tree(alloc, responses)?;
     let mut members = Map::new(alloc);
     serde_json::put(&mut members, alloc, "Responses", Value::Object(responses))?;
     serde_json::put(
@@ -52,36 +117,56 @@ pub(crate) fn read_reply(alloc: Global, read: Read) -> Result<Reply, Stop>
     Ok(Reply::answered(members))
 }
 
+/// Tables with their items.
+#[tactic(auto, using(crate::proofs::Tables::responses_from, crate::proofs::Tables::all_plain))]
+fn tables_tree(alloc: Global, tables: &[TableItems]) -> Result<Map<String, Value>, NoMemory>
+    ensures tables { IfOk result (λ m. members_view m.entries
+        ≡ responses_of no_members tables.now) }
+    ensures plain { IfOk result (λ m. members_have_float (members_view m.entries) ≡ false) }
+{
+    let mut members = Map::new(alloc);
+    for table in tables {
+        put_table(alloc, &mut members, table)?;
+    }
+    Ok(members)
+}
+
+fn put_table(
+    alloc: Global,
+    members: &mut Map<String, Value>,
+    table: &TableItems,
+) -> Result<(), NoMemory>
+    ensures put { OnOk result (members_view members.new.entries
+        ≡ put table.now.table (array (items_json table.now.items.items))
+        (members_view members.old.entries)) }
+{
+    let items = items_tree(alloc, table.items.as_slice())?;
+    serde_json::put(members, alloc, table.table.as_str(), Value::Array(items))?;
+    Ok(())
+}
+
+fn items_tree(alloc: Global, items: &[Item]) -> Result<Vec<Value>, NoMemory>
+    ensures { IfOk result (λ v. items_view v.items ≡ items_json items.now) }
+{
+    let mut values = Vec::with_capacity(alloc, items.len())?;
+    for item in items {
+        values.push(json_of_item(alloc, item)?)?;
+    }
+    Ok(values)
+}
+
 /// What paths choose of an item, or all of it where there are no paths.
 pub(crate) fn shown_parts(
     alloc: Global,
     paths: &Option<Paths>,
-    item: &Item,
-) -> Result<Value, NoMemory>
-    ensures json { IfOk result (λ v. view v ≡ json_of_pairs (parts paths.now item.now)) }
-    ensures plain { IfOk result (λ v. has_float (view v) ≡ false) }
+    item: Item,
+) -> Result<Item, NoMemory>
+    ensures parts { IfOk result (λ shown. shown ≡ parts paths.now item) }
 {
     match paths {
-        Some(paths) => json_of_item(alloc, &project(alloc, paths, item)?),
-        None => json_of_item(alloc, item),
+        Some(paths) => project(alloc, paths, &item),
+        None => Ok(item),
     }
-}
-
-/// Names a table with its items as they are shown.
-pub(crate) fn put_items(
-    alloc: Global,
-    responses: &mut Map<String, Value>,
-    name: &str,
-    items: Vec<Value>,
-) -> Result<(), NoMemory>
-    requires items { items_have_float (items_view items.items) ≡ false }
-    requires before { members_have_float (members_view responses.old.entries) ≡ false }
-    ensures put { OnOk result (members_view responses.new.entries ≡ put name.now
-        (array (items_view items.items)) (members_view responses.old.entries)) }
-    ensures plain { OnOk result (members_have_float (members_view responses.new.entries) ≡ false) }
-{
-    serde_json::put(responses, alloc, name, Value::Array(items))?;
-    Ok(())
 }
 
 /// Names a table with the keys that are left of it, where there are any.

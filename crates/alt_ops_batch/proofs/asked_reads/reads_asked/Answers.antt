@@ -8,14 +8,14 @@ use Rattle.alt_ops_batch.proofs.AskedReads.{reads_told}
 use Rattle.alt_tables.specs.Stands.{catalog_of}
 use Rattle.alt_ops_batch.proofs.asked_reads.reads_asked.Goals as goal
 
-pub returns-then-any_repeat-clause-asked : goal.returns-then-any_repeat-clause-asked
-returns-then-any_repeat-clause-asked c = (
+pub returns-then-branch-clause-asked : goal.returns-then-branch-clause-asked
+returns-then-branch-clause-asked c = (
   reads_told (catalog_of c.args.tables.now) (members_view c.args.body.now.entries)
       (members_view c.in_ok-asked.asked.now.entries) c.in_ok-asked.ensures.taken
       (map keys_read c.in_ok-read.read.items) c.in_ok-read.ensures.read c.in_ok-known.ensures.tested
       (map keys_said c.in_ok-said.said.items) c.in_ok-said.ensures.said c.in_ok-there.there.items
       c.in_ok-there.ensures.placed true
-      (sym c.if-any_repeat.true ∙ c.any_repeat.ensures
+      (sym c.if-branch.true ∙ c.in_ok-any_repeat.ensures
       ∙ ap (list_any (λ r. has_repeat r.keys.items)) c.deref.ensures.value),
   omega arith,
 )
@@ -27,5 +27,5 @@ returns-clause-asked c =
     (map keys_read c.in_ok-read.read.items) c.in_ok-read.ensures.read c.in_ok-known.ensures.tested
     (map keys_said c.in_ok-said.said.items) c.in_ok-said.ensures.said c.in_ok-there.there.items
     c.in_ok-there.ensures.placed false
-    (sym c.if-any_repeat.false ∙ c.any_repeat.ensures
+    (sym c.if-branch.false ∙ c.in_ok-any_repeat.ensures
     ∙ ap (list_any (λ r. has_repeat r.keys.items)) c.deref.ensures.value)

@@ -1,8 +1,8 @@
-"""Lines of puts in many spellings, as pairs that mean the same: spellings.py SEED COUNT PLAIN OTHER.
+"""Lines of puts and of batches of writes in many spellings, as pairs that mean the same: spellings.py SEED COUNT PLAIN OTHER.
 
-A put is read straight from the text of its body where that is spelled plainly, and as a JSON tree where it isn't. PLAIN gets puts and gets, and
-OTHER the same, but that one value of each item has a member more that is null. Such a member counts as absent, and takes the put
-the long way. So a program has to say the same of both files.
+A put and a batch are read straight from the text of their bodies where that is spelled plainly, and as JSON trees where it isn't. PLAIN gets
+puts, batches and gets, and OTHER the same, but that one value of each item has a member more that is null. Such a member counts as absent, and takes
+the put or the batch the long way. So a program has to say the same of both files.
 """
 import json
 import random
@@ -101,12 +101,37 @@ def put():
     return ['PutItem ' + object_of([members[i] for i in order]) for members in bodies]
 
 
+def write():
+    """A write of a batch, and the same with a member more that is null in its key's value."""
+    key = spelled(f'k{random_.randint(1, 9)}')
+    puts = chance() < 0.7
+    attributes = [(pick(NAMES[:-1]), value(0) if chance() < 0.1 else '{"S":"plain"}') for _ in range(random_.randint(0, 4))] if puts else []
+    more = [('Zz', pick(['1', '{}', 'null']))] * (chance() < 0.02)
+    request, name = pick([('PutRequest', 'Item'), ('DeleteRequest', 'Key')]) if chance() < 0.01 else ('PutRequest', 'Item') if puts else ('DeleteRequest', 'Key')
+    both = []
+    for of_key in (f'{{"S":{key}}}', f'{{"S":{key},"N":null}}'):
+        both.append(object_of([(request, object_of([(name, object_of([*attributes, ('pk', of_key)])), *more]))]))
+    return both
+
+
+def batch():
+    """A batch of writes, and the same with a member more that is null in each of its keys."""
+    tables = pick([['Tab'], ['Tab', 'Uab'], ['Tab', 'Uab'], ['Uab', 'Tab'], ['Tab', 'Tab'], ['Uab', 'none']])
+    writes = [[write() for _ in range(random_.randint(0 if chance() < 0.1 else 1, 26 if chance() < 0.02 else 3))] for _ in tables]
+    more = [('ReturnConsumedCapacity', pick(['"NONE"', '1', '{"a":[null]}']))] * (chance() < 0.1)
+    bodies = []
+    for side in (0, 1):
+        asked = [(table, array_of([write[side] for write in of_table])) for table, of_table in zip(tables, writes)]
+        bodies.append([*more, ('RequestItems', object_of(asked))])
+    return ['BatchWriteItem ' + object_of(members) for members in bodies]
+
+
 with open(sys.argv[3], 'w') as plain, open(sys.argv[4], 'w') as other:
-    both = ['CreateTable {"TableName":"Tab","KeySchema":[{"AttributeName":"pk","KeyType":"HASH"}],"AttributeDefinitions":[{"AttributeName":"pk","AttributeType":"S"}]}']
-    both = [both * 2]
+    create = 'CreateTable {"TableName":"%s","KeySchema":[{"AttributeName":"pk","KeyType":"HASH"}],"AttributeDefinitions":[{"AttributeName":"pk","AttributeType":"S"}]}'
+    both = [[create % 'Tab'] * 2, [create % 'Uab'] * 2]
     for _ in range(int(sys.argv[2])):
-        both.append(put())
+        both.append(batch() if chance() < 0.3 else put())
         if chance() < 0.2:
-            both.append(['GetItem {"TableName":"Tab","Key":{"pk":{"S":"%s"}}}' % pick(['k1', 'k2', 'k3'])] * 2)
+            both.append(['GetItem {"TableName":"%s","Key":{"pk":{"S":"%s"}}}' % (pick(['Tab', 'Uab']), pick(['k1', 'k2', 'k3']))] * 2)
     plain.writelines(line + '\n' for line, _ in both)
     other.writelines(line + '\n' for _, line in both)

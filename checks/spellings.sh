@@ -1,6 +1,6 @@
 #!/usr/bin/env bash
-# Puts in many spellings: those that are read straight from the text of their bodies have the replies, and leave the items, of the same
-# puts read as JSON trees (checks/spellings.py makes them).
+# Puts and batches of writes in many spellings: those that are read straight from the text of their bodies have the replies, and leave the items, of
+# the same read as JSON trees (checks/spellings.py makes them).
 set -u
 cd "$(dirname "$0")/.."
 work=$(mktemp -d)

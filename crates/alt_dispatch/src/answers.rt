@@ -26,8 +26,9 @@ use alt_backfill::update_table;
 use alt_disk::Disk;
 use alt_machine::Operation;
 use alt_members::{heeded, read_heeded};
+use alt_ops_batch::batch_write_item_ahead;
 use alt_ops_item::{delete_item, get_item, put_item, put_item_ahead, update_item};
-use alt_readahead::{ReadAhead, read_ahead};
+use alt_readahead::{ReadAhead, batch_ahead, read_ahead};
 use alt_request::Stop;
 use alt_shape::{Refusal, Reply, refuse};
 use alt_streams::{describe_stream, get_records, get_shard_iterator, list_streams};
@@ -162,6 +163,7 @@ fn respond<D: Disk>(
     };
     match operation {
         Operation::PutItem => respond_to_put(alloc, tables, disk, body, moment),
+        Operation::BatchWriteItem => respond_to_writes(alloc, tables, disk, body, moment),
         _ => respond_to(alloc, tables, disk, operation, body, moment),
     }
 }
@@ -186,6 +188,28 @@ fn respond_to_put<D: Disk>(
             put_item_ahead(alloc, tables, disk, &members, item, moment)
         }
         Ok(None) => respond_to(alloc, tables, disk, Operation::PutItem, body, moment),
+        Err(_) => Err(Stop::Fault(TableFault::NoMemory)),
+    }
+}
+
+/// A batch of writes, which are read straight from the text of its body where that can be.
+fn respond_to_writes<D: Disk>(
+    alloc: Global,
+    tables: &mut Tables,
+    disk: &mut D,
+    body: &[u8],
+    moment: u64,
+) -> Result<Reply, Stop>
+    requires ready { AreReady (D.state disk.old) tables.old }
+    ensures carried { Carries (bounds_of tables.old).file (λ s. with_body s Operation.BatchWriteItem moment (body_of body.now))
+        (Stands (D.state disk.old) tables.old) (Stands (D.state disk.new) tables.new) result }
+    ensures limits { bounds_of tables.new ≡ bounds_of tables.old }
+    ensures moves { Moves (λ s. with_body s Operation.BatchWriteItem moment (body_of body.now))
+        (Stands (D.state disk.old) tables.old) (D.state disk.old) (D.state disk.new) result }
+{
+    match batch_ahead(alloc, body) {
+        Ok(Some(asked)) => batch_write_item_ahead(alloc, tables, disk, asked, moment),
+        Ok(None) => respond_to(alloc, tables, disk, Operation::BatchWriteItem, body, moment),
         Err(_) => Err(Stop::Fault(TableFault::NoMemory)),
     }
 }

@@ -1,14 +1,14 @@
 -- Steps over all members of a batch, one after another; and its members, table by table.
-use Rattle.std.proofs.Common.{◌≡◌, ◌<◌, refl, sym, ap, ◌∙◌, ℕ, zero, suc, ◌+◌, ◌&&◌, ◌||◌, Bool, true, false, nat_le, nat_lt, List, [], ◌∷◌, ◌++◌, map, length, drop, get_or, append_assoc, append-nil, Option, Some, None, Result, Ok, Err, add-one, arith}
+use Rattle.std.proofs.Common.{◌≡◌, ◌<◌, refl, sym, ap, ◌∙◌, ℕ, zero, suc, ◌+◌, ◌&&◌, Bool, true, false, nat_le, nat_lt, List, [], ◌∷◌, ◌++◌, map, length, drop, get_or, append_assoc, append-nil, Option, Some, None, Result, Ok, Err, add-one, arith}
 use Rattle.std.specs.FinMap as finite
-use Rattle.std.specs.List.{list_any, list_all}
+use Rattle.std.specs.List.{list_all}
 use Rattle.std.proofs.lemmas.List.{length-append, length-map, map_push}
 use Rattle.serde_json.specs.Data.{Data}
 use Rattle.serde_json.specs.View.{view, items_view}
 use Rattle.serde_json.specs.declared.value.Value.{Value}
 use Rattle.alt_machine.specs.declared.BatchMember.{BatchMember}
 use Rattle.alt_machine.specs.declared.PlacedMember.{PlacedMember}
-use Rattle.alt_machine.specs.Batches.{elements, of_each, each_found, is_sized, at_place, placed_in, placed, is_same_key, has_repeat}
+use Rattle.alt_machine.specs.Batches.{elements, of_each, each_found, is_sized, at_place, placed_in, placed}
 use Rattle.alt_machine.specs.Ops.BatchWriteItem.{is_one, of_member, of_members}
 use Rattle.alt_machine.specs.Refusals.{first_answer, or_refused, unless_answer, ◌>>=◌}
 use Rattle.alt_machine.specs.State.{Texts}
@@ -130,22 +130,6 @@ too_many most count h = by (nat_le 1 count) (nat_le count most) (above most coun
 pub sized_by_room : (most count room : ℕ) → count + room ≡ most
     → is_sized most count ≡ nat_lt room most
 sized_by_room most count room e = grind (arith, e)
-
--- ---- keys that stand twice
-
--- from a place on a key stands twice where the one there stands again, or where one does behind it
-has_repeat_from_suc : (ms : List PlacedMember) (i : ℕ) (m : PlacedMember) → i < length ms
-    → has_repeat (drop i ms)
-    ≡ (list_any (is_same_key (get_or ms i m)) (drop (suc i) ms) || has_repeat (drop (suc i) ms))
-has_repeat_from_suc [] i m h = absurd (omega arith)
-has_repeat_from_suc (x ∷ xs) zero m h = refl
-has_repeat_from_suc (x ∷ xs) (suc i) m h = has_repeat_from_suc xs i m (omega arith)
-
--- the same, with the next place counted by + 1
-pub has_repeat_from : (ms : List PlacedMember) (i : ℕ) (m : PlacedMember) → i < length ms
-    → has_repeat (drop i ms)
-    ≡ (list_any (is_same_key (get_or ms i m)) (drop (i + 1) ms) || has_repeat (drop (i + 1) ms))
-has_repeat_from ms i m h = rw add-one (has_repeat_from_suc ms i m h)
 
 -- ---- tests of each member
 

@@ -1,4 +1,5 @@
 mod KeysAsked
+pub mod Ahead
 pub mod Asked
 pub mod AskedReads
 pub mod Finding

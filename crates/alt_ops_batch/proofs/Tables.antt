@@ -1,16 +1,16 @@
 -- Tables with their items, put one after another: where their names rise, they stand in that order.
-use Rattle.std.proofs.Common.{◌≡◌, ◌<◌, refl, sym, ap, ◌∙◌, subst, ℕ, zero, suc, ◌+◌, ◌&&◌, ◌||◌, Bool, true, false, List, [], ◌∷◌, map, length, drop, get_or, Ordering, Less, Equal, Greater, nat_cmp, add-one, arith}
+use Rattle.std.proofs.Common.{◌≡◌, ◌<◌, refl, sym, ap, ◌∙◌, ℕ, zero, suc, ◌+◌, ◌&&◌, Bool, true, false, List, [], ◌∷◌, length, drop, get_or, Ordering, Less, Equal, Greater, nat_cmp, add-one, arith}
 use Rattle.std.specs.Prelude.{String}
 use Rattle.std.specs.declared.alloc.Global.{Global}
 use Rattle.std.specs.Cmp.Lexicographic.{slice_cmp}
-use Rattle.std.specs.Ordering.{is_lt, match_ordering, ordering_reverse}
-use Rattle.std.proofs.lemmas.Cmp.{nat_list_cmp_total}
-use Rattle.serde_json.specs.Data.{Data, array, item, Members, no_members, member, put}
+use Rattle.std.specs.Ordering.{is_lt}
+use Rattle.serde_json.specs.Data.{Data, array, item, Members, no_members, put}
 use Rattle.serde_json.specs.View.{members_view}
 use Rattle.serde_json.specs.declared.value.Value.{Value}
 use Rattle.serde_json.specs.Written.{members_have_float}
 use Rattle.alt_codec.specs.Writing.{json_of_pairs}
 use Rattle.alt_ops_batch.specs.private.Readings.{responses_of, rises}
+use Rattle.alt_readahead.proofs.Behind.{IsBehind, behind_more, less_then, put_behind, strung, strung-no_members, strung-one}
 use Rattle.alt_schema.specs.Json.{items_by}
 use Rattle.alt_shape.proofs.Plain.{items_plain, members_have_float-put}
 use Rattle.alt_shape.specs.Body.{items_json, tables_json}
@@ -74,47 +74,6 @@ pub rises_from : (name : List ℕ) (ts : List TableItems) (i : ℕ) (t : TableIt
     && rises (get_or ts i t).table (drop (i + 1) ts))
 rises_from name ts i t h = rw add-one (rises_from_suc name ts i t h)
 
--- members behind others
-abbrev joined : Members → Members → Members
-joined no_members ns = ns
-joined (member l d ms) ns = member l d (joined ms ns)
-
-joined-nil : (ms : Members) → joined ms no_members ≡ ms
-joined-nil no_members = refl
-joined-nil (member l d ms) = ap (λ ns. member l d ns) (joined-nil ms)
-
-joined-one : (k : List ℕ) (d : Data) (ms ns : Members)
-    → joined (joined ms (member k d no_members)) ns ≡ joined ms (member k d ns)
-joined-one k d no_members ns = refl
-joined-one k d (member l e ms) ns = ap (λ xs. member l e xs) (joined-one k d ms ns)
-
--- A name is behind all of these.
-abbrev IsBehind : List ℕ → Members → Type 0
-IsBehind k no_members = Unit {0}
-IsBehind k (member l d ms) = (slice_cmp nat_cmp k l ≡ Greater) × IsBehind k ms
-
-behind_one : (k l : List ℕ) (d : Data) (ms : Members) → IsBehind k ms
-    → slice_cmp nat_cmp k l ≡ Greater → IsBehind k (joined ms (member l d no_members))
-behind_one k l d no_members h e = (e, tt)
-behind_one k l d (member m x ms) h e = (h.0, behind_one k l d ms h.1 e)
-
--- so it is put at the end
-put_behind : (k : List ℕ) (d : Data) (ms : Members) → IsBehind k ms
-    → put k d ms ≡ joined ms (member k d no_members)
-put_behind k d no_members h = refl
-put_behind k d (member l e ms) h =
-    ap (λ o. match_ordering o (member k d (member l e ms)) (member l d ms)
-    (member l e (put k d ms))) h.0
-    ∙ ap (λ ns. member l e ns) (put_behind k d ms h.1)
-
--- the order of names
-less_then : (x y z : List ℕ) → slice_cmp nat_cmp x y ≡ Less → slice_cmp nat_cmp y z ≡ Less
-    → slice_cmp nat_cmp x z ≡ Less
-less_then x y z = nat_list_cmp_total.trans x y z
-
-greater_of : (x y : List ℕ) → slice_cmp nat_cmp x y ≡ Less → slice_cmp nat_cmp y x ≡ Greater
-greater_of x y e = nat_list_cmp_total.antisymm y x ∙ ap ordering_reverse e
-
 -- what a test of two names says
 both_true : (o : Ordering) (b : Bool) → (is_lt o && b) ≡ true → (o ≡ Less) × (b ≡ true)
 both_true Less b e = (refl, e)
@@ -124,18 +83,16 @@ both_true Greater b e = absurd (cc)
 -- tables whose names rise stand behind those before in their order
 rising : (name : List ℕ) (ms : Members) (ts : List TableItems)
     → ((k : List ℕ) → slice_cmp nat_cmp name k ≡ Less → IsBehind k ms) → rises name ts ≡ true
-    → responses_of ms ts ≡ joined ms (tables_json ts)
-rising name ms [] behind e = sym (joined-nil ms)
+    → responses_of ms ts ≡ strung ms (tables_json ts)
+rising name ms [] behind e = sym (strung-no_members ms)
 rising name ms (t ∷ ts) behind e =
     let tested = both_true (slice_cmp nat_cmp name t.table) (rises t.table ts) e in
-    let is : put t.table (shown_of t) ms ≡ joined ms (member t.table (shown_of t) no_members) =
-    put_behind t.table (shown_of t) ms (behind t.table tested.0) in
+    let at = behind t.table tested.0 in
     rising t.table (put t.table (shown_of t) ms) ts
-    (λ k less. subst (IsBehind k) (sym is) (behind_one k t.table (shown_of t) ms
-    (behind k (less_then name t.table k tested.0 less)) (greater_of t.table k less)))
-    tested.1
-    ∙ ap (λ ns. joined ns (tables_json ts)) is
-    ∙ joined-one t.table (shown_of t) ms (tables_json ts)
+    (λ k less. behind_more t.table (shown_of t) ms k
+    (behind k (less_then name t.table k tested.0 less)) less at) tested.1
+    ∙ ap (λ ns. strung ns (tables_json ts)) (put_behind t.table (shown_of t) ms at)
+    ∙ strung-one t.table (shown_of t) ms (tables_json ts)
 
 -- so they are as they stand
 pub all_rising : (ts : List TableItems) → rises [] ts ≡ true

@@ -6,7 +6,7 @@ use Rattle.std.proofs.lemmas.List.{map-append}
 use Rattle.std.proofs.lemmas.List.Elements.{All-tail, filter_map-append}
 use Rattle.std.proofs.lemmas.List.Sums.{sum_by-append}
 use Rattle.serde_json.specs.Data.{Members, no_members, array, item, put}
-use Rattle.serde_json.specs.View.{view, items_of, items_view, members_view}
+use Rattle.serde_json.specs.View.{view, items_of, members_view}
 use Rattle.alt_codec.specs.Writing.{json_of_pairs}
 use Rattle.alt_disk.specs.Disk.{DiskState}
 use Rattle.alt_machine.specs.declared.PlacedMember.{PlacedMember}

@@ -189,7 +189,11 @@ fn all_known(tables: &Tables, body: &Map<String, Value>) -> Result<(), Stop>
 }
 
 /// Refuses members of which a key stands twice, or an item that its table can't have.
-fn members_refusal(alloc: Global, tables: &Tables, members: &[PlacedMember]) -> Result<(), Stop>
+pub(crate) fn members_refusal(
+    alloc: Global,
+    tables: &Tables,
+    members: &[PlacedMember],
+) -> Result<(), Stop>
     ensures tested { Tested (refuse_if (machine.has_repeat members.now) bad_batch
         ∷ write.of_members (catalog_of tables.now) members.now) result }
 {

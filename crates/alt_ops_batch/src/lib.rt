@@ -1,6 +1,7 @@
 //! The operations on batches: BatchWriteItem and BatchGetItem (DynamoDB API Reference, "Actions"; docs/API.md).
 #![tactic(auto)]
 
+mod asked_ahead;
 mod asked_reads;
 mod asked_writes;
 mod get;
@@ -11,4 +12,4 @@ mod replies;
 mod write;
 
 pub use get::batch_get_item;
-pub use write::batch_write_item;
+pub use write::{batch_write_item, batch_write_item_ahead};

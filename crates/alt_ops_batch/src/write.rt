@@ -1,12 +1,15 @@
 //! BatchWriteItem.
 
 ghost use Rattle.std.specs.Prelude.{◌≡◌, ◌↔◌, false, codes, Some, IfOk, IfErr, IsErrOf, map as each};
+ghost use Rattle.serde_json.specs.Data.{Members};
 ghost use Rattle.serde_json.specs.View.{members_view};
 ghost use Rattle.serde_json.specs.Written.{has_float};
 ghost use Rattle.alt_base.specs.Counts.{Rose};
 ghost use Rattle.alt_machine.specs.Ops.BatchWriteItem as machine;
 ghost use Rattle.alt_machine.specs.Ops.BatchWriteItem.{written_by};
 ghost use Rattle.alt_machine.specs.State.{State};
+ghost use Rattle.alt_ops_batch.specs.private.Batches.{AreAsked};
+ghost use Rattle.alt_readahead.specs.Batch.{IsBatchAhead};
 ghost use Rattle.alt_tables.specs.Several.{Every, IsFound, MayWrite, written_at};
 ghost use Rattle.alt_request.specs.Carried.{Carries, Moves};
 ghost use Rattle.alt_request.specs.Steps.{IsMemory};
@@ -15,10 +18,12 @@ ghost use Rattle.alt_shape.specs.Refusals.{answer_of};
 ghost use Rattle.alt_tables.specs.Faults.{IsFindFault};
 ghost use Rattle.alt_tables.specs.Stands.{AreReady, KeepsCatalog, Reads, Stands, catalog_of, bounds_of};
 
+use crate::asked_ahead::writes_ahead;
 use crate::asked_writes::writes_asked;
 use alt_codec::Writer;
 use alt_disk::Disk;
 use alt_machine::{PlacedMember, Sought};
+use alt_readahead::TableWrites;
 use alt_request::{Stop, one_member};
 use alt_shape::Reply;
 use alt_tables::{ItemChange, TableFault, Tables};
@@ -44,7 +49,51 @@ pub fn batch_write_item<D: Disk>(
     ensures moves { Moves (λ s. machine.batch_write_item s moment (members_view body.now.entries))
         (Stands (D.state disk.old) tables.old) (D.state disk.old) (D.state disk.new) result }
 {
-    let members = writes_asked(alloc, tables, body)?;
+    let asked = writes_asked(alloc, tables, body);
+    write_asked(alloc, tables, disk, asked, moment)
+}
+
+/// The same, of a request whose writes were read ahead.
+pub fn batch_write_item_ahead<D: Disk>(
+    alloc: Global,
+    tables: &mut Tables,
+    disk: &mut D,
+    asked: Vec<TableWrites>,
+    moment: u64,
+) -> Result<Reply, Stop>
+    requires ready { AreReady (D.state disk.old) tables.old }
+    requires read { (ms : Members) × IsBatchAhead ms asked.items }
+    ensures carried { (ms : Members) → IsBatchAhead ms asked.items
+        → Carries (bounds_of tables.old).file (λ s. machine.batch_write_item s moment ms)
+        (Stands (D.state disk.old) tables.old) (Stands (D.state disk.new) tables.new) result }
+    ensures limits { bounds_of tables.new ≡ bounds_of tables.old }
+    ensures moves { (ms : Members) → IsBatchAhead ms asked.items
+        → Moves (λ s. machine.batch_write_item s moment ms)
+        (Stands (D.state disk.old) tables.old) (D.state disk.old) (D.state disk.new) result }
+{
+    let asked = writes_ahead(alloc, tables, asked);
+    write_asked(alloc, tables, disk, asked, moment)
+}
+
+/// Makes the writes that a body asks for, or says why they are refused.
+fn write_asked<D: Disk>(
+    alloc: Global,
+    tables: &mut Tables,
+    disk: &mut D,
+    asked: Result<Vec<PlacedMember>, Stop>,
+    moment: u64,
+) -> Result<Reply, Stop>
+    requires ready { AreReady (D.state disk.old) tables.old }
+    requires asked { (ms : Members) × AreAsked (catalog_of tables.old) ms asked }
+    ensures carried { (ms : Members) → AreAsked (catalog_of tables.old) ms asked
+        → Carries (bounds_of tables.old).file (λ s. machine.batch_write_item s moment ms)
+        (Stands (D.state disk.old) tables.old) (Stands (D.state disk.new) tables.new) result }
+    ensures limits { bounds_of tables.new ≡ bounds_of tables.old }
+    ensures moves { (ms : Members) → AreAsked (catalog_of tables.old) ms asked
+        → Moves (λ s. machine.batch_write_item s moment ms)
+        (Stands (D.state disk.old) tables.old) (D.state disk.old) (D.state disk.new) result }
+{
+    let members = asked?;
     let changes = find_all(alloc, tables, disk, members)?;
     let reply = all_processed(alloc)?;
     tables.write_all(disk, changes, moment, Writer::User)?;

@@ -1,3 +1,5 @@
+pub mod Batches
+pub mod Behind
 pub mod Loops
 pub mod Payloads
 pub mod Putting

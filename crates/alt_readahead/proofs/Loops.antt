@@ -17,11 +17,11 @@ use Rattle.alt_readahead.proofs.Putting.{IsRising, rising_none, rising_put, fiel
 -- ---- the elements of an array
 
 -- elements, and those behind them
-abbrev joined : Items → Items → Items
+abbrev pub joined : Items → Items → Items
 joined no_items rest = rest
 joined (item d ds) rest = item d (joined ds rest)
 
-joined_none : (ds : Items) → joined ds no_items ≡ ds
+pub joined_none : (ds : Items) → joined ds no_items ≡ ds
 joined_none no_items = refl
 joined_none (item d ds) = ap (item d) (joined_none ds)
 
@@ -30,7 +30,7 @@ joined_one : (ds : Items) (d : Data) (rest : Items)
 joined_one no_items d rest = refl
 joined_one (item e ds) d rest = ap (item e) (joined_one ds d rest)
 
-one_more : (ds : Items) (d : Data) (r : Option (Items × List Token))
+pub one_more : (ds : Items) (d : Data) (r : Option (Items × List Token))
     → parse_map (joined ds) (parse_map (item d) r)
     ≡ parse_map (joined (joined ds (item d no_items))) r
 one_more ds d None = refl

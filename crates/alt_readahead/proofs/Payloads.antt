@@ -99,7 +99,7 @@ reads_made f g depth before after x r = (r.0, r.1, ap (map_ok g) r.2)
 -- ---- arrays
 
 -- a bracket, and the elements behind it
-reads_array : (depth : ℕ) (before rest after : List Token) (ds : Items) → 0 < depth
+pub reads_array : (depth : ℕ) (before rest after : List Token) (ds : Items) → 0 < depth
     → before ≡ Token.begin_array ∷ rest
     → converted of_items (items (value (depth - 1)) (length rest) rest) ≡ Some (ds, after)
     → converted of_json (value depth before) ≡ Some (array ds, after)

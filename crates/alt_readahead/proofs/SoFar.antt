@@ -14,11 +14,11 @@ use Rattle.alt_shape.specs.Shape.{unless_null, given}
 -- ---- what is given, with a member more
 
 -- what was put at a name is given there, unless it is null
-given-put : (k : List ℕ) (d : Data) (ms : Members) → given k (put k d ms) ≡ unless_null (Some d)
+pub given-put : (k : List ℕ) (d : Data) (ms : Members) → given k (put k d ms) ≡ unless_null (Some d)
 given-put k d ms = ap unless_null (get_member-put k d ms)
 
 -- the other names keep what they have
-given-put_other : (q k : List ℕ) (d : Data) (ms : Members) → q ≢ k
+pub given-put_other : (q k : List ℕ) (d : Data) (ms : Members) → q ≢ k
     → given q (put k d ms) ≡ given q ms
 given-put_other q k d ms other = ap unless_null (get_member-put_other q k d ms other)
 

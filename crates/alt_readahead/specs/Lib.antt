@@ -1,3 +1,5 @@
 pub mod Ahead
+pub mod Batch
+pub mod Batches
 pub mod Direct
 pub mod Payloads

@@ -2,9 +2,11 @@
 #![tactic(auto)]
 
 mod ahead;
+mod batch;
 mod direct;
 mod flat_ahead;
 mod sets_ahead;
 mod tokens;
 
 pub use ahead::{ReadAhead, read_ahead};
+pub use batch::{TableWrites, Write, batch_ahead};

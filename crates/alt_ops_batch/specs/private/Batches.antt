@@ -1,5 +1,6 @@
 -- What a batch asks for, as the machine has it.
-use Rattle.std.specs.Prelude.{ℕ, List, Result, Ok}
+use Rattle.std.specs.Prelude.{ℕ, List, Result, Ok, Vec}
+use Rattle.std.specs.Global.{Global}
 use Rattle.std.specs.FinMap as map
 use Rattle.serde_json.specs.Data.{Data, Members}
 use Rattle.serde_json.specs.View.{view, members_view}
@@ -9,6 +10,7 @@ use Rattle.alt_machine.specs.declared.PlacedMember.{PlacedMember}
 use Rattle.alt_machine.specs.Batches.{elements_in}
 use Rattle.alt_machine.specs.Expressions.{projecting, expressions}
 use Rattle.alt_machine.specs.Ops.BatchGetItem.{Reads, Shown, keys_in}
+use Rattle.alt_machine.specs.Ops.BatchWriteItem.{writes_asked}
 use Rattle.alt_machine.specs.Refusals.{or_refused, ◌>>=◌}
 use Rattle.alt_machine.specs.State.{Texts}
 use Rattle.alt_ops_batch.specs.declared.members.Inside.{Inside}
@@ -18,7 +20,9 @@ use Rattle.alt_ops_batch.specs.declared.keys.KeysSaid.{KeysSaid}
 use Rattle.alt_ops_batch.specs.declared.asked_reads.TableReads.{TableReads}
 use Rattle.alt_ops_batch.specs.declared.asked_writes.Request.{Request}
 use Rattle.alt_ops_batch.specs.private.Names.{ArePlain}
+use Rattle.alt_request.specs.Steps.{Comes}
 use Rattle.alt_request.specs.Words.{given_of}
+use Rattle.alt_request.specs.declared.stop.Stop.{Stop}
 use Rattle.alt_schema.specs.declared.schema.TableSchema.{TableSchema}
 use Rattle.alt_shape.specs.Refusals.{Answer, not_found}
 
@@ -68,3 +72,7 @@ reads_of r = record {
 -- no float stands among the names that are given for the projection of a table, or in its place
 abbrev pub HasPlainNames : TableReads → Type 0
 HasPlainNames r = ArePlain (members_view r.body.now.entries)
+
+-- what came of the writes that a body asks for
+abbrev pub AreAsked : Texts TableSchema → Members → Result (Vec PlacedMember Global) Stop → Type 0
+AreAsked catalog ms asked = Comes (λ (v : Vec PlacedMember Global). v.items) (writes_asked catalog ms) asked

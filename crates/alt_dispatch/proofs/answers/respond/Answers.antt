@@ -1,4 +1,4 @@
--- An operation that is built is carried out, a put by its own way.
+-- An operation that is built is carried out, a put and a batch of writes by their own ways.
 use Rattle.std.proofs.Common.{Option, Some, sym, subst, ap, ◌∙◌}
 use Rattle.std.proofs.lemmas.Bool.{false≢true}
 use Rattle.alt_machine.specs.declared.Operation.{Operation}
@@ -49,3 +49,23 @@ returns-in-PutItem-clause-reads g c reads = absurd (false≢true
 pub returns-in_default-operation-clause-reads : goal.returns-in_default-operation-clause-reads
 returns-in_default-operation-clause-reads g c reads =
     c.respond_to.ensures.reads (subst OnlyReads c.in-Some.is reads)
+
+pub returns-in-BatchWriteItem-clause-carried : goal.returns-in-BatchWriteItem-clause-carried
+returns-in-BatchWriteItem-clause-carried g c =
+    subst (λ (o : Option Operation). Carries (bounds_of c.args.tables.now).file (λ s. step s o c.args.body.now c.args.moment)
+    (Stands (g.D.Disk.state c.args.disk.now) c.args.tables.now)
+    (Stands (g.D.Disk.state c.respond_to_writes.new.disk) c.respond_to_writes.new.tables)
+    c.respond_to_writes.result)
+    (sym (c.in-Some.is ∙ ap Some c.in-BatchWriteItem.is)) c.respond_to_writes.ensures.carried
+
+pub returns-in-BatchWriteItem-clause-moves : goal.returns-in-BatchWriteItem-clause-moves
+returns-in-BatchWriteItem-clause-moves g c =
+    subst (λ (o : Option Operation). Moves (λ s. step s o c.args.body.now c.args.moment)
+    (Stands (g.D.Disk.state c.args.disk.now) c.args.tables.now)
+    (g.D.Disk.state c.args.disk.now) (g.D.Disk.state c.respond_to_writes.new.disk)
+    c.respond_to_writes.result)
+    (sym (c.in-Some.is ∙ ap Some c.in-BatchWriteItem.is)) c.respond_to_writes.ensures.moves
+
+pub returns-in-BatchWriteItem-clause-reads : goal.returns-in-BatchWriteItem-clause-reads
+returns-in-BatchWriteItem-clause-reads g c reads = absurd (false≢true
+    (subst OnlyReads (c.in-Some.is ∙ ap Some c.in-BatchWriteItem.is) reads))

@@ -1,5 +1,5 @@
 -- The key of one member more is seen, and wasn't before.
-use Rattle.std.proofs.Common.{◌≡◌, ◌∷◌, ◌+◌, ◌&&◌, Bool, false, sym, ap, ◌∙◌, drop, arith}
+use Rattle.std.proofs.Common.{◌≡◌, ◌∷◌, ◌+◌, ◌&&◌, false, sym, ap, ◌∙◌, drop, arith}
 use Rattle.std.specs.List.{list_any}
 use Rattle.std.specs.Str.{bytes_eq}
 use Rattle.alt_ops_batch.proofs.Repeats.{Key, absent, inserted, is_seen, members_at, repeats, repeats_behind}

@@ -2,7 +2,7 @@
 use Rattle.std.proofs.Common.{sym, ◌∙◌}
 use Rattle.serde_json.specs.Data.{no_members}
 use Rattle.serde_json.specs.View.{members_view}
-use Rattle.alt_ops_batch.specs.private.Readings.{IsWhole, reply_of, responses_of}
+use Rattle.alt_ops_batch.specs.private.Readings.{reply_of, responses_of}
 use Rattle.alt_shape.specs.Body.{tables_json}
 use Rattle.alt_ops_batch.proofs.replies.read_reply.Goals as goal
 

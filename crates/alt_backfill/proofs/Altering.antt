@@ -27,7 +27,7 @@ use Rattle.alt_schema.specs.declared.stated.StatedIndex.{StatedIndex}
 use Rattle.alt_schema.proofs.NewDescriptions.{left, right}
 use Rattle.alt_shape.specs.Bodies as bodies
 use Rattle.alt_shape.specs.Refusals.{bad_index, bad_index_update, bad_key_schema, bad_name, no_such_index}
-use Rattle.alt_tables.specs.Altering.{MayAlter, alter_wants, family_left, has_more}
+use Rattle.alt_request.specs.TablesAltering.{MayAlter, alter_wants, family_left, has_more}
 
 -- a list isn't longer where only some of it stay
 filter_few : {A : Type 0} (p : A → Bool) (xs : List A) → length (filter p xs) ≤ length xs

@@ -26,8 +26,8 @@ use Rattle.alt_request.proofs.Named.{table_found, table_missed}
 use Rattle.alt_disk.specs.Disk.{DiskState}
 use Rattle.alt_schema.specs.declared.schema.TableSchema.{TableSchema}
 use Rattle.alt_shape.specs.Refusals.{Answer, not_found, refused}
-use Rattle.alt_tables.specs.Stands.{Stands, catalog_of, family_of}
-use Rattle.alt_tables.specs.declared.tables.Tables.{Tables}
+use Rattle.alt_request.specs.TablesStands.{Stands, catalog_of, family_of}
+use Rattle.alt_request.specs.TablesDeclaredTables.{Tables}
 
 module _ (s : State) (ms : Members) where
   -- what it goes on with

@@ -12,12 +12,12 @@ use Rattle.alt_machine.specs.State.{State, Table}
 use Rattle.alt_machine.specs.declared.TheConstants.{BUILT_AT_ONCE}
 use Rattle.alt_schema.specs.declared.schema.IndexSchema.{IndexSchema}
 use Rattle.alt_schema.specs.declared.schema.TableSchema.{TableSchema}
-use Rattle.alt_tables.specs.Built.{NoneBuilds}
-use Rattle.alt_tables.specs.Faults.{AreMade}
-use Rattle.alt_tables.specs.Images.{Leaves}
-use Rattle.alt_tables.specs.Stands.{Stands, catalog_of}
-use Rattle.alt_tables.specs.declared.tables.Tables.{Tables}
-use Rattle.alt_tables.proofs.Left.{leaves_reads, reads_nothing}
+use Rattle.alt_request.specs.TablesBuilt.{NoneBuilds}
+use Rattle.alt_request.specs.TablesFaults.{AreMade}
+use Rattle.alt_request.specs.TablesImages.{Leaves}
+use Rattle.alt_request.specs.TablesStands.{Stands, catalog_of}
+use Rattle.alt_request.specs.TablesDeclaredTables.{Tables}
+use Rattle.alt_request.proofs.TablesLeft.{leaves_reads, reads_nothing}
 
 -- nothing is built
 

@@ -27,9 +27,9 @@ use Rattle.alt_shape.specs.Refusals.{bad_index_update, bad_name}
 use Rattle.alt_shape.specs.Shape.{a_text, fault_of, given}
 use Rattle.alt_shape.specs.declared.rule.Broken.TheVariants.{WrongKind}
 use Rattle.alt_shape.proofs.Places.{or_next_first}
-use Rattle.alt_tables.specs.Altering.{MayAlter, alter_wants, family_left}
-use Rattle.alt_tables.specs.Stands.{Stands, catalog_of, family_of}
-use Rattle.alt_tables.specs.declared.tables.Tables.{Tables}
+use Rattle.alt_request.specs.TablesAltering.{MayAlter, alter_wants, family_left}
+use Rattle.alt_request.specs.TablesStands.{Stands, catalog_of, family_of}
+use Rattle.alt_request.specs.TablesDeclaredTables.{Tables}
 
 -- a good name has bytes
 name_has : (name : List ℕ) → is_name name ≡ true → 0 < length name

@@ -4,14 +4,13 @@ ghost use Rattle.std.specs.Prelude.{◌≡◌};
 ghost use Rattle.serde_json.specs.View.{members_view};
 ghost use Rattle.alt_machine.specs.Ops.UpdateTable.{update_table};
 ghost use Rattle.alt_request.specs.Carried.{Carries, Moves};
-ghost use Rattle.alt_tables.specs.Stands.{AreReady, Stands, bounds_of};
+ghost use Rattle.alt_request.specs.TablesStands.{AreReady, Stands, bounds_of};
 
 use crate::asked::{Later, asked};
 use alt_disk::Disk;
 use alt_ops_table::described;
-use alt_request::Stop;
+use alt_request::{Stop, Tables};
 use alt_shape::Reply;
-use alt_tables::Tables;
 use serde_json::{Map, Value};
 use std::alloc::Global;
 

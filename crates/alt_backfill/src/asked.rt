@@ -13,13 +13,12 @@ ghost use Rattle.alt_schema.specs.Altered.{is_none_of};
 ghost use Rattle.alt_schema.specs.Indexes.{is_named};
 
 use crate::changes::{are_single, first_asked, index_name, names_fit};
-use alt_request::{Stop, table_name};
+use alt_request::{Stop, TableFault, Tables, table_name};
 use alt_schema::{
     IndexSchema, SchemaFault, TableSchema, copied_schema, fits_definitions, is_name, with_index,
     without_index,
 };
 use alt_shape::{Refusal, bodies, text_at};
-use alt_tables::{TableFault, Tables};
 use serde_json::{Map, Value};
 use std::alloc::Global;
 

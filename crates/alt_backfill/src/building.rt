@@ -8,15 +8,15 @@ ghost use Rattle.alt_disk.specs.Disk.{Goes};
 ghost use Rattle.alt_machine.specs.Building.{build};
 ghost use Rattle.alt_machine.specs.Outcomes.{a_number};
 ghost use Rattle.alt_machine.specs.State.{State};
-ghost use Rattle.alt_tables.specs.Faults.{Writes};
-ghost use Rattle.alt_tables.specs.Images.{Leaves};
-ghost use Rattle.alt_tables.specs.Stands.{AreReady, Stands, bounds_of, catalog_of};
+ghost use Rattle.alt_request.specs.TablesFaults.{Writes};
+ghost use Rattle.alt_request.specs.TablesImages.{Leaves};
+ghost use Rattle.alt_request.specs.TablesStands.{AreReady, Stands, bounds_of, catalog_of};
 
 use crate::asked::is_building;
 use alt_disk::Disk;
 use alt_machine::BUILT_AT_ONCE;
+use alt_request::{TableFault, Tables};
 use alt_schema::TableSchema;
-use alt_tables::{TableFault, Tables};
 
 /// Builds an index of the first table by name of which one is being built further: of the next 64 items, or of all that are left where
 /// these are fewer. False exactly where none is being built.

@@ -11,13 +11,13 @@ use Rattle.alt_request.specs.declared.stop.Stop.{Stop}
 use Rattle.alt_request.specs.declared.stop.Stop.TheVariants.{Refused, Fault}
 use Rattle.alt_shape.specs.declared.refusal.Refusal.{Refusal}
 use Rattle.alt_shape.specs.declared.refusal.Reply.{Reply}
-use Rattle.alt_tables.proofs.Behind.{wants_none}
-use Rattle.alt_tables.proofs.Left.{reads_lasts}
-use Rattle.alt_tables.specs.Faults.{WantsMemory}
-use Rattle.alt_tables.specs.Stands.{Stands}
-use Rattle.alt_tables.specs.declared.tables.Tables.{Tables}
-use Rattle.alt_tables.specs.declared.faults.TableFault.{TableFault}
-use Rattle.alt_tables.specs.declared.faults.TableFault.TheVariants.{Failed, NoMemory}
+use Rattle.alt_request.proofs.TablesBehind.{wants_none}
+use Rattle.alt_request.proofs.TablesLeft.{reads_lasts}
+use Rattle.alt_request.specs.TablesFaults.{WantsMemory}
+use Rattle.alt_request.specs.TablesStands.{Stands}
+use Rattle.alt_request.specs.TablesDeclaredTables.{Tables}
+use Rattle.alt_request.specs.TablesDeclaredTableFault.{TableFault}
+use Rattle.alt_request.specs.TablesDeclaredTableFault.TheVariants.{Failed, NoMemory}
 
 module _ (file : ℕ) (now : State → Type 0) (s : State) (outcome : Outcome) where
   -- where the refusal isn't told for want of memory, nothing was written

@@ -7,9 +7,9 @@ use Rattle.alt_request.specs.declared.stop.Stop.{Stop}
 use Rattle.alt_request.specs.declared.stop.Stop.TheVariants.{Refused, Fault}
 use Rattle.alt_shape.specs.Refusals.{answer_of, refused}
 use Rattle.alt_shape.specs.declared.refusal.Reply.{Reply}
-use Rattle.alt_tables.specs.Faults.{BreakOff}
-use Rattle.alt_tables.specs.declared.faults.TableFault.{TableFault}
-use Rattle.alt_tables.specs.declared.faults.TableFault.TheVariants.{NoMemory}
+use Rattle.alt_request.specs.TablesFaults.{BreakOff}
+use Rattle.alt_request.specs.TablesDeclaredTableFault.{TableFault}
+use Rattle.alt_request.specs.TablesDeclaredTableFault.TheVariants.{NoMemory}
 
 -- A reply is the outcome's answer, and the tables then stand for the state after its last write; after a fault its writes broke off.
 abbrev pub Settles : ℕ → (State → Type 0) → State → Outcome → Result Reply TableFault → Type 0

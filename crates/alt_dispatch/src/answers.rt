@@ -17,25 +17,24 @@ ghost use Rattle.alt_machine.specs.Valid.{IsValid};
 ghost use Rattle.alt_dispatch.specs.Reading.{OnlyReads, is_read};
 ghost use Rattle.alt_dispatch.specs.Settled.{Settles, Tells};
 ghost use Rattle.alt_request.specs.Carried.{Carries, IsPlain, Moves};
-ghost use Rattle.alt_tables.specs.Faults.{WantsMemory};
-ghost use Rattle.alt_tables.specs.Images.{Leaves};
-ghost use Rattle.alt_tables.specs.Stands.{AreReady, Reads, Stands, bounds_of};
+ghost use Rattle.alt_request.specs.TablesFaults.{WantsMemory};
+ghost use Rattle.alt_request.specs.TablesImages.{Leaves};
+ghost use Rattle.alt_request.specs.TablesStands.{AreReady, Reads, Stands, bounds_of};
 ghost use Rattle.alt_shape.specs.Body.{body_json};
 
 use alt_backfill::update_table;
 use alt_disk::Disk;
 use alt_machine::Operation;
 use alt_members::{heeded, read_heeded};
-use alt_ops_batch::batch_write_item_ahead;
 use alt_ops_item::{delete_item, get_item, put_item, put_item_ahead, update_item};
 use alt_readahead::{ReadAhead, batch_ahead, read_ahead};
-use alt_request::Stop;
+use alt_request::{Stop, TableFault, Tables};
 use alt_shape::{Refusal, Reply, refuse};
 use alt_streams::{describe_stream, get_records, get_shard_iterator, list_streams};
-use alt_tables::{TableFault, Tables};
 use alt_ttl::{
-    batch_get_item, batch_write_item, create_table, delete_table, describe_table,
-    describe_time_to_live, expire_items, list_tables, query, scan, update_time_to_live,
+    batch_get_item, batch_write_item, batch_write_item_ahead, create_table, delete_table,
+    describe_table, describe_time_to_live, expire_items, list_tables, query, scan,
+    update_time_to_live,
 };
 use serde_json::{Map, Value};
 use std::alloc::Global;

@@ -10,9 +10,9 @@ use Rattle.alt_machine.specs.Ops.BatchWriteItem.{written_by, writes_asked}
 use Rattle.alt_machine.specs.State.{Texts}
 use Rattle.alt_machine.proofs.Batches as machine
 use Rattle.alt_machine.proofs.Batches.{MayStand, asked_may, asked_named, asked_once, may_be_left}
-use Rattle.alt_tables.specs.Several.{Every, MayWrite, AreApart, AreAllApart}
+use Rattle.alt_request.specs.TablesSeveral.{Every, MayWrite, AreApart, AreAllApart}
 use Rattle.alt_schema.specs.declared.schema.TableSchema.{TableSchema}
-use Rattle.alt_tables.proofs.OpeningOneColumn.{bytes_differ}
+use Rattle.alt_request.proofs.TablesOpeningOneColumn.{bytes_differ}
 
 -- what nothing refuses may be written
 may_all : (catalog : Texts TableSchema) (ms : List PlacedMember)

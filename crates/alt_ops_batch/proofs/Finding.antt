@@ -6,11 +6,11 @@ use Rattle.alt_disk.specs.Disk.{DiskState}
 use Rattle.alt_machine.specs.declared.PlacedMember.{PlacedMember}
 use Rattle.alt_machine.specs.Ops.BatchWriteItem.{Written, written_by}
 use Rattle.alt_machine.specs.State.{State}
-use Rattle.alt_tables.specs.Several.{Every, written_at, MayWrite, IsFound}
-use Rattle.alt_tables.specs.declared.several.ItemChange.{ItemChange}
-use Rattle.alt_tables.specs.Stands.{KeepsCatalog, Reads, Stands, catalog_of}
-use Rattle.alt_tables.specs.declared.tables.Tables.{Tables}
-use Rattle.alt_tables.proofs.Left.{reads_then}
+use Rattle.alt_request.specs.TablesSeveral.{Every, written_at, MayWrite, IsFound}
+use Rattle.alt_request.specs.TablesDeclaredItemChange.{ItemChange}
+use Rattle.alt_request.specs.TablesStands.{KeepsCatalog, Reads, Stands, catalog_of}
+use Rattle.alt_request.specs.TablesDeclaredTables.{Tables}
+use Rattle.alt_request.proofs.TablesLeft.{reads_then}
 
 -- what holds of a list holds of it with one more
 pub every_more : {A : Type 0} (P : A → Type 0) (xs : List A) (x : A) → Every P xs → P x

@@ -12,10 +12,10 @@ use Rattle.alt_machine.specs.Ops.BatchGetItem.{found_at}
 use Rattle.alt_machine.specs.State.{State, Table}
 use Rattle.alt_machine.proofs.Descriptions.{there-descriptions}
 use Rattle.alt_shape.proofs.Plain.{no_float_either}
-use Rattle.alt_tables.specs.Found.{IsFoundIn}
-use Rattle.alt_tables.specs.Stands.{Stands, catalog_of}
-use Rattle.alt_tables.specs.declared.finding.Found.{Found}
-use Rattle.alt_tables.specs.declared.tables.Tables.{Tables}
+use Rattle.alt_request.specs.TablesFound.{IsFoundIn}
+use Rattle.alt_request.specs.TablesStands.{Stands, catalog_of}
+use Rattle.alt_request.specs.TablesDeclaredFound.{Found}
+use Rattle.alt_request.specs.TablesDeclaredTables.{Tables}
 use Rattle.alt_value.specs.Size.{item_size}
 use Rattle.alt_value.specs.Tree.{Pair}
 

@@ -15,8 +15,8 @@ use Rattle.alt_request.proofs.Reaching.{err_is}
 use Rattle.alt_schema.specs.declared.schema.TableSchema.{TableSchema}
 use Rattle.alt_shape.specs.Refusals.{Answer, refused}
 use Rattle.alt_shape.specs.declared.refusal.Reply.{Reply}
-use Rattle.alt_tables.specs.Stands.{Stands, catalog_of}
-use Rattle.alt_tables.specs.declared.tables.Tables.{Tables}
+use Rattle.alt_request.specs.TablesStands.{Stands, catalog_of}
+use Rattle.alt_request.specs.TablesDeclaredTables.{Tables}
 
 -- what is asked for was refused, or memory was wanting for it: no failure of the device
 pub asked_unfailed : {A X : Type 0} (P : Type 0) (of : X → A) (r : Result A Answer) (stop : Stop)

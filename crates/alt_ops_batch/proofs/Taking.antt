@@ -21,9 +21,9 @@ use Rattle.alt_ops_batch.specs.declared.reading.Taken.{Taken}
 use Rattle.alt_ops_batch.specs.private.Batches.{HasPlainNames, reads_of}
 use Rattle.alt_ops_batch.specs.declared.asked_reads.TableReads.{TableReads}
 use Rattle.alt_shape.specs.declared.body.TableItems.{TableItems}
-use Rattle.alt_tables.specs.Stands.{KeepsCatalog, Reads, Stands, catalog_of}
-use Rattle.alt_tables.specs.declared.tables.Tables.{Tables}
-use Rattle.alt_tables.proofs.Left.{reads_then}
+use Rattle.alt_request.specs.TablesStands.{KeepsCatalog, Reads, Stands, catalog_of}
+use Rattle.alt_request.specs.TablesDeclaredTables.{Tables}
+use Rattle.alt_request.proofs.TablesLeft.{reads_then}
 use Rattle.alt_value.specs.Tree.{Pair}
 
 -- items as JSON, by each of them

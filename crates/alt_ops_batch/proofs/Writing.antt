@@ -11,9 +11,9 @@ use Rattle.alt_request.specs.declared.stop.Stop.TheVariants.{Fault}
 use Rattle.alt_shape.specs.Body.{body_json}
 use Rattle.alt_shape.specs.Refusals.{Answer, answer_of}
 use Rattle.alt_shape.specs.declared.refusal.Reply.{Reply}
-use Rattle.alt_tables.specs.Faults.{AreAllMade, AreMade, BreakOff, BreakOffAll, WantFile}
-use Rattle.alt_tables.specs.declared.faults.TableFault.{TableFault}
-use Rattle.alt_tables.specs.declared.faults.TableFault.TheVariants.{Spent, Damaged, BadRow, Failed, NoMemory}
+use Rattle.alt_request.specs.TablesFaults.{AreAllMade, AreMade, BreakOff, BreakOffAll, WantFile}
+use Rattle.alt_request.specs.TablesDeclaredTableFault.{TableFault}
+use Rattle.alt_request.specs.TablesDeclaredTableFault.TheVariants.{Spent, Damaged, BadRow, Failed, NoMemory}
 
 -- all are made
 pub together_made : (now : State → Type 0) (s : State) (ws : List State) → AreAllMade now s ws

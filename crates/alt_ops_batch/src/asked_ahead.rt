@@ -6,16 +6,15 @@ ghost use Rattle.alt_machine.specs.Batches as machine;
 ghost use Rattle.alt_ops_batch.specs.private.Ahead as ahead;
 ghost use Rattle.alt_request.specs.Steps.{Comes, IsMemory, Tested};
 ghost use Rattle.alt_schema.specs.Rules.{is_name};
-ghost use Rattle.alt_tables.specs.Stands.{catalog_of};
+ghost use Rattle.alt_request.specs.TablesStands.{catalog_of};
 
 use crate::asked_writes::members_refusal;
 use crate::members::place_all;
 use alt_machine::{BatchMember, MOST_WRITES, PlacedMember, Sought};
 use alt_readahead::{TableWrites, Write};
-use alt_request::Stop;
+use alt_request::{Stop, Tables};
 use alt_schema::is_name;
 use alt_shape::Refusal;
-use alt_tables::Tables;
 use alt_value::Text;
 use std::alloc::Global;
 

@@ -10,7 +10,7 @@ ghost use Rattle.alt_machine.specs.Refusals.{first_answer, unless_answer};
 ghost use Rattle.alt_ops_batch.specs.private.Batches.{keys_read, keys_said, reads_of, shown_in, HasPlainNames};
 ghost use Rattle.alt_request.specs.Steps.{Comes};
 ghost use Rattle.alt_request.specs.Words.{given_of, IsFresh};
-ghost use Rattle.alt_tables.specs.Stands.{catalog_of};
+ghost use Rattle.alt_request.specs.TablesStands.{catalog_of};
 
 use crate::keys::{KeysRead, KeysSaid};
 use crate::members::{
@@ -20,9 +20,8 @@ use crate::members::{
 use alt_base::NoMemory;
 use alt_expr::Paths;
 use alt_machine::{BatchMember, Expressions, MOST_KEYS, PlacedMember, Sought};
-use alt_request::{Given, Stop, Texts, expressions, given_at, item_of};
+use alt_request::{Given, Stop, Tables, Texts, expressions, given_at, item_of};
 use alt_shape::{Refusal, bodies, given};
-use alt_tables::Tables;
 use alt_value::Text;
 use serde_json::{Map, Value};
 use std::alloc::Global;

@@ -9,15 +9,14 @@ ghost use Rattle.alt_machine.specs.Refusals.{first_answer, refuse_if, unless_ans
 ghost use Rattle.alt_ops_batch.specs.private.Batches.{request_of};
 ghost use Rattle.alt_request.specs.Steps.{Comes, IsMemory, Tested};
 ghost use Rattle.alt_shape.specs.Refusals.{bad_batch};
-ghost use Rattle.alt_tables.specs.Stands.{catalog_of};
+ghost use Rattle.alt_request.specs.TablesStands.{catalog_of};
 
 use crate::members::{
     Inside, all_are_names, elements_of, has_repeat, is_sized, known, place_all, tables_asked,
 };
 use alt_machine::{BatchMember, MOST_WRITES, PlacedMember, Sought};
-use alt_request::{Stop, item_at, item_refusal};
+use alt_request::{Stop, Tables, item_at, item_refusal};
 use alt_shape::{Refusal, bodies, object_at};
-use alt_tables::Tables;
 use alt_value::Text;
 use serde_json::{Map, Value};
 use std::alloc::Global;

@@ -4,15 +4,14 @@ ghost use Rattle.std.specs.Prelude.{◌≡◌};
 ghost use Rattle.serde_json.specs.View.{members_view};
 ghost use Rattle.alt_machine.specs.Ops.BatchGetItem.{batch_get_item};
 ghost use Rattle.alt_request.specs.Carried.{Carries, Moves};
-ghost use Rattle.alt_tables.specs.Stands.{AreReady, Reads, Stands, bounds_of};
+ghost use Rattle.alt_request.specs.TablesStands.{AreReady, Reads, Stands, bounds_of};
 
 use crate::asked_reads::reads_asked;
 use crate::reading::read_all;
 use crate::replies::read_reply;
 use alt_disk::Disk;
-use alt_request::Stop;
+use alt_request::{Stop, Tables};
 use alt_shape::Reply;
-use alt_tables::Tables;
 use serde_json::{Map, Value};
 use std::alloc::Global;
 

@@ -12,14 +12,13 @@ ghost use Rattle.alt_request.specs.Steps.{Comes, Tested};
 ghost use Rattle.alt_schema.specs.Rules.{is_name};
 ghost use Rattle.alt_shape.specs.Refusals.{not_found};
 ghost use Rattle.alt_shape.specs.Shape.{given};
-ghost use Rattle.alt_tables.specs.Stands.{catalog_of};
+ghost use Rattle.alt_request.specs.TablesStands.{catalog_of};
 
 use alt_base::NoMemory;
 use alt_machine::{BatchMember, PlacedMember};
-use alt_request::{Stop, fitting_place};
+use alt_request::{Stop, Tables, fitting_place};
 use alt_schema::{TableSchema, is_name};
 use alt_shape::{Refusal, array_at, object_at};
-use alt_tables::Tables;
 use serde_json::{Map, Value};
 use std::alloc::Global;
 use std::collections::HashSet;

@@ -4,15 +4,14 @@ ghost use Rattle.std.specs.Prelude.{◌≡◌};
 ghost use Rattle.serde_json.specs.View.{members_view};
 ghost use Rattle.alt_machine.specs.Ops.DeleteItem.{delete_item};
 ghost use Rattle.alt_request.specs.Carried.{Carries, Moves};
-ghost use Rattle.alt_tables.specs.Stands.{AreReady, Stands, bounds_of};
+ghost use Rattle.alt_request.specs.TablesStands.{AreReady, Stands, bounds_of};
 
 use crate::items::old_reply;
 use alt_disk::Disk;
 use alt_machine::{Expressions, Sought};
-use alt_request::{ItemWrite, Rules, Stop, Texts, write_item};
+use alt_request::{ItemWrite, Rules, Stop, Tables, Texts, write_item};
 use alt_schema::TableSchema;
 use alt_shape::{Broken, Reply, bodies};
-use alt_tables::Tables;
 use alt_value::Item;
 use serde_json::{Map, Value};
 use std::alloc::Global;

@@ -4,14 +4,13 @@ ghost use Rattle.std.specs.Prelude.{◌≡◌};
 ghost use Rattle.serde_json.specs.View.{members_view};
 ghost use Rattle.alt_machine.specs.Ops.GetItem.{get_item};
 ghost use Rattle.alt_request.specs.Carried.{Carries, Moves};
-ghost use Rattle.alt_tables.specs.Stands.{AreReady, Reads, Stands, bounds_of};
+ghost use Rattle.alt_request.specs.TablesStands.{AreReady, Reads, Stands, bounds_of};
 
 use crate::items::parts_reply;
 use alt_disk::Disk;
 use alt_machine::Expressions;
-use alt_request::{ItemRead, Rules, Stop, Texts, read_item};
+use alt_request::{ItemRead, Rules, Stop, Tables, Texts, read_item};
 use alt_shape::{Broken, Reply, bodies};
-use alt_tables::Tables;
 use alt_value::Item;
 use serde_json::{Map, Value};
 use std::alloc::Global;

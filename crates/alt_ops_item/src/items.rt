@@ -13,9 +13,8 @@ ghost use Rattle.alt_shape.specs.Refusals.{answer_of};
 
 use alt_expr::Paths;
 use alt_projection::project;
-use alt_request::{Stop, asked, done, item_member};
+use alt_request::{Stop, TableFault, asked, done, item_member};
 use alt_shape::Reply;
-use alt_tables::TableFault;
 use alt_value::Item;
 use serde_json::{Map, Value};
 use std::alloc::Global;

@@ -13,10 +13,9 @@ ghost use Rattle.alt_value.specs.Tree.{fields_of};
 use crate::changing::{item_after, outline_after};
 use alt_expr::{Action, Update};
 use alt_machine::Expressions;
-use alt_request::{Stop, item_refusal};
+use alt_request::{Stop, TableFault, item_refusal};
 use alt_schema::TableSchema;
 use alt_shape::Refusal;
-use alt_tables::TableFault;
 use alt_value::{Item, copy, depth_within};
 use std::alloc::Global;
 

@@ -34,7 +34,7 @@ use Rattle.alt_schema.specs.Json.{member_if}
 use Rattle.alt_shape.specs.Body.{body_json, items_json}
 use Rattle.alt_shape.specs.Refusals.{Answer, answered, answer_of}
 use Rattle.alt_shape.specs.declared.refusal.Reply.{Reply}
-use Rattle.alt_tables.specs.declared.faults.TableFault.TheVariants.{Spent, Damaged, BadRow, Failed, NoMemory}
+use Rattle.alt_request.specs.TablesDeclaredTableFault.TheVariants.{Spent, Damaged, BadRow, Failed, NoMemory}
 use Rattle.alt_value.specs.Tree.{Pair}
 use Rattle.alt_views.specs.Readable.{CanRead}
 

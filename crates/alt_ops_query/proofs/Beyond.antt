@@ -6,7 +6,7 @@ use Rattle.std.specs.Ordering.{is_gt, is_lt, ordering_reverse}
 use Rattle.std.specs.Cmp.Lexicographic.{nat_list_cmp_total}
 use Rattle.alt_keyorder.specs.Range.{IsBelow, IsUpTo}
 use Rattle.alt_ops_query.specs.private.Ranges.{IsBeyond, IsLesser}
-use Rattle.alt_tables.proofs.OpeningNextRow.{below_after, after_below}
+use Rattle.alt_request.proofs.TablesOpeningNextRow.{below_after, after_below}
 use Rattle.alt_value.specs.Members.{text_order}
 
 -- ---- orders of bytes

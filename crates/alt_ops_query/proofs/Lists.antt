@@ -16,7 +16,7 @@ use Rattle.alt_machine.specs.State.{Table}
 use Rattle.alt_machine.specs.Walks.{end_bound, is_beyond, items_between, placed_items, turned}
 use Rattle.alt_ops_query.specs.Places.{HoldsListed, MayStand}
 use Rattle.alt_schema.specs.declared.schema.IndexSchema.{IndexSchema}
-use Rattle.alt_tables.proofs.OpeningTies.{tied, itself}
+use Rattle.alt_request.proofs.TablesOpeningTies.{tied, itself}
 use Rattle.alt_value.specs.Members.{text_order}
 use Rattle.alt_value.specs.Tree.{Pair}
 

@@ -14,7 +14,7 @@ use Rattle.alt_ops_query.specs.PageReads.{is_passed}
 use Rattle.alt_ops_query.specs.private.Filled.{is_behind, paid_for}
 use Rattle.alt_ops_query.specs.private.Ranges.{IsBeyond}
 use Rattle.alt_ops_query.proofs.Rests.{contains_beyond}
-use Rattle.alt_tables.specs.Reading.{is_reached, is_within}
+use Rattle.alt_request.specs.TablesReading.{is_reached, is_within}
 use Rattle.alt_value.specs.Members.{text_order}
 
 -- ---- versions at places

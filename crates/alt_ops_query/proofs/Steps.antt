@@ -35,7 +35,7 @@ use Rattle.alt_paging.proofs.PageLaws.{examined-ended, full_prefix-ended, last_p
 use Rattle.alt_request.specs.Steps.{IsMemory}
 use Rattle.alt_request.specs.declared.stop.Stop.{Stop}
 use Rattle.alt_schema.specs.declared.schema.IndexSchema.{IndexSchema}
-use Rattle.alt_tables.specs.Reading.{HasRowFiles, family_read, is_reached, is_within, places_between, walk_reads}
+use Rattle.alt_request.specs.TablesReading.{HasRowFiles, family_read, is_reached, is_within, places_between, walk_reads}
 use Rattle.alt_value.specs.Members.{text_order}
 use Rattle.alt_value.specs.Size.{item_size}
 use Rattle.alt_value.specs.Tree.{Pair}

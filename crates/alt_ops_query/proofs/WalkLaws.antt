@@ -16,7 +16,7 @@ use Rattle.alt_ops_query.proofs.Passing.{beyond_on, fits_behind, fits_passed, pa
 use Rattle.alt_paging.specs.Offered.{WasOffered, asked_of}
 use Rattle.alt_paging.specs.declared.ask.PageAsk.{PageAsk}
 use Rattle.alt_schema.specs.declared.schema.IndexSchema.{IndexSchema}
-use Rattle.alt_tables.specs.Reading.{HasRowFiles, family_read}
+use Rattle.alt_request.specs.TablesReading.{HasRowFiles, family_read}
 use Rattle.alt_value.specs.Tree.{Pair}
 
 -- ---- the items of a step

@@ -38,8 +38,8 @@ use Rattle.alt_schema.specs.declared.schema.TableSchema.{TableSchema}
 use Rattle.alt_shape.specs.Bodies as bodies
 use Rattle.alt_shape.specs.declared.refusal.Reply.{Reply}
 use Rattle.alt_shape.specs.declared.rule.Broken.{Broken}
-use Rattle.alt_tables.specs.Stands.{Stands, catalog_of}
-use Rattle.alt_tables.specs.declared.tables.Tables.{Tables}
+use Rattle.alt_request.specs.TablesStands.{Stands, catalog_of}
+use Rattle.alt_request.specs.TablesDeclaredTables.{Tables}
 use Rattle.alt_value.specs.Tree.{Pair}
 use Rattle.alt_views.specs.Readable.{CanRead}
 

@@ -21,7 +21,7 @@ use Rattle.alt_machine.specs.State.{State, Table}
 use Rattle.alt_machine.specs.Walks.{is_beyond}
 use Rattle.alt_ops_query.specs.Places.{HoldsListed, place_in}
 use Rattle.alt_schema.specs.declared.schema.IndexSchema.{IndexSchema}
-use Rattle.alt_tables.specs.Reading.{HasRowFiles, family_read, is_within}
+use Rattle.alt_request.specs.TablesReading.{HasRowFiles, family_read, is_within}
 use Rattle.alt_value.specs.Tree.{Pair}
 
 -- Where the page of a list ends: at the place of the last item that it examines, where it ends early; else it goes on to the range's end.

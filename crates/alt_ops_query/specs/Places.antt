@@ -7,7 +7,7 @@ use Rattle.alt_machine.specs.Valid.{IsStored}
 use Rattle.alt_machine.specs.Walks.{is_beyond}
 use Rattle.alt_schema.specs.declared.schema.IndexSchema.{IndexSchema}
 use Rattle.alt_schema.specs.declared.schema.TableSchema.{TableSchema}
-use Rattle.alt_tables.specs.Reading.{is_within}
+use Rattle.alt_request.specs.TablesReading.{is_within}
 use Rattle.alt_value.specs.Tree.{Pair}
 use Rattle.alt_value.specs.Values.{IsItemOfValues}
 

@@ -20,8 +20,8 @@ ghost use Rattle.alt_request.specs.Steps.{IsMemory};
 ghost use Rattle.alt_schema.specs.declared.schema.TableSchema.{TableSchema};
 ghost use Rattle.alt_shape.specs.Body.{body_json};
 ghost use Rattle.alt_shape.specs.Refusals.{answer_of};
-ghost use Rattle.alt_tables.specs.Reading.{HasRowFiles, family_read};
-ghost use Rattle.alt_tables.specs.Stands.{AreReady, Reads, Stands, catalog_of, bounds_of};
+ghost use Rattle.alt_request.specs.TablesReading.{HasRowFiles, family_read};
+ghost use Rattle.alt_request.specs.TablesStands.{AreReady, Reads, Stands, catalog_of, bounds_of};
 ghost use Rattle.alt_views.specs.Readable.{CanRead};
 
 use crate::asking::page_ask;
@@ -32,10 +32,9 @@ use alt_disk::Disk;
 use alt_keyorder::KeyRange;
 use alt_machine::Expressions;
 use alt_paging::{PageAsk, Pager};
-use alt_request::{Stop, table_name};
+use alt_request::{Stop, TableFault, Tables, table_name};
 use alt_schema::TableSchema;
 use alt_shape::Reply;
-use alt_tables::{TableFault, Tables};
 use serde_json::{Map, Value};
 use std::alloc::Global;
 

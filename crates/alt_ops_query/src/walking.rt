@@ -16,8 +16,8 @@ ghost use Rattle.alt_paging.specs.Offered.{WasOffered, asked_of, has_ended};
 ghost use Rattle.alt_paging.specs.declared.ask.PageAsk.{PageAsk};
 ghost use Rattle.alt_request.specs.Steps.{IsMemory};
 ghost use Rattle.alt_schema.specs.declared.schema.TableSchema.{TableSchema};
-ghost use Rattle.alt_tables.specs.Reading.{HasRowFiles, family_read};
-ghost use Rattle.alt_tables.specs.Stands.{AreReady, Reads, Stands, KeepsCatalog, catalog_of};
+ghost use Rattle.alt_request.specs.TablesReading.{HasRowFiles, family_read};
+ghost use Rattle.alt_request.specs.TablesStands.{AreReady, Reads, Stands, KeepsCatalog, catalog_of};
 ghost use Rattle.alt_value.specs.Tree.{Pair};
 ghost use Rattle.alt_views.specs.Readable.{CanRead};
 
@@ -26,8 +26,7 @@ use alt_disk::Disk;
 use alt_keyorder::KeyRange;
 use alt_machine::LARGEST_ITEM;
 use alt_paging::Pager;
-use alt_request::Stop;
-use alt_tables::{TableFault, Tables};
+use alt_request::{Stop, TableFault, Tables};
 use alt_value::Item;
 use std::alloc::Global;
 

@@ -20,16 +20,16 @@ use Rattle.alt_machine.proofs.Tests.{passed, stopped}
 use Rattle.alt_request.specs.Carried.{Carries, IfFailed}
 use Rattle.alt_request.proofs.Carrying.{refused_so, faulted}
 use Rattle.alt_request.proofs.Moving.{unfailed_fault, leaves_nothing}
-use Rattle.alt_tables.specs.Images.{Leaves}
+use Rattle.alt_request.specs.TablesImages.{Leaves}
 use Rattle.alt_request.specs.Steps.{Tested}
 use Rattle.alt_request.specs.declared.stop.Stop.{Stop}
 use Rattle.alt_request.specs.declared.stop.Stop.TheVariants.{Refused, Fault}
 use Rattle.alt_ops_table.specs.private.Asked.{IsToBeMade, IsAsked}
-use Rattle.alt_tables.specs.Faults.{AreLacking, AreMade, BreakOff}
-use Rattle.alt_tables.specs.Stands.{Stands, catalog_of, number_of, family_of}
-use Rattle.alt_tables.specs.declared.tables.Tables.{Tables}
-use Rattle.alt_tables.specs.declared.faults.TableFault.{TableFault}
-use Rattle.alt_tables.specs.declared.faults.TableFault.TheVariants.{Spent, Damaged, BadRow, Failed, NoMemory}
+use Rattle.alt_request.specs.TablesFaults.{AreLacking, AreMade, BreakOff}
+use Rattle.alt_request.specs.TablesStands.{Stands, catalog_of, number_of, family_of}
+use Rattle.alt_request.specs.TablesDeclaredTables.{Tables}
+use Rattle.alt_request.specs.TablesDeclaredTableFault.{TableFault}
+use Rattle.alt_request.specs.TablesDeclaredTableFault.TheVariants.{Spent, Damaged, BadRow, Failed, NoMemory}
 use Rattle.alt_schema.specs.Described.{description_of, described_by}
 use Rattle.alt_schema.specs.Rules as rules
 use Rattle.alt_schema.specs.Stated.{stated}

@@ -7,15 +7,14 @@ ghost use Rattle.alt_ops_table.specs.private.Asked.{IsAsked};
 ghost use Rattle.alt_request.specs.Carried.{Carries, Moves};
 ghost use Rattle.alt_request.specs.Steps.{Tested};
 ghost use Rattle.alt_shape.specs.Shape.{given};
-ghost use Rattle.alt_tables.specs.Stands.{AreReady, Stands, bounds_of};
+ghost use Rattle.alt_request.specs.TablesStands.{AreReady, Stands, bounds_of};
 
 use crate::replies::described;
 use alt_disk::Disk;
 use alt_machine::{FAMILIES_END, MOST_FAMILIES, MOST_TABLES};
-use alt_request::Stop;
+use alt_request::{Stop, TableFault, Tables};
 use alt_schema::{SchemaFault, TableSchema, schema_of_json};
 use alt_shape::{Refusal, Reply, bodies, given, object_at, truth_at};
-use alt_tables::{TableFault, Tables};
 use serde_json::{Map, Value};
 use std::alloc::Global;
 

@@ -4,13 +4,12 @@ ghost use Rattle.std.specs.Prelude.{◌≡◌};
 ghost use Rattle.serde_json.specs.View.{members_view};
 ghost use Rattle.alt_machine.specs.Ops.DeleteTable.{delete_table};
 ghost use Rattle.alt_request.specs.Carried.{Carries, Moves};
-ghost use Rattle.alt_tables.specs.Stands.{AreReady, Stands, bounds_of};
+ghost use Rattle.alt_request.specs.TablesStands.{AreReady, Stands, bounds_of};
 
 use crate::replies::described;
 use alt_disk::Disk;
-use alt_request::{Rules, Stop, table_name, table_target};
+use alt_request::{Rules, Stop, Tables, table_name, table_target};
 use alt_shape::{Reply, bodies};
-use alt_tables::Tables;
 use serde_json::{Map, Value};
 use std::alloc::Global;
 

@@ -4,14 +4,13 @@ ghost use Rattle.std.specs.Prelude.{◌≡◌};
 ghost use Rattle.serde_json.specs.View.{members_view};
 ghost use Rattle.alt_machine.specs.Ops.DescribeTable.{describe_table};
 ghost use Rattle.alt_request.specs.Carried.{Carries, Moves};
-ghost use Rattle.alt_tables.specs.Stands.{Stands, bounds_of};
+ghost use Rattle.alt_request.specs.TablesStands.{Stands, bounds_of};
 
 use crate::replies::described;
 use alt_disk::Disk;
-use alt_request::{Rules, Stop, TableRead, read_table};
+use alt_request::{Rules, Stop, TableRead, Tables, read_table};
 use alt_schema::TableSchema;
 use alt_shape::{Broken, Reply, bodies};
-use alt_tables::Tables;
 use serde_json::{Map, Value};
 use std::alloc::Global;
 

@@ -10,14 +10,13 @@ ghost use Rattle.alt_request.specs.Carried.{Carries, Moves};
 ghost use Rattle.alt_request.specs.Steps.{Tested};
 ghost use Rattle.alt_shape.specs.Body.{body_json};
 ghost use Rattle.alt_shape.specs.Refusals.{answer_of};
-ghost use Rattle.alt_tables.specs.Stands.{Stands, catalog_of, bounds_of};
+ghost use Rattle.alt_request.specs.TablesStands.{Stands, catalog_of, bounds_of};
 
 use alt_base::NoMemory;
 use alt_disk::Disk;
 use alt_machine::PAGE_LENGTH;
-use alt_request::{Rules, Stop, body_refusal};
+use alt_request::{Rules, Stop, TableFault, Tables, body_refusal};
 use alt_shape::{Reply, bodies, text_at, whole_at};
-use alt_tables::{TableFault, Tables};
 use alt_value::Text;
 use serde_json::{Map, Value};
 use std::alloc::Global;

@@ -8,10 +8,9 @@ ghost use Rattle.alt_schema.specs.Json.{description_json};
 ghost use Rattle.alt_shape.specs.Body.{body_json};
 ghost use Rattle.alt_shape.specs.Refusals.{answer_of};
 
-use alt_request::{Stop, one_member};
+use alt_request::{Stop, TableFault, one_member};
 use alt_schema::{TableSchema, json_of_schema};
 use alt_shape::Reply;
-use alt_tables::TableFault;
 use std::alloc::Global;
 
 /// The reply whose one member is the description with that status.

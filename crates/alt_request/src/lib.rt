@@ -16,6 +16,7 @@ mod texts;
 mod words;
 mod writes;
 
+pub use alt_tables::{Found, ItemChange, TableFault, Tables, expires_from};
 pub use body::{Rules, body_refusal, table_name};
 pub use deciding::asked;
 pub use items::{item_at, item_of, item_refusal, number_refusal};

@@ -34,8 +34,8 @@ use Rattle.alt_shape.specs.declared.refusal.Refusal.{Refusal}
 use Rattle.alt_shape.specs.declared.refusal.Reply.{Reply}
 use Rattle.alt_streams.specs.private.Listed.{AreNamed, IsAsked, StartsAfter, all_in, is_listed, is_named, last_of, name_given, page_answer, start_name, streams_after}
 use Rattle.alt_streams.proofs.Entries.{chosen_alike}
-use Rattle.alt_tables.specs.Stands.{Stands, catalog_of}
-use Rattle.alt_tables.specs.declared.tables.Tables.{Tables}
+use Rattle.alt_request.specs.TablesStands.{Stands, catalog_of}
+use Rattle.alt_request.specs.TablesDeclaredTables.{Tables}
 use Rattle.alt_value.specs.Members.{text_order}
 
 -- ---- the tables that are known

@@ -13,7 +13,7 @@ use Rattle.alt_schema.specs.declared.schema.TableSchema.{TableSchema}
 use Rattle.alt_streams.specs.private.Listed.{AreNamed, all_in, is_listed, is_named, streams_after}
 use Rattle.alt_streams.proofs.Entries.{found_only, found_none, here, behind, some}
 use Rattle.alt_streams.proofs.Rising.{Rises, keyed, chosen_next, find-filter, find-keyed, sorted-each, walk_found, walk_on, walk_none}
-use Rattle.alt_tables.specs.OpeningOrder.{first_after}
+use Rattle.alt_request.specs.TablesOpeningOrder.{first_after}
 use Rattle.alt_value.specs.Members.{text_order}
 use Rattle.alt_value.proofs.Places.{second}
 

@@ -19,9 +19,9 @@ use Rattle.alt_streams.specs.private.Named.{IsStreamOf}
 use Rattle.alt_streams.specs.private.Paged.{iterator_at}
 use Rattle.alt_streams.proofs.Reached.{known_at, stream_named, stream_stands}
 use Rattle.alt_streams.proofs.Reaching.{something}
-use Rattle.alt_tables.specs.OpeningTrimmed.{number_at}
-use Rattle.alt_tables.specs.Stands.{Stands, catalog_of, number_of, trimmed_of}
-use Rattle.alt_tables.specs.declared.tables.Tables.{Tables}
+use Rattle.alt_request.specs.TablesOpeningTrimmed.{number_at}
+use Rattle.alt_request.specs.TablesStands.{Stands, catalog_of, number_of, trimmed_of}
+use Rattle.alt_request.specs.TablesDeclaredTables.{Tables}
 
 -- a GetShardIterator that its body refuses is refused so
 pub iterator-refused : (s : State) (ms : Members) (r : Refusal)

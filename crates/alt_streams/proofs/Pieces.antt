@@ -20,11 +20,11 @@ use Rattle.alt_streams.proofs.Filled.{page_all, page_ended}
 use Rattle.alt_streams.proofs.Numbers.{Rise, behind_front, past-append}
 use Rattle.alt_request.proofs.Named.{table_found}
 use Rattle.alt_request.proofs.Reaching.{err_is}
-use Rattle.alt_tables.specs.Faults.{IsFindFault, IsReadFault}
-use Rattle.alt_tables.specs.Stands.{KeepsCatalog, Stands, catalog_of}
-use Rattle.alt_tables.specs.declared.faults.TableFault.{TableFault}
-use Rattle.alt_tables.specs.declared.faults.TableFault.TheVariants.{Spent, Damaged, BadRow, Failed, NoMemory}
-use Rattle.alt_tables.specs.declared.tables.Tables.{Tables}
+use Rattle.alt_request.specs.TablesFaults.{IsFindFault, IsReadFault}
+use Rattle.alt_request.specs.TablesStands.{KeepsCatalog, Stands, catalog_of}
+use Rattle.alt_request.specs.TablesDeclaredTableFault.{TableFault}
+use Rattle.alt_request.specs.TablesDeclaredTableFault.TheVariants.{Spent, Damaged, BadRow, Failed, NoMemory}
+use Rattle.alt_request.specs.TablesDeclaredTables.{Tables}
 use Rattle.alt_value.specs.Tree.{Pair}
 
 -- ---- the changes of a valid state

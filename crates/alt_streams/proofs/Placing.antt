@@ -26,11 +26,11 @@ use Rattle.alt_shape.specs.declared.rule.Broken.TheVariants.{WrongKind, Missing,
 use Rattle.alt_streams.specs.private.Placed.{OnPlace, OnStreaming}
 use Rattle.alt_streams.specs.declared.records.Place.{Place}
 use Rattle.alt_streams.proofs.Reached.{records_broken, records_unread, records_missed, records_trimmed}
-use Rattle.alt_tables.specs.OpeningTrimmed.{number_at}
-use Rattle.alt_tables.specs.OpeningDeclaredTrimmed.{Trimmed}
+use Rattle.alt_request.specs.TablesOpeningTrimmed.{number_at}
+use Rattle.alt_request.specs.TablesOpeningDeclaredTrimmed.{Trimmed}
 use Rattle.alt_machine.specs.Trimming.{is_trimmed}
-use Rattle.alt_tables.specs.Stands.{Stands, catalog_of, trimmed_of}
-use Rattle.alt_tables.specs.declared.tables.Tables.{Tables}
+use Rattle.alt_request.specs.TablesStands.{Stands, catalog_of, trimmed_of}
+use Rattle.alt_request.specs.TablesDeclaredTables.{Tables}
 
 known_broken : (b : Broken) → IsKnown (refusal_of b)
 known_broken WrongKind = tt

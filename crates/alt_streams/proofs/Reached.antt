@@ -17,8 +17,8 @@ use Rattle.alt_machine.specs.State.{State, Table, Texts, descriptions}
 use Rattle.alt_machine.specs.Streams.{Iterator, is_stream, iterator_of, stream_at, table_of_stream}
 use Rattle.alt_machine.specs.Trimming.{is_trimmed}
 use Rattle.alt_machine.specs.Valid.{IsValid}
-use Rattle.alt_tables.specs.OpeningTrimmed.{AreTrimmedOf, number_at}
-use Rattle.alt_tables.specs.OpeningDeclaredTrimmed.{Trimmed}
+use Rattle.alt_request.specs.TablesOpeningTrimmed.{AreTrimmedOf, number_at}
+use Rattle.alt_request.specs.TablesOpeningDeclaredTrimmed.{Trimmed}
 use Rattle.alt_machine.proofs.Descriptions.{get-descriptions}
 use Rattle.alt_machine.proofs.Tests.{passed, stopped, found_some, found_none}
 use Rattle.alt_request.specs.declared.stop.Stop.{Stop}
@@ -34,8 +34,8 @@ use Rattle.alt_streams.specs.private.Paged.{iterator_at}
 use Rattle.alt_streams.specs.private.Placed.{IsPlace, OnStreaming, has_stream}
 use Rattle.alt_streams.specs.declared.records.Place.{Place}
 use Rattle.alt_streams.proofs.Entries.{behind, here}
-use Rattle.alt_tables.specs.Stands.{Stands, catalog_of, trimmed_of}
-use Rattle.alt_tables.specs.declared.tables.Tables.{Tables}
+use Rattle.alt_request.specs.TablesStands.{Stands, catalog_of, trimmed_of}
+use Rattle.alt_request.specs.TablesDeclaredTables.{Tables}
 use Rattle.alt_value.specs.Members.{text_order}
 use Rattle.alt_value.proofs.Places.{second}
 

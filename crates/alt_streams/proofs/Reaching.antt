@@ -17,8 +17,8 @@ use Rattle.alt_shape.specs.Refusals.{IsKnown, not_found}
 use Rattle.alt_shape.specs.declared.refusal.Reply.{Reply}
 use Rattle.alt_streams.specs.private.Named.{OnStream}
 use Rattle.alt_streams.proofs.Entries.{some}
-use Rattle.alt_tables.specs.Stands.{Stands, catalog_of}
-use Rattle.alt_tables.specs.declared.tables.Tables.{Tables}
+use Rattle.alt_request.specs.TablesStands.{Stands, catalog_of}
+use Rattle.alt_request.specs.TablesDeclaredTables.{Tables}
 
 -- what has no description isn't there
 pub nothing : (o : Option Table) → option_map (λ t. t.description) o ≡ None → o ≡ None

@@ -10,16 +10,15 @@ ghost use Rattle.alt_request.specs.Carried.{Carries, Moves};
 ghost use Rattle.alt_request.specs.Steps.{IsMemory, Tested};
 ghost use Rattle.alt_shape.specs.Body.{body_json};
 ghost use Rattle.alt_shape.specs.Refusals.{answer_of};
-ghost use Rattle.alt_tables.specs.Stands.{Stands, bounds_of};
+ghost use Rattle.alt_request.specs.TablesStands.{Stands, bounds_of};
 
 use crate::shown::{key_schema_json, text_json};
 use crate::streams::{SHARD, arn_in, may_be_shard, stream_target};
 use alt_base::NoMemory;
 use alt_disk::Disk;
-use alt_request::{Stop, one_member};
+use alt_request::{Stop, TableFault, Tables, one_member};
 use alt_schema::{TableSchema, View, label, stream_arn, view_word};
 use alt_shape::{Refusal, Reply, bodies, given};
-use alt_tables::{TableFault, Tables};
 use serde_json::{Map, Value, json};
 use std::alloc::Global;
 

@@ -13,16 +13,15 @@ ghost use Rattle.alt_request.specs.Steps.{IsMemory, Tested};
 ghost use Rattle.alt_shape.specs.Body.{body_json};
 ghost use Rattle.alt_shape.specs.Refusals.{answer_of};
 ghost use Rattle.alt_streams.specs.private.Paged.{iterator_at};
-ghost use Rattle.alt_tables.specs.Stands.{Stands, bounds_of};
+ghost use Rattle.alt_request.specs.TablesStands.{Stands, bounds_of};
 
 use crate::streams::{arn_in, is_trimmed, may_be_shard, stream_target};
 use alt_base::NoMemory;
 use alt_changes::{iterator_text, sequence_number};
 use alt_disk::Disk;
-use alt_request::{Stop, asks, one_member};
+use alt_request::{Stop, TableFault, Tables, asks, one_member};
 use alt_schema::TableSchema;
 use alt_shape::{Refusal, Reply, bodies, given, text_at};
-use alt_tables::{TableFault, Tables};
 use serde_json::{Map, Value};
 use std::alloc::Global;
 

@@ -12,17 +12,16 @@ ghost use Rattle.alt_schema.specs.Json.{items_by};
 ghost use Rattle.alt_shape.specs.Body.{body_json};
 ghost use Rattle.alt_shape.specs.Refusals.{answer_of};
 ghost use Rattle.alt_streams.specs.private.Listed.{AreNamed, IsAsked, IsStart, all_in, is_listed, last_of, name_given, page_answer, start_name, streams_after};
-ghost use Rattle.alt_tables.specs.Stands.{Stands, catalog_of, bounds_of};
+ghost use Rattle.alt_request.specs.TablesStands.{Stands, catalog_of, bounds_of};
 
 use crate::shown::stream_json;
 use crate::streams::stream_named;
 use alt_base::NoMemory;
 use alt_disk::Disk;
 use alt_machine::PAGE_LENGTH;
-use alt_request::Stop;
+use alt_request::{Stop, TableFault, Tables};
 use alt_schema::{TableSchema, is_name, stream_arn};
 use alt_shape::{Refusal, Reply, bodies, text_at, whole_at};
-use alt_tables::{TableFault, Tables};
 use serde_json::{Map, Value};
 use std::alloc::Global;
 

@@ -5,9 +5,9 @@ ghost use Rattle.std.specs.Prelude.{◌≡◌};
 use crate::record::{record_of, record_size};
 use alt_changes::Change;
 use alt_fields::{Bytes, put_u64};
+use alt_request::TableFault;
 use alt_schema::TableSchema;
 use alt_shape::Object;
-use alt_tables::TableFault;
 use std::alloc::Global;
 
 /// The sizes of records with which a page ends: 1 MB.
@@ -35,7 +35,7 @@ impl Page {
     ghost use Rattle.alt_schema.specs.declared.schema.TableSchema.{TableSchema};
     ghost use Rattle.alt_schema.specs.declared.schema.View.{View};
     ghost use Rattle.alt_streams.specs.private.Paged.{HasRead, IsFit, is_full};
-    ghost use Rattle.alt_tables.specs.Faults.{IsReadFault};
+    ghost use Rattle.alt_request.specs.TablesFaults.{IsReadFault};
 
     /// A page without records, of the changes from a number on.
     pub(crate) fn new(alloc: Global, from: u64, most: u64) -> Page

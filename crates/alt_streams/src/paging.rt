@@ -11,14 +11,14 @@ ghost use Rattle.alt_machine.specs.State.{State, Table};
 ghost use Rattle.alt_schema.specs.declared.schema.TableSchema.{TableSchema};
 ghost use Rattle.alt_schema.specs.declared.schema.View.{View};
 ghost use Rattle.alt_streams.specs.private.Paged.{HasRead, IsFit, Puts, Steps, is_full};
-ghost use Rattle.alt_tables.specs.Faults.{IsFindFault, IsReadFault};
-ghost use Rattle.alt_tables.specs.Stands.{AreReady, KeepsCatalog, Reads, Stands, catalog_of};
+ghost use Rattle.alt_request.specs.TablesFaults.{IsFindFault, IsReadFault};
+ghost use Rattle.alt_request.specs.TablesStands.{AreReady, KeepsCatalog, Reads, Stands, catalog_of};
 
 use crate::page::Page;
 use alt_changes::Change;
 use alt_disk::Disk;
+use alt_request::{TableFault, Tables};
 use alt_schema::TableSchema;
-use alt_tables::{TableFault, Tables};
 use std::alloc::Global;
 
 /// Puts records of the changes of a table with a stream from the page's next number on into a page, until it is full or no change

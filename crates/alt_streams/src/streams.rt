@@ -7,13 +7,12 @@ ghost use Rattle.alt_machine.specs.Streams.{arn_in, is_stream, may_be_shard};
 ghost use Rattle.alt_machine.specs.Trimming.{is_trimmed};
 ghost use Rattle.alt_schema.specs.Json.{stream_arn};
 ghost use Rattle.alt_streams.specs.private.Named.{IsStreamOf, OnStream};
-ghost use Rattle.alt_tables.specs.Stands.{catalog_of};
+ghost use Rattle.alt_request.specs.TablesStands.{catalog_of};
 
 use alt_base::NoMemory;
-use alt_request::Stop;
+use alt_request::{Stop, TableFault, Tables};
 use alt_schema::{TableSchema, stream_arn};
 use alt_shape::{Refusal, text_at};
-use alt_tables::{TableFault, Tables};
 use serde_json::{Map, Value};
 use std::alloc::Global;
 

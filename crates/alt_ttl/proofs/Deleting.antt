@@ -14,12 +14,12 @@ use Rattle.alt_machine.specs.Outcomes.{Outcome, Wants, together, writes_together
 use Rattle.alt_machine.specs.Replies.{answers}
 use Rattle.alt_machine.specs.State.{State}
 use Rattle.alt_ops_batch.proofs.Writing.{together_broke, together_made}
-use Rattle.alt_tables.specs.Faults.{AreAllMade, AreMade, BreakOff, BreakOffAll, IsFindFault}
-use Rattle.alt_tables.specs.Images.{Leaves}
-use Rattle.alt_tables.specs.Several.{written_at}
-use Rattle.alt_tables.specs.declared.faults.TableFault.{TableFault}
-use Rattle.alt_tables.specs.declared.faults.TableFault.TheVariants.{Spent, Damaged, BadRow, Failed, NoMemory}
-use Rattle.alt_tables.specs.declared.several.ItemChange.{ItemChange}
+use Rattle.alt_request.specs.TablesFaults.{AreAllMade, AreMade, BreakOff, BreakOffAll, IsFindFault}
+use Rattle.alt_request.specs.TablesImages.{Leaves}
+use Rattle.alt_request.specs.TablesSeveral.{written_at}
+use Rattle.alt_request.specs.TablesDeclaredTableFault.{TableFault}
+use Rattle.alt_request.specs.TablesDeclaredTableFault.TheVariants.{Spent, Damaged, BadRow, Failed, NoMemory}
+use Rattle.alt_request.specs.TablesDeclaredItemChange.{ItemChange}
 
 -- what is written
 pub expire_is : (s : State) (moment : ℕ)

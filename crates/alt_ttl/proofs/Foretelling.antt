@@ -15,10 +15,10 @@ use Rattle.alt_machine.specs.Keys.{place_of}
 use Rattle.alt_machine.specs.declared.Standing.{Standing}
 use Rattle.alt_machine.specs.State.{State, Table, Texts, descriptions}
 use Rattle.alt_machine.proofs.Descriptions.{get-descriptions}
-use Rattle.alt_tables.proofs.OpeningTies.{itself, tied}
+use Rattle.alt_request.proofs.TablesOpeningTies.{itself, tied}
 use Rattle.alt_schema.specs.declared.schema.TableSchema.{TableSchema}
-use Rattle.alt_tables.specs.Foreseen.{Foresees, ForeseesItem, IsFrom, IsMetFrom}
-use Rattle.alt_tables.specs.Several.{Every}
+use Rattle.alt_request.specs.TablesForeseen.{Foresees, ForeseesItem, IsFrom, IsMetFrom}
+use Rattle.alt_request.specs.TablesSeveral.{Every}
 use Rattle.alt_ttl.specs.private.Foresight.{Defers, ForeseesPlaced, Settles, Suffices, is_over_at, spot_at}
 use Rattle.alt_ttl.proofs.Ordered.{NoneBetween, every_over, has_over, is_less, left_behind, left_none, left_other, left_own, less_trans, rise_all}
 use Rattle.alt_value.specs.Item.{at_name}

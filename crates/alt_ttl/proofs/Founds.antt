@@ -10,9 +10,9 @@ use Rattle.alt_machine.specs.declared.TheConstants.{MOST_EXPIRED}
 use Rattle.alt_machine.specs.Expiry.{gone_at, is_expired}
 use Rattle.alt_machine.specs.Keys.{place_of}
 use Rattle.alt_machine.specs.State.{Texts}
-use Rattle.alt_tables.proofs.OpeningOneColumn.{bytes_differ}
+use Rattle.alt_request.proofs.TablesOpeningOneColumn.{bytes_differ}
 use Rattle.alt_schema.specs.declared.schema.TableSchema.{TableSchema}
-use Rattle.alt_tables.specs.Several.{AreAllApart, AreApart, Every, MayWrite}
+use Rattle.alt_request.specs.TablesSeveral.{AreAllApart, AreApart, Every, MayWrite}
 use Rattle.alt_ttl.specs.private.Searched.{AreNamed, has_twice, is_one, standing_of, standings_of}
 use Rattle.alt_value.specs.Tree.{Pair}
 

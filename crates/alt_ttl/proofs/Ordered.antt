@@ -17,8 +17,8 @@ use Rattle.alt_due.specs.declared.spot.Spot.{Spot}
 use Rattle.alt_machine.specs.declared.Standing.{Standing}
 use Rattle.alt_machine.specs.Expiry.{all_expired, expired_in, is_expired}
 use Rattle.alt_machine.specs.State.{State, Table}
-use Rattle.alt_tables.proofs.OpeningTies.{tied}
-use Rattle.alt_tables.specs.Several.{Every}
+use Rattle.alt_request.proofs.TablesOpeningTies.{tied}
+use Rattle.alt_request.specs.TablesSeveral.{Every}
 use Rattle.alt_ttl.specs.private.Foresight.{is_over_at, spot_at}
 use Rattle.alt_ttl.proofs.Founds.{every_both}
 use Rattle.alt_ttl.proofs.Searching.{each_found}

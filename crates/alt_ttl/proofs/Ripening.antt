@@ -13,10 +13,10 @@ use Rattle.alt_machine.specs.declared.TheConstants.{MOST_EXPIRED}
 use Rattle.alt_machine.specs.Expiry.{all_expired, expiring}
 use Rattle.alt_machine.specs.State.{State, Texts}
 use Rattle.alt_schema.specs.declared.schema.TableSchema.{TableSchema}
-use Rattle.alt_tables.specs.Foreseen.{Foresees}
-use Rattle.alt_tables.specs.Stands.{AreReady, Stands}
-use Rattle.alt_tables.specs.declared.tables.Tables.{Tables}
-use Rattle.alt_tables.proofs.Standing.{one_stands}
+use Rattle.alt_request.specs.TablesForeseen.{Foresees}
+use Rattle.alt_request.specs.TablesStands.{AreReady, Stands}
+use Rattle.alt_request.specs.TablesDeclaredTables.{Tables}
+use Rattle.alt_request.proofs.TablesStanding.{one_stands}
 use Rattle.alt_ttl.specs.private.Foresight.{PutsOver, Suffices, is_over_at, spot_at}
 use Rattle.alt_ttl.specs.private.Searched.{AreNamed}
 use Rattle.alt_ttl.proofs.Foretelling.{left_nothing, left_over, left_stale, none_over}

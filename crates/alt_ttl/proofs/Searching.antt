@@ -23,15 +23,15 @@ use Rattle.alt_machine.specs.State.{State, Table, Texts, descriptions}
 use Rattle.alt_machine.specs.Valid.{IsTable, IsValid}
 use Rattle.alt_machine.specs.Walks.{items_between}
 use Rattle.alt_machine.proofs.Descriptions.{keys-descriptions, there-descriptions}
-use Rattle.alt_tables.proofs.OpeningTies.{itself, tied}
+use Rattle.alt_request.proofs.TablesOpeningTies.{itself, tied}
 use Rattle.alt_ops_query.proofs.Beyond.{beyond_after}
 use Rattle.alt_ops_query.proofs.Lists.{each_entry}
 use Rattle.alt_ops_query.proofs.Rests.{contains_so}
 use Rattle.alt_ops_query.proofs.Steps.{IsLast, last_of_step}
 use Rattle.alt_schema.specs.Rules.{is_name}
 use Rattle.alt_schema.specs.declared.schema.TableSchema.{TableSchema}
-use Rattle.alt_tables.specs.Reading.{places_between}
-use Rattle.alt_tables.specs.Several.{Every}
+use Rattle.alt_request.specs.TablesReading.{places_between}
+use Rattle.alt_request.specs.TablesSeveral.{Every}
 use Rattle.alt_ttl.specs.private.Searched.{left_in, standing_of, standings_of}
 use Rattle.alt_ttl.proofs.Fronts.{take_step}
 use Rattle.alt_ttl.proofs.Founds.{every_take}

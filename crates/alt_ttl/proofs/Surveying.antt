@@ -20,15 +20,15 @@ use Rattle.alt_due.specs.declared.spot.Spot.{Spot}
 use Rattle.alt_machine.specs.Keys.{place_of}
 use Rattle.alt_machine.specs.State.{State, Table}
 use Rattle.alt_machine.specs.Walks.{items_between}
-use Rattle.alt_tables.proofs.OpeningTies.{tied}
+use Rattle.alt_request.proofs.TablesOpeningTies.{tied}
 use Rattle.alt_ops_query.proofs.Beyond.{beyond_after}
 use Rattle.alt_ops_query.proofs.Lists.{each_entry}
 use Rattle.alt_ops_query.proofs.Rests.{contains_so}
 use Rattle.alt_ops_query.proofs.Steps.{IsLast, last_of_step}
 use Rattle.alt_schema.specs.declared.schema.TableSchema.{TableSchema}
-use Rattle.alt_tables.specs.Foreseen.{ForeseesItem}
-use Rattle.alt_tables.specs.Reading.{places_between}
-use Rattle.alt_tables.specs.Several.{Every}
+use Rattle.alt_request.specs.TablesForeseen.{ForeseesItem}
+use Rattle.alt_request.specs.TablesReading.{places_between}
+use Rattle.alt_request.specs.TablesSeveral.{Every}
 use Rattle.alt_ttl.specs.private.Foresight.{ForeseesPlaced, ForeseesRest, ForeseesTable, LeadsOn}
 use Rattle.alt_ttl.proofs.Foretelling.{no_time}
 use Rattle.alt_ttl.proofs.Founds.{every_both}

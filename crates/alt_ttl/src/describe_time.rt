@@ -8,15 +8,14 @@ ghost use Rattle.alt_request.specs.Carried.{Carries, Moves};
 ghost use Rattle.alt_request.specs.Steps.{IsMemory};
 ghost use Rattle.alt_shape.specs.Body.{body_json};
 ghost use Rattle.alt_shape.specs.Refusals.{answer_of};
-ghost use Rattle.alt_tables.specs.Stands.{Stands, bounds_of};
+ghost use Rattle.alt_request.specs.TablesStands.{Stands, bounds_of};
 
 use crate::replies::shown;
 use alt_base::NoMemory;
 use alt_disk::Disk;
-use alt_request::{Rules, Stop, TableRead, read_table};
+use alt_request::{Rules, Stop, TableFault, TableRead, Tables, read_table};
 use alt_schema::TableSchema;
 use alt_shape::{Broken, Reply, bodies};
-use alt_tables::{TableFault, Tables};
 use alt_value::Text;
 use serde_json::{Map, Value, json};
 use std::alloc::Global;

@@ -13,17 +13,16 @@ ghost use Rattle.alt_request.specs.Carried.{Carries, Moves};
 ghost use Rattle.alt_request.specs.Steps.{IsMemory};
 ghost use Rattle.alt_shape.specs.Body.{body_json};
 ghost use Rattle.alt_shape.specs.Refusals.{answer_of};
-ghost use Rattle.alt_tables.specs.Faults.{Writes};
-ghost use Rattle.alt_tables.specs.Images.{Leaves};
-ghost use Rattle.alt_tables.specs.Stands.{AreReady, Stands, bounds_of};
+ghost use Rattle.alt_request.specs.TablesFaults.{Writes};
+ghost use Rattle.alt_request.specs.TablesImages.{Leaves};
+ghost use Rattle.alt_request.specs.TablesStands.{AreReady, Stands, bounds_of};
 
 use crate::replies::shown;
 use crate::search::deletions;
 use alt_codec::Writer;
 use alt_disk::Disk;
-use alt_request::Stop;
+use alt_request::{Stop, TableFault, Tables};
 use alt_shape::Reply;
-use alt_tables::{TableFault, Tables};
 use serde_json::{Map, Value};
 use std::alloc::Global;
 

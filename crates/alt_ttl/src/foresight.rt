@@ -6,9 +6,9 @@ ghost use Rattle.alt_base.specs.Counts.{Rose};
 ghost use Rattle.alt_due.specs.Due.{FindsNext, IsRipe};
 ghost use Rattle.alt_machine.specs.Expiry.{expiring};
 ghost use Rattle.alt_machine.specs.State.{State};
-ghost use Rattle.alt_tables.specs.Faults.{IsFindFault};
-ghost use Rattle.alt_tables.specs.Foreseen.{Foresees};
-ghost use Rattle.alt_tables.specs.Stands.{AreReady, KeepsCatalog, Reads, Stands, catalog_of};
+ghost use Rattle.alt_request.specs.TablesFaults.{IsFindFault};
+ghost use Rattle.alt_request.specs.TablesForeseen.{Foresees};
+ghost use Rattle.alt_request.specs.TablesStands.{AreReady, KeepsCatalog, Reads, Stands, catalog_of};
 ghost use Rattle.alt_ttl.specs.private.Foresight.{PutsOver, Suffices, is_over_at, spot_at};
 ghost use Rattle.alt_ttl.specs.private.Searched.{AreNamed};
 
@@ -19,7 +19,7 @@ use alt_disk::Disk;
 use alt_due::{Due, Spot};
 use alt_fields::Bytes;
 use alt_machine::{MOST_EXPIRED, Standing};
-use alt_tables::{TableFault, Tables};
+use alt_request::{TableFault, Tables};
 use std::alloc::Global;
 
 /// Where the first expired items stand, `None` where the list doesn't tell.

@@ -13,7 +13,7 @@ mod standings;
 mod survey;
 mod update_time;
 
-pub use alt_ops_batch::{batch_get_item, batch_write_item};
+pub use alt_ops_batch::{batch_get_item, batch_write_item, batch_write_item_ahead};
 pub use alt_ops_query::{query, scan};
 pub use alt_ops_table::{create_table, delete_table, describe_table, list_tables};
 pub use describe_time::describe_time_to_live;

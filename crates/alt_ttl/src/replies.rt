@@ -8,9 +8,8 @@ ghost use Rattle.alt_request.specs.Steps.{IsMemory};
 ghost use Rattle.alt_shape.specs.Body.{body_json};
 ghost use Rattle.alt_shape.specs.Refusals.{answer_of};
 
-use alt_request::{Stop, one_member};
+use alt_request::{Stop, TableFault, one_member};
 use alt_shape::Reply;
-use alt_tables::TableFault;
 use serde_json::Value;
 use std::alloc::Global;
 

@@ -9,9 +9,9 @@ ghost use Rattle.alt_machine.specs.Expiry.{expired_in, expiring, gone_at};
 ghost use Rattle.alt_machine.specs.Ops.ListTables.{names_after};
 ghost use Rattle.alt_machine.specs.State.{State, Table};
 ghost use Rattle.alt_schema.specs.declared.schema.TableSchema.{TableSchema};
-ghost use Rattle.alt_tables.specs.Faults.{IsFindFault};
-ghost use Rattle.alt_tables.specs.Several.{AreAllApart, Every, IsFound, MayWrite, written_at};
-ghost use Rattle.alt_tables.specs.Stands.{AreReady, KeepsCatalog, Reads, Stands, catalog_of};
+ghost use Rattle.alt_request.specs.TablesFaults.{IsFindFault};
+ghost use Rattle.alt_request.specs.TablesSeveral.{AreAllApart, Every, IsFound, MayWrite, written_at};
+ghost use Rattle.alt_request.specs.TablesStands.{AreReady, KeepsCatalog, Reads, Stands, catalog_of};
 ghost use Rattle.alt_ttl.specs.private.Searched.{AreNamed, left_in, left_of};
 
 use crate::foresight::foreseen;
@@ -21,7 +21,7 @@ use alt_disk::Disk;
 use alt_fields::Bytes;
 use alt_keyorder::KeyRange;
 use alt_machine::{MOST_EXPIRED, MOST_TABLES, Standing};
-use alt_tables::{ItemChange, TableFault, Tables};
+use alt_request::{ItemChange, TableFault, Tables};
 use alt_value::Text;
 use std::alloc::Global;
 

@@ -6,13 +6,13 @@ ghost use Rattle.std.specs.Option.{option_map_or};
 ghost use Rattle.alt_due.specs.Due.{IsRipe};
 ghost use Rattle.alt_machine.specs.Expiry as machine;
 ghost use Rattle.alt_schema.specs.declared.schema.TableSchema.{TableSchema};
-ghost use Rattle.alt_tables.specs.Stands.{catalog_of};
+ghost use Rattle.alt_request.specs.TablesStands.{catalog_of};
 ghost use Rattle.alt_ttl.specs.private.Foresight.{Defers, Settles};
 
 use crate::over::is_expired;
 use alt_due::{Due, Spot};
+use alt_request::{Tables, expires_from};
 use alt_schema::TableSchema;
-use alt_tables::{Tables, expires_from};
 use alt_value::Item;
 
 /// Whether a table of that name is there and its items have a time to live.

@@ -11,15 +11,14 @@ ghost use Rattle.alt_request.specs.Steps.{IsMemory};
 ghost use Rattle.alt_shape.specs.Body.{body_json};
 ghost use Rattle.alt_shape.specs.Refusals.{answer_of};
 ghost use Rattle.alt_shape.specs.Shape.{demand_of, first_unmet};
-ghost use Rattle.alt_tables.specs.Stands.{AreReady, Stands, bounds_of, catalog_of};
+ghost use Rattle.alt_request.specs.TablesStands.{AreReady, Stands, bounds_of, catalog_of};
 
 use crate::replies::shown;
 use alt_base::NoMemory;
 use alt_disk::Disk;
-use alt_request::{Rules, Stop, table_name, table_target};
+use alt_request::{Rules, Stop, TableFault, Tables, table_name, table_target};
 use alt_schema::TableSchema;
 use alt_shape::{Broken, Kind, Refusal, Reply, Rule, check, object_at, text_at, truth_at};
-use alt_tables::{TableFault, Tables};
 use alt_value::Text;
 use serde_json::{Map, Value, json};
 use std::alloc::Global;

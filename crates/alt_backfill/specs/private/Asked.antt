@@ -21,10 +21,10 @@ use Rattle.alt_schema.specs.declared.described.SchemaFault.TheVariants as schema
 use Rattle.alt_schema.specs.declared.schema.TableSchema.{TableSchema}
 use Rattle.alt_shape.specs.Refusals.{IsKnown}
 use Rattle.alt_shape.specs.Shape.{given}
-use Rattle.alt_tables.specs.Faults.{IsReadFault}
-use Rattle.alt_tables.specs.Stands.{catalog_of, family_of}
-use Rattle.alt_tables.specs.declared.faults.TableFault.TheVariants.{NoMemory}
-use Rattle.alt_tables.specs.declared.tables.Tables.{Tables}
+use Rattle.alt_request.specs.TablesFaults.{IsReadFault}
+use Rattle.alt_request.specs.TablesStands.{catalog_of, family_of}
+use Rattle.alt_request.specs.TablesDeclaredTableFault.TheVariants.{NoMemory}
+use Rattle.alt_request.specs.TablesDeclaredTables.{Tables}
 
 -- ---- the changes
 

@@ -14,7 +14,7 @@ use Rattle.alt_machine.specs.Ops.BatchGetItem as machine
 use Rattle.alt_machine.specs.Ops.BatchGetItem.{Shown, found_at, keys_object, size_at, read_of}
 use Rattle.alt_machine.specs.Ops.GetItem.{parts}
 use Rattle.alt_machine.specs.State.{State, Texts}
-use Rattle.alt_tables.specs.Several.{Every}
+use Rattle.alt_request.specs.TablesSeveral.{Every}
 use Rattle.alt_ops_batch.specs.declared.reading.Read.{Read}
 use Rattle.alt_ops_batch.specs.declared.reading.Taken.{Taken}
 use Rattle.alt_request.specs.Carried.{WhereFailed}
@@ -25,7 +25,7 @@ use Rattle.alt_shape.specs.Body.{items_json, tables_json}
 use Rattle.alt_shape.specs.Refusals.{Answer, answered}
 use Rattle.alt_shape.specs.declared.body.TableItems.{TableItems}
 use Rattle.alt_schema.specs.declared.schema.TableSchema.{TableSchema}
-use Rattle.alt_tables.specs.Faults.{IsFindFault}
+use Rattle.alt_request.specs.TablesFaults.{IsFindFault}
 use Rattle.alt_value.specs.Tree.{Pair}
 
 -- ---- what is read so far

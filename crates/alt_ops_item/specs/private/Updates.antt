@@ -9,7 +9,7 @@ use Rattle.alt_request.specs.declared.stop.Stop.{Stop}
 use Rattle.alt_request.specs.declared.stop.Stop.TheVariants.{Refused, Fault}
 use Rattle.alt_schema.specs.declared.schema.TableSchema.{TableSchema}
 use Rattle.alt_shape.specs.Refusals.{Answer}
-use Rattle.alt_tables.specs.declared.faults.TableFault.TheVariants.{NoMemory}
+use Rattle.alt_request.specs.TablesDeclaredTableFault.TheVariants.{NoMemory}
 use Rattle.alt_updeval.specs.Answers.{fault_of}
 use Rattle.alt_updeval.specs.declared.fault.UpdateFault.{UpdateFault}
 use Rattle.alt_updeval.specs.declared.fault.UpdateFault.TheVariants as fault

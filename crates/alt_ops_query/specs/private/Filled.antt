@@ -14,7 +14,7 @@ use Rattle.alt_paging.specs.declared.pager.Pager.{Pager}
 use Rattle.alt_paging.specs.Offered.{WasOffered, asked_of, has_ended}
 use Rattle.alt_paging.specs.declared.ask.PageAsk.{PageAsk}
 use Rattle.alt_schema.specs.declared.schema.IndexSchema.{IndexSchema}
-use Rattle.alt_tables.specs.Reading.{HasRowFiles, family_read, is_within}
+use Rattle.alt_request.specs.TablesReading.{HasRowFiles, family_read, is_within}
 use Rattle.alt_value.specs.Tree.{Pair}
 
 -- Behind those that were seen all of the items were examined, and the page goes on; or the first of them, the last of which ended it.

@@ -3,7 +3,7 @@ use Rattle.std.specs.Prelude.{Result, Ok, Err}
 use Rattle.alt_request.specs.Carried.{WhereFailed}
 use Rattle.alt_request.specs.declared.stop.Stop.{Stop}
 use Rattle.alt_request.specs.declared.stop.Stop.TheVariants.{Refused, Fault}
-use Rattle.alt_tables.specs.Faults.{IsFindFault}
+use Rattle.alt_request.specs.TablesFaults.{IsFindFault}
 
 -- by a fault of a call that reads
 abbrev pub IsFault : Stop → Type 0

@@ -14,9 +14,9 @@ use Rattle.alt_schema.specs.Described.{IsNew, description_of}
 use Rattle.alt_schema.specs.Rules.{refusal_of}
 use Rattle.alt_schema.specs.declared.schema.TableSchema.{TableSchema}
 use Rattle.alt_shape.specs.Refusals.{IsKnown}
-use Rattle.alt_tables.specs.Faults.{IsReadFault}
-use Rattle.alt_tables.specs.Stands.{catalog_of, number_of, family_of}
-use Rattle.alt_tables.specs.declared.tables.Tables.{Tables}
+use Rattle.alt_request.specs.TablesFaults.{IsReadFault}
+use Rattle.alt_request.specs.TablesStands.{catalog_of, number_of, family_of}
+use Rattle.alt_request.specs.TablesDeclaredTables.{Tables}
 
 -- no refusal applies, and that is the table to be made, of the next family where there is room for one
 pub record IsToBeMade (tables : Tables) (moment : ℕ) (ms : Members) (d : TableSchema) : Type 0 where

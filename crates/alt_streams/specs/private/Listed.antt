@@ -19,7 +19,7 @@ use Rattle.alt_schema.specs.Json.{items_by, member_if, stream_arn}
 use Rattle.alt_schema.specs.declared.schema.TableSchema.{TableSchema}
 use Rattle.alt_shape.specs.Refusals.{Answer, IsKnown, answered, refused, bad_stream_argument}
 use Rattle.alt_shape.specs.Shape.{given}
-use Rattle.alt_tables.specs.Faults.{IsReadFault}
+use Rattle.alt_request.specs.TablesFaults.{IsReadFault}
 use Rattle.alt_value.specs.Members.{text_order}
 
 -- ---- the streams behind a name

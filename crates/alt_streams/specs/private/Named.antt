@@ -8,7 +8,7 @@ use Rattle.alt_request.specs.declared.stop.Stop.{Stop}
 use Rattle.alt_request.specs.declared.stop.Stop.TheVariants.{Refused, Fault}
 use Rattle.alt_schema.specs.declared.schema.TableSchema.{TableSchema}
 use Rattle.alt_shape.specs.Refusals.{not_found}
-use Rattle.alt_tables.specs.Faults.{IsReadFault}
+use Rattle.alt_request.specs.TablesFaults.{IsReadFault}
 
 -- The table whose stream has the name has this description, or none has it.
 abbrev pub IsStreamOf : Texts TableSchema → List ℕ → Option TableSchema → Type 0

@@ -19,9 +19,9 @@ use Rattle.alt_shape.specs.Bodies as bodies
 use Rattle.alt_shape.specs.Refusals.{IsKnown, not_found}
 use Rattle.alt_streams.specs.private.Named.{IsStreamOf}
 use Rattle.alt_streams.specs.declared.records.Place.{Place}
-use Rattle.alt_tables.specs.OpeningTrimmed.{AreTrimmedOf, number_at}
-use Rattle.alt_tables.specs.OpeningDeclaredTrimmed.{Trimmed}
-use Rattle.alt_tables.specs.Faults.{IsReadFault}
+use Rattle.alt_request.specs.TablesOpeningTrimmed.{AreTrimmedOf, number_at}
+use Rattle.alt_request.specs.TablesOpeningDeclaredTrimmed.{Trimmed}
+use Rattle.alt_request.specs.TablesFaults.{IsReadFault}
 
 -- a table is there, and has a stream
 abbrev pub has_stream : Option TableSchema → Bool

@@ -12,8 +12,8 @@ use Rattle.alt_machine.specs.State.{State, Table}
 use Rattle.alt_machine.specs.Walks.{items_between}
 use Rattle.alt_machine.specs.declared.Standing.{Standing}
 use Rattle.alt_schema.specs.declared.schema.TableSchema.{TableSchema}
-use Rattle.alt_tables.specs.Foreseen.{ForeseesItem}
-use Rattle.alt_tables.specs.Several.{Every}
+use Rattle.alt_request.specs.TablesForeseen.{ForeseesItem}
+use Rattle.alt_request.specs.TablesSeveral.{Every}
 use Rattle.alt_value.specs.Tree.{Pair}
 
 -- the place of a standing

@@ -11,7 +11,7 @@ use Rattle.alt_machine.specs.Keys.{place_of}
 use Rattle.alt_machine.specs.State.{Table, Texts}
 use Rattle.alt_machine.specs.Walks.{items_between}
 use Rattle.alt_schema.specs.declared.schema.TableSchema.{TableSchema}
-use Rattle.alt_tables.specs.Several.{Every}
+use Rattle.alt_request.specs.TablesSeveral.{Every}
 use Rattle.alt_value.specs.Tree.{Pair}
 
 -- where an item of a table of a name stands by its key, where it has expired

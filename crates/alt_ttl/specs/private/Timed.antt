@@ -11,7 +11,7 @@ use Rattle.alt_request.specs.declared.stop.Stop.{Stop}
 use Rattle.alt_request.specs.declared.stop.Stop.TheVariants.{Refused, Fault}
 use Rattle.alt_schema.specs.declared.schema.TableSchema.{TableSchema}
 use Rattle.alt_shape.specs.Refusals.{IsKnown}
-use Rattle.alt_tables.specs.Faults.{IsReadFault}
+use Rattle.alt_request.specs.TablesFaults.{IsReadFault}
 
 -- no refusal applies, and the table is there
 pub record MayBeTimed (catalog : Texts TableSchema) (ms : Members) : Type 0 where

@@ -16,11 +16,11 @@ use Rattle.alt_request.proofs.Carrying.{broke_off, faulted_as, said_or_not, wrot
 use Rattle.alt_request.proofs.Moving.{failed_fault, memory_unfailed, moves_nothing, moves_stopped, reply_unfailed, unrefused, unwritten_wants, wanting_fault}
 use Rattle.alt_request.proofs.Reaching.{err_is}
 use Rattle.alt_shape.specs.Refusals.{Answer}
-use Rattle.alt_tables.proofs.Left.{reads_nothing}
-use Rattle.alt_tables.specs.Altering.{family_left}
-use Rattle.alt_tables.specs.Faults.{AreMade, BreakOff}
-use Rattle.alt_tables.specs.Images.{Leaves}
-use Rattle.alt_tables.specs.Stands.{Stands, bounds_of}
+use Rattle.alt_request.proofs.TablesLeft.{reads_nothing}
+use Rattle.alt_request.specs.TablesAltering.{family_left}
+use Rattle.alt_request.specs.TablesFaults.{AreMade, BreakOff}
+use Rattle.alt_request.specs.TablesImages.{Leaves}
+use Rattle.alt_request.specs.TablesStands.{Stands, bounds_of}
 use Rattle.alt_backfill.proofs.alteration.update_table.Goals as goal
 
 pub returns-in_err-schema-clause-carried : goal.returns-in_err-schema-clause-carried

@@ -7,7 +7,7 @@ use Rattle.serde_json.specs.View.{members_view}
 use Rattle.alt_backfill.specs.private.Asked.{IsAsked, IsAskedOf}
 use Rattle.alt_backfill.proofs.Asking.{absent_asked, here_asked, misnamed_asked, unfit_asked}
 use Rattle.alt_request.proofs.Reaching.{err_is}
-use Rattle.alt_tables.specs.Stands.{catalog_of, family_of}
+use Rattle.alt_request.specs.TablesStands.{catalog_of, family_of}
 use Rattle.alt_backfill.proofs.asked.asked.Goals as goal
 
 pub returns-in_err-unfit : goal.returns-in_err-unfit

@@ -13,12 +13,12 @@ use Rattle.alt_machine.specs.State.{State}
 use Rattle.alt_machine.specs.declared.TheConstants.{BUILT_AT_ONCE}
 use Rattle.alt_ops_table.proofs.Asking.{none_there}
 use Rattle.alt_schema.specs.declared.schema.TableSchema.{TableSchema}
-use Rattle.alt_tables.specs.Faults.{AreMade, BreakOff, Writes}
-use Rattle.alt_tables.specs.Images.{Leaves}
+use Rattle.alt_request.specs.TablesFaults.{AreMade, BreakOff, Writes}
+use Rattle.alt_request.specs.TablesImages.{Leaves}
 use Rattle.alt_request.proofs.Reaching.{err_is}
-use Rattle.alt_tables.specs.Stands.{Stands, bounds_of, catalog_of}
-use Rattle.alt_tables.specs.declared.faults.TableFault.{TableFault}
-use Rattle.alt_tables.specs.declared.faults.TableFault.TheVariants.{Failed}
+use Rattle.alt_request.specs.TablesStands.{Stands, bounds_of, catalog_of}
+use Rattle.alt_request.specs.TablesDeclaredTableFault.{TableFault}
+use Rattle.alt_request.specs.TablesDeclaredTableFault.TheVariants.{Failed}
 
 -- values that are equal as options are equal
 some_same : {A : Type 0} (a b : A) → Some a ≡ Some b → a ≡ b

@@ -4,7 +4,7 @@ use Rattle.std.specs.FinMap as map
 use Rattle.alt_backfill.specs.private.Asked.{builds}
 use Rattle.alt_backfill.proofs.Naming.{all_walked, first_of_those, found_there, is_behind, names_less, next_is, next_none, walk_end, walk_here, walk_next}
 use Rattle.alt_backfill.proofs.building.first_building.Goals as goal
-use Rattle.alt_tables.specs.Stands.{catalog_of}
+use Rattle.alt_request.specs.TablesStands.{catalog_of}
 
 pub loop-schema-preserved : goal.loop-schema-preserved
 loop-schema-preserved c = (

@@ -7,7 +7,7 @@ use Rattle.alt_backfill.specs.private.Asked.{builds}
 use Rattle.alt_backfill.proofs.Naming.{first_of_those}
 use Rattle.alt_backfill.proofs.building.first_building.Given as goal
 use Rattle.alt_machine.specs.Ops.ListTables.{names_after}
-use Rattle.alt_tables.specs.Stands.{catalog_of}
+use Rattle.alt_request.specs.TablesStands.{catalog_of}
 
 abbrev pub invariant-loop-schema : goal.invariant-loop-schema
 invariant-loop-schema l = shadow (Utf8 l.last)

@@ -1,7 +1,7 @@
 -- What was carried out, once its refusal is told.
 use Rattle.alt_machine.specs.Step.{step}
 use Rattle.alt_dispatch.proofs.Settling.{settled, settled_valid, told_failed, told_refused, told_wants}
-use Rattle.alt_tables.specs.Stands.{Stands, bounds_of}
+use Rattle.alt_request.specs.TablesStands.{Stands, bounds_of}
 use Rattle.alt_dispatch.proofs.answers.answer.Goals as goal
 
 pub returns-clause-settles : goal.returns-clause-settles

@@ -11,8 +11,8 @@ use Rattle.alt_request.specs.declared.stop.Stop.{Stop}
 use Rattle.alt_shape.specs.declared.refusal.Reply.{Reply}
 use Rattle.alt_disk.specs.Disk.{DiskState}
 use Rattle.alt_dispatch.specs.Reading.{is_read}
-use Rattle.alt_tables.proofs.Left.{reads_nothing}
-use Rattle.alt_tables.specs.Stands.{Reads, Stands}
+use Rattle.alt_request.proofs.TablesLeft.{reads_nothing}
+use Rattle.alt_request.specs.TablesStands.{Reads, Stands}
 use Rattle.alt_dispatch.proofs.answers.carry_out.Goals as goal
 
 -- what is carried out of the operation at hand

@@ -4,9 +4,9 @@ use Rattle.std.proofs.lemmas.Bool.{false≢true}
 use Rattle.alt_machine.specs.declared.Operation.{Operation}
 use Rattle.alt_machine.specs.Step.{step}
 use Rattle.alt_request.specs.Carried.{Carries, Moves}
-use Rattle.alt_tables.specs.Stands.{Stands, bounds_of}
+use Rattle.alt_request.specs.TablesStands.{Stands, bounds_of}
 use Rattle.alt_dispatch.specs.Reading.{OnlyReads}
-use Rattle.alt_tables.proofs.Left.{reads_nothing}
+use Rattle.alt_request.proofs.TablesLeft.{reads_nothing}
 use Rattle.alt_dispatch.proofs.answers.respond.Goals as goal
 
 pub returns-in-PutItem-clause-carried : goal.returns-in-PutItem-clause-carried

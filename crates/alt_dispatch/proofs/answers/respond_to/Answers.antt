@@ -5,9 +5,9 @@ use Rattle.serde_json.specs.View.{members_view}
 use Rattle.alt_machine.specs.Members.{body_of}
 use Rattle.alt_machine.specs.Step.{with_body}
 use Rattle.alt_members.specs.Heeded.{Suffices}
-use Rattle.alt_tables.specs.Stands.{Stands}
+use Rattle.alt_request.specs.TablesStands.{Stands}
 use Rattle.alt_request.proofs.Moving.{moves_nothing}
-use Rattle.alt_tables.proofs.Left.{reads_nothing}
+use Rattle.alt_request.proofs.TablesLeft.{reads_nothing}
 use Rattle.alt_dispatch.proofs.Heeding.{carries_on, moves_on, unread}
 use Rattle.alt_dispatch.proofs.answers.respond_to.Goals as goal
 

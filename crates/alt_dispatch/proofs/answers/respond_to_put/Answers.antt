@@ -6,7 +6,7 @@ use Rattle.alt_machine.specs.declared.Operation.TheVariants.{PutItem}
 use Rattle.alt_machine.specs.Step.{with_body}
 use Rattle.alt_request.specs.Carried.{Carries, Moves}
 use Rattle.alt_request.proofs.Moving.{moves_nothing}
-use Rattle.alt_tables.specs.Stands.{Stands, bounds_of}
+use Rattle.alt_request.specs.TablesStands.{Stands, bounds_of}
 use Rattle.alt_dispatch.proofs.Reading.{body_of_read}
 use Rattle.alt_dispatch.proofs.answers.respond_to_put.Goals as goal
 

@@ -2,7 +2,7 @@
 use Rattle.std.proofs.Common.{◌≡◌, drop}
 use Rattle.std.specs.FinMap as map
 use Rattle.std.specs.List.{list_all}
-use Rattle.alt_tables.specs.Stands.{catalog_of}
+use Rattle.alt_request.specs.TablesStands.{catalog_of}
 use Rattle.alt_ops_batch.proofs.asked_ahead.known.Given as goal
 
 abbrev pub invariant-loop-table : goal.invariant-loop-table

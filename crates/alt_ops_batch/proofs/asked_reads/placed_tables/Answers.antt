@@ -7,7 +7,7 @@ use Rattle.alt_machine.specs.Ops.BatchGetItem.{placed_all}
 use Rattle.alt_ops_batch.specs.private.Batches.{keys_said, reads_of, HasPlainNames}
 use Rattle.alt_ops_batch.specs.declared.asked_reads.TableReads.{TableReads}
 use Rattle.alt_ops_batch.proofs.Founds.{one_more_seen}
-use Rattle.alt_tables.specs.Stands.{catalog_of}
+use Rattle.alt_request.specs.TablesStands.{catalog_of}
 use Rattle.alt_ops_batch.proofs.asked_reads.placed_tables.Goals as goal
 
 pub loop-keys-preserved : goal.loop-keys-preserved

@@ -3,7 +3,7 @@ use Rattle.std.proofs.Common.{◌≡◌, map, All}
 use Rattle.std.specs.Vec.Iter.{into_iter_items}
 use Rattle.alt_machine.specs.Batches.{each_found}
 use Rattle.alt_machine.specs.Ops.BatchGetItem.{placed_all}
-use Rattle.alt_tables.specs.Stands.{catalog_of}
+use Rattle.alt_request.specs.TablesStands.{catalog_of}
 use Rattle.alt_ops_batch.specs.private.Batches.{keys_said, reads_of, HasPlainNames}
 use Rattle.alt_ops_batch.proofs.Founds.{behind}
 use Rattle.alt_ops_batch.proofs.asked_reads.placed_tables.Given as goal

@@ -5,7 +5,7 @@ use Rattle.serde_json.specs.View.{members_view}
 use Rattle.alt_machine.specs.Batches.{has_repeat}
 use Rattle.alt_ops_batch.specs.private.Batches.{keys_read, keys_said}
 use Rattle.alt_ops_batch.proofs.AskedReads.{reads_told}
-use Rattle.alt_tables.specs.Stands.{catalog_of}
+use Rattle.alt_request.specs.TablesStands.{catalog_of}
 use Rattle.alt_ops_batch.proofs.asked_reads.reads_asked.Goals as goal
 
 pub returns-then-branch-clause-asked : goal.returns-then-branch-clause-asked

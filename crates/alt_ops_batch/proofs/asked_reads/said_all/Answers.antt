@@ -5,7 +5,7 @@ use Rattle.alt_machine.specs.Batches.{each_found}
 use Rattle.alt_machine.specs.Ops.BatchGetItem.{said_in}
 use Rattle.alt_ops_batch.specs.private.Batches.{keys_read, keys_said}
 use Rattle.alt_ops_batch.proofs.Founds.{one_more_seen}
-use Rattle.alt_tables.specs.Stands.{catalog_of}
+use Rattle.alt_request.specs.TablesStands.{catalog_of}
 use Rattle.alt_ops_batch.proofs.asked_reads.said_all.Goals as goal
 
 pub loop-keys-preserved : goal.loop-keys-preserved

@@ -1,7 +1,7 @@
 -- What is in the place of a projection has no float, where it was read.
 use Rattle.serde_json.specs.View.{members_view}
 use Rattle.alt_request.specs.Words.{given_of}
-use Rattle.alt_tables.specs.Stands.{catalog_of}
+use Rattle.alt_request.specs.TablesStands.{catalog_of}
 use Rattle.alt_ops_batch.proofs.Plain.{parts_plain}
 use Rattle.alt_ops_batch.proofs.asked_reads.said_in.Goals as goal
 

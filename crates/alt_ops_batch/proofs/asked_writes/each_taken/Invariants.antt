@@ -2,7 +2,7 @@
 use Rattle.std.proofs.Common.{◌≡◌, drop}
 use Rattle.alt_machine.specs.Ops.BatchWriteItem.{of_members}
 use Rattle.alt_machine.specs.Refusals.{first_answer}
-use Rattle.alt_tables.specs.Stands.{catalog_of}
+use Rattle.alt_request.specs.TablesStands.{catalog_of}
 use Rattle.alt_ops_batch.proofs.asked_writes.each_taken.Given as goal
 
 abbrev pub invariant-loop-member : goal.invariant-loop-member

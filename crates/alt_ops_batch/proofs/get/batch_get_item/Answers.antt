@@ -13,8 +13,8 @@ use Rattle.alt_request.specs.Carried.{Carries, Moves}
 use Rattle.alt_request.proofs.Carrying.{said_or_not}
 use Rattle.alt_request.proofs.Moving.{moves_reads, moves_stopped, reply_unfailed}
 use Rattle.alt_request.proofs.Reaching.{err_is}
-use Rattle.alt_tables.proofs.Left.{reads_nothing}
-use Rattle.alt_tables.specs.Stands.{Stands, catalog_of, bounds_of}
+use Rattle.alt_request.proofs.TablesLeft.{reads_nothing}
+use Rattle.alt_request.specs.TablesStands.{Stands, catalog_of, bounds_of}
 use Rattle.alt_ops_batch.proofs.get.batch_get_item.Goals as goal
 
 pub returns-in_err-asked-clause-carried : goal.returns-in_err-asked-clause-carried

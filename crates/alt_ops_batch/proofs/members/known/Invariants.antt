@@ -4,7 +4,7 @@ use Rattle.std.specs.FinMap as map
 use Rattle.std.specs.List.{list_all}
 use Rattle.serde_json.specs.View.{members_view}
 use Rattle.alt_machine.specs.Batches.{pairs_in}
-use Rattle.alt_tables.specs.Stands.{catalog_of}
+use Rattle.alt_request.specs.TablesStands.{catalog_of}
 use Rattle.alt_ops_batch.proofs.members.known.Given as goal
 
 abbrev pub invariant-loop-name : goal.invariant-loop-name

@@ -8,7 +8,7 @@ use Rattle.alt_request.specs.Steps.{Comes}
 use Rattle.alt_ops_batch.proofs.Founds.{unplaced}
 use Rattle.alt_request.proofs.Reaching.{err_is}
 use Rattle.alt_shape.specs.Refusals.{not_found}
-use Rattle.alt_tables.specs.Stands.{catalog_of}
+use Rattle.alt_request.specs.TablesStands.{catalog_of}
 use Rattle.alt_ops_batch.proofs.members.place.Goals as goal
 
 pub returns-in_err-place : goal.returns-in_err-place

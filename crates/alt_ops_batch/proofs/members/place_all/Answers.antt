@@ -2,7 +2,7 @@
 use Rattle.std.specs.Vec.Iter.{into_iter_items}
 use Rattle.alt_machine.specs.Batches.{each_found, placed}
 use Rattle.alt_ops_batch.proofs.Founds.{one_more_found}
-use Rattle.alt_tables.specs.Stands.{catalog_of}
+use Rattle.alt_request.specs.TablesStands.{catalog_of}
 use Rattle.alt_ops_batch.proofs.members.place_all.Goals as goal
 
 pub loop-member-preserved : goal.loop-member-preserved

@@ -5,7 +5,7 @@ use Rattle.std.specs.Vec.Iter.{into_iter_items}
 use Rattle.alt_disk.specs.Disk.{DiskState}
 use Rattle.alt_ops_batch.proofs.Taking.{AreRead, read_more}
 use Rattle.alt_ops_batch.specs.declared.asked_reads.TableReads.{TableReads}
-use Rattle.alt_tables.proofs.Left.{ready_on}
+use Rattle.alt_request.proofs.TablesLeft.{ready_on}
 use Rattle.alt_ops_batch.proofs.reading.read_all.Goals as goal
 
 pub read_table-requires-clause-ready : goal.read_table-requires-clause-ready

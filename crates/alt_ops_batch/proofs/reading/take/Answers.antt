@@ -5,7 +5,7 @@ use Rattle.std.proofs.lemmas.List.{nil_from_length}
 use Rattle.alt_disk.specs.Disk.{DiskState}
 use Rattle.alt_machine.specs.declared.PlacedMember.{PlacedMember}
 use Rattle.alt_ops_batch.proofs.Taking.{AreTaken, taken_more, all_taken}
-use Rattle.alt_tables.proofs.Left.{ready_on}
+use Rattle.alt_request.proofs.TablesLeft.{ready_on}
 use Rattle.alt_ops_batch.proofs.reading.take.Goals as goal
 
 pub take_key-requires-clause-ready : goal.take_key-requires-clause-ready

@@ -4,7 +4,7 @@ use Rattle.alt_machine.specs.declared.PlacedMember.{PlacedMember}
 use Rattle.alt_ops_batch.proofs.Ahead.{asked_ahead}
 use Rattle.alt_request.specs.Steps.{Comes}
 use Rattle.alt_shape.specs.Refusals.{Answer}
-use Rattle.alt_tables.specs.Stands.{catalog_of}
+use Rattle.alt_request.specs.TablesStands.{catalog_of}
 use Rattle.alt_ops_batch.proofs.write.batch_write_item_ahead.Goals as goal
 
 pub write_asked-requires-clause-asked : goal.write_asked-requires-clause-asked

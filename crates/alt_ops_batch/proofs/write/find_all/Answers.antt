@@ -5,10 +5,10 @@ use Rattle.alt_disk.specs.Disk.{DiskState}
 use Rattle.alt_machine.specs.declared.PlacedMember.{PlacedMember}
 use Rattle.alt_machine.specs.Ops.BatchWriteItem.{written_by}
 use Rattle.alt_machine.specs.State.{Texts}
-use Rattle.alt_tables.specs.Several.{MayWrite}
+use Rattle.alt_request.specs.TablesSeveral.{MayWrite}
 use Rattle.alt_ops_batch.proofs.Finding.{AreFound, found_one}
 use Rattle.alt_schema.specs.declared.schema.TableSchema.{TableSchema}
-use Rattle.alt_tables.proofs.Left.{ready_on}
+use Rattle.alt_request.proofs.TablesLeft.{ready_on}
 use Rattle.alt_ops_batch.proofs.write.find_all.Goals as goal
 
 pub find-requires : goal.find-requires

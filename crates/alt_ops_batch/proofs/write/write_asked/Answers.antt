@@ -6,8 +6,8 @@ use Rattle.alt_machine.specs.declared.PlacedMember.{PlacedMember}
 use Rattle.alt_machine.specs.Ops.BatchWriteItem.{all_processed, batch_write_item, written_by, writes_asked, writes_of_all}
 use Rattle.alt_machine.specs.Outcomes.{Outcome, together, writes_together}
 use Rattle.alt_machine.specs.State.{State, Texts}
-use Rattle.alt_tables.proofs.Standing.{file_stays}
-use Rattle.alt_tables.specs.Several.{AreAllApart, Every, MayWrite, written_at}
+use Rattle.alt_request.proofs.TablesStanding.{file_stays}
+use Rattle.alt_request.specs.TablesSeveral.{AreAllApart, Every, MayWrite, written_at}
 use Rattle.alt_ops_batch.specs.private.Batches.{AreAsked}
 use Rattle.alt_ops_batch.proofs.Asked.{asked_may_write, all_apart}
 use Rattle.alt_machine.proofs.Batches.{asked_once}
@@ -22,11 +22,11 @@ use Rattle.alt_request.proofs.Moving.{failed_fault, memory_unfailed, moves_reads
 use Rattle.alt_request.proofs.Reaching.{err_is}
 use Rattle.alt_schema.specs.declared.schema.TableSchema.{TableSchema}
 use Rattle.alt_shape.specs.Refusals.{Answer}
-use Rattle.alt_tables.specs.Faults.{AreAllMade, BreakOffAll}
-use Rattle.alt_tables.specs.Images.{Leaves}
-use Rattle.alt_tables.specs.Stands.{Stands, catalog_of, bounds_of}
-use Rattle.alt_tables.specs.declared.several.ItemChange.{ItemChange}
-use Rattle.alt_tables.proofs.Left.{ready_on}
+use Rattle.alt_request.specs.TablesFaults.{AreAllMade, BreakOffAll}
+use Rattle.alt_request.specs.TablesImages.{Leaves}
+use Rattle.alt_request.specs.TablesStands.{Stands, catalog_of, bounds_of}
+use Rattle.alt_request.specs.TablesDeclaredItemChange.{ItemChange}
+use Rattle.alt_request.proofs.TablesLeft.{ready_on}
 use Rattle.alt_ops_batch.proofs.write.write_asked.Goals as goal
 
 -- what came of the writes that are asked for is what was handed

@@ -10,7 +10,7 @@ use Rattle.alt_ops_item.proofs.Updating.{update_is, update_stored}
 use Rattle.alt_request.specs.Carried.{Carries, Moves}
 use Rattle.alt_request.specs.ItemWrites.{writes_item}
 use Rattle.alt_request.proofs.Asking.{all_asked}
-use Rattle.alt_tables.specs.Stands.{Stands, bounds_of}
+use Rattle.alt_request.specs.TablesStands.{Stands, bounds_of}
 use Rattle.alt_ops_item.proofs.update.update_item.Goals as goal
 
 -- what the write comes to in each state

@@ -3,7 +3,7 @@ use Rattle.std.proofs.Common.{ap, ◌∙◌}
 use Rattle.std.specs.FinMap as map
 use Rattle.serde_json.specs.View.{members_view}
 use Rattle.alt_ops_query.proofs.Answering.{told_of}
-use Rattle.alt_tables.specs.Stands.{catalog_of}
+use Rattle.alt_request.specs.TablesStands.{catalog_of}
 use Rattle.alt_ops_query.proofs.pages.answered.Goals as goal
 
 pub returns-clause-reply : goal.returns-clause-reply

@@ -11,7 +11,7 @@ use Rattle.alt_machine.specs.Walks.{items_between}
 use Rattle.alt_machine.proofs.Descriptions.{get-descriptions}
 use Rattle.alt_ops_query.proofs.Answering.{page_does, does_fault, on_ok, told_at}
 use Rattle.alt_ops_query.specs.private.Paged.{answer_with}
-use Rattle.alt_tables.specs.Stands.{Stands, catalog_of, bounds_of}
+use Rattle.alt_request.specs.TablesStands.{Stands, catalog_of, bounds_of}
 use Rattle.alt_value.specs.Tree.{Pair}
 use Rattle.alt_ops_query.proofs.pages.page_of_ask.Goals as goal
 

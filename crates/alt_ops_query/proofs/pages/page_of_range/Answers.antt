@@ -10,7 +10,7 @@ use Rattle.alt_machine.specs.Walks.{items_between}
 use Rattle.alt_ops_query.proofs.Answering.{asked_is, page_asks}
 use Rattle.alt_ops_query.specs.PageReads.{most_reads}
 use Rattle.alt_request.specs.Carried.{Does}
-use Rattle.alt_tables.specs.Stands.{Stands, bounds_of}
+use Rattle.alt_request.specs.TablesStands.{Stands, bounds_of}
 use Rattle.alt_value.specs.Tree.{Pair}
 use Rattle.alt_ops_query.proofs.pages.page_of_range.Goals as goal
 

@@ -18,9 +18,9 @@ use Rattle.alt_ops_query.proofs.Whole.{query_is, query_done, query_stopped, asks
 use Rattle.alt_request.proofs.Listing.{list_passed, list_unfailed}
 use Rattle.alt_request.proofs.Moving.{moves_stopped, moves_nothing, moves_reads}
 use Rattle.alt_request.specs.Carried.{Does}
-use Rattle.alt_tables.proofs.Left.{reads_nothing}
-use Rattle.alt_tables.specs.Reading.{HasRowFiles, family_read}
-use Rattle.alt_tables.specs.Stands.{Stands, catalog_of, bounds_of}
+use Rattle.alt_request.proofs.TablesLeft.{reads_nothing}
+use Rattle.alt_request.specs.TablesReading.{HasRowFiles, family_read}
+use Rattle.alt_request.specs.TablesStands.{Stands, catalog_of, bounds_of}
 use Rattle.alt_ops_query.proofs.querying.query.Goals as goal
 
 pub returns-in_err-target-clause-carried : goal.returns-in_err-target-clause-carried

@@ -16,8 +16,8 @@ use Rattle.alt_ops_query.proofs.PageReading.{scan_reads}
 use Rattle.alt_ops_query.proofs.Whole.{scan_is, scan_done, scan_stopped, segments_unfailed}
 use Rattle.alt_request.proofs.Listing.{list_passed, list_unfailed}
 use Rattle.alt_request.proofs.Moving.{moves_stopped, moves_nothing, moves_reads}
-use Rattle.alt_tables.proofs.Left.{reads_nothing}
-use Rattle.alt_tables.specs.Stands.{Stands, catalog_of, bounds_of}
+use Rattle.alt_request.proofs.TablesLeft.{reads_nothing}
+use Rattle.alt_request.specs.TablesStands.{Stands, catalog_of, bounds_of}
 use Rattle.alt_ops_query.proofs.scanning.scan.Goals as goal
 
 pub returns-in_err-target-clause-carried : goal.returns-in_err-target-clause-carried

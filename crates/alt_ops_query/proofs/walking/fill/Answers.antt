@@ -6,8 +6,8 @@ use Rattle.alt_machine.specs.Sources.{index_at}
 use Rattle.alt_ops_query.specs.private.Filled.{Steps}
 use Rattle.alt_ops_query.proofs.WalkLaws.{walk_ended, walk_on, walk_paid, walk_starts}
 use Rattle.alt_paging.specs.Offered.{has_ended}
-use Rattle.alt_tables.proofs.Left.{reads_nothing, reads_then, ready_on}
-use Rattle.alt_tables.specs.Stands.{Reads}
+use Rattle.alt_request.proofs.TablesLeft.{reads_nothing, reads_then, ready_on}
+use Rattle.alt_request.specs.TablesStands.{Reads}
 use Rattle.alt_ops_query.proofs.walking.fill.Goals as goal
 
 pub step-requires-clause-ready : goal.step-requires-clause-ready

@@ -7,7 +7,7 @@ use Rattle.alt_machine.specs.Sources.{index_at}
 use Rattle.alt_ops_query.proofs.WalkLaws.{IsWalked}
 use Rattle.alt_paging.specs.Offered.{WasOffered, has_ended}
 use Rattle.alt_paging.specs.declared.ask.PageAsk.{PageAsk}
-use Rattle.alt_tables.specs.Stands.{KeepsCatalog, Reads, Stands}
+use Rattle.alt_request.specs.TablesStands.{KeepsCatalog, Reads, Stands}
 use Rattle.alt_ops_query.proofs.walking.fill.Given as goal
 
 abbrev pub invariant-steps : goal.invariant-steps

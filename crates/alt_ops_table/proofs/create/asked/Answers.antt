@@ -7,7 +7,7 @@ use Rattle.alt_ops_table.specs.private.Asked.{IsAsked}
 use Rattle.alt_ops_table.proofs.Asking.{known, unfit_asked, name-described, create-refused, create-exists, create-many, some_there, none_there, free_family}
 use Rattle.alt_request.proofs.Reaching.{err_is}
 use Rattle.alt_schema.specs.Described.{HasCause, description_of}
-use Rattle.alt_tables.specs.Stands.{catalog_of, number_of, family_of}
+use Rattle.alt_request.specs.TablesStands.{catalog_of, number_of, family_of}
 use Rattle.alt_ops_table.proofs.create.asked.Goals as goal
 
 pub returns-in_err-unfit : goal.returns-in_err-unfit

@@ -14,9 +14,9 @@ use Rattle.alt_request.proofs.Reaching.{err_is}
 use Rattle.alt_schema.specs.Described.{description_of}
 use Rattle.alt_schema.specs.declared.schema.TableSchema.{TableSchema}
 use Rattle.alt_shape.specs.Refusals.{Answer}
-use Rattle.alt_tables.specs.Images.{Leaves}
-use Rattle.alt_tables.proofs.Left.{reads_nothing}
-use Rattle.alt_tables.specs.Stands.{Stands, bounds_of}
+use Rattle.alt_request.specs.TablesImages.{Leaves}
+use Rattle.alt_request.proofs.TablesLeft.{reads_nothing}
+use Rattle.alt_request.specs.TablesStands.{Stands, bounds_of}
 use Rattle.alt_ops_table.proofs.create.create_table.Goals as goal
 
 pub returns-in_err-schema-clause-carried : goal.returns-in_err-schema-clause-carried

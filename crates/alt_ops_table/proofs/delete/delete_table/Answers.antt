@@ -17,10 +17,10 @@ use Rattle.alt_schema.specs.declared.schema.TableSchema.{TableSchema}
 use Rattle.alt_shape.specs.Bodies as bodies
 use Rattle.alt_shape.specs.declared.rule.Broken.{Broken}
 use Rattle.alt_shape.specs.Refusals.{Answer}
-use Rattle.alt_tables.specs.Images.{Leaves}
-use Rattle.alt_tables.specs.Faults.{AreMade, BreakOff}
-use Rattle.alt_tables.proofs.Left.{reads_nothing}
-use Rattle.alt_tables.specs.Stands.{Stands, catalog_of, bounds_of}
+use Rattle.alt_request.specs.TablesImages.{Leaves}
+use Rattle.alt_request.specs.TablesFaults.{AreMade, BreakOff}
+use Rattle.alt_request.proofs.TablesLeft.{reads_nothing}
+use Rattle.alt_request.specs.TablesStands.{Stands, catalog_of, bounds_of}
 use Rattle.alt_ops_table.proofs.delete.delete_table.Goals as goal
 
 is : (ms : Members) (broken : Option Broken) → broken ≡ bodies.delete_table ms → (s : State)

@@ -1,7 +1,7 @@
 -- The names of the page, and no float stands in it.
 use Rattle.std.proofs.Common.{◌∙◌}
 use Rattle.alt_machine.specs.Ops.ListTables.{names_after, page_of}
-use Rattle.alt_tables.specs.Stands.{catalog_of}
+use Rattle.alt_request.specs.TablesStands.{catalog_of}
 use Rattle.alt_ops_table.proofs.Listing.{page_plain, page_said, page-listed}
 use Rattle.alt_ops_table.proofs.list.answer_of_page.Goals as goal
 

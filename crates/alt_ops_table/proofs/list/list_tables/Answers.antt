@@ -8,7 +8,7 @@ use Rattle.alt_request.specs.Carried.{Carries}
 use Rattle.alt_request.proofs.Carrying.{said, untested}
 use Rattle.alt_request.proofs.Moving.{moves_stopped, moves_nothing, tested_unfailed}
 use Rattle.alt_request.proofs.Reaching.{err_is}
-use Rattle.alt_tables.specs.Stands.{Stands, catalog_of, bounds_of}
+use Rattle.alt_request.specs.TablesStands.{Stands, catalog_of, bounds_of}
 use Rattle.alt_ops_table.proofs.Listing.{list-refused, list-page}
 use Rattle.alt_ops_table.proofs.list.list_tables.Goals as goal
 

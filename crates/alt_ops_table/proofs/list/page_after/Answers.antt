@@ -2,7 +2,7 @@
 use Rattle.std.proofs.Common.{◌∙◌, arith, ap, ◌++◌, ◌∷◌, [], ◌+◌, List, ℕ, Some, length}
 use Rattle.std.proofs.lemmas.List.{length-append}
 use Rattle.alt_machine.specs.Ops.ListTables.{names_after}
-use Rattle.alt_tables.specs.Stands.{catalog_of}
+use Rattle.alt_request.specs.TablesStands.{catalog_of}
 use Rattle.alt_ops_table.proofs.Pages.{Ends, is_full, is_last, named_more, page-names, page-more}
 use Rattle.alt_ops_table.proofs.list.page_after.Goals as goal
 use Rattle.alt_ops_table.proofs.list.page_after.Goals.{else-loop-test, then-loop-test+in_default}

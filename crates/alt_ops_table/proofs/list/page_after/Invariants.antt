@@ -3,7 +3,7 @@ use Rattle.std.proofs.Common.{◌≡◌, ◌++◌, length}
 use denote.Text.{Utf8}
 use denote.Shadow.{shadow}
 use Rattle.alt_machine.specs.Ops.ListTables.{names_after}
-use Rattle.alt_tables.specs.Stands.{catalog_of}
+use Rattle.alt_request.specs.TablesStands.{catalog_of}
 use Rattle.alt_ops_table.proofs.list.page_after.Given as goal
 
 abbrev pub invariant-loop : goal.invariant-loop

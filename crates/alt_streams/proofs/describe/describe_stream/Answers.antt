@@ -13,7 +13,7 @@ use Rattle.alt_schema.specs.declared.schema.TableSchema.{TableSchema}
 use Rattle.alt_streams.proofs.Describing.{describe-refused, describe-on}
 use Rattle.alt_streams.proofs.Reaching.{stream_passed, stream_reached, stream_unfailed}
 use Rattle.alt_streams.proofs.describe.describe_stream.Goals as goal
-use Rattle.alt_tables.specs.Stands.{Stands, bounds_of}
+use Rattle.alt_request.specs.TablesStands.{Stands, bounds_of}
 
 pub returns-in_err-unfit-clause-carried : goal.returns-in_err-unfit-clause-carried
 returns-in_err-unfit-clause-carried g c =

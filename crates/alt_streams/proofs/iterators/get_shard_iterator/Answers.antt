@@ -13,7 +13,7 @@ use Rattle.alt_streams.proofs.Iterating.{ends, iterator-refused, iterator-on, it
 use Rattle.alt_streams.proofs.Reaching.{stream_passed, stream_unfailed}
 use Rattle.alt_streams.proofs.iterators.get_shard_iterator.Goals as goal
 use Rattle.alt_shape.specs.Refusals.{trimmed}
-use Rattle.alt_tables.specs.Stands.{Stands, bounds_of}
+use Rattle.alt_request.specs.TablesStands.{Stands, bounds_of}
 
 pub returns-in_err-unfit-clause-carried : goal.returns-in_err-unfit-clause-carried
 returns-in_err-unfit-clause-carried g c =

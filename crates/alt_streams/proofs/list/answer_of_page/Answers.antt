@@ -4,7 +4,7 @@ use Rattle.alt_machine.specs.Ops.ListStreams.{streams_answer}
 use Rattle.alt_streams.specs.private.Listed.{streams_after}
 use Rattle.alt_streams.proofs.Answering.{page-answered, page_said}
 use Rattle.alt_streams.proofs.list.answer_of_page.Goals as goal
-use Rattle.alt_tables.specs.Stands.{catalog_of}
+use Rattle.alt_request.specs.TablesStands.{catalog_of}
 
 pub returns-clause-reply : goal.returns-clause-reply
 returns-clause-reply c named = page_said c.listed.result _ _

@@ -11,7 +11,7 @@ use Rattle.alt_request.proofs.Moving.{moves_stopped, moves_nothing}
 use Rattle.alt_request.proofs.Reaching.{err_is}
 use Rattle.alt_streams.proofs.Answering.{are_named, asked_stops, asked_unfailed, list-page}
 use Rattle.alt_streams.proofs.list.list_streams.Goals as goal
-use Rattle.alt_tables.specs.Stands.{Stands, catalog_of, bounds_of}
+use Rattle.alt_request.specs.TablesStands.{Stands, catalog_of, bounds_of}
 
 pub returns-in_err-start-clause-carried : goal.returns-in_err-start-clause-carried
 returns-in_err-start-clause-carried g c =

@@ -3,7 +3,7 @@ use Rattle.std.proofs.Common.{◌≡◌, sym, ap, ◌∙◌, true, false, None, 
 use Rattle.std.specs.Ordering.{is_lt}
 use Rattle.alt_streams.proofs.Following.{named_none, named_shown}
 use Rattle.alt_streams.proofs.list.named_stream.Goals as goal
-use Rattle.alt_tables.specs.Stands.{catalog_of}
+use Rattle.alt_request.specs.TablesStands.{catalog_of}
 
 pub returns-then-not-is_lt : goal.returns-then-not-is_lt
 returns-then-not-is_lt c = record {

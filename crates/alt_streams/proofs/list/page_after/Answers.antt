@@ -7,7 +7,7 @@ use Rattle.alt_streams.proofs.Ending.{Ends, is_full, is_last, page_taken, page_m
 use Rattle.alt_streams.proofs.Following.{streams_next, streams_none, streams_first}
 use Rattle.alt_streams.proofs.list.page_after.Goals as goal
 use Rattle.alt_streams.proofs.list.page_after.Goals.{else-loop-test, then-loop-test+in_default}
-use Rattle.alt_tables.specs.Stands.{catalog_of}
+use Rattle.alt_request.specs.TablesStands.{catalog_of}
 
 pub loop-preserved : goal.loop-preserved
 loop-preserved c =

@@ -4,7 +4,7 @@ use denote.Text.{Utf8}
 use denote.Shadow.{shadow}
 use Rattle.alt_streams.specs.private.Listed.{AreNamed, streams_after}
 use Rattle.alt_streams.proofs.list.page_after.Given as goal
-use Rattle.alt_tables.specs.Stands.{catalog_of}
+use Rattle.alt_request.specs.TablesStands.{catalog_of}
 
 abbrev pub invariant-loop : goal.invariant-loop
 invariant-loop l = shadow (Utf8 l.last)

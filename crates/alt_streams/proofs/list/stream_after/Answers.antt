@@ -4,7 +4,7 @@ use Rattle.std.specs.List.{find}
 use Rattle.alt_streams.specs.private.Listed.{all_in, is_listed}
 use Rattle.alt_streams.proofs.Following.{names_less, walk_here, walk_next, walk_end}
 use Rattle.alt_streams.proofs.list.stream_after.Goals as goal
-use Rattle.alt_tables.specs.Stands.{catalog_of}
+use Rattle.alt_request.specs.TablesStands.{catalog_of}
 
 pub loop-schema-preserved : goal.loop-schema-preserved
 loop-schema-preserved c = (

@@ -6,7 +6,7 @@ use denote.Shadow.{shadow}
 use Rattle.alt_machine.specs.Ops.ListTables.{names_after}
 use Rattle.alt_streams.specs.private.Listed.{AreNamed, all_in, is_listed}
 use Rattle.alt_streams.proofs.list.stream_after.Given as goal
-use Rattle.alt_tables.specs.Stands.{catalog_of}
+use Rattle.alt_request.specs.TablesStands.{catalog_of}
 
 abbrev pub invariant-loop-schema : goal.invariant-loop-schema
 invariant-loop-schema l = shadow (Utf8 l.last)

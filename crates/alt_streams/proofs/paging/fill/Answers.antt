@@ -3,7 +3,7 @@ use Rattle.std.proofs.Common.{◌∙◌, sym, subst}
 use Rattle.alt_machine.specs.Ops.GetRecords.{changes_from}
 use Rattle.alt_streams.specs.private.Paged.{Steps}
 use Rattle.alt_streams.proofs.Pieces.{ended_before, find_passed, read_ended, read_on}
-use Rattle.alt_tables.proofs.Left.{reads_then, ready_on}
+use Rattle.alt_request.proofs.TablesLeft.{reads_then, ready_on}
 use Rattle.alt_streams.proofs.paging.fill.Goals as goal
 
 pub step-requires-clause-ready : goal.step-requires-clause-ready

@@ -7,7 +7,7 @@ use Rattle.alt_machine.specs.State.{State, Table}
 use Rattle.alt_schema.specs.declared.schema.View.{View}
 use Rattle.alt_streams.specs.private.Paged.{HasRead}
 use Rattle.alt_streams.proofs.Pieces.{IsRead}
-use Rattle.alt_tables.specs.Stands.{KeepsCatalog, Reads, Stands}
+use Rattle.alt_request.specs.TablesStands.{KeepsCatalog, Reads, Stands}
 use Rattle.alt_streams.proofs.paging.fill.Given as goal
 
 abbrev pub invariant-pieces : goal.invariant-pieces

@@ -11,8 +11,8 @@ use Rattle.alt_shape.specs.declared.refusal.Reply.{Reply}
 use Rattle.alt_streams.proofs.Placing.{place_passed, place_unfailed}
 use Rattle.alt_streams.proofs.Reached.{records_told, stream_shows, stream_there}
 use Rattle.alt_streams.proofs.records.get_records.Goals as goal
-use Rattle.alt_tables.proofs.Left.{reads_nothing}
-use Rattle.alt_tables.specs.Stands.{Stands, catalog_of}
+use Rattle.alt_request.proofs.TablesLeft.{reads_nothing}
+use Rattle.alt_request.specs.TablesStands.{Stands, catalog_of}
 
 pub returns-in_err-place-clause-carried : goal.returns-in_err-place-clause-carried
 returns-in_err-place-clause-carried g c = place_passed (g.D.Disk.state c.args.disk.now)

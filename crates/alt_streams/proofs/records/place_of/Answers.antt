@@ -3,11 +3,11 @@ use Rattle.std.proofs.Common.{◌≡◌, refl, sym, ap, ◌∙◌, ℕ, List}
 use Rattle.serde_json.specs.View.{members_view}
 use Rattle.alt_machine.specs.Streams.{iterator_of}
 use Rattle.alt_machine.specs.Trimming.{is_trimmed}
-use Rattle.alt_tables.specs.OpeningTrimmed.{number_at}
-use Rattle.alt_tables.specs.OpeningDeclaredTrimmed.{Trimmed}
+use Rattle.alt_request.specs.TablesOpeningTrimmed.{number_at}
+use Rattle.alt_request.specs.TablesOpeningDeclaredTrimmed.{Trimmed}
 use Rattle.alt_streams.proofs.Placing.{place_broken, place_unread, place_missed, place_found, place_trimmed}
 use Rattle.alt_streams.proofs.records.place_of.Goals as goal
-use Rattle.alt_tables.specs.Stands.{catalog_of, trimmed_of}
+use Rattle.alt_request.specs.TablesStands.{catalog_of, trimmed_of}
 
 pub returns-in-Some : goal.returns-in-Some
 returns-in-Some c = record {

@@ -6,7 +6,7 @@ use Rattle.alt_streams.specs.private.Named.{IsStreamOf}
 use Rattle.alt_streams.specs.private.Placed.{OnStreaming, has_stream}
 use Rattle.alt_streams.proofs.Reached.{stop_named, streams_none, streams_so}
 use Rattle.alt_streams.proofs.records.table_named.Goals as goal
-use Rattle.alt_tables.specs.Stands.{catalog_of}
+use Rattle.alt_request.specs.TablesStands.{catalog_of}
 
 pub returns-in_err-schema : goal.returns-in_err-schema
 returns-in_err-schema c =

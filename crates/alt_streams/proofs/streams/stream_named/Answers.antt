@@ -2,7 +2,7 @@
 use Rattle.std.proofs.Common.{sym, ◌∙◌}
 use Rattle.alt_streams.proofs.Naming.{stream_uncut, stream_missed, stream_other, stream_own}
 use Rattle.alt_streams.proofs.streams.stream_named.Goals as goal
-use Rattle.alt_tables.specs.Stands.{catalog_of}
+use Rattle.alt_request.specs.TablesStands.{catalog_of}
 
 pub returns-in_default : goal.returns-in_default
 returns-in_default c = record {

@@ -5,11 +5,11 @@ use Rattle.alt_machine.specs.Ops.BatchWriteItem.{writes_of_all_by}
 use Rattle.alt_machine.specs.Ops.ExpireItems.{expire_items}
 use Rattle.alt_machine.specs.State.{Texts}
 use Rattle.alt_schema.specs.declared.schema.TableSchema.{TableSchema}
-use Rattle.alt_tables.proofs.Left.{leaves_after, leaves_reads, ready_on}
-use Rattle.alt_tables.proofs.Standing.{file_stays}
-use Rattle.alt_tables.specs.Faults.{BreakOffAll}
-use Rattle.alt_tables.specs.Several.{Every, MayWrite, written_at}
-use Rattle.alt_tables.specs.Stands.{Stands, bounds_of}
+use Rattle.alt_request.proofs.TablesLeft.{leaves_after, leaves_reads, ready_on}
+use Rattle.alt_request.proofs.TablesStanding.{file_stays}
+use Rattle.alt_request.specs.TablesFaults.{BreakOffAll}
+use Rattle.alt_request.specs.TablesSeveral.{Every, MayWrite, written_at}
+use Rattle.alt_request.specs.TablesStands.{Stands, bounds_of}
 use Rattle.alt_ttl.proofs.Deleting.{broke_is, count_is, leaves_is, made_is, search_broke}
 use Rattle.alt_ttl.proofs.expiry.expire.Goals as goal
 

@@ -10,9 +10,9 @@ use Rattle.alt_machine.specs.Ops.ExpireItems.{expire_items, expired}
 use Rattle.alt_machine.specs.Outcomes.{writes_together}
 use Rattle.alt_machine.specs.Replies.{answers}
 use Rattle.alt_machine.specs.State.{State, Texts}
-use Rattle.alt_tables.proofs.Left.{ready_on}
-use Rattle.alt_tables.proofs.Standing.{file_stays}
-use Rattle.alt_tables.specs.Several.{Every, MayWrite, written_at}
+use Rattle.alt_request.proofs.TablesLeft.{ready_on}
+use Rattle.alt_request.proofs.TablesStanding.{file_stays}
+use Rattle.alt_request.specs.TablesSeveral.{Every, MayWrite, written_at}
 use Rattle.alt_ops_batch.proofs.Writing.{batch_broke, batch_wrote}
 use Rattle.alt_request.specs.Carried.{Carries, Moves}
 use Rattle.alt_request.specs.declared.stop.Stop.TheVariants.{Fault}
@@ -21,8 +21,8 @@ use Rattle.alt_request.proofs.Moving.{failed_fault, memory_unfailed, moves_reads
 use Rattle.alt_request.proofs.Reaching.{err_is}
 use Rattle.alt_schema.specs.declared.schema.TableSchema.{TableSchema}
 use Rattle.alt_shape.specs.Refusals.{Answer}
-use Rattle.alt_tables.specs.Faults.{AreAllMade, BreakOffAll}
-use Rattle.alt_tables.specs.Stands.{Stands, bounds_of}
+use Rattle.alt_request.specs.TablesFaults.{AreAllMade, BreakOffAll}
+use Rattle.alt_request.specs.TablesStands.{Stands, bounds_of}
 use Rattle.alt_ttl.proofs.Deleting.{answered_is, deletions_are, expire_is, leaves_is}
 use Rattle.alt_ttl.proofs.expiry.expire_items.Goals as goal
 

@@ -5,9 +5,9 @@ use Rattle.alt_disk.proofs.Calls.{goes_on}
 use Rattle.alt_due.specs.Due.{NoneDue}
 use Rattle.alt_due.specs.declared.due.Due.{Due}
 use Rattle.alt_machine.specs.Expiry.{expiring}
-use Rattle.alt_tables.proofs.Foreseen.{foresees_on}
-use Rattle.alt_tables.proofs.Left.{ready_on}
-use Rattle.alt_tables.specs.Stands.{catalog_of, due_of}
+use Rattle.alt_request.proofs.TablesForeseen.{foresees_on}
+use Rattle.alt_request.proofs.TablesLeft.{ready_on}
+use Rattle.alt_request.specs.TablesStands.{catalog_of, due_of}
 use Rattle.alt_ttl.specs.private.Searched.{AreNamed}
 use Rattle.alt_ttl.proofs.Looking.{stays_then}
 use Rattle.alt_ttl.proofs.Ripening.{exchanged, none_expiring, some_of}

@@ -4,8 +4,8 @@ use Rattle.std.specs.FinMap as map
 use Rattle.std.specs.Option.{option_map_or}
 use Rattle.alt_machine.specs.State.{Texts}
 use Rattle.alt_schema.specs.declared.schema.TableSchema.{TableSchema}
-use Rattle.alt_tables.specs.Stands.{catalog_of}
-use Rattle.alt_tables.proofs.Standing.{known}
+use Rattle.alt_request.specs.TablesStands.{catalog_of}
+use Rattle.alt_request.proofs.TablesStanding.{known}
 use Rattle.alt_ttl.proofs.Foretelling.{foresees_dropped, foresees_settled, may_there, over_there, stale_untimed}
 use Rattle.alt_ttl.proofs.Searching.{IsThere, is_there}
 use Rattle.alt_ttl.proofs.foresight.look.Goals as goal

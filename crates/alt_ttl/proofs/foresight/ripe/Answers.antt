@@ -6,8 +6,8 @@ use Rattle.alt_due.specs.Due.{FindsNext}
 use Rattle.alt_machine.specs.Expiry.{all_expired, expiring}
 use Rattle.alt_machine.specs.State.{Texts}
 use Rattle.alt_schema.specs.declared.schema.TableSchema.{TableSchema}
-use Rattle.alt_tables.proofs.Left.{reads_nothing, reads_then, ready_on}
-use Rattle.alt_tables.specs.Stands.{catalog_of}
+use Rattle.alt_request.proofs.TablesLeft.{reads_nothing, reads_then, ready_on}
+use Rattle.alt_request.specs.TablesStands.{catalog_of}
 use Rattle.alt_ttl.specs.private.Searched.{AreNamed}
 use Rattle.alt_ttl.proofs.Looking.{keeps_none, keeps_then, stays_then}
 use Rattle.alt_ttl.proofs.Ordered.{left_behind, left_first}

@@ -5,8 +5,8 @@ use Rattle.alt_due.specs.Due.{IsRipe}
 use Rattle.alt_machine.specs.declared.TheConstants.{MOST_EXPIRED}
 use Rattle.alt_machine.specs.Expiry.{all_expired}
 use Rattle.alt_machine.specs.State.{State}
-use Rattle.alt_tables.specs.Foreseen.{Foresees}
-use Rattle.alt_tables.specs.Stands.{KeepsCatalog, Reads, Stands, catalog_of}
+use Rattle.alt_request.specs.TablesForeseen.{Foresees}
+use Rattle.alt_request.specs.TablesStands.{KeepsCatalog, Reads, Stands, catalog_of}
 use Rattle.alt_ttl.specs.private.Searched.{AreNamed}
 use Rattle.alt_ttl.proofs.Ordered.{left_behind}
 use Rattle.alt_ttl.proofs.foresight.ripe.Given as goal

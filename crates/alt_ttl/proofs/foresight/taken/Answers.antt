@@ -1,9 +1,9 @@
 -- The list of the tables, or another one.
 use Rattle.std.proofs.Common.{sym, subst}
 use Rattle.alt_disk.proofs.Calls.{goes_refl}
-use Rattle.alt_tables.specs.Foreseen.{Foresees}
-use Rattle.alt_tables.proofs.Foreseen.{foresees_nothing}
-use Rattle.alt_tables.proofs.Left.{reads_nothing}
+use Rattle.alt_request.specs.TablesForeseen.{Foresees}
+use Rattle.alt_request.proofs.TablesForeseen.{foresees_nothing}
+use Rattle.alt_request.proofs.TablesLeft.{reads_nothing}
 use Rattle.alt_ttl.proofs.Ripening.{exchanged}
 use Rattle.alt_ttl.proofs.foresight.taken.Goals as goal
 

@@ -3,9 +3,9 @@ use Rattle.std.proofs.Common.{sym, ap, subst, ◌∙◌, map}
 use Rattle.alt_machine.specs.Expiry.{gone_at}
 use Rattle.alt_machine.specs.State.{Texts}
 use Rattle.alt_schema.specs.declared.schema.TableSchema.{TableSchema}
-use Rattle.alt_tables.proofs.Left.{reads_then, ready_on}
-use Rattle.alt_tables.specs.Several.{AreAllApart, Every, MayWrite}
-use Rattle.alt_tables.specs.Stands.{catalog_of}
+use Rattle.alt_request.proofs.TablesLeft.{reads_then, ready_on}
+use Rattle.alt_request.specs.TablesSeveral.{AreAllApart, Every, MayWrite}
+use Rattle.alt_request.specs.TablesStands.{catalog_of}
 use Rattle.alt_ttl.specs.private.Searched.{AreNamed, has_twice}
 use Rattle.alt_ttl.proofs.Founds.{all_apart, may_go}
 use Rattle.alt_ttl.proofs.Looking.{keeps_then, stays_then}

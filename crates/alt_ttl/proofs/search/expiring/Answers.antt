@@ -1,5 +1,5 @@
 -- What the list doesn't tell is searched.
-use Rattle.alt_tables.proofs.Left.{ready_on}
+use Rattle.alt_request.proofs.TablesLeft.{ready_on}
 use Rattle.alt_ttl.proofs.Looking.{stays_then}
 use Rattle.alt_ttl.proofs.search.expiring.Goals as goal
 

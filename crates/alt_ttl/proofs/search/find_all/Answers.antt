@@ -6,7 +6,7 @@ use Rattle.alt_disk.specs.Disk.{DiskState}
 use Rattle.alt_machine.specs.declared.Standing.{Standing}
 use Rattle.alt_machine.specs.State.{Texts}
 use Rattle.alt_schema.specs.declared.schema.TableSchema.{TableSchema}
-use Rattle.alt_tables.proofs.Left.{ready_on}
+use Rattle.alt_request.proofs.TablesLeft.{ready_on}
 use Rattle.alt_ttl.proofs.Looking.{AreFound, found_one, stays_then}
 use Rattle.alt_ttl.proofs.search.find_all.Goals as goal
 

@@ -3,7 +3,7 @@ use Rattle.std.proofs.Common.{◌∙◌, arith, ap, ◌++◌, ◌∷◌, [], ◌
 use Rattle.std.proofs.lemmas.List.{length-append}
 use Rattle.alt_machine.specs.declared.TheConstants.{MOST_TABLES}
 use Rattle.alt_machine.specs.Ops.ListTables.{names_after}
-use Rattle.alt_tables.specs.Stands.{catalog_of}
+use Rattle.alt_request.specs.TablesStands.{catalog_of}
 use Rattle.alt_ops_table.proofs.Pages.{Ends, is_full, is_last, named_more, page-names}
 use Rattle.alt_ttl.proofs.search.names.Goals as goal
 use Rattle.alt_ttl.proofs.search.names.Goals.{else-loop-test, then-loop-test+in_default}

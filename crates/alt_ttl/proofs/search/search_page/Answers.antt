@@ -4,7 +4,7 @@ use Rattle.alt_machine.specs.declared.Standing.{Standing}
 use Rattle.alt_machine.specs.declared.TheConstants.{MOST_EXPIRED}
 use Rattle.alt_machine.specs.Walks.{items_between}
 use Rattle.alt_ops_query.proofs.Described.{described, stored_at}
-use Rattle.alt_tables.specs.Stands.{catalog_of}
+use Rattle.alt_request.specs.TablesStands.{catalog_of}
 use Rattle.alt_ttl.specs.private.Searched.{left_in, standings_of}
 use Rattle.alt_ttl.proofs.Founds.{taken_named}
 use Rattle.alt_ttl.proofs.Fronts.{take_few, take_full}

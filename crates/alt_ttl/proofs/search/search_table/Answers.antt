@@ -7,8 +7,8 @@ use Rattle.alt_machine.specs.State.{Table, Texts}
 use Rattle.alt_machine.proofs.Descriptions.{get-descriptions}
 use Rattle.alt_ops_query.proofs.Described.{stored_at}
 use Rattle.alt_schema.specs.declared.schema.TableSchema.{TableSchema}
-use Rattle.alt_tables.proofs.Left.{reads_nothing, reads_then, ready_on}
-use Rattle.alt_tables.specs.Stands.{catalog_of}
+use Rattle.alt_request.proofs.TablesLeft.{reads_nothing, reads_then, ready_on}
+use Rattle.alt_request.specs.TablesStands.{catalog_of}
 use Rattle.alt_ttl.specs.private.Searched.{AreNamed, left_in, left_of}
 use Rattle.alt_ttl.proofs.Fronts.{take_whole}
 use Rattle.alt_ttl.proofs.Looking.{keeps_none, keeps_then, stays_then}

@@ -5,7 +5,7 @@ use Rattle.std.specs.FinMap as map
 use Rattle.alt_machine.specs.declared.TheConstants.{MOST_EXPIRED}
 use Rattle.alt_machine.specs.Expiry.{expired_in}
 use Rattle.alt_machine.specs.State.{State, Table}
-use Rattle.alt_tables.specs.Stands.{KeepsCatalog, Reads, Stands, catalog_of}
+use Rattle.alt_request.specs.TablesStands.{KeepsCatalog, Reads, Stands, catalog_of}
 use Rattle.alt_ttl.specs.private.Searched.{AreNamed, left_in}
 use Rattle.alt_ttl.proofs.search.search_table.Given as goal
 

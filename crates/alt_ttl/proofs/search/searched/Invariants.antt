@@ -6,8 +6,8 @@ use Rattle.std.specs.Vec.Iter.{into_iter_items}
 use Rattle.alt_machine.specs.declared.TheConstants.{MOST_EXPIRED}
 use Rattle.alt_machine.specs.Expiry.{expiring}
 use Rattle.alt_machine.specs.State.{State}
-use Rattle.alt_tables.specs.Several.{Every}
-use Rattle.alt_tables.specs.Stands.{KeepsCatalog, Reads, Stands, catalog_of}
+use Rattle.alt_request.specs.TablesSeveral.{Every}
+use Rattle.alt_request.specs.TablesStands.{KeepsCatalog, Reads, Stands, catalog_of}
 use Rattle.alt_ttl.specs.private.Searched.{AreNamed}
 use Rattle.alt_ttl.proofs.Searching.{expired_of}
 use Rattle.alt_ttl.proofs.search.searched.Given as goal

@@ -1,10 +1,10 @@
 -- Nothing stands there, or the item has expired, or it is noted when it will have.
 use Rattle.std.proofs.Common.{◌≡◌, sym, ap, subst, ◌∙◌}
 use Rattle.std.specs.FinMap as map
-use Rattle.alt_tables.proofs.OpeningOneState.{some}
+use Rattle.alt_request.proofs.TablesOpeningOneState.{some}
 use Rattle.alt_schema.specs.declared.schema.TableSchema.{TableSchema}
-use Rattle.alt_tables.specs.Foreseen.{ForeseesItem}
-use Rattle.alt_tables.specs.Stands.{catalog_of}
+use Rattle.alt_request.specs.TablesForeseen.{ForeseesItem}
+use Rattle.alt_request.specs.TablesStands.{catalog_of}
 use Rattle.alt_ttl.proofs.settling.settle.Goals as goal
 
 pub returns-in_default-item-clause-ripe : goal.returns-in_default-item-clause-ripe

@@ -1,7 +1,7 @@
 -- One more is noted; at the end none is left.
 use Rattle.std.proofs.Common.{sym, subst, ◌∙◌}
 use Rattle.std.specs.Vec.Iter.{into_iter_items}
-use Rattle.alt_tables.specs.Several.{Every}
+use Rattle.alt_request.specs.TablesSeveral.{Every}
 use Rattle.alt_ttl.specs.private.Foresight.{ForeseesPlaced}
 use Rattle.alt_ttl.proofs.Fronts.{none_ahead}
 use Rattle.alt_ttl.proofs.Surveying.{placed_on}

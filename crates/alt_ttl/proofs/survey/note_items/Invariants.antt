@@ -2,7 +2,7 @@
 use Rattle.std.specs.Vec.Iter.{into_iter_items}
 use Rattle.alt_due.specs.Due.{KeepsKnown}
 use Rattle.alt_due.specs.declared.due.Due.{Due}
-use Rattle.alt_tables.specs.Several.{Every}
+use Rattle.alt_request.specs.TablesSeveral.{Every}
 use Rattle.alt_ttl.specs.private.Foresight.{ForeseesPlaced}
 use Rattle.alt_ttl.proofs.survey.note_items.Given as goal
 

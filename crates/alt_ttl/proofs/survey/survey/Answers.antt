@@ -8,9 +8,9 @@ use Rattle.alt_machine.specs.declared.TheConstants.{MOST_TABLES}
 use Rattle.alt_machine.specs.Ops.ListTables.{names_after}
 use Rattle.alt_machine.specs.State.{Table, Texts}
 use Rattle.alt_schema.specs.declared.schema.TableSchema.{TableSchema}
-use Rattle.alt_tables.proofs.Left.{reads_nothing, reads_then, ready_on}
-use Rattle.alt_tables.specs.Several.{Every}
-use Rattle.alt_tables.specs.Stands.{catalog_of}
+use Rattle.alt_request.proofs.TablesLeft.{reads_nothing, reads_then, ready_on}
+use Rattle.alt_request.specs.TablesSeveral.{Every}
+use Rattle.alt_request.specs.TablesStands.{catalog_of}
 use Rattle.alt_ttl.specs.private.Foresight.{ForeseesTable}
 use Rattle.alt_ttl.proofs.Fronts.{none_ahead}
 use Rattle.alt_ttl.proofs.Looking.{keeps_none, keeps_then, stays_then}

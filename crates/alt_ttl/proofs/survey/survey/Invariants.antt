@@ -4,8 +4,8 @@ use Rattle.std.specs.Prelude.{◌↔◌}
 use Rattle.std.specs.FinMap as map
 use Rattle.std.specs.Vec.Iter.{into_iter_items}
 use Rattle.alt_machine.specs.State.{State, Table}
-use Rattle.alt_tables.specs.Several.{Every}
-use Rattle.alt_tables.specs.Stands.{KeepsCatalog, Reads, Stands, catalog_of}
+use Rattle.alt_request.specs.TablesSeveral.{Every}
+use Rattle.alt_request.specs.TablesStands.{KeepsCatalog, Reads, Stands, catalog_of}
 use Rattle.alt_ttl.specs.private.Foresight.{ForeseesTable}
 use Rattle.alt_ttl.proofs.Surveying.{Among}
 use Rattle.alt_ttl.proofs.survey.survey.Given as goal

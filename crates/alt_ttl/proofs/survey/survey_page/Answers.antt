@@ -6,7 +6,7 @@ use Rattle.alt_due.specs.Order.{spot_of}
 use Rattle.alt_machine.specs.Walks.{items_between}
 use Rattle.alt_ops_query.proofs.Described.{described, stored_at}
 use Rattle.alt_schema.specs.declared.schema.TableSchema.{TableSchema}
-use Rattle.alt_tables.specs.Several.{Every}
+use Rattle.alt_request.specs.TablesSeveral.{Every}
 use Rattle.alt_ttl.specs.private.Foresight.{ForeseesPlaced, LeadsOn}
 use Rattle.alt_ttl.proofs.Searching.{page_none}
 use Rattle.alt_ttl.proofs.Surveying.{surveyed_ended, surveyed_last, surveyed_on}

@@ -5,7 +5,7 @@ use Rattle.std.specs.FinMap as map
 use Rattle.alt_due.specs.Due.{KeepsKnown}
 use Rattle.alt_due.specs.declared.due.Due.{Due}
 use Rattle.alt_machine.specs.State.{State, Table}
-use Rattle.alt_tables.specs.Stands.{KeepsCatalog, Reads, Stands}
+use Rattle.alt_request.specs.TablesStands.{KeepsCatalog, Reads, Stands}
 use Rattle.alt_ttl.specs.private.Foresight.{ForeseesRest}
 use Rattle.alt_ttl.proofs.survey.survey_table.Given as goal
 

@@ -1,7 +1,7 @@
 -- The table isn't reached, or that can't be done there, or it can.
 use Rattle.std.proofs.Common.{sym, ◌∙◌, Ok, Err}
 use Rattle.serde_json.specs.View.{members_view}
-use Rattle.alt_tables.specs.Stands.{catalog_of}
+use Rattle.alt_request.specs.TablesStands.{catalog_of}
 use Rattle.alt_ttl.proofs.Timing.{of_broken, time_barred, time_free, time_stopped}
 use Rattle.alt_ttl.proofs.update_time.asked.Goals as goal
 

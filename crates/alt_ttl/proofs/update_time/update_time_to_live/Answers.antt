@@ -15,10 +15,10 @@ use Rattle.alt_request.proofs.Carrying.{faulted_as, broke_off, wrote}
 use Rattle.alt_request.proofs.Moving.{moves_stopped, memory_unfailed, failed_fault, unwritten_wants, wanting_fault, unrefused}
 use Rattle.alt_request.proofs.Reaching.{err_is}
 use Rattle.alt_shape.specs.Refusals.{Answer}
-use Rattle.alt_tables.specs.Images.{Leaves}
-use Rattle.alt_tables.specs.Faults.{AreMade, BreakOff}
-use Rattle.alt_tables.proofs.Left.{reads_nothing}
-use Rattle.alt_tables.specs.Stands.{Stands, bounds_of, catalog_of}
+use Rattle.alt_request.specs.TablesImages.{Leaves}
+use Rattle.alt_request.specs.TablesFaults.{AreMade, BreakOff}
+use Rattle.alt_request.proofs.TablesLeft.{reads_nothing}
+use Rattle.alt_request.specs.TablesStands.{Stands, bounds_of, catalog_of}
 use Rattle.alt_ttl.proofs.Timing.{time_reached, timed_unfailed, untimed}
 use Rattle.alt_ttl.proofs.update_time.update_time_to_live.Goals as goal
 

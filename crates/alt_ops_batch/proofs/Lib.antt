@@ -2,6 +2,7 @@ mod KeysAsked
 pub mod Ahead
 pub mod Asked
 pub mod AskedReads
+pub mod Behind
 pub mod Finding
 pub mod Founds
 pub mod Gets

@@ -10,7 +10,7 @@ use Rattle.serde_json.specs.declared.value.Value.{Value}
 use Rattle.serde_json.specs.Written.{members_have_float}
 use Rattle.alt_codec.specs.Writing.{json_of_pairs}
 use Rattle.alt_ops_batch.specs.private.Readings.{responses_of, rises}
-use Rattle.alt_readahead.proofs.Behind.{IsBehind, behind_more, less_then, put_behind, strung, strung-no_members, strung-one}
+use Rattle.alt_ops_batch.proofs.Behind.{IsBehind, behind_more, less_then, put_behind, strung, strung-no_members, strung-one}
 use Rattle.alt_schema.specs.Json.{items_by}
 use Rattle.alt_shape.proofs.Plain.{items_plain, members_have_float-put}
 use Rattle.alt_shape.specs.Body.{items_json, tables_json}

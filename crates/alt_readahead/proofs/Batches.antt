@@ -1,7 +1,9 @@
 -- The parts of a batch of writes, a turn at a time.
-use Rattle.std.proofs.Common.{◌≡◌, refl, sym, ap, subst, ◌∙◌, ℕ, suc, ◌-◌, ◌<◌, ◌≤◌, List, [], ◌∷◌, ◌++◌, length, Option, Some, None, Less, nat_cmp, Vec, Global, arith}
+use Rattle.std.proofs.Common.{◌≡◌, refl, sym, ap, ◌∙◌, ℕ, zero, suc, ◌+◌, ◌-◌, ◌<◌, ◌≤◌, List, [], ◌∷◌, ◌++◌, length, drop, get_or, Option, Some, None, option_map, Ordering, Less, Equal, Greater, nat_cmp, Vec, Global, add-one, arith}
 use Rattle.std.specs.Prelude.{◌≢◌, codes}
 use Rattle.std.specs.Cmp.Lexicographic.{slice_cmp}
+use Rattle.std.specs.List.{insert}
+use Rattle.std.specs.Ordering.{match_ordering}
 use Rattle.json.specs.Json.{parse_map, after_end_array, read_key, items, members, value}
 use Rattle.json.specs.Token.{Token}
 use Rattle.json.proofs.Grammar.{read_key-shorter}
@@ -9,11 +11,10 @@ use Rattle.serde_json.specs.Data.{Data, array, object, Items, no_items, item, Me
 use Rattle.serde_json.specs.Read.{of_json, of_items, of_members, converted}
 use Rattle.alt_named.proofs.Converted.{item_read, items_over, none_before, member_read, members_over}
 use Rattle.alt_readahead.specs.Batch.{IsBatchAhead, SaysWrite, SayWrites, SaysTable, SayTables, alone}
-use Rattle.alt_readahead.specs.Batches.{IsBatchSoFar, ReadsWrites, ReadsTables}
+use Rattle.alt_readahead.specs.Batches.{IsBatchSoFar, IsTablePut, ReadsWrites, ReadsTables, place_among}
 use Rattle.alt_readahead.specs.declared.batch.TableWrites.{TableWrites}
 use Rattle.alt_readahead.specs.declared.batch.Write.{Write}
 use Rattle.alt_shape.specs.Shape.{given}
-use Rattle.alt_readahead.proofs.Behind.{IsBehind, behind_more, less_then, put_behind, strung}
 use Rattle.alt_readahead.proofs.Loops.{joined, joined_none, one_more}
 use Rattle.alt_readahead.proofs.Payloads.{reads_array, reads_object, value_shorter}
 use Rattle.alt_readahead.proofs.SoFar.{given-put, given-put_other}
@@ -88,51 +89,90 @@ module _ (depth : ℕ) (first : List Token) where
 
 -- ---- the tables of a batch
 
--- one of them more
-one_table : (ms : Members) (ts : List TableWrites) (name : List ℕ) (d : Data) (t : TableWrites)
-    → SayTables ms ts → SaysTable name d t
-    → SayTables (strung ms (member name d no_members)) (ts ++ t ∷ [])
-one_table no_members [] name d t h e = (e, tt)
-one_table no_members (u ∷ ts) name d t h e = absurd h
-one_table (member l c ms) [] name d t h e = absurd h
-one_table (member l c ms) (u ∷ ts) name d t h e = (h.0, one_table ms ts name d t h.1 e)
+-- from a table on
+place_from_suc : (name : List ℕ) (ts : List TableWrites) (i : ℕ) (t : TableWrites) → i < length ts
+    → place_among name (drop i ts)
+    ≡ match_ordering (slice_cmp nat_cmp name (get_or ts i t).table) (Some 0) None
+    (option_map suc (place_among name (drop (suc i) ts)))
+place_from_suc name [] i t h = absurd (omega arith)
+place_from_suc name (u ∷ ts) zero t h = refl
+place_from_suc name (u ∷ ts) (suc i) t h = place_from_suc name ts i t (omega arith)
+
+-- the same, with the next place counted by + 1
+pub place_from : (name : List ℕ) (ts : List TableWrites) (i : ℕ) (t : TableWrites) → i < length ts
+    → place_among name (drop i ts)
+    ≡ match_ordering (slice_cmp nat_cmp name (get_or ts i t).table) (Some 0) None
+    (option_map suc (place_among name (drop (i + 1) ts)))
+place_from name ts i t h = rw add-one (place_from_suc name ts i t h)
+
+-- a place behind so many others
+abbrev pub place_behind : ℕ → Option ℕ → Option ℕ
+place_behind n None = None
+place_behind n (Some i) = Some (n + i)
+
+-- a table that is put at its place is what its member says
+pub table_put : (t : TableWrites) (ts : List TableWrites) (at : ℕ) (ms : Members) (name : List ℕ)
+    (d : Data) → place_among t.table ts ≡ Some at → SayTables ms ts → SaysTable name d t
+    → SayTables (put name d ms) (insert ts at t)
+table_put t [] at no_members name d e h says =
+    let first : at ≡ 0 = cc in rw first (says, tt)
+table_put t [] at (member l c ms) name d e h says = absurd h
+table_put t (u ∷ ts) at no_members name d e h says = absurd h
+table_put t (u ∷ ts) at (member l c ms) name d e h says =
+    let same : slice_cmp nat_cmp name l ≡ slice_cmp nat_cmp t.table u.table =
+    λ i. slice_cmp nat_cmp (sym says.named i) (sym h.0.named i) in
+    rw same (by (slice_cmp nat_cmp t.table u.table) e
+    (λ j f. table_put t ts j ms name d f h.1 says))
+  where
+    -- among the others
+    Further : Type 0
+    Further = (j : ℕ) → place_among t.table ts ≡ Some j
+        → SayTables (put name d ms) (insert ts j t)
+
+    behind : (o : Option ℕ) → place_among t.table ts ≡ o → option_map suc o ≡ Some at → Further
+        → SayTables (member l c (put name d ms)) (insert (u ∷ ts) at t)
+    behind None f g others = absurd (let b : ⊥ = cc in b)
+    behind (Some j) f g others = let next : at ≡ suc j = cc in rw next (h.0, others j f)
+
+    by : (o : Ordering) → match_ordering o (Some 0) None (option_map suc (place_among t.table ts))
+        ≡ Some at → Further → SayTables (match_ordering o (member name d (member l c ms))
+        (member l d ms) (member l c (put name d ms))) (insert (u ∷ ts) at t)
+    by Less f others = let first : at ≡ 0 = cc in rw first (says, h)
+    by Equal f others = absurd (let b : ⊥ = cc in b)
+    by Greater f others = behind (place_among t.table ts) refl f others
 
 module _ (depth : ℕ) (first : List Token) where
-  -- of the members of an object these tables were read, the last of which has that name, and those tokens come behind them
-  pub record TablesSoFar (now : List Token) (last : List ℕ) (ts : List TableWrites) : Type 0 where
+  -- of the members of an object these tables were read, and those tokens come behind them
+  pub record TablesSoFar (now : List Token) (ts : List TableWrites) : Type 0 where
     pub n : ℕ
     pub found : Members
     pub enough : length now ≤ n
     pub so : converted (λ os. of_members os no_members) (members (value depth) (length first) first)
         ≡ converted (λ os. of_members os found) (members (value depth) n now)
-    pub behind : (k : List ℕ) → slice_cmp nat_cmp last k ≡ Less → IsBehind k found
     pub say : SayTables found ts
 
   -- none yet
-  pub tables_begin : (last : List ℕ) (ts : List TableWrites) → ts ≡ [] → TablesSoFar first last ts
-  tables_begin last ts none = record {
+  pub tables_begin : (ts : List TableWrites) → ts ≡ [] → TablesSoFar first ts
+  tables_begin ts none = record {
     n = length first;
     found = no_members;
     enough = omega arith;
     so = refl;
-    behind = λ k less. tt;
     say = rw none tt;
   }
 
   -- one more
-  pub tables_turn : (now inner rest next : List Token) (last name : List ℕ)
-      (ts us : List TableWrites) (t : TableWrites) → 0 < depth → TablesSoFar now last ts
-      → read_key now ≡ Some (Some name, inner) → slice_cmp nat_cmp last name ≡ Less
+  pub tables_turn : (now inner rest next : List Token) (name : List ℕ) (ts us : List TableWrites)
+      (t : TableWrites) → 0 < depth → TablesSoFar now ts → read_key now ≡ Some (Some name, inner)
       → inner ≡ Token.begin_array ∷ rest → ReadsWrites (depth - 1) rest t.writes.items next
-      → t.table ≡ name → us ≡ ts ++ t ∷ [] → TablesSoFar next name us
-  tables_turn now inner rest next last name ts us t deep s key rises opened r is more =
+      → t.table ≡ name → IsTablePut t ts us → TablesSoFar next us
+  tables_turn now inner rest next name ts us t deep s key opened r is put_so =
       let d : Data = array r.0 in
       let read : converted of_json (value depth inner) ≡ Some (d, next) =
       reads_array depth inner rest next r.0 deep opened r.1 in
       let less = value_shorter depth inner next d read in
       let lesser = read_key-shorter now (Some name) inner key in
       let enough = s.enough in
-      let at : IsBehind name s.found = s.behind name rises in
       let table : SaysTable name d t =
       record { named = is; elements = r.0; array = refl; writes = r.2 } in
       record {
@@ -140,11 +180,7 @@ module _ (depth : ℕ) (first : List Token) where
         found = put name d s.found;
         enough = omega arith;
         so = s.so ∙ member_read (value depth) s.found s.n name now inner next d (omega arith) key read;
-        behind = λ k above. behind_more name d s.found k
-            (s.behind k (less_then last name k rises above)) above at;
-        say = subst (SayTables (put name d s.found)) (sym more)
-            (subst (λ ms. SayTables ms (ts ++ t ∷ [])) (sym (put_behind name d s.found at))
-            (one_table s.found ts name d t s.say table));
+        say = put_so s.found name d s.say table;
       }
 
   -- what is read is passed
@@ -160,10 +196,9 @@ module _ (depth : ℕ) (first : List Token) where
       )
 
   -- all of them
-  pub tables_end : (now after : List Token) (last : List ℕ) (ts : List TableWrites)
-      → TablesSoFar now last ts → read_key now ≡ Some (None, after)
-      → ReadsTables depth first ts after
-  tables_end now after last ts s e =
+  pub tables_end : (now after : List Token) (ts : List TableWrites) → TablesSoFar now ts
+      → read_key now ≡ Some (None, after) → ReadsTables depth first ts after
+  tables_end now after ts s e =
       (s.found, s.so ∙ members_over (value depth) s.found s.n now after s.enough e, s.say)
 
 -- ---- a member of the body more

@@ -1,5 +1,4 @@
 pub mod Batches
-pub mod Behind
 pub mod Loops
 pub mod Payloads
 pub mod Putting

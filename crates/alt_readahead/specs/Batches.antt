@@ -1,13 +1,14 @@
 -- What the parts of a batch of writes are, read straight from the tokens of a text, for private contracts.
-use Rattle.std.specs.Prelude.{◌≡◌, ℕ, List, length, Option, Some, None, Ok, ⊤}
+use Rattle.std.specs.Prelude.{◌≡◌, ℕ, suc, List, [], ◌∷◌, length, Option, Some, None, option_map, Ok, Vec, ⊤}
+use Rattle.std.specs.Cmp.Lexicographic.{slice_cmp}
+use Rattle.std.specs.Ordering.{match_ordering, nat_cmp}
 use Rattle.std.specs.Global.{Global}
-use Rattle.std.specs.Prelude.{Vec}
 use Rattle.json.specs.Json.{value, items, members}
 use Rattle.json.specs.Token.{Token}
-use Rattle.serde_json.specs.Data.{Data, object, Items, Members, no_members}
+use Rattle.serde_json.specs.Data.{Data, object, Items, Members, no_members, put}
 use Rattle.serde_json.specs.Read.{of_json, of_items, of_members, converted}
 use Rattle.alt_codec.specs.Reading.{item_in}
-use Rattle.alt_readahead.specs.Batch.{IsBatchAhead, SaysWrite, SayWrites, SayTables, alone}
+use Rattle.alt_readahead.specs.Batch.{IsBatchAhead, SaysWrite, SayWrites, SaysTable, SayTables, alone}
 use Rattle.alt_readahead.specs.declared.batch.TableWrites.{TableWrites}
 use Rattle.alt_readahead.specs.declared.batch.Write.{Write}
 use Rattle.alt_value.specs.Tree.{Pair}
@@ -39,3 +40,14 @@ ReadsTables depth before ts after = (ms : Members)
 abbrev pub IsBatchSoFar : Members → Option (Vec TableWrites Global) → Type 0
 IsBatchSoFar ms None = ⊤
 IsBatchSoFar ms (Some ts) = IsBatchAhead ms ts.items
+
+-- where a table of that name goes among others whose names rise, None where one of them has the name
+abbrev pub place_among : List ℕ → List TableWrites → Option ℕ
+place_among name [] = Some 0
+place_among name (t ∷ ts) = match_ordering (slice_cmp nat_cmp name t.table) (Some 0) None
+    (option_map suc (place_among name ts))
+
+-- A table is put to others: where those are what an object says, these are what it says with the table's member.
+abbrev pub IsTablePut : TableWrites → List TableWrites → List TableWrites → Type 0
+IsTablePut t before after = (ms : Members) (name : List ℕ) (d : Data) → SayTables ms before
+    → SaysTable name d t → SayTables (put name d ms) after

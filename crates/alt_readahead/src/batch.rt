@@ -1,11 +1,11 @@
 //! The writes of a batch, read straight from the text of its body: table by table, each a put of an item or a delete of a key.
 
-ghost use Rattle.std.specs.Prelude.{◌≡◌, ◌<◌, length, IfOk, IfSome, OnOk};
+ghost use Rattle.std.specs.Prelude.{◌≡◌, ◌<◌, ◌≤◌, length, IfOk, IfSome, OnOk};
 ghost use Rattle.json.specs.Json.{value, members};
 ghost use Rattle.serde_json.specs.Data.{Data, Members, no_members, put};
 ghost use Rattle.serde_json.specs.Read.{of_json, of_members, converted};
 ghost use Rattle.alt_readahead.specs.Batch.{IsBatchAhead, SaysWrite, alone};
-ghost use Rattle.alt_readahead.specs.Batches.{IsBatchSoFar, ReadsRequest, ReadsTables, ReadsWrite, ReadsWrites};
+ghost use Rattle.alt_readahead.specs.Batches.{IsBatchSoFar, IsTablePut, place_among, ReadsRequest, ReadsTables, ReadsWrite, ReadsWrites};
 ghost use Rattle.alt_readahead.specs.Direct.{SaysObject};
 
 use crate::direct::item_ahead;
@@ -16,9 +16,13 @@ use alt_value::{Item, Text};
 use json::{Reader, Scratch};
 use simdutf8::basic::from_utf8;
 use std::alloc::Global;
+use std::cmp::Ordering;
 
 /// How many arrays and objects may stand within one another in a member, as `serde_json` has it: 127 in the body.
 const LEVELS: usize = 126;
+
+/// The most tables that are read so. A batch with as many has no more writes than one to each, so one with more of them is an odd one.
+const MOST_TABLES: usize = 25;
 
 /// A write of a batch: the item that is put, or the key of the one that is deleted.
 #[derive(Drop)]
@@ -103,7 +107,7 @@ fn member_batch(
     Ok(())
 }
 
-/// The tables of a batch behind their brace, whose names rise.
+/// The tables of a batch behind their brace.
 fn tables_ahead(
     alloc: Global,
     reader: &mut Reader<'_>,
@@ -113,18 +117,46 @@ fn tables_ahead(
     ensures tables { IfOk result (λ v. ReadsTables depth reader.old v.items reader.new) }
 {
     let mut tables = Vec::new(alloc);
-    let mut last = "";
     'tables: while let Some(name) = reader.next_key()? {
-        if !last.cmp(name).is_lt() {
-            return Err(Unread::Otherwise);
-        }
-        last = name;
         open_array(reader)?;
         let writes = writes_ahead(alloc, reader, depth - 1)?;
         let table = Text::new(alloc, name)?;
-        tables.push(TableWrites { table, writes })?;
+        put_table(&mut tables, TableWrites { table, writes })?;
     }
     Ok(tables)
+}
+
+/// Puts a table in its order among the others, where there aren't too many and none has its name.
+fn put_table(tables: &mut Vec<TableWrites>, table: TableWrites) -> Result<(), Unread>
+    ensures put { OnOk result (IsTablePut table tables.old.items tables.new.items) }
+{
+    if tables.len() >= MOST_TABLES {
+        return Err(Unread::Otherwise);
+    }
+    match place_among(tables, table.table.as_str()) {
+        Some(at) => {
+            tables.insert(at, table)?;
+            Ok(())
+        }
+        None => Err(Unread::Otherwise),
+    }
+}
+
+/// Where a table of that name goes among others whose names rise, None where one of them has the name.
+#[tactic(auto, using(crate::proofs::Batches::place_from))]
+fn place_among(tables: &[TableWrites], name: &str) -> Option<usize>
+    ensures place { result ≡ place_among name.now tables.now }
+    ensures within { IfSome result (λ at. at ≤ length tables.now) }
+{
+    let mut at = 0;
+    for table in tables {
+        match name.cmp(table.table.as_str()) {
+            Ordering::Less => return Some(at),
+            Ordering::Equal => return None,
+            Ordering::Greater => at += 1,
+        }
+    }
+    Some(at)
 }
 
 /// The writes of a table behind their bracket.

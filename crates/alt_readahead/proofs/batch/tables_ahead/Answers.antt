@@ -1,18 +1,13 @@
--- Each turn reads one table more, whose name is behind the last one, up to the brace.
-use Rattle.std.proofs.Common.{◌≡◌, [], Some, None, true, nat_cmp, arith, rules}
-use Rattle.std.specs.Cmp.Lexicographic.{slice_cmp}
-use Rattle.std.specs.Ordering.{is_lt}
+-- Each turn reads one table more, up to the brace.
+use Rattle.std.proofs.Common.{◌≡◌, Some, None, arith}
 use Rattle.json.specs.Json.{read_key}
 use Rattle.alt_readahead.proofs.Batches.{tables_begin, tables_turn, tables_less, tables_end}
 use Rattle.alt_readahead.specs.declared.batch.TableWrites.{TableWrites}
-use Rattle.alt_readahead.proofs.Behind.{less_of}
 use Rattle.alt_readahead.proofs.batch.tables_ahead.Goals as goal
 
 pub tables-init : goal.tables-init
-tables-init c = (
-  search rules,
-  tables_begin c.args.depth c.args.reader.now [] c.new-tables.result.items c.new-tables.ensures.items,
-)
+tables-init c =
+    tables_begin c.args.depth c.args.reader.now c.new-tables.result.items c.new-tables.ensures.items
 
 pub tables-smaller : goal.tables-smaller
 tables-smaller c =
@@ -28,21 +23,17 @@ tables-preserved c =
     let l = c.tables in
     let name = c.in-Some.name.now in
     let named : read_key l.reader ≡ Some (Some name, c.next_key.new.self) = grind arith in
-    let rises : is_lt (slice_cmp nat_cmp l.last.now name) ≡ true = search rules in
-    let t : TableWrites = record { table = c.in_ok-table.table; writes = c.in_ok-writes.writes } in (
-      search rules,
-      tables_turn c.args.depth c.args.reader.now l.reader c.next_key.new.self
-          c.open_array.new.reader c.writes_ahead.new.reader l.last.now name l.tables.items
-          c.push.new.self.items t (omega (arith, c.requires)) l.invariant.1 named
-          (less_of _ rises) c.in_ok-open_array.ensures.passed c.in_ok-writes.ensures.writes
-          c.in_ok-table.ensures.copied c.in_ok-push.ensures.items,
-    )
+    let t : TableWrites = record { table = c.in_ok-table.table; writes = c.in_ok-writes.writes } in
+    tables_turn c.args.depth c.args.reader.now l.reader c.next_key.new.self c.open_array.new.reader
+    c.writes_ahead.new.reader name l.tables.items c.put_table.new.tables.items t
+    (omega (arith, c.requires)) l.invariant named c.in_ok-open_array.ensures.passed
+    c.in_ok-writes.ensures.writes c.in_ok-table.ensures.copied c.in_ok-put_table.ensures.put
 
 pub returns : goal.returns
 returns c =
     let l = c.tables in
     let over : read_key l.reader ≡ Some (None, c.next_key.new.self) = grind arith in
     record {
-      tables = tables_end c.args.depth c.args.reader.now l.reader c.next_key.new.self l.last.now
-          l.tables.items l.invariant.1 over;
+      tables = tables_end c.args.depth c.args.reader.now l.reader c.next_key.new.self l.tables.items
+          l.invariant over;
     }

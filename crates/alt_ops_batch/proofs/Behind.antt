@@ -1,7 +1,7 @@
 -- Members whose names rise: one whose name is behind all of them is put at their end.
-use Rattle.std.proofs.Common.{◌≡◌, refl, sym, ap, subst, ◌∙◌, List, Ordering, Less, Equal, Greater, nat_cmp, true}
+use Rattle.std.proofs.Common.{◌≡◌, refl, sym, ap, subst, ◌∙◌, List, Less, Greater, nat_cmp}
 use Rattle.std.specs.Cmp.Lexicographic.{slice_cmp}
-use Rattle.std.specs.Ordering.{is_lt, match_ordering, ordering_reverse}
+use Rattle.std.specs.Ordering.{match_ordering, ordering_reverse}
 use Rattle.std.proofs.lemmas.Cmp.{nat_list_cmp_total}
 use Rattle.std.specs.Prelude.{ℕ}
 use Rattle.serde_json.specs.Data.{Data, Members, no_members, member, put}
@@ -40,12 +40,6 @@ put_behind k d (member l e ms) h =
     ap (λ o. match_ordering o (member k d (member l e ms)) (member l d ms)
     (member l e (put k d ms))) h.0
     ∙ ap (λ ns. member l e ns) (put_behind k d ms h.1)
-
--- what a test of two names says
-pub less_of : (o : Ordering) → is_lt o ≡ true → o ≡ Less
-less_of Less e = refl
-less_of Equal e = absurd (cc)
-less_of Greater e = absurd (cc)
 
 -- the order of names
 pub less_then : (x y z : List ℕ) → slice_cmp nat_cmp x y ≡ Less → slice_cmp nat_cmp y z ≡ Less

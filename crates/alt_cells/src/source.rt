@@ -3,6 +3,7 @@
 ghost use Rattle.std.specs.Prelude.{◌≡◌, ◌≤◌, ◌+◌, ℕ, Bool, List, Option, IsTrue, IfOk, IfErr, OnOk};
 ghost use Rattle.std.specs.Option.{option_copied};
 ghost use Rattle.alt_disk.specs.Disk.{DiskState};
+ghost use Rattle.alt_cells.specs.declared.row.RowCells.{RowCells};
 ghost use Rattle.alt_cells.specs.Walks.{RowMap, RowList, rows_from, Gives, Keeps, Fails, SameFiles, answered_by};
 
 use crate::RowCells;
@@ -59,6 +60,10 @@ pub trait RowSource<D: Disk> {
     /// that were sought, and the source behind it.
     ghost seeks: { DiskState → DiskState → Self → Option (List ℕ) → Bool → Self → Type 0 };
 
+    /// What an Ok of `next` says whatever the disk tells: of the disk's two states, the source before it, the row that is given, if there is
+    /// one, and the source behind it.
+    ghost nexts: { DiskState → DiskState → Self → Option (List ℕ × RowCells) → Self → Type 0 };
+
     /// Goes to a key: forward to the first one at or above it, backward to the last one below it. With no
     /// key it goes to the first, or to the last.
     fn seek(&mut self, disk: &mut D, from: Option<&[u8]>, forward: bool) -> Result<(), SourceFault>
@@ -81,6 +86,8 @@ pub trait RowSource<D: Disk> {
         ensures gives { IsTrue (D.state disk.old).tells
             → (rows : RowList) → left (D.state disk.old) self.old rows
             → IfOk result (Gives (left (D.state disk.new) self.new) rows) }
+        ensures given { IfOk result (λ row. nexts (D.state disk.old) (D.state disk.new) self.old
+            row self.new) }
         ensures keeps { Keeps holds reads (D.state disk.old) (D.state disk.new) self.old self.new }
         ensures reads { (D.state disk.new).reads ≤ (D.state disk.old).reads + width self.old }
         ensures width { width self.new ≡ width self.old }

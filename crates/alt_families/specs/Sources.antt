@@ -2,6 +2,7 @@
 use Rattle.std.specs.Prelude.{ℕ, Bool, List, Option}
 use Rattle.alt_disk.specs.Disk.{DiskState}
 use Rattle.alt_cells.specs.Walks.{RowMap, RowList, SameFiles}
+use Rattle.alt_cells.specs.declared.row.RowCells.{RowCells}
 use Rattle.alt_memtable.specs.Walk as mem
 use Rattle.alt_rowfile.specs.Walking as row
 use Rattle.alt_rowfile.specs.Given as given
@@ -24,6 +25,13 @@ source_seeks old new (Memory w) from forward (Memory v) = mem.walk_seeks old new
 source_seeks old new (Memory w) from forward (File v) = ⊥
 source_seeks old new (File w) from forward (Memory v) = ⊥
 source_seeks old new (File w) from forward (File v) = given.walk_seeks old new w from forward v
+
+-- The source gave this: its walk did, and it stays a walk of its kind.
+abbrev pub source_nexts : DiskState → DiskState → Source → Option (List ℕ × RowCells) → Source → Type 0
+source_nexts old new (Memory w) row (Memory v) = mem.walk_nexts old new w row v
+source_nexts old new (Memory w) row (File v) = ⊥
+source_nexts old new (File w) row (Memory v) = ⊥
+source_nexts old new (File w) row (File v) = given.walk_nexts old new w row v
 
 -- The source stands for these rows.
 abbrev pub source_holds : DiskState → Source → RowMap → Type 0

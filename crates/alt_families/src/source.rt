@@ -24,13 +24,15 @@ pub(crate) enum Source<'a> {
 }
 
 impl<'a, D: Disk> RowSource<D> for Source<'a> {
-    ghost use Rattle.alt_families.specs.Sources.{source_reads, source_width, source_seeks, source_holds, source_left, source_holds_on, source_left_on};
+    ghost use Rattle.alt_families.specs.Sources.{source_reads, source_width, source_seeks, source_nexts, source_holds, source_left, source_holds_on, source_left_on};
 
     ghost reads = { source_reads };
 
     ghost width = { source_width };
 
     ghost seeks = { source_seeks };
+
+    ghost nexts = { source_nexts };
 
     ghost holds = { source_holds };
 

@@ -1,13 +1,14 @@
 -- Lists of sources, and what each has left, where one of them was called.
-use Rattle.std.proofs.Common.{◌≡◌, ◌<◌, ◌||◌, ℕ, zero, suc, Bool, IsTrue, List, [], ◌∷◌, length, get_or, set, drop, map, refl, sym, subst, ap, ◌∙◌, arith}
+use Rattle.std.proofs.Common.{◌≡◌, ◌<◌, ◌||◌, ℕ, zero, suc, Bool, IsTrue, List, [], ◌∷◌, length, get_or, set, drop, map, zip, Option, refl, sym, subst, ap, ◌∙◌, arith}
 use Rattle.std.specs.FinMap.{empty}
 use Rattle.alt_disk.specs.Disk.{DiskState}
+use Rattle.alt_cells.specs.declared.row.RowCells.{RowCells}
 use Rattle.alt_cells.specs.declared.source.SourceFault.{SourceFault}
 use Rattle.alt_cells.specs.declared.source.SourceFault.TheVariants.{Damaged, Failed, NoMemory}
 use Rattle.alt_cells.specs.Walks.{RowMap, RowList, HasCause, Keeps, Fails, SameFiles}
 use Rattle.alt_merge.specs.declared.head.Head.{Head}
 use Rattle.alt_merge.specs.MergeLaws.{or_left, or_right}
-use Rattle.alt_merge.specs.Merges.{Each2, SoughtEach, with_head, with_heads, any_reads, HoldsEach, LeftWith, IsFilled, AllFilled}
+use Rattle.alt_merge.specs.Merges.{Each2, InTurn, with_head, with_heads, any_reads, HoldsEach, LeftWith, IsFilled, AllFilled, IsFilledBy, AreFilledBy}
 
 module _ {A B : Type 0} where
   -- what holds of each two holds of those at a place
@@ -188,36 +189,93 @@ pub length_map : {A B : Type 0} (f : A → B) (xs : List A) → length (map f xs
 length_map f [] = refl
 length_map f (x ∷ xs) = ap suc (length_map f xs)
 
--- the first so many of these sources were sought, one after the other, and the others are as they were
-abbrev pub SoughtTo : {S : Type 0} → (DiskState → DiskState → S → S → Type 0) → ℕ → DiskState
+-- the first so many of these were called, one after the other, and the others are as they were
+abbrev pub InTurnTo : {S : Type 0} → (DiskState → DiskState → S → S → Type 0) → ℕ → DiskState
     → DiskState → List S → List S → Type 0
-SoughtTo Seeks zero old new xs ys = (new ≡ old) × (xs ≡ ys)
-SoughtTo Seeks (suc n) old new [] ys = ⊥
-SoughtTo Seeks (suc n) old new (x ∷ xs) [] = ⊥
-SoughtTo Seeks (suc n) old new (x ∷ xs) (y ∷ ys) =
-    (between : DiskState) × Seeks old between x y × SoughtTo Seeks n between new xs ys
+InTurnTo Calls zero old new xs ys = (new ≡ old) × (xs ≡ ys)
+InTurnTo Calls (suc n) old new [] ys = ⊥
+InTurnTo Calls (suc n) old new (x ∷ xs) [] = ⊥
+InTurnTo Calls (suc n) old new (x ∷ xs) (y ∷ ys) =
+    (between : DiskState) × Calls old between x y × InTurnTo Calls n between new xs ys
 
-module _ {S : Type 0} (Seeks : DiskState → DiskState → S → S → Type 0) where
+module _ {S : Type 0} (Calls : DiskState → DiskState → S → S → Type 0) where
   -- one more was
-  pub sought_set : (i : ℕ) (a b c : DiskState) (xs ys : List S) (d y : S) → i < length ys
-      → SoughtTo Seeks i a b xs ys → Seeks b c (get_or ys i d) y
-      → SoughtTo Seeks (suc i) a c xs (set ys i y)
-  sought_set zero a b c xs [] d y lt to one = absurd (omega arith)
-  sought_set zero a b c [] (y' ∷ ys) d y lt to one = absurd (omega (arith, ap length to.1))
-  sought_set zero a b c (x ∷ xs) (y' ∷ ys) d y lt to one = (
+  pub turn_set : (i : ℕ) (a b c : DiskState) (xs ys : List S) (d y : S) → i < length ys
+      → InTurnTo Calls i a b xs ys → Calls b c (get_or ys i d) y
+      → InTurnTo Calls (suc i) a c xs (set ys i y)
+  turn_set zero a b c xs [] d y lt to one = absurd (omega arith)
+  turn_set zero a b c [] (y' ∷ ys) d y lt to one = absurd (omega (arith, ap length to.1))
+  turn_set zero a b c (x ∷ xs) (y' ∷ ys) d y lt to one = (
     c,
-    subst (λ s. Seeks s c x y) to.0 (subst (λ l. Seeks b c (get_or l zero d) y) (sym to.1) one),
+    subst (λ s. Calls s c x y) to.0 (subst (λ l. Calls b c (get_or l zero d) y) (sym to.1) one),
     (refl, ap (drop 1) to.1),
   )
-  sought_set (suc i) a b c [] ys d y lt to one = absurd to
-  sought_set (suc i) a b c (x ∷ xs) [] d y lt to one = absurd to
-  sought_set (suc i) a b c (x ∷ xs) (y' ∷ ys) d y lt to one =
-      (to.0, to.1, sought_set i to.0 b c xs ys d y (omega arith) to.2 one)
+  turn_set (suc i) a b c [] ys d y lt to one = absurd to
+  turn_set (suc i) a b c (x ∷ xs) [] d y lt to one = absurd to
+  turn_set (suc i) a b c (x ∷ xs) (y' ∷ ys) d y lt to one =
+      (to.0, to.1, turn_set i to.0 b c xs ys d y (omega arith) to.2 one)
 
   -- all were
-  pub sought_all : (a b : DiskState) (xs ys : List S) → SoughtTo Seeks (length ys) a b xs ys
-      → SoughtEach Seeks a b xs ys
-  sought_all a b [] [] to = to.0
-  sought_all a b (x ∷ xs) [] to = absurd (omega (arith, ap length to.1))
-  sought_all a b [] (y ∷ ys) to = absurd to
-  sought_all a b (x ∷ xs) (y ∷ ys) to = (to.0, to.1, sought_all to.0 b xs ys to.2)
+  pub turn_all : (a b : DiskState) (xs ys : List S) → InTurnTo Calls (length ys) a b xs ys
+      → InTurn Calls a b xs ys
+  turn_all a b [] [] to = to.0
+  turn_all a b (x ∷ xs) [] to = absurd (omega (arith, ap length to.1))
+  turn_all a b [] (y ∷ ys) to = absurd to
+  turn_all a b (x ∷ xs) (y ∷ ys) to = (to.0, to.1, turn_all to.0 b xs ys to.2)
+
+-- ---- sources beside their heads
+
+-- where both lists change at a place, the pair there does
+zip_set : {A B : Type 0} (xs : List A) (ys : List B) (i : ℕ) (x : A) (y : B)
+    → zip (set xs i x) (set ys i y) ≡ set (zip xs ys) i (x, y)
+zip_set [] ys i x y = refl
+zip_set (a ∷ xs) [] zero x y = refl
+zip_set (a ∷ xs) [] (suc i) x y = refl
+zip_set (a ∷ xs) (b ∷ ys) zero x y = refl
+zip_set (a ∷ xs) (b ∷ ys) (suc i) x y = ap (λ l. (a, b) ∷ l) (zip_set xs ys i x y)
+
+-- the pair at a place is that of both there
+get_or-zip : {A B : Type 0} (xs : List A) (ys : List B) (i : ℕ) (d : A) (e : B) → i < length xs
+    → length ys ≡ length xs → get_or (zip xs ys) i (d, e) ≡ (get_or xs i d, get_or ys i e)
+get_or-zip [] ys i d e lt same = absurd (omega arith)
+get_or-zip (a ∷ xs) [] i d e lt same = absurd (omega (arith, same))
+get_or-zip (a ∷ xs) (b ∷ ys) zero d e lt same = refl
+get_or-zip (a ∷ xs) (b ∷ ys) (suc i) d e lt same =
+    get_or-zip xs ys i d e (omega arith) (omega (arith, same))
+
+-- there are as many pairs
+length_zip : {A B : Type 0} (xs : List A) (ys : List B) → length ys ≡ length xs
+    → length (zip xs ys) ≡ length xs
+length_zip [] ys same = refl
+length_zip (a ∷ xs) [] same = absurd (omega (arith, same))
+length_zip (a ∷ xs) (b ∷ ys) same = ap suc (length_zip xs ys (omega (arith, same)))
+
+module _ {S : Type 0}
+    (Nexts : DiskState → DiskState → S → Option (List ℕ × RowCells) → S → Type 0) where
+  -- a source and its head were filled so
+  abbrev pub PairFilled : DiskState → DiskState → S × Head → S × Head → Type 0
+  PairFilled a b p q = IsFilledBy Nexts a b p.0 p.1 q.0 q.1
+
+  -- one more was
+  pub filled_next : (i : ℕ) (a b c : DiskState) (xs ys : List S) (hs gs : List Head) (d y : S)
+      (e g : Head) → i < length ys → length gs ≡ length ys
+      → InTurnTo PairFilled i a b (zip xs hs) (zip ys gs)
+      → IsFilledBy Nexts b c (get_or ys i d) (get_or gs i e) y g
+      → InTurnTo PairFilled (suc i) a c (zip xs hs) (zip (set ys i y) (set gs i g))
+  filled_next i a b c xs ys hs gs d y e g lt same to one =
+      subst (λ l. InTurnTo PairFilled (suc i) a c (zip xs hs) l) (sym (zip_set ys gs i y g))
+      (turn_set PairFilled i a b c (zip xs hs) (zip ys gs) (d, e) (y, g)
+      (omega (arith, lt, length_zip ys gs same)) to
+      (subst (λ p. PairFilled b c p (y, g)) (sym (get_or-zip ys gs i d e lt same)) one))
+
+  -- all were
+  pub filled_each : (i : ℕ) (a b : DiskState) (xs ys : List S) (hs gs : List Head)
+      → i ≡ length ys → length hs ≡ length xs → length gs ≡ length ys
+      → InTurnTo PairFilled i a b (zip xs hs) (zip ys gs) → AreFilledBy Nexts a b xs hs ys gs
+  filled_each i a b xs ys hs gs end before after to = record {
+    heads_before = before;
+    heads_after = after;
+    filled = turn_all PairFilled a b (zip xs hs) (zip ys gs)
+        (subst (λ n. InTurnTo PairFilled n a b (zip xs hs) (zip ys gs))
+        (end ∙ sym (length_zip ys gs after)) to);
+  }

@@ -1,5 +1,5 @@
 -- Several walks as one: what is in hand of each, and what is left of all.
-use Rattle.std.specs.Prelude.{◌≡◌, ◌≢◌, ◌||◌, ℕ, Bool, false, T, List, [], ◌∷◌, length, Option, Some, None}
+use Rattle.std.specs.Prelude.{◌≡◌, ◌≢◌, ◌||◌, ℕ, Bool, false, T, List, [], ◌∷◌, length, zip, Option, Some, None}
 use Rattle.std.specs.declared.cmp.Ordering.TheVariants.{Greater}
 use Rattle.std.specs.FinMap.{empty}
 use Rattle.std.specs.FinMap.Entries.{is_sorted, below_all}
@@ -18,15 +18,15 @@ Each2 P [] (y ∷ ys) = ⊥
 Each2 P (x ∷ xs) [] = ⊥
 Each2 P (x ∷ xs) (y ∷ ys) = P x y × Each2 P xs ys
 
--- Each of the first sources was sought, one after the other, and is then the one at its place of the second: each began with the disk as
--- the one before it left it.
-abbrev pub SoughtEach : {S : Type 0} → (DiskState → DiskState → S → S → Type 0) → DiskState
+-- Each of the first was called, one after the other, and is then the one at its place of the second: each call began with the disk as the
+-- one before it left it.
+abbrev pub InTurn : {S : Type 0} → (DiskState → DiskState → S → S → Type 0) → DiskState
     → DiskState → List S → List S → Type 0
-SoughtEach Seeks old new [] [] = new ≡ old
-SoughtEach Seeks old new [] (y ∷ ys) = ⊥
-SoughtEach Seeks old new (x ∷ xs) [] = ⊥
-SoughtEach Seeks old new (x ∷ xs) (y ∷ ys) =
-    (between : DiskState) × Seeks old between x y × SoughtEach Seeks between new xs ys
+InTurn Calls old new [] [] = new ≡ old
+InTurn Calls old new [] (y ∷ ys) = ⊥
+InTurn Calls old new (x ∷ xs) [] = ⊥
+InTurn Calls old new (x ∷ xs) (y ∷ ys) =
+    (between : DiskState) × Calls old between x y × InTurn Calls between new xs ys
 
 -- what is left of a source, with the row in hand before it
 abbrev pub with_head : Head → RowList → RowList
@@ -77,6 +77,28 @@ abbrev pub IsFilled : Head → Type 0
 IsFilled Due = ⊥
 IsFilled (Held key row) = Unit {0}
 IsFilled End = Unit {0}
+
+-- what a source gave is in hand: a row, or that there is none
+abbrev pub in_hand : Option (List ℕ × RowCells) → Head
+in_hand None = End
+in_hand (Some e) = Held e.0 e.1
+
+-- A source was asked for its next row where its head was due, and what it gave is in hand then; else it wasn't called, and its head stays.
+abbrev pub IsFilledBy : {S : Type 0}
+    → (DiskState → DiskState → S → Option (List ℕ × RowCells) → S → Type 0)
+    → DiskState → DiskState → S → Head → S → Head → Type 0
+IsFilledBy Nexts old new x Due y head =
+    (given : Option (List ℕ × RowCells)) × Nexts old new x given y × (head ≡ in_hand given)
+IsFilledBy Nexts old new x (Held key row) y head = (new ≡ old) × (y ≡ x) × (head ≡ Held key row)
+IsFilledBy Nexts old new x End y head = (new ≡ old) × (y ≡ x) × (head ≡ End)
+
+-- so it was with each of these sources and its head, one after the other
+pub record AreFilledBy {S : Type 0}
+    (Nexts : DiskState → DiskState → S → Option (List ℕ × RowCells) → S → Type 0)
+    (old new : DiskState) (xs : List S) (hs : List Head) (ys : List S) (gs : List Head) : Type 0 where
+  pub heads_before : length hs ≡ length xs
+  pub heads_after : length gs ≡ length ys
+  pub filled : InTurn (λ a b p q. IsFilledBy Nexts a b p.0 p.1 q.0 q.1) old new (zip xs hs) (zip ys gs)
 
 -- of every source it is known what stands at its front
 abbrev pub AllFilled : List Head → Type 0

@@ -1,11 +1,14 @@
 -- A merge: the rows that it stands for, and those that are left.
-use Rattle.std.specs.Prelude.{ℕ, Bool, List, Option}
+use Rattle.std.specs.Prelude.{◌≡◌, ℕ, Bool, List, [], length, map, Option, None}
 use Rattle.alt_disk.specs.Disk.{DiskState}
-use Rattle.alt_cells.specs.Walks.{RowMap, RowList}
+use Rattle.alt_cells.specs.Walks.{RowMap, RowList, Gives, walk_cmp}
+use Rattle.alt_cells.specs.Joined.{all_joined}
+use Rattle.alt_cells.specs.Rows.{join_row}
+use Rattle.alt_cells.specs.declared.row.RowCells.{RowCells}
 use Rattle.alt_merge.specs.declared.head.Head.{Head}
 use Rattle.alt_merge.specs.declared.merge.Merge.{Merge}
-use Rattle.alt_merge.specs.Costs.{all_width}
-use Rattle.alt_merge.specs.Merges.{MergeHolds, MergeLeft, SoughtEach, any_reads}
+use Rattle.alt_merge.specs.Costs.{AreFreed, all_width}
+use Rattle.alt_merge.specs.Merges.{AreFilledBy, MergeHolds, MergeLeft, InTurn, any_reads, with_head}
 
 -- its sources
 abbrev pub sources_of : {S : Type 0} → Merge S → List S
@@ -32,7 +35,37 @@ abbrev pub merge_seeks : {S : Type 0}
     → (DiskState → DiskState → S → Option (List ℕ) → Bool → S → Type 0)
     → DiskState → DiskState → Merge S → Option (List ℕ) → Bool → Merge S → Type 0
 merge_seeks Seeks old new before from forward after =
-    SoughtEach (λ a b x y. Seeks a b x from forward y) old new before.sources.items after.sources.items
+    InTurn (λ a b x y. Seeks a b x from forward y) old new before.sources.items after.sources.items
+
+-- the rows in hand of several sources, joined, in the order of a walk
+abbrev pub held_rows : Bool → List Head → RowList
+held_rows forward heads =
+    all_joined (walk_cmp forward) join_row (map (λ h. with_head h []) heads)
+
+-- Of these the first is given, and the sources whose heads have its key are due then, while the other heads stay; None where no row is in hand.
+abbrev pub HeadsGive : Bool → List Head → List Head → Option (List ℕ × RowCells) → Type 0
+HeadsGive forward before after given =
+    Gives (λ rows. rows ≡ held_rows forward after) (held_rows forward before) given
+    × AreFreed given before after
+
+-- A merge gives None where it wasn't sought. Else each source that was due was asked, one after the other, and of what is in hand then it
+-- gives the first row.
+pub data MergeNext {S : Type 0}
+    (Nexts : DiskState → DiskState → S → Option (List ℕ × RowCells) → S → Type 0)
+    (old new : DiskState) (before : Merge S) (given : Option (List ℕ × RowCells)) (after : Merge S)
+    : Type 0 where
+  unsought : (length before.heads.items ≡ length before.sources.items → ⊥) → given ≡ None
+      → new ≡ old → after ≡ before → MergeNext Nexts old new before given after
+  asked : (filled : List Head)
+      → AreFilledBy Nexts old new before.sources.items before.heads.items after.sources.items filled
+      → HeadsGive before.forward filled after.heads.items given → after.forward ≡ before.forward
+      → MergeNext Nexts old new before given after
+
+-- the same, as a merge's word of what an answer says
+abbrev pub merge_nexts : {S : Type 0}
+    → (DiskState → DiskState → S → Option (List ℕ × RowCells) → S → Type 0)
+    → DiskState → DiskState → Merge S → Option (List ℕ × RowCells) → Merge S → Type 0
+merge_nexts Nexts old new before given after = MergeNext Nexts old new before given after
 
 -- the rows that a merge stands for: those of its sources, joined
 abbrev pub merge_holds : {S : Type 0} → (DiskState → S → RowMap → Type 0) → DiskState → Merge S

@@ -6,7 +6,8 @@ ghost use Rattle.std.specs.List.{All};
 ghost use Rattle.alt_disk.specs.Disk.{DiskState, IsTrusted};
 ghost use Rattle.alt_cells.specs.Walks.{RowMap, RowList, rows_from, Keeps, Fails, answered_by};
 ghost use Rattle.alt_merge.specs.Costs.{all_width, due_of, all_due};
-ghost use Rattle.alt_merge.specs.Merges.{Each2, SoughtEach, with_head, with_heads, any_reads, IsFilled, AllFilled, HoldsEach, LeftWith};
+ghost use Rattle.alt_merge.specs.Merges.{Each2, InTurn, with_head, with_heads, any_reads, IsFilled, IsFilledBy, AllFilled, AreFilledBy, HoldsEach, LeftWith};
+ghost use Rattle.alt_merge.specs.declared.head.Head.TheVariants.{Due};
 
 use crate::head::Head;
 use alt_cells::{RowSource, SourceFault};
@@ -17,6 +18,8 @@ pub(crate) fn next_head<D: Disk, S: RowSource<D>>(
     disk: &mut D,
 ) -> Result<Head, SourceFault>
     ensures filled { IfOk result IsFilled }
+    ensures given { IfOk result (IsFilledBy S.nexts (D.state disk.old) (D.state disk.new)
+        source.old Due source.new) }
     ensures left { IsTrue (D.state disk.old).tells → (rows : RowList)
         → S.left (D.state disk.old) source.old rows
         → IfOk result (λ head. (tail : RowList) × S.left (D.state disk.new) source.new tail
@@ -43,6 +46,8 @@ fn fill<D: Disk, S: RowSource<D>>(
     disk: &mut D,
 ) -> Result<(), SourceFault>
     ensures filled { OnOk result (IsFilled head.new) }
+    ensures given { OnOk result (IsFilledBy S.nexts (D.state disk.old) (D.state disk.new)
+        source.old head.old source.new head.new) }
     ensures left { IsTrue (D.state disk.old).tells → (tail : RowList)
         → S.left (D.state disk.old) source.old tail
         → OnOk result ((rest : RowList) × S.left (D.state disk.new) source.new rest
@@ -70,6 +75,8 @@ pub(crate) fn fill_all<D: Disk, S: RowSource<D>>(
 ) -> Result<(), SourceFault>
     requires { length heads.old ≡ length sources.old }
     ensures filled { OnOk result (AllFilled heads.new) }
+    ensures given { OnOk result (AreFilledBy S.nexts (D.state disk.old) (D.state disk.new)
+        sources.old heads.old sources.new heads.new) }
     ensures left { IsTrue (D.state disk.old).tells → (lists : List RowList)
         → LeftWith (S.left (D.state disk.old)) sources.old heads.old lists
         → OnOk result (LeftWith (S.left (D.state disk.new)) sources.new heads.new lists) }
@@ -100,7 +107,7 @@ pub(crate) fn seek_all<D: Disk, S: RowSource<D>>(
         → HoldsEach S.holds (D.state disk.old) sources.old maps
         → OnOk result (Each2 (S.left (D.state disk.new)) sources.new
         (map (λ m. rows_from m (option_copied from.entry) forward) maps)) }
-    ensures given { OnOk result (SoughtEach
+    ensures given { OnOk result (InTurn
         (λ a b x y. S.seeks a b x (option_copied from.entry) forward y)
         (D.state disk.old) (D.state disk.new) sources.old sources.new) }
     ensures keeps { Keeps (HoldsEach S.holds) (any_reads S.reads) (D.state disk.old)

@@ -35,7 +35,7 @@ impl<S> Merge<S> {
 }
 
 impl<D: Disk, S: RowSource<D>> RowSource<D> for Merge<S> {
-    ghost use Rattle.alt_merge.specs.Whole.{heads_of, is_forward, merge_reads, merge_width, merge_seeks, merge_holds, merge_left};
+    ghost use Rattle.alt_merge.specs.Whole.{heads_of, is_forward, merge_reads, merge_width, merge_seeks, merge_nexts, merge_holds, merge_left};
     ghost use Rattle.std.specs.Prelude.{◌≤◌, List, IsTrue, IfErr, map};
     ghost use Rattle.std.specs.Option.{option_copied};
     ghost use Rattle.alt_merge.specs.Merges.{AllDue, HoldsEach};
@@ -48,6 +48,8 @@ impl<D: Disk, S: RowSource<D>> RowSource<D> for Merge<S> {
     ghost width = { merge_width S.width };
 
     ghost seeks = { merge_seeks S.seeks };
+
+    ghost nexts = { merge_nexts S.nexts };
 
     ghost holds = { merge_holds S.holds };
 
@@ -93,6 +95,8 @@ impl<D: Disk, S: RowSource<D>> RowSource<D> for Merge<S> {
         ensures gives { IsTrue (D.state disk.old).tells
             → (rows : RowList) → merge_left S.left (D.state disk.old) self.old rows
             → IfOk result (Gives (merge_left S.left (D.state disk.new) self.new) rows) }
+        ensures given { IfOk result (λ row. merge_nexts S.nexts (D.state disk.old)
+            (D.state disk.new) self.old row self.new) }
         ensures keeps { Keeps (merge_holds S.holds) (merge_reads S.reads) (D.state disk.old)
             (D.state disk.new) self.old self.new }
         ensures reads { (D.state disk.new).reads

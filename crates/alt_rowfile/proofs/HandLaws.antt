@@ -4,7 +4,7 @@ use Rattle.std.specs.Prelude.{Result, Ok, Err, IfOk, IfSome}
 use Rattle.std.specs.List.{AllByRecursion, flat_map}
 use Rattle.std.specs.Int.{w64, to_be_bytes}
 use Rattle.std.specs.FinMap.Entries.{is_sorted}
-use Rattle.std.proofs.lemmas.List.{append-nil, drop_at, drop_all, drop-drop, length-drop, reverse-append, reverse-reverse}
+use Rattle.std.proofs.lemmas.List.{append-nil, drop_at, drop_all, length-drop, reverse-append, reverse-reverse}
 use Rattle.alt_fields.specs.Field.{field}
 use Rattle.alt_fields.proofs.Apart.{all_append, all_back, all_front, flat_map_snoc}
 use Rattle.alt_cells.specs.Keys.{key_cmp}
@@ -20,6 +20,7 @@ use Rattle.alt_rowfile.specs.declared.hand.Hand.{Hand}
 use Rattle.alt_rowfile.proofs.BlockLaws.{sorted_back}
 use Rattle.alt_rowfile.proofs.CutLaws.{from_first}
 use Rattle.alt_rowfile.proofs.DecodeLaws.{rest_of}
+use Rattle.alt_rowfile.proofs.GivenLaws.{behind_row}
 use Rattle.alt_rowfile.proofs.LoadLaws.{block_content}
 use Rattle.alt_rowfile.proofs.OneFile.{entry-apart, entry_some}
 use Rattle.alt_rowfile.proofs.PickLaws.{piece-apart, piece_some, length-piece, sealed, sealed_rows, sealed_bytes}
@@ -467,18 +468,7 @@ module _ (hand new : Hand) (rows : List Entry) (h : IsInHand hand true rows) whe
         place : drop new.at new.bytes.items ≡ behind
         place =
             ap (drop new.at) same
-            ∙ ap (λ (n : ℕ). drop n hand.bytes.items) (omega (
-              arith,
-              at,
-              ap length is,
-              ap length taken,
-              some,
-              length-append (entry_bytes given) behind,
-              length-drop hand.at hand.bytes.items,
-            ))
-            ∙ sym (drop-drop (length (entry_bytes given)) hand.at hand.bytes.items)
-            ∙ ap (drop (length (entry_bytes given))) (sym is ∙ taken)
-            ∙ drop_at (entry_bytes given) behind (length (entry_bytes given)) refl
+            ∙ behind_row hand.bytes.items rest behind given hand.at new.at is some taken at
 
         by_rows : (rows : List Entry) → rest ≡ rows_bytes rows → AllByRecursion IsHeldEntry rows
             → Gives (IsInHand new true) rows (Some given)

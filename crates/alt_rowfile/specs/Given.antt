@@ -1,14 +1,16 @@
 -- What an answer may be made of, whatever the file has: the bytes of one of its blocks, all of them, as they were read.
-use Rattle.std.specs.Prelude.{◌≡◌, ◌⊎◌, ◌<◌, ℕ, Bool, true, false, IsTrue, List, [], ◌++◌, length, take, drop, Option, Some, None}
+use Rattle.std.specs.Prelude.{◌≡◌, ◌⊎◌, ◌<◌, ℕ, Bool, true, false, IsTrue, List, [], ◌∷◌, ◌++◌, length, take, drop, Option, Some, None}
 use Rattle.std.specs.List.{AllByRecursion, flat_map}
 use Rattle.alt_fields.specs.Field.{field}
 use Rattle.alt_disk.specs.Disk.{DiskState, contents}
 use Rattle.alt_cells.specs.declared.row.RowCells.{RowCells}
 use Rattle.alt_rowfile.specs.Cut.{IsPassed}
+use Rattle.alt_rowfile.specs.Format.{Entry, entry_bytes, IsHeldEntry}
 use Rattle.alt_rowfile.specs.Holding.{IsInHand, StandAt}
 use Rattle.alt_rowfile.specs.InHand.{count_of, file_of}
 use Rattle.alt_rowfile.specs.Picking.{Piece, piece_bytes, IsShortPiece, IsPicked}
 use Rattle.alt_rowfile.specs.Reading.{length_of, place_of}
+use Rattle.alt_rowfile.specs.Walking.{IsEnd, IsNext, passed}
 use Rattle.alt_rowfile.specs.declared.hand.Hand.{Hand}
 use Rattle.alt_rowfile.specs.declared.rowfile.RowFile.{RowFile}
 use Rattle.alt_rowfile.specs.declared.walk.RowFileWalk.{RowFileWalk}
@@ -88,3 +90,64 @@ abbrev pub walk_seeks : DiskState → DiskState → RowFileWalk → Option (List
     → Type 0
 walk_seeks old new before from forward after = (after.file ≡ before.file)
     × (after.forward ≡ forward) × IsSought old new before.file.now from forward after.hand
+
+-- The row stands at the front of what is in hand: upwards at the place, which lies behind it then; downwards at the last of the places
+-- before, which is gone then.
+abbrev pub IsTakenAt : Hand → Bool → Entry → Hand → Type 0
+IsTakenAt hand true row after =
+    drop hand.at hand.bytes.items ≡ entry_bytes row ++ drop after.at hand.bytes.items
+IsTakenAt hand false row after = (place : ℕ)
+    × (hand.before.items ≡ after.before.items ++ place ∷ [])
+    × StandAt entry_bytes hand.bytes.items (place ∷ []) (row ∷ [])
+
+-- The row was taken of what is in hand: its lengths fit, and the bytes stay.
+pub record IsTaken (hand : Hand) (forward : Bool) (row : Entry) (after : Hand) : Type 0 where
+  pub held : IsHeldEntry row
+  pub bytes : after.bytes.items ≡ hand.bytes.items
+  pub at : IsTakenAt hand forward row after
+
+-- What is in hand gives its next row, and None where nothing is left of it.
+abbrev pub HandGives : Hand → Bool → Option Entry → Hand → Type 0
+HandGives hand forward None after = (after ≡ hand) × IsInHand hand forward []
+HandGives hand forward (Some row) after = IsTaken hand forward row after
+
+-- A walk read its next block, began in it, gave what is first there, and goes on behind the block.
+pub record IsNextBlock (old : DiskState) (before : RowFileWalk) (given : Option Entry)
+    (after : RowFileWalk) : Type 0 where
+  pub block : ℕ
+  pub next : IsNext before.forward before.next (count_of before.file.now) block
+  pub loaded : Hand
+  pub read : AreRead old before.file.now block loaded.bytes.items
+  pub begun : IsBegun loaded None before.forward
+  pub gives : HandGives loaded before.forward given after.hand
+  pub behind : after.next ≡ passed before.forward block
+
+-- It made no call and gave None, as no block is left.
+pub record IsAtEnd (old new : DiskState) (before : RowFileWalk) (given : Option Entry)
+    (after : RowFileWalk) : Type 0 where
+  pub none : given ≡ None
+  pub end : IsEnd before.forward before.next (count_of before.file.now)
+  pub uncalled : new ≡ old
+  pub stays : after ≡ before
+
+-- It made no call and gave the next row that it has in hand.
+pub record IsOfHand (old new : DiskState) (before : RowFileWalk) (given : Option Entry)
+    (after : RowFileWalk) : Type 0 where
+  pub row : Entry
+  pub some : given ≡ Some row
+  pub taken : IsTaken before.hand before.forward row after.hand
+  pub uncalled : new ≡ old
+  pub next : after.next ≡ before.next
+
+-- beyond what is in hand it gives what the next block has first, or None where there is none
+abbrev pub IsBeyond : DiskState → DiskState → RowFileWalk → Option Entry → RowFileWalk → Type 0
+IsBeyond old new before given after =
+    IsAtEnd old new before given after ⊎ IsNextBlock old before given after
+
+-- A walk answers so: it stays at its file and goes on that way, and gives the next row in hand or, where nothing is left in hand, what is
+-- beyond.
+abbrev pub walk_nexts : DiskState → DiskState → RowFileWalk → Option Entry → RowFileWalk → Type 0
+walk_nexts old new before given after = (after.file ≡ before.file)
+    × (after.forward ≡ before.forward)
+    × (IsOfHand old new before given after
+    ⊎ (IsInHand before.hand before.forward [] × IsBeyond old new before given after))

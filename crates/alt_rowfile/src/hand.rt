@@ -8,7 +8,7 @@ ghost use Rattle.alt_cells.specs.Walks.{Gives};
 ghost use Rattle.alt_rowfile.specs.Cut.{IsPassed};
 ghost use Rattle.alt_rowfile.specs.Decoding.{AreRows, NoRows};
 ghost use Rattle.alt_rowfile.specs.Format.{Entry, entry_bytes, rows_bytes, block_bytes, IsHeldEntry, IsHeldBlock};
-ghost use Rattle.alt_rowfile.specs.Given.{IsBegun, IsBegunIn, IsPassedBy};
+ghost use Rattle.alt_rowfile.specs.Given.{HandGives, IsBegun, IsBegunIn, IsPassedBy};
 ghost use Rattle.alt_rowfile.specs.Holding.{IsCutBlock, IsCutIn, IsInHand, IsUnread, StandAt};
 
 use crate::decode::{take_entry, whole_field};
@@ -71,6 +71,7 @@ impl Hand {
             → IfOk result (Gives (IsInHand self.new forward) rows) }
         ensures read { (rows : List Entry) → IsInHand self.old forward rows
             → IfErr result (λ fault. IsUnread fault → ⊥) }
+        ensures given { IfOk result (λ row. HandGives self.old forward row self.new) }
     {
         if forward {
             self.take_behind(alloc)
@@ -85,6 +86,7 @@ impl Hand {
             → IfOk result (Gives (IsInHand self.new true) rows) }
         ensures read { (rows : List Entry) → IsInHand self.old true rows
             → IfErr result (λ fault. IsUnread fault → ⊥) }
+        ensures given { IfOk result (λ row. HandGives self.old true row self.new) }
     {
         if self.at >= self.bytes.len() {
             return Ok(None);
@@ -106,6 +108,7 @@ impl Hand {
             → IfOk result (Gives (IsInHand self.new false) rows) }
         ensures read { (rows : List Entry) → IsInHand self.old false rows
             → IfErr result (λ fault. IsUnread fault → ⊥) }
+        ensures given { IfOk result (λ row. HandGives self.old false row self.new) }
     {
         let count = self.before.len();
         if count == 0 {
@@ -207,6 +210,8 @@ fn entry_at(
         → IfOk result (λ o. IfSome o (λ given. given ≡ e)) }
     ensures none { (e : Entry) → IsHeldEntry e → StandAt entry_bytes bytes.now (place ∷ []) (e ∷ [])
         → IfOk result (λ o. IfNone o ⊥) }
+    ensures given { IfOk result (λ o. IfSome o (λ row. IsHeldEntry row
+        × StandAt entry_bytes bytes.now (place ∷ []) (row ∷ []))) }
 {
     if place > bytes.len() {
         return Ok(None);

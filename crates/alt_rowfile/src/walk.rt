@@ -7,6 +7,7 @@ ghost use Rattle.alt_disk.specs.Runs.{Quiet};
 ghost use Rattle.alt_cells.specs.Walks.{Gives, IsDamaged, RowList, answered_by};
 ghost use Rattle.alt_rowfile.specs.Damage.{IsDamageIn};
 ghost use Rattle.alt_rowfile.specs.Format.{Entry};
+ghost use Rattle.alt_rowfile.specs.Given.{HandGives, IsBeyond};
 ghost use Rattle.alt_rowfile.specs.Holding.{IsInHand};
 ghost use Rattle.alt_rowfile.specs.InHand.{Reads, count_of};
 ghost use Rattle.alt_rowfile.specs.Reading.{ReadsAtMostABlock};
@@ -33,7 +34,7 @@ impl<'a, D: Disk> RowSource<D> for RowFileWalk<'a> {
     ghost use Rattle.std.specs.Prelude.{IfOk};
     ghost use Rattle.std.specs.Option.{option_copied};
     ghost use Rattle.alt_cells.specs.Walks.{RowMap, RowList, rows_from, Gives, Keeps, Fails};
-    ghost use Rattle.alt_rowfile.specs.Given.{walk_seeks};
+    ghost use Rattle.alt_rowfile.specs.Given.{walk_nexts, walk_seeks};
     ghost use Rattle.alt_rowfile.specs.Walking.{walk_reads, walk_width, walk_holds, walk_left, walk_holds_on, walk_left_on};
 
     ghost reads = { walk_reads };
@@ -41,6 +42,8 @@ impl<'a, D: Disk> RowSource<D> for RowFileWalk<'a> {
     ghost width = { walk_width };
 
     ghost seeks = { walk_seeks };
+
+    ghost nexts = { walk_nexts };
 
     ghost holds = { walk_holds };
 
@@ -84,6 +87,8 @@ impl<'a, D: Disk> RowSource<D> for RowFileWalk<'a> {
         ensures gives { IsTrue (D.state disk.old).tells
             → (rows : RowList) → walk_left (D.state disk.old) self.old rows
             → IfOk result (Gives (walk_left (D.state disk.new) self.new) rows) }
+        ensures given { IfOk result (λ row. walk_nexts (D.state disk.old) (D.state disk.new) self.old
+            row self.new) }
         ensures keeps { Keeps walk_holds walk_reads (D.state disk.old) (D.state disk.new)
             self.old self.new }
         ensures reads { (D.state disk.new).reads ≤ (D.state disk.old).reads + walk_width self.old }
@@ -116,6 +121,9 @@ impl<'a> RowFileWalk<'a> {
             → IsInHand self.old.hand self.old.forward []
             → LeftAs (D.state disk.old) self.old.file.now self.old.forward self.old.next [] rows
             → IfOk result (Gives (walk_left (D.state disk.new) self.new) rows) }
+        ensures forward { self.new.forward ≡ self.old.forward }
+        ensures given { IfOk result (λ row. IsBeyond (D.state disk.old) (D.state disk.new) self.old
+            row self.new) }
         ensures undamaged { IsTrue (D.state disk.old).tells
             → (rows : List Entry) → Reads (D.state disk.old) self.old.file.now rows
             → IfErr result (λ fault. IsDamaged fault → ⊥) }
@@ -148,6 +156,7 @@ impl<'a> RowFileWalk<'a> {
         ensures next { self.new.next ≡ passed self.old.forward i }
         ensures gives { (rows : List Entry) → IsInHand hand self.old.forward rows
             → IfOk result (Gives (IsInHand self.new.hand self.old.forward) rows) }
+        ensures given { IfOk result (λ row. HandGives hand self.old.forward row self.new.hand) }
         ensures fault { IfErr result (IsUnreadIn (walk_file self.old) i self.old.forward hand) }
     {
         self.next = passed(self.forward, i);

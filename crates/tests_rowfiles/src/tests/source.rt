@@ -21,6 +21,8 @@ impl<'a, D: Disk> RowSource<D> for Source<'a> {
 
     ghost seeks = { λ old new before from forward after. Unit {0} };
 
+    ghost nexts = { λ old new before row after. Unit {0} };
+
     ghost holds = { λ s source rows. ⊥ };
 
     ghost left = { λ s source rows. ⊥ };

@@ -1,4 +1,7 @@
 -- The next row in hand is given, or the first one of the next block.
+use Rattle.std.proofs.Common.{◌≡◌, inl, refl}
+use Rattle.alt_rowfile.specs.declared.walk.RowFileWalk.{RowFileWalk}
+use Rattle.alt_rowfile.proofs.GivenLaws.{beyond_gives}
 use Rattle.alt_rowfile.proofs.WalkLaws.{left_next, left_none}
 use Rattle.alt_rowfile.proofs.WalkCalls.{walk_keeps, walk_fails, result_fails, result_well}
 use Rattle.alt_rowfile.proofs.walk.RowFileWalkRowSource.next.Goals as goal
@@ -37,3 +40,36 @@ returns-in-Err-clause-fails g c =
     walk_fails (g.D.Disk.state c.args.disk.now) (g.D.Disk.state c.test_held.new.disk)
     c.args.self.now c.in-Err.fault c.in-Err.ensures.cause c.in-Err.ensures.undamaged
     c.in-Err.ensures.damage
+
+pub returns-in-Ok-Some-clause-given : goal.returns-in-Ok-Some-clause-given
+returns-in-Ok-Some-clause-given g c = (
+  refl,
+  refl,
+  inl (record {
+    row = c.in-Ok-Some.row;
+    some = refl;
+    taken = rw c.in-Ok-Some.field-0-is at c.in-Ok-Some.ensures.given;
+    uncalled = refl;
+    next = refl;
+  }),
+)
+
+pub returns-in-Ok-None-clause-given : goal.returns-in-Ok-None-clause-given
+returns-in-Ok-None-clause-given g c =
+    let walk = c.args.self.now in
+    let none = rw c.in-Ok-None.field-0-is at c.in-Ok-None.ensures.given in
+    let mid : RowFileWalk = record {
+      file = walk.file;
+      forward = walk.forward;
+      next = walk.next;
+      hand = c.take.new.self;
+    } in
+    let same : mid ≡ walk = λ i. record {
+      file = walk.file;
+      forward = walk.forward;
+      next = walk.next;
+      hand = none.0 i;
+    } in
+    beyond_gives (g.D.Disk.state c.args.disk.now) (g.D.Disk.state c.go_on.new.disk) walk mid
+    c.go_on.new.self c.go_on.result same none.1 c.go_on.ensures.file c.go_on.ensures.forward
+    c.go_on.ensures.given

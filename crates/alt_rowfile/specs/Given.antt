@@ -1,5 +1,5 @@
 -- What an answer may be made of, whatever the file has: the bytes of one of its blocks, all of them, as they were read.
-use Rattle.std.specs.Prelude.{◌≡◌, ◌⊎◌, ◌<◌, ℕ, Bool, true, false, IsTrue, List, [], ◌∷◌, ◌++◌, length, take, drop, Option, Some, None}
+use Rattle.std.specs.Prelude.{◌≡◌, ◌⊎◌, ◌<◌, ◌+◌, ℕ, Bool, true, false, IsTrue, List, [], ◌∷◌, ◌++◌, length, take, drop, Option, Some, None}
 use Rattle.std.specs.List.{AllByRecursion, flat_map}
 use Rattle.alt_fields.specs.Field.{field}
 use Rattle.alt_disk.specs.Disk.{DiskState, contents}
@@ -10,6 +10,7 @@ use Rattle.alt_rowfile.specs.Holding.{IsInHand, StandAt}
 use Rattle.alt_rowfile.specs.InHand.{count_of, file_of}
 use Rattle.alt_rowfile.specs.Picking.{Piece, piece_bytes, IsShortPiece, IsPicked}
 use Rattle.alt_rowfile.specs.Reading.{length_of, place_of}
+use Rattle.alt_rowfile.specs.Searching.{EndsAt}
 use Rattle.alt_rowfile.specs.Walking.{IsEnd, IsNext, passed}
 use Rattle.alt_rowfile.specs.declared.hand.Hand.{Hand}
 use Rattle.alt_rowfile.specs.declared.rowfile.RowFile.{RowFile}
@@ -79,17 +80,26 @@ IsBegun hand from forward = IsBegunIn hand.bytes.items hand.before.items hand.at
 abbrev pub IsNothing : Hand → Type 0
 IsNothing hand = (forward : Bool) → IsInHand hand forward []
 
--- A walk sought its place without a read and has nothing in hand, or it begins in the bytes of one of the file's blocks.
-abbrev pub IsSought : DiskState → DiskState → RowFile → Option (List ℕ) → Bool → Hand → Type 0
-IsSought old new file from forward hand =
-    ((new ≡ old) × IsNothing hand)
-    ⊎ ((block : ℕ) × AreRead old file block hand.bytes.items × IsBegun hand from forward)
+-- where a walk that has read nothing goes on: before all blocks, or downwards behind them
+abbrev pub outset : Bool → ℕ → ℕ
+outset true count = 0
+outset false count = count
 
--- A walk was sought so: it stays at its file, goes that way, and what it has in hand was sought there.
+-- A walk from no key has nothing in hand, and all blocks are to be read. One from a key began in the last block that begins at or below it,
+-- whose bytes were read, and goes on beside that block; or there is none, and it has nothing in hand.
+abbrev pub IsSought : DiskState → DiskState → RowFile → Option (List ℕ) → Bool → ℕ → Hand → Type 0
+IsSought old new file None forward next hand =
+    (new ≡ old) × IsNothing hand × (next ≡ outset forward (count_of file))
+IsSought old new file (Some key) forward next hand =
+    ((new ≡ old) × IsNothing hand × EndsAt file.marks.items key 0 × (next ≡ 0))
+    ⊎ ((block : ℕ) × AreRead old file block hand.bytes.items × IsBegun hand (Some key) forward
+    × EndsAt file.marks.items key (block + 1) × (next ≡ passed forward block))
+
+-- A walk was sought so: it stays at its file, goes that way, and its place and what it has in hand were sought there.
 abbrev pub walk_seeks : DiskState → DiskState → RowFileWalk → Option (List ℕ) → Bool → RowFileWalk
     → Type 0
 walk_seeks old new before from forward after = (after.file ≡ before.file)
-    × (after.forward ≡ forward) × IsSought old new before.file.now from forward after.hand
+    × (after.forward ≡ forward) × IsSought old new before.file.now from forward after.next after.hand
 
 -- The row stands at the front of what is in hand: upwards at the place, which lies behind it then; downwards at the last of the places
 -- before, which is gone then.

@@ -33,7 +33,7 @@ pub(crate) fn start<D: Disk>(
         → IfOk result (λ p. IsLeft (D.state disk.new) file.now forward p.0 p.1
         (list_from rows (option_copied from.entry) forward)) }
     ensures given { IfOk result (λ p. IsSought (D.state disk.old) (D.state disk.new) file.now
-        (option_copied from.entry) forward p.1) }
+        (option_copied from.entry) forward p.0 p.1) }
     ensures undamaged { IsTrue (D.state disk.old).tells
         → (rows : List Entry) → Reads (D.state disk.old) file.now rows
         → IfErr result (λ fault. IsDamaged fault → ⊥) }
@@ -73,7 +73,7 @@ fn start_at<D: Disk>(
         → IfOk result (λ p. IsLeft (D.state disk.new) file.now forward p.0 p.1
         (list_from rows (Some key.now) forward)) }
     ensures given { IfOk result (λ p. IsSought (D.state disk.old) (D.state disk.new) file.now
-        (Some key.now) forward p.1) }
+        (Some key.now) forward p.0 p.1) }
     ensures undamaged { IsTrue (D.state disk.old).tells
         → (rows : List Entry) → Reads (D.state disk.old) file.now rows
         → IfErr result (λ fault. IsDamaged fault → ⊥) }

@@ -1,5 +1,5 @@
 -- From a key on, or all.
-use Rattle.std.proofs.Common.{inl, ◌∙◌, sym, refl, arith}
+use Rattle.std.proofs.Common.{◌∙◌, sym, refl, arith}
 use Rattle.std.proofs.lemmas.Bool.{false≢true}
 use Rattle.alt_disk.specs.Disk.{DiskState}
 use Rattle.alt_rowfile.specs.Walking.{list_from}
@@ -36,7 +36,13 @@ pub returns-in-Some-clause-given : goal.returns-in-Some-clause-given
 returns-in-Some-clause-given g c = rw c.in-Some.is c.start_at.ensures.given
 
 pub returns-then-forward-clause-given : goal.returns-then-forward-clause-given
-returns-then-forward-clause-given g c = inl (refl, λ way. c.empty-hand.ensures way)
+returns-then-forward-clause-given g c =
+    rw (c.in-None.is, c.if-forward.true) (refl, λ way. c.empty-hand.ensures way, refl)
 
 pub returns-else-forward-clause-given : goal.returns-else-forward-clause-given
-returns-else-forward-clause-given g c = inl (refl, λ way. c.empty-hand.ensures way)
+returns-else-forward-clause-given g c =
+    rw (c.in-None.is, c.if-forward.false) (
+      refl,
+      λ way. c.empty-hand.ensures way,
+      omega (arith, c.len.ensures, c.args.file.now.marks.ok),
+    )

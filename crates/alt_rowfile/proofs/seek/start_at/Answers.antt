@@ -1,5 +1,5 @@
 -- The block at which the key is.
-use Rattle.std.proofs.Common.{inl, inr, ◌-◌, ◌<◌, ◌∙◌, sym, subst, arith, refl, length, List, Some}
+use Rattle.std.proofs.Common.{inl, inr, ◌≡◌, ◌+◌, ◌-◌, ◌<◌, ◌∙◌, sym, subst, arith, refl, length, List, Some}
 use Rattle.std.proofs.lemmas.Bool.{false≢true}
 use Rattle.alt_disk.specs.Disk.{DiskState}
 use Rattle.alt_rowfile.specs.Format.{Mark}
@@ -60,12 +60,47 @@ returns-else-forward-clause-left g c = λ told rows reads.
     (λ up. absurd (false≢true (sym c.if-forward.false ∙ up))) (λ down. refl)
 
 pub returns-then-count-eq0-clause-given : goal.returns-then-count-eq0-clause-given
-returns-then-count-eq0-clause-given g c = inl (refl, λ way. c.empty.ensures way)
+returns-then-count-eq0-clause-given g c =
+    let file = c.args.file.now in
+    let n = c.blocks_up_to-count.result in
+    let ends : EndsAt file.marks.items c.args.key.now n =
+    subst (λ (m : List Mark). EndsAt m c.args.key.now n)
+    c.deref.ensures.value c.blocks_up_to-count.ensures in
+    inl (
+      refl,
+      λ way. c.empty.ensures way,
+      subst (EndsAt file.marks.items c.args.key.now) c.if-count-eq0.true ends,
+      refl,
+    )
 
 pub returns-then-forward-clause-given : goal.returns-then-forward-clause-given
 returns-then-forward-clause-given g c =
-    inr (c.blocks_up_to-count.result - 1, c.in-Ok.ensures.given, c.in-Ok.ensures.begun)
+    let file = c.args.file.now in
+    let n = c.blocks_up_to-count.result in
+    let ends : EndsAt file.marks.items c.args.key.now n =
+    subst (λ (m : List Mark). EndsAt m c.args.key.now n)
+    c.deref.ensures.value c.blocks_up_to-count.ensures in
+    let one : n ≡ n - 1 + 1 = omega (arith, c.if-count-eq0.false) in
+    inr (
+      n - 1,
+      c.in-Ok.ensures.given,
+      c.in-Ok.ensures.begun,
+      subst (EndsAt file.marks.items c.args.key.now) one ends,
+      rw c.if-forward.true one,
+    )
 
 pub returns-else-forward-clause-given : goal.returns-else-forward-clause-given
 returns-else-forward-clause-given g c =
-    inr (c.blocks_up_to-count.result - 1, c.in-Ok.ensures.given, c.in-Ok.ensures.begun)
+    let file = c.args.file.now in
+    let n = c.blocks_up_to-count.result in
+    let ends : EndsAt file.marks.items c.args.key.now n =
+    subst (λ (m : List Mark). EndsAt m c.args.key.now n)
+    c.deref.ensures.value c.blocks_up_to-count.ensures in
+    let one : n ≡ n - 1 + 1 = omega (arith, c.if-count-eq0.false) in
+    inr (
+      n - 1,
+      c.in-Ok.ensures.given,
+      c.in-Ok.ensures.begun,
+      subst (EndsAt file.marks.items c.args.key.now) one ends,
+      rw c.if-forward.false refl,
+    )

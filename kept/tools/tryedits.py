@@ -4,7 +4,7 @@ import sys, os, re, shutil, subprocess
 clone, crate = sys.argv[1:3]
 top = f'{clone}/crates/{crate}'
 names = sys.argv[3:] or [f'must-fail/{f}' for f in sorted(os.listdir(top + '/must-fail'))]
-base = f'/work/e/{os.path.basename(clone)}_{crate}'
+base = os.environ.get('BASE') or f'/work/e/{os.path.basename(clone)}_{crate}'
 if not os.path.isdir(base):
     os.makedirs('/work/e', exist_ok=True)
     subprocess.check_call(['cp', '-al', clone, base])
@@ -29,7 +29,7 @@ for n in names:
         if f.startswith('src/'):
             at = s.index(o)
             ms = [m for m in re.finditer(r'^\s*(?:pub(?:\([a-z]+\))? )?fn (\w+)', s, re.M) if m.start() <= at + len(o)]
-            if ms: fns.add(ms[-1][1])
+            if ms: fns.add(crate+'::'+f[4:-3].replace('/','::')+'::'+ms[-1][1])
         open(p, 'w').write(s.replace(o, w))
     flags = [x for f in fns for x in ('--only', f)]
     r = subprocess.run(['nice', '-n', '0', 'python3', '/work/tools/checkdirect.py', base, crate, '--jobs', '1', *flags], stdout=subprocess.PIPE, stderr=subprocess.STDOUT, text=True, env=env)

@@ -5,10 +5,10 @@ t=/work/h/$n
 [ -d $t ] || { git clone -q /work/h/j $t; cd $t; git config user.name "Hathrwmel maintainers"; git config user.email maintainers@users.noreply.hathrwmel.example; printf 'absurd.rt\ncrates/*/c/\nout/\n' >> .git/info/exclude; }
 cd $t
 own=" $* $(cat .own 2>/dev/null) "; echo $own > .own; grep -q '^.own$' .git/info/exclude || echo .own >> .git/info/exclude
-for x in $(ls /work/st/s/crates); do
+for x in $(ls ${ST:-/work/st/s}/crates); do
   case $x in alt_*) ;; *) continue;; esac
   case "$own" in *" $x "*) continue;; esac
-  s=/work/st/s/crates/$x
+  s=${ST:-/work/st/s}/crates/$x
   if [ ! -f crates/$x/.standin ] || ! [ crates/$x/src/lib.rt -ef $s/src/lib.rt ]; then
     [ -d $s/c ] || { [ -f $s/out/rlib/stamp ] || continue; }
     git ls-files -z crates/$x | xargs -0 git update-index --skip-worktree

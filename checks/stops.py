@@ -1,17 +1,20 @@
 """A store under a program that is killed: python3 checks/stops.py PROGRAM ROUNDS.
 
 In each round `replay` is fed puts, deletes, updates that raise a counter, flushes and reopenings over one store, and is killed a random
-while behind a random number of replies; in every fourth the reopening behind it is killed too. Then the store is opened again, and has to show each write that was
-answered, at most those of one line more (the one that was begun), and none half, no batch either: in the table, in its index and in its stream alike. Items
+while behind a random number of replies; in every third `serve` is sent the same requests, each on a connection of its own, and is killed so, and in every
+fourth the reopening behind it is killed too. Then the store is opened again, and has to show each write that was answered, at most those of one line more (the one that was begun), and none half, no batch either: in the table, in its index and in its stream alike. Items
 are large enough that flushes run all the time. Every 50 rounds another store is begun, and the whole stream of the last one read.
 """
 
+import http.client
 import itertools
 import random
+import socket
 import subprocess
 import sys
 import tempfile
 import threading
+import time
 
 from stores import LIMITS, MADE, Script, answered, batch, delete, ends, init, put, replay, seen, short, word
 
@@ -74,6 +77,50 @@ def killed(store, lines, replies, delay):
     return said
 
 
+def free_port():
+    """A port at which nobody listens now."""
+    with socket.socket() as it:
+        it.bind(("127.0.0.1", 0))
+        return it.getsockname()[1]
+
+
+def asked(port, line):
+    """The reply to a line's request, sent on a connection of its own, as a line of `replay` says it; None where the server was gone before it was whole."""
+    name, body = line.split(" ", 1)
+    connection = http.client.HTTPConnection("127.0.0.1", port, timeout=60)
+    try:
+        connection.request("POST", "/", body.encode(), {"X-Amz-Target": "DynamoDB_20120810." + name})
+        reply = connection.getresponse()
+        return "%d %s\n" % (reply.status, reply.read().decode())
+    except (http.client.HTTPException, OSError):
+        return None
+    finally:
+        connection.close()
+
+
+def killed_serving(store, lines, replies, delay):
+    """Serves lines' requests, and kills the server a while behind so many replies; what was said. A word, which only `replay` knows, isn't sent."""
+    port = free_port()
+    run = subprocess.Popen([PROGRAM, store, str(port), "serve", "1", str(MANY), *LIMITS])
+    for _ in range(600):
+        with socket.socket() as it:
+            if run.poll() is not None or it.connect_ex(("127.0.0.1", port)) == 0:
+                break
+        time.sleep(0.01)
+    said, timer = [], threading.Timer(delay, run.kill)
+    for count, line in enumerate(lines):
+        if count == replies:
+            timer.start()
+        reply = "ok\n" if line.startswith("@") else asked(port, line)
+        if reply is None:
+            break
+        said.append(reply)
+    run.kill()
+    run.wait()
+    timer.cancel()
+    return "".join(said)
+
+
 class Store:
     """A store under kills, with the lines that were carried out on it."""
 
@@ -89,7 +136,8 @@ class Store:
         """Why the store isn't as it has to be behind one kill, None where it is."""
         coming = [nth(count) for count in range(self.count, self.count + MANY)]
         script = Script(coming, self.script, self.writes)
-        said = killed(self.folder, script.lines, random.randrange(MOST_REPLIES), random.uniform(0, 0.02))
+        kill = killed_serving if number % 3 == 2 else killed
+        said = kill(self.folder, script.lines, random.randrange(MOST_REPLIES), random.uniform(0, 0.02))
         done = answered(said, script.lines)
         if number % 4 == 3:
             killed(self.folder, ["@step"], 0, random.uniform(0, 0.03))

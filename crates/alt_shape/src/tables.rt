@@ -19,6 +19,19 @@ macro_rules! optional {
     };
 }
 
+/// An optional whole number, from the least to the most.
+macro_rules! whole {
+    ($name:literal, $least:literal, $most:literal) => {
+        optional!(
+            $name,
+            Kind::Whole {
+                least: $least,
+                most: $most
+            }
+        )
+    };
+}
+
 /// CreateTable.
 pub const CREATE_TABLE: [Rule; 6] = [
     required!("TableName", Kind::Text),
@@ -92,13 +105,7 @@ pub const DELETE_TABLE: [Rule; 1] = [required!("TableName", Kind::Text)];
 /// ListTables.
 pub const LIST_TABLES: [Rule; 2] = [
     optional!("ExclusiveStartTableName", Kind::Text),
-    optional!(
-        "Limit",
-        Kind::Whole {
-            least: 1,
-            most: 100
-        }
-    ),
+    whole!("Limit", 1, 100),
 ];
 
 /// PutItem.
@@ -174,13 +181,7 @@ macro_rules! query {
             optional!("ProjectionExpression", Kind::Text),
             optional!("ExpressionAttributeNames", Kind::Object),
             optional!("ExpressionAttributeValues", Kind::Object),
-            optional!(
-                "Limit",
-                Kind::Whole {
-                    least: 1,
-                    most: 2_147_483_647
-                }
-            ),
+            whole!("Limit", 1, 2_147_483_647),
             optional!("ScanIndexForward", Kind::Truth),
             optional!("ExclusiveStartKey", Kind::Object),
             optional!("ConsistentRead", Kind::Truth),
@@ -215,13 +216,7 @@ pub const SCAN: [Rule; 15] = [
     optional!("ProjectionExpression", Kind::Text),
     optional!("ExpressionAttributeNames", Kind::Object),
     optional!("ExpressionAttributeValues", Kind::Object),
-    optional!(
-        "Limit",
-        Kind::Whole {
-            least: 1,
-            most: 2_147_483_647
-        }
-    ),
+    whole!("Limit", 1, 2_147_483_647),
     optional!("ExclusiveStartKey", Kind::Object),
     optional!("ConsistentRead", Kind::Truth),
     optional!(
@@ -233,20 +228,8 @@ pub const SCAN: [Rule; 15] = [
             "COUNT",
         ])
     ),
-    optional!(
-        "Segment",
-        Kind::Whole {
-            least: 0,
-            most: 999_999
-        }
-    ),
-    optional!(
-        "TotalSegments",
-        Kind::Whole {
-            least: 1,
-            most: 1_000_000
-        }
-    ),
+    whole!("Segment", 0, 999_999),
+    whole!("TotalSegments", 1, 1_000_000),
     optional!("ScanFilter", Kind::Object),
     optional!("ConditionalOperator", Kind::Word(&["AND", "OR"])),
     optional!("AttributesToGet", Kind::Array),
@@ -320,26 +303,14 @@ pub const KEYS_AND_ATTRIBUTES: [Rule; 5] = [
 pub const LIST_STREAMS: [Rule; 3] = [
     optional!("TableName", Kind::Text),
     optional!("ExclusiveStartStreamArn", Kind::Text),
-    optional!(
-        "Limit",
-        Kind::Whole {
-            least: 1,
-            most: 100
-        }
-    ),
+    whole!("Limit", 1, 100),
 ];
 
 /// DescribeStream.
 pub const DESCRIBE_STREAM: [Rule; 3] = [
     required!("StreamArn", Kind::Text),
     optional!("ExclusiveStartShardId", Kind::Text),
-    optional!(
-        "Limit",
-        Kind::Whole {
-            least: 1,
-            most: 100
-        }
-    ),
+    whole!("Limit", 1, 100),
 ];
 
 /// GetShardIterator.
@@ -361,11 +332,5 @@ pub const GET_SHARD_ITERATOR: [Rule; 4] = [
 /// GetRecords.
 pub const GET_RECORDS: [Rule; 2] = [
     required!("ShardIterator", Kind::Text),
-    optional!(
-        "Limit",
-        Kind::Whole {
-            least: 1,
-            most: 1000
-        }
-    ),
+    whole!("Limit", 1, 1000),
 ];

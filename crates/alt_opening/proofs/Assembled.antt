@@ -17,12 +17,13 @@ use Rattle.alt_machine.specs.Valid.{AreChanges, IsChange, IsHeldChange, IsStored
 use Rattle.alt_machine.proofs.Descriptions.{get-descriptions, len-descriptions}
 use Rattle.alt_schema.specs.Rules.{is_name}
 use Rattle.alt_schema.specs.declared.schema.TableSchema.{TableSchema}
-use Rattle.alt_views.specs.ItemRows.{item_columns, IsReadItem}
-use Rattle.alt_opening.specs.private.Opening.{IsCatalog, IsGood, AreApart}
+use Rattle.alt_tablerows.specs.ItemRows.{item_columns, IsReadItem}
+use Rattle.alt_opening.specs.private.Opening.{IsCatalog, AreApart}
+use Rattle.alt_tablerows.specs.Good.{IsGood}
 use Rattle.alt_opening.specs.Recovery.{Agrees}
 use Rattle.alt_opening.specs.Scans.{IsItemAt, ItemsRead}
 use Rattle.alt_opening.specs.StateRows.{HasMoment, catalog_family, table_row, next_row}
-use Rattle.alt_opening.proofs.Ties.{tied, itself}
+use Rattle.alt_tablerows.proofs.Ties.{tied, itself}
 use Rattle.alt_opening.proofs.ChosenLaws.{AllRead, IsRead, map_read}
 use Rattle.alt_opening.proofs.Maps.{same_texts}
 use Rattle.alt_opening.proofs.OneState.{some}

@@ -11,10 +11,11 @@ use Rattle.alt_layout.specs.Layout.{Layout, shown}
 use Rattle.alt_machine.specs.State.{Texts}
 use Rattle.alt_machine.proofs.Looks.{at_insert, not_there}
 use Rattle.alt_schema.specs.declared.schema.TableSchema.{TableSchema}
-use Rattle.alt_opening.specs.private.Opening.{CatalogWhere, IsCatalog, IsNextFamily, IsGood, IsTableAt, AreApart}
+use Rattle.alt_opening.specs.private.Opening.{CatalogWhere, IsCatalog, IsNextFamily, IsTableAt, AreApart}
+use Rattle.alt_tablerows.specs.Good.{IsGood}
 use Rattle.alt_opening.specs.Scans.{IsBelow, IsFirstFrom, IsNextRow}
 use Rattle.alt_opening.specs.StateRows.{catalog_family, table_row}
-use Rattle.alt_opening.proofs.Ties.{itself}
+use Rattle.alt_tablerows.proofs.Ties.{itself}
 use Rattle.alt_opening.proofs.NextRow.{below_after, after_below}
 use Rattle.alt_opening.proofs.Scanning.{below_or_not}
 

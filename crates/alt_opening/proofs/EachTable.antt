@@ -10,7 +10,7 @@ use Rattle.std.proofs.lemmas.Bool.{false≢true}
 use Rattle.std.proofs.lemmas.List.{get_or_default}
 use Rattle.alt_schema.specs.declared.schema.TableSchema.{TableSchema}
 use Rattle.alt_opening.specs.private.Opening.{IsLeastAbove, IsNextTable, shares}
-use Rattle.alt_opening.proofs.Ties.{tied}
+use Rattle.alt_tablerows.proofs.Ties.{tied}
 use Rattle.alt_opening.proofs.Listed.{AreInOrder, pairs, tables, get-found}
 use Rattle.alt_value.specs.Members.{text_order}
 

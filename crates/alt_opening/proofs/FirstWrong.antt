@@ -13,19 +13,21 @@ use Rattle.alt_machine.specs.declared.TheConstants.{NUMBERS_END, FAMILIES_END}
 use Rattle.alt_machine.specs.State.{State, Table, Texts, families_of}
 use Rattle.alt_machine.proofs.Families.{of_contained}
 use Rattle.alt_machine.specs.Valid.{IsMade}
-use Rattle.alt_schemabytes.specs.Held.{IsHeld}
+use Rattle.alt_tablerows.specs.Held.{IsHeld}
 use Rattle.alt_schema.specs.declared.schema.TableSchema.{TableSchema}
-use Rattle.alt_views.specs.ItemRows.{item_columns}
-use Rattle.alt_opening.specs.private.Opening.{IsCatalog, IsGood, AreApart}
+use Rattle.alt_tablerows.specs.ItemRows.{item_columns}
+use Rattle.alt_opening.specs.private.Opening.{IsCatalog, AreApart}
 use Rattle.alt_opening.specs.Recovery.{Agrees, IsBefore, IsUpTo, IsFirstWrong}
 use Rattle.alt_opening.specs.Scans.{IsItemAt, IsFirstBad, ItemsRead}
 use Rattle.alt_opening.specs.StateRows.{catalog_family, table_row, next_row}
 use Rattle.alt_opening.proofs.Assembled.{AssembledRows, assembled, not_empty}
-use Rattle.alt_opening.proofs.Ties.{tied, itself}
+use Rattle.alt_tablerows.proofs.Ties.{tied, itself}
 use Rattle.alt_opening.proofs.Cuts.{cut, shown-cut, shown-here, shown-not}
-use Rattle.alt_opening.proofs.OneState.{some, next_row-one}
+use Rattle.alt_opening.proofs.OneState.{some}
+use Rattle.alt_tablerows.proofs.NextFamily.{next_row-one}
+use Rattle.alt_tablerows.specs.Good.{IsGood}
 use Rattle.alt_opening.proofs.Families.{own_family}
-use Rattle.alt_opening.proofs.OneDescription.{one_table_row}
+use Rattle.alt_tablerows.proofs.OneDescription.{one_table_row}
 use Rattle.alt_value.specs.Tree.{Pair}
 
 -- ---- the rows before one

@@ -15,11 +15,11 @@ use Rattle.alt_opening.specs.Scans.{ItemsRead}
 use Rattle.alt_opening.proofs.IndexRead.{inside, row_of}
 use Rattle.alt_opening.proofs.OneState.{some}
 use Rattle.alt_value.specs.Tree.{Pair}
-use Rattle.alt_views.specs.IndexRows.{built_row}
-use Rattle.alt_views.specs.ItemRows.{IsReadItem, item_columns}
-use Rattle.alt_views.specs.Read.{IsKeptAt, row_at}
-use Rattle.alt_views.specs.declared.indexed.IndexRow.{IndexRow}
-use Rattle.alt_views.proofs.Keeping.{kept_at, own_place-cut}
+use Rattle.alt_tablerows.specs.IndexRows.{built_row}
+use Rattle.alt_tablerows.specs.ItemRows.{IsReadItem, item_columns}
+use Rattle.alt_tablerows.specs.Read.{IsKeptAt, row_at}
+use Rattle.alt_tablerows.specs.DeclaredIndexRow.{IndexRow}
+use Rattle.alt_tablerows.proofs.Keeping.{kept_at, own_place-cut}
 
 -- ---- the place of what is kept
 

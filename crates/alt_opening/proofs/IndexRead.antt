@@ -21,9 +21,9 @@ use Rattle.alt_opening.specs.Recovery.{AgreesWhole}
 use Rattle.alt_opening.specs.StateRows.{index_rows}
 use Rattle.alt_opening.proofs.OneState.{has_whole, some}
 use Rattle.alt_value.specs.Tree.{Pair}
-use Rattle.alt_views.specs.IndexRows.{KeyedRow, built_row, index_columns, row_in_index}
-use Rattle.alt_views.specs.ItemRows.{item_columns}
-use Rattle.alt_views.proofs.ItemRowLaws.{item_columns-one}
+use Rattle.alt_tablerows.specs.IndexRows.{KeyedRow, built_row, index_columns, row_in_index}
+use Rattle.alt_tablerows.specs.ItemRows.{item_columns}
+use Rattle.alt_tablerows.proofs.ItemRowLaws.{item_columns-one}
 
 -- what an index keeps of an item that has a row there
 pub record IsRowOf (d : TableSchema) (i : IndexSchema) (item : List Pair) (key : List ℕ)

@@ -15,7 +15,7 @@ use Rattle.alt_opening.proofs.IndexKeys.{ahead_first, ahead_second, not_itself, 
 use Rattle.alt_opening.proofs.OneState.{some}
 use Rattle.alt_opening.proofs.Scanning.{rows_all, rows_more, rows_next, rows_none}
 use Rattle.alt_value.specs.Tree.{Pair}
-use Rattle.alt_views.specs.ItemRows.{item_columns}
+use Rattle.alt_tablerows.specs.ItemRows.{item_columns}
 
 module _ (l : Layout) (d : TableSchema) (i : IndexSchema) where
   -- ---- missing rows

@@ -1,7 +1,7 @@
 -- What holds of the changes of a state: they can be read back from their rows.
 use Rattle.std.proofs.Common.{◌≡◌, ◌<◌, ◌≤◌, ◌+◌, ◌^◌, ℕ, List, Option, Some, None, All, IfSome, arith}
 use Rattle.std.specs.FinMap as finite
-use Rattle.alt_changes.specs.ChangeRows.{IsReadItem}
+use Rattle.alt_tablerows.specs.ChangeRows.{IsReadItem}
 use Rattle.alt_machine.specs.State.{Change, State, Table}
 use Rattle.alt_machine.specs.Valid.{AreChanges, IsChange, IsValid, IsStored}
 use Rattle.alt_machine.specs.declared.TheConstants.{NUMBERS_END}

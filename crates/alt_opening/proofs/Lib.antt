@@ -1,18 +1,14 @@
 pub mod Ahead
 pub mod Assembled
-pub mod BuiltRows
-pub mod BuiltUp
 pub mod CatalogScan
 pub mod CatalogSteps
-pub mod CellRows
 pub mod ChosenLaws
+pub mod Clashes
 pub mod Cuts
 pub mod DeviceFaults
 pub mod EachTable
-pub mod OverEngine
 pub mod Families
 pub mod FirstWrong
-pub mod GoodLaws
 pub mod IndexKeys
 pub mod IndexOwn
 pub mod IndexRead
@@ -22,17 +18,12 @@ pub mod KeptChanges
 pub mod Listed
 pub mod LiveLaws
 pub mod LiveLists
-pub mod MadeLaws
 pub mod Maps
 pub mod Named
-pub mod NextFamily
 pub mod NextRow
-pub mod OneColumn
-pub mod OneDescription
-pub mod OneIndex
-pub mod OneKey
 pub mod OneState
 pub mod OneStream
+pub mod OverEngine
 pub mod Recovering
 pub mod Scanning
 pub mod Sharing
@@ -41,13 +32,14 @@ pub mod StreamKeys
 pub mod StreamList
 pub mod StreamState
 pub mod StreamSteps
-pub mod TableRow
 pub mod TableSteps
-pub mod Ties
 pub mod TrimmedLaws
-pub mod TrimmedRow
 pub mod TrimmedSteps
 pub mod WrongTable
 pub use Rattle.alt_engine.proofs.Taking as EngineTaking
 pub use Rattle.alt_engine.proofs.HandNeedLaws as HandNeedLaws
 pub use Rattle.alt_engine.proofs.HandSegmentFiles as HandSegmentFiles
+pub use Rattle.alt_tablerows.proofs.OneColumn
+pub use Rattle.alt_tablerows.proofs.OneIndex
+pub use Rattle.alt_tablerows.proofs.TableRow
+pub use Rattle.alt_tablerows.proofs.Ties

@@ -14,7 +14,7 @@ use Rattle.alt_opening.proofs.Listed.{AreInOrder, tables}
 use Rattle.alt_opening.proofs.LiveLists.{all_in, contained_in, in_all, in_contained, in_without, without_in}
 use Rattle.alt_opening.proofs.Maps.{same_texts}
 use Rattle.alt_opening.proofs.OneState.{some}
-use Rattle.alt_opening.proofs.Ties.{itself, tied}
+use Rattle.alt_tablerows.proofs.Ties.{itself, tied}
 use Rattle.alt_value.specs.Members.{text_order}
 use Rattle.alt_value.proofs.Texts.{text_total}
 

@@ -7,7 +7,7 @@ use Rattle.alt_engine.specs.HandWorking.{AreLive}
 use Rattle.alt_manifest.specs.Versions.{IsIn, RiseFrom}
 use Rattle.alt_opening.specs.Live.{with_all, with_first, with_one, without_all}
 use Rattle.alt_opening.specs.StateRows.{catalog_family}
-use Rattle.alt_opening.proofs.GoodLaws.{found_is}
+use Rattle.alt_tablerows.proofs.GoodLaws.{found_is}
 
 -- ---- elements
 

@@ -17,7 +17,7 @@ use Rattle.alt_cells.proofs.CellLaws.{key_total}
 use Rattle.alt_cells.proofs.Entries.{first, second, below_less, find_below}
 use Rattle.alt_layout.specs.Layout.{Layout, shown_rows, rows_between}
 use Rattle.alt_opening.specs.Scans.{IsBelow, IsNextRow}
-use Rattle.alt_opening.proofs.Ties.{tied, itself}
+use Rattle.alt_tablerows.proofs.Ties.{tied, itself}
 use Rattle.alt_opening.proofs.OverEngine.{finds_shown}
 use Rattle.alt_opening.proofs.OneState.{some}
 

@@ -1,11 +1,8 @@
 -- Rows stand for one state at most.
-use Rattle.std.proofs.Common.{subst, arith, ◌≡◌, ◌<◌, ◌^◌, ℕ, Bool, true, false, cond, List, [], ◌∷◌, Option, Some, None, refl, sym, ap, ◌∙◌}
-use Rattle.std.specs.Prelude.{◌==◌, if◌then◌else◌, option_map, unwrap_or, codes}
-use Rattle.std.specs.Int.{w32, to_be_bytes, from_be_bytes}
-use Rattle.std.proofs.lemmas.Nat.{from_be_bytes-to_be_bytes_4}
-use Rattle.std.proofs.lemmas.Bool.{eqb-true, false≢true}
-use Rattle.std.specs.Ordering.{eq_by_cmp, is_eq}
-use Rattle.std.specs.Cmp.{tied_itself}
+use Rattle.std.proofs.Common.{subst, arith, ◌≡◌, ◌<◌, ◌^◌, ℕ, Bool, true, List, [], ◌∷◌, Option, Some, None, refl, sym, ap, ◌∙◌}
+use Rattle.std.specs.Prelude.{option_map}
+use Rattle.std.proofs.lemmas.Bool.{false≢true}
+use Rattle.std.specs.Ordering.{eq_by_cmp}
 use Rattle.std.specs.FinMap as map
 use Rattle.alt_cells.specs.Keys.{key_cmp}
 use Rattle.alt_cells.proofs.CellLaws.{key_total, key_exact}
@@ -17,45 +14,17 @@ use Rattle.alt_schema.specs.Rules.{is_name}
 use Rattle.alt_schema.specs.declared.schema.TableSchema.{TableSchema}
 use Rattle.alt_opening.specs.Images.{StandsFor}
 use Rattle.alt_opening.specs.Recovery.{Agrees, AgreesWhole}
-use Rattle.alt_views.specs.ItemRows.{item_columns}
+use Rattle.alt_tablerows.specs.ItemRows.{item_columns}
 use Rattle.alt_opening.proofs.OneStream.{ShowsStream, one_stream, one_trimmed}
 use Rattle.alt_opening.proofs.StreamKeys.{Above}
 use Rattle.alt_opening.proofs.KeptChanges.{are_kept, are_small, trimmed_small}
-use Rattle.alt_opening.proofs.OneDescription.{one_table_row}
-use Rattle.alt_opening.specs.StateRows.{Shows, IsHeldWhole, item_rows, table_row, next_row, one_column}
-use Rattle.alt_views.proofs.ItemRowLaws.{item_columns-one}
+use Rattle.alt_tablerows.proofs.NextFamily.{next_row-one}
+use Rattle.alt_tablerows.proofs.OneDescription.{one_table_row}
+pub use Rattle.alt_tablerows.proofs.There.{some}
+use Rattle.alt_opening.specs.StateRows.{Shows, IsHeldWhole, item_rows, table_row}
+use Rattle.alt_tablerows.proofs.ItemRowLaws.{item_columns-one}
 use Rattle.alt_value.specs.Tree.{Pair}
 use Rattle.alt_value.specs.Values.{IsWholeItem}
-
--- what is there is one
-pub some : {A : Type 0} (x y : A) → Some x ≡ Some y → x ≡ y
-some x y e = ap (λ o. unwrap_or o x) e
-
--- a row of one column tells its value
-pub one_column-value : (name v w : List ℕ) → one_column name v ≡ one_column name w → v ≡ w
-one_column-value name v w same =
-    some v w (sym (here v) ∙ ap (λ m. map.get m name) same ∙ here w)
-  where
-    here : (v : List ℕ) → map.get (one_column name v) name ≡ Some v
-    here v = map.get-insert key_total map.empty name v name
-        ∙ ap (λ r. cond (is_eq r) (Some v) (map.get (map.empty {R = key_cmp}) name))
-        (tied_itself key_total name)
-
--- the next family is the one that its row tells
-pub next_row-one : (m n : ℕ) → m < 2 ^ 32 → n < 2 ^ 32 → next_row m ≡ next_row n → m ≡ n
-next_row-one m n small_m small_n same = by_test (m == 1) (n == 1) refl refl same
-  where
-    by_test : (a b : Bool) → (m == 1) ≡ a → (n == 1) ≡ b
-        → (if a then None else Some (one_column (codes "next") (to_be_bytes w32 m)))
-        ≡ (if b then None else Some (one_column (codes "next") (to_be_bytes w32 n))) → m ≡ n
-    by_test true true e f same = eqb-true m 1 e ∙ sym (eqb-true n 1 f)
-    by_test true false e f same = cc same
-    by_test false true e f same = cc same
-    by_test false false e f same =
-        let bytes : to_be_bytes w32 m ≡ to_be_bytes w32 n =
-        one_column-value (codes "next") _ _ (some _ _ same) in
-        sym (from_be_bytes-to_be_bytes_4 m small_m) ∙ ap (from_be_bytes w32) bytes
-        ∙ from_be_bytes-to_be_bytes_4 n small_n
 
 -- each item is one that can be written and read again
 abbrev pub HasWhole : Table → Type 0

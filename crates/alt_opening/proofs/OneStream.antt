@@ -11,11 +11,11 @@ use Rattle.std.specs.Prelude.{◌==◌, if◌then◌else◌, nat_le, codes}
 use Rattle.alt_cells.specs.Changes.{Columns}
 use Rattle.alt_cells.specs.Keys.{key_cmp}
 use Rattle.alt_cells.proofs.CellLaws.{key_total}
-use Rattle.alt_changes.specs.ChangeRows.{change_columns, row_key}
-use Rattle.alt_changes.specs.TrimRows.{number_told, trimmed_columns, trimmed_row, trimmed_told}
+use Rattle.alt_tablerows.specs.ChangeRows.{change_columns, row_key}
+use Rattle.alt_tablerows.specs.TrimRows.{number_told, trimmed_columns, trimmed_row, trimmed_told}
 use Rattle.alt_machine.specs.State.{Change}
 use Rattle.alt_opening.specs.StateRows.{IsLeftover, keyed_changes, stream_row}
-use Rattle.alt_opening.proofs.Ties.{itself, tied}
+use Rattle.alt_tablerows.proofs.Ties.{itself, tied}
 use Rattle.alt_opening.proofs.StreamKeys.{Above, IsKept, IsSmall, Rise, above, changes-one, found_keyed, get_keyed, key_one, keys_differ, low_of, up_to}
 
 -- what a row shows of a stream

@@ -1,6 +1,6 @@
 -- Lists of entries in order, and the finite maps that they stand for.
-use Rattle.std.proofs.Common.{◌≡◌, refl, sym, ap, subst, ◌∙◌, ℕ, Bool, true, false, cond, not, T, List, [], length, None}
-use Rattle.std.specs.FinMap.{insert, remove, empty, from_sorted, len, len-entries, empty_of_len, entries-from_sorted, entries-insert, get-from_sorted, get-remove, same_entries_map}
+use Rattle.std.proofs.Common.{◌≡◌, refl, sym, ap, subst, ◌∙◌, ℕ, Bool, true, false, cond, not, T, List, length, None}
+use Rattle.std.specs.FinMap.{insert, remove, from_sorted, len, len-entries, entries-from_sorted, entries-insert, get-from_sorted, get-remove, same_entries_map}
 use Rattle.std.specs.FinMap.Entries.{find, put, where_key, is_sorted, is_sorted-put, is_sorted-where_key, find-where_key}
 use Rattle.std.specs.Cmp.{alike_right, eq_by_cmp_equiv}
 use Rattle.std.specs.Ordering.{is_eq, eq_by_cmp}
@@ -21,11 +21,6 @@ module _ {X : Type 0} where
   -- the map of such a list
   abbrev map_of : List (List ℕ × X) → Texts X
   map_of ps = from_sorted ps
-
-  -- no entries are the empty map
-  pub map-nothing : map_of [] ≡ empty
-  map-nothing = empty_of_len (map_of []) (len-entries (map_of [])
-      ∙ ap length (entries-from_sorted text_order [] tt))
 
   -- a map is as long as its entries
   pub len-map : (ps : List (List ℕ × X)) → IsInOrder ps → len (map_of ps) ≡ length ps

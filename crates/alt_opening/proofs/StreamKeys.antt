@@ -4,11 +4,9 @@ use Rattle.std.proofs.lemmas.Bool.{cases_order}
 use Rattle.std.proofs.lemmas.Bool.Decides.{nat_tests}
 use Rattle.std.proofs.lemmas.List.{map-append}
 use Rattle.std.proofs.lemmas.List.Elements.{All-head, All-tail}
-use Rattle.std.proofs.lemmas.Nat.{from_be_bytes-to_be_bytes_8}
 use Rattle.std.specs.BTreeMap.Range.{range_contains}
 use Rattle.std.specs.FinMap as finite
 use Rattle.std.specs.FinMap.Entries.{below_all, find, find-append, is_sorted}
-use Rattle.std.specs.Int.{w64, from_be_bytes}
 use Rattle.std.specs.List.{filter}
 use Rattle.std.specs.Ordering.{eq_by_cmp, is_eq, is_le, is_lt, nat_cmp, ordering_then}
 use Rattle.std.specs.Prelude.{◌&&◌, nat_le, option_map, AllPairs}
@@ -17,14 +15,15 @@ use Rattle.std.specs.declared.cmp.Ordering.TheVariants.{Less, Equal, Greater}
 use Rattle.std.specs.declared.ops.Bound.TheVariants.{Included, Unbounded}
 use Rattle.alt_cells.specs.Keys.{key_cmp}
 use Rattle.alt_cells.proofs.CellLaws.{key_total, key_exact}
-use Rattle.alt_changes.specs.ChangeRows.{IsReadChange, change_columns, row_key}
-use Rattle.alt_changes.proofs.RowLaws.{change_columns-one}
+use Rattle.alt_tablerows.specs.ChangeRows.{IsReadChange, change_columns, row_key}
+use Rattle.alt_tablerows.proofs.RowLaws.{change_columns-one}
 use Rattle.alt_keyorder.specs.Place.{Place}
 use Rattle.alt_keyorder.proofs.Parts.{nat_cmp-less, nat_cmp-equal, nat_cmp-greater}
 use Rattle.alt_keyorder.proofs.Places.{keys-lie}
 use Rattle.alt_machine.specs.State.{Change}
 use Rattle.alt_opening.specs.StateRows.{keyed_changes}
-use Rattle.alt_opening.proofs.Ties.{tied}
+pub use Rattle.alt_tablerows.proofs.NumberKeys.{key_one}
+use Rattle.alt_tablerows.proofs.Ties.{tied}
 use Rattle.alt_value.specs.Members.{text_order}
 
 -- ---- keys
@@ -47,11 +46,6 @@ key_order m n small_m small_n =
   where
     whole : (n : ℕ) → (row_key n ++ []) ++ [] ≡ row_key n
     whole n = append-nil (row_key n ++ []) ∙ append-nil (row_key n)
-
--- and tell them
-pub key_one : (m n : ℕ) → m < 2 ^ 64 → n < 2 ^ 64 → row_key m ≡ row_key n → m ≡ n
-key_one m n p q e = sym (from_be_bytes-to_be_bytes_8 m p) ∙ ap (from_be_bytes w64) e
-    ∙ from_be_bytes-to_be_bytes_8 n q
 
 -- those of two numbers don't tie
 pub keys_differ : (m n : ℕ) → m < 2 ^ 64 → n < 2 ^ 64 → m ≢ n

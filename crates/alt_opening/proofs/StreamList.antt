@@ -14,8 +14,8 @@ use Rattle.alt_cells.specs.Shown.{row_shown}
 use Rattle.alt_cells.specs.declared.row.RowCells.{RowCells}
 use Rattle.alt_cells.proofs.CellLaws.{key_exact, key_total}
 use Rattle.alt_cells.proofs.Entries.{first, second, find_below}
-use Rattle.alt_changes.specs.ChangeRows.{IsReadItem, change_columns, row_key}
-use Rattle.alt_changes.specs.TrimRows.{trimmed_row, trimmed_told}
+use Rattle.alt_tablerows.specs.ChangeRows.{IsReadItem, change_columns, row_key}
+use Rattle.alt_tablerows.specs.TrimRows.{trimmed_row, trimmed_told}
 use Rattle.alt_layout.specs.Layout.{Layout, shown}
 use Rattle.alt_keyorder.proofs.Parts.{nat_cmp-equal, nat_cmp-greater, nat_cmp-less}
 use Rattle.alt_machine.specs.State.{Change, Texts}
@@ -25,7 +25,7 @@ use Rattle.alt_schema.specs.declared.schema.TableSchema.{TableSchema}
 use Rattle.alt_opening.specs.StateRows.{HasMoment, IsLeftover, keyed_changes}
 use Rattle.alt_opening.specs.StreamScans.{ChangesRead, ChangesWhere, IsChangeAt, IsStreamRow, stream_trimmed, trimmed_in}
 use Rattle.alt_opening.proofs.Assembled.{MayHave, none_had}
-use Rattle.alt_opening.proofs.Ties.{tied, itself}
+use Rattle.alt_tablerows.proofs.Ties.{tied, itself}
 use Rattle.alt_opening.proofs.ChosenLaws.{IsRead, map_read}
 use Rattle.alt_opening.proofs.OneState.{some}
 use Rattle.alt_opening.proofs.OneStream.{ShowsStream, row-some, told-columns, zero_counts}

@@ -6,8 +6,8 @@ use Rattle.std.specs.Ordering.{eq_by_cmp}
 use Rattle.std.specs.Prelude.{◌==◌, if◌then◌else◌}
 use Rattle.alt_cells.specs.Changes.{Columns}
 use Rattle.alt_cells.specs.Keys.{key_cmp}
-use Rattle.alt_changes.specs.ChangeRows.{change_columns, row_key}
-use Rattle.alt_changes.specs.TrimRows.{trimmed_columns, trimmed_row}
+use Rattle.alt_tablerows.specs.ChangeRows.{change_columns, row_key}
+use Rattle.alt_tablerows.specs.TrimRows.{trimmed_columns, trimmed_row}
 use Rattle.alt_layout.specs.Layout.{Layout, shown}
 use Rattle.alt_machine.specs.declared.TheConstants.{NUMBERS_END}
 use Rattle.alt_machine.specs.State.{Change, State, Table, Texts, descriptions}
@@ -27,7 +27,7 @@ use Rattle.alt_opening.proofs.OneState.{some}
 use Rattle.alt_opening.proofs.StreamKeys.{IsKept, found_keyed, get_keyed}
 use Rattle.alt_opening.proofs.OneStream.{leftover_or_not, told_shown}
 use Rattle.alt_opening.proofs.StreamList.{IsListed, list_read}
-use Rattle.alt_opening.proofs.Ties.{tied}
+use Rattle.alt_tablerows.proofs.Ties.{tied}
 use Rattle.alt_opening.proofs.KeptChanges.{are_kept, are_small, trimmed_small}
 
 -- A state whose rows these are with those of streams, whose tables are those of the catalog, and of whose changes so much was trimmed

@@ -11,7 +11,7 @@ use Rattle.std.specs.Str.{bytes_eq}
 use Rattle.alt_machine.specs.State.{Table, Texts}
 use Rattle.alt_opening.specs.Trimmed.{AreTrimmedOf, IsRenumbered, number_at, with_number, without}
 use Rattle.alt_opening.specs.declared.trimmed.Trimmed.{Trimmed}
-use Rattle.alt_opening.proofs.Ties.{itself, tied}
+use Rattle.alt_tablerows.proofs.Ties.{itself, tied}
 use Rattle.alt_value.specs.Members.{text_order}
 use Rattle.alt_value.proofs.Texts.{text_total}
 

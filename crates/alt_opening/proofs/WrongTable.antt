@@ -21,7 +21,7 @@ use Rattle.alt_opening.specs.Recovery.{Agrees, IsBefore, IsUpTo, IsFirstWrong}
 use Rattle.alt_opening.specs.Scans.{IsBelow}
 use Rattle.alt_opening.specs.StateRows.{catalog_family, next_row, table_row}
 use Rattle.alt_opening.proofs.Assembled.{assembled, not_empty}
-use Rattle.alt_opening.proofs.Ties.{tied, itself}
+use Rattle.alt_tablerows.proofs.Ties.{tied, itself}
 use Rattle.alt_opening.proofs.Cuts.{cut, shown-here, shown-not}
 use Rattle.alt_opening.proofs.Families.{own_family}
 use Rattle.alt_opening.proofs.FirstWrong.{before_row, is_before, before_is, not_before, agrees_before, same_next, table_at, described_at}

@@ -1,5 +1,4 @@
 pub mod Codes
-pub mod Families
 pub mod Faults
 pub mod FirstFiles
 pub mod Images
@@ -27,3 +26,4 @@ pub use Rattle.alt_engine.specs.HandDeclaredEngineFault as HandDeclaredEngineFau
 pub use Rattle.alt_engine.specs.HandDeclaredHand as HandDeclaredHand
 pub use Rattle.alt_engine.specs.HandDeclaredLimits as HandDeclaredLimits
 pub use Rattle.alt_engine.specs.HandDeclaredMakeFault as HandDeclaredMakeFault
+pub use Rattle.alt_tablerows.specs.Families

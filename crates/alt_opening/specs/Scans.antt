@@ -9,9 +9,8 @@ use Rattle.alt_layout.specs.Layout.{Layout, shown, rows_between}
 use Rattle.alt_engine.specs.InHand.{bounds_of}
 use Rattle.alt_engine.specs.Opened.{StaysOn}
 use Rattle.alt_engine.specs.declared.engine.Engine.{Engine}
-use Rattle.alt_machine.specs.Valid.{IsStored}
 use Rattle.alt_schema.specs.declared.schema.TableSchema.{TableSchema}
-use Rattle.alt_views.specs.ItemRows.{item_columns, IsReadItem}
+pub use Rattle.alt_tablerows.specs.ItemTests.{IsItemAt, IsItemRow}
 use Rattle.alt_faults.specs.Faults.{IsOutside, OnlyRow}
 use Rattle.alt_opening.specs.Faults.{told_by_opening}
 use Rattle.alt_opening.specs.declared.faults.OpenFault.{OpenFault}
@@ -56,17 +55,6 @@ RowsWhere Here l family P = (key : List ℕ) (row : Columns) → Here key
     → shown l family key ≡ Some row → P key row
 
 -- ---- items
-
--- the row is that of the item, which may stand at the key
-pub record IsItemAt (d : TableSchema) (key : List ℕ) (columns : Columns) (item : List Pair)
-    : Type 0 where
-  pub stored : IsStored d key item
-  pub read : IsReadItem item
-  pub row : columns ≡ item_columns item
-
--- it is that of one
-abbrev pub IsItemRow : TableSchema → List ℕ → Columns → Type 0
-IsItemRow d key columns = (item : List Pair) × IsItemAt d key columns item
 
 -- each row of a table's family, of those whose keys pass, is that of an item
 abbrev pub ItemsWhere : (List ℕ → Type 0) → Layout → TableSchema → Type 0

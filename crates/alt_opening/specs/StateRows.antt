@@ -1,74 +1,25 @@
 -- The rows that stand for a state (docs/formats/table-rows.md), and the changes of rows that a write of the state makes.
-use Rattle.std.specs.Prelude.{◌≡◌, ◌≤◌, ◌<◌, ◌^◌, ◌==◌, ℕ, List, [], ◌∷◌, ◌++◌, map as each, All, if◌then◌else◌, Option, Some, None, option_map, unwrap_or, codes}
-use Rattle.std.specs.Int.{w32, to_be_bytes}
+use Rattle.std.specs.Prelude.{◌≡◌, ◌≤◌, ◌<◌, ◌^◌, ℕ, List, [], map as each, All, if◌then◌else◌, Option, Some, None, option_map}
 use Rattle.std.specs.Ordering.{eq_by_cmp}
 use Rattle.std.specs.FinMap as map
 use Rattle.alt_cells.specs.Changes.{Columns}
 use Rattle.alt_cells.specs.Keys.{key_cmp}
-use Rattle.alt_changes.specs.ChangeRows.{change_columns, row_key}
-use Rattle.alt_changes.specs.TrimRows.{trimmed_row}
+use Rattle.alt_tablerows.specs.ChangeRows.{change_columns, row_key}
+use Rattle.alt_tablerows.specs.TrimRows.{trimmed_row}
 use Rattle.alt_layout.specs.Layout.{Layout, shown}
-use Rattle.alt_machine.specs.Building.{built_part, built_place, building_in}
+use Rattle.alt_machine.specs.Building.{built_part}
 use Rattle.alt_machine.specs.Indexed.{index_items}
 use Rattle.alt_machine.specs.Sources.{index_at}
 use Rattle.alt_machine.specs.State.{State, Table, Texts, Change}
 use Rattle.alt_machine.specs.Valid.{IsHeldState}
-use Rattle.alt_schemabytes.specs.Format.{description_bytes}
-use Rattle.alt_schemabytes.specs.Held.{IsHeld}
-use Rattle.alt_schema.specs.declared.schema.Built.{Built}
-use Rattle.alt_schema.specs.declared.schema.Built.TheVariants.{Whole, UpTo}
+use Rattle.alt_tablerows.specs.Held.{IsHeld}
 use Rattle.alt_schema.specs.declared.schema.IndexSchema.{IndexSchema}
-use Rattle.alt_schema.specs.declared.schema.TableSchema.{TableSchema}
-use Rattle.alt_views.specs.IndexRows.{index_columns}
-use Rattle.alt_views.specs.ItemRows.{item_columns}
-
--- a row of one column
-abbrev pub one_column : List ℕ → List ℕ → Columns
-one_column name value = map.insert map.empty name value
+pub use Rattle.alt_tablerows.specs.CatalogRows.{catalog_family, next_row, one_column, table_row}
+pub use Rattle.alt_tablerows.specs.StreamRows.{IsLeftover}
+use Rattle.alt_tablerows.specs.IndexRows.{index_columns}
+use Rattle.alt_tablerows.specs.ItemRows.{item_columns}
 
 -- ---- the catalog, which is family 0
-
--- the catalog's family
-abbrev pub catalog_family : ℕ
-catalog_family = 0
-
--- the next family, which isn't written where it is 1
-abbrev pub next_row : ℕ → Option Columns
-next_row family = if family == 1 then None else Some
-    (one_column (codes "next") (to_be_bytes w32 family))
-
--- the cells of a table's row, by their names: the attribute for time to live, where there is one, and the bytes of the description
-abbrev pub table_cells : Option (List ℕ) → List ℕ → List (List ℕ × List ℕ)
-table_cells None bytes = (codes "t", bytes) ∷ []
-table_cells (Some name) bytes = (codes "l", name) ∷ (codes "t", bytes) ∷ []
-
--- a row of these
-abbrev pub described_row : Option (List ℕ) → List ℕ → Columns
-described_row time bytes = map.from_sorted (table_cells time bytes)
-
--- of a description, as if each index were whole
-abbrev pub plain_row : TableSchema → Columns
-plain_row d = described_row d.ttl (description_bytes d)
-
--- how far an index is built: not begun, or up to the place of the last item that it was built of
-abbrev pub built_bytes : TableSchema → Built → List ℕ
-built_bytes d Whole = []
-built_bytes d (UpTo None) = 0 ∷ []
-built_bytes d (UpTo (Some key)) = 1 ∷ unwrap_or (built_place d key) []
-
--- the family of the one that is being built, where there is one, and how far it is
-abbrev pub built_cell : TableSchema → Option (List ℕ)
-built_cell d =
-    option_map (λ i. to_be_bytes w32 i.family ++ built_bytes d i.built) (building_in d)
-
--- a row with a cell for that, where there is one
-abbrev pub with_built_cell : Option (List ℕ) → Columns → Columns
-with_built_cell None row = row
-with_built_cell (Some value) row = map.insert row (codes "b") value
-
--- the row of a table: its description, and beside its bytes what these don't tell
-abbrev pub table_row : TableSchema → Columns
-table_row d = with_built_cell (built_cell d) (plain_row d)
 
 -- the next family stands at the empty key, and each description at its table's name
 abbrev pub catalog_rows : State → List ℕ → Option Columns
@@ -99,10 +50,6 @@ stream_row trimmed changes key = if eq_by_cmp key_cmp key (row_key 0) then trimm
 -- the rows in the family of a table's stream
 abbrev pub change_rows : Table → List ℕ → Option Columns
 change_rows t key = stream_row t.trimmed t.changes key
-
--- A row may be left over of a change that was trimmed. It counts for nothing, whatever it shows.
-abbrev pub IsLeftover : ℕ → List ℕ → Type 0
-IsLeftover trimmed key = (n : ℕ) × (1 ≤ n) × (n ≤ trimmed) × (key ≡ row_key n)
 
 -- What the rows show is the state: its numbers, its catalog, the items of each table in the table's family, those of each of its
 -- indexes in that of the index, its changes in that of its stream, where rows may be left over, and nothing from the next family on.

@@ -1,4 +1,3 @@
 -- What private contracts alone cite: nobody who believes the promises of this crate has to read it.
 pub mod IndexScans
-pub mod Made
 pub mod Opening

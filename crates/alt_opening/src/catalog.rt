@@ -9,7 +9,7 @@ ghost use Rattle.std.specs.declared.cmp.Ordering.TheVariants.{Less, Greater};
 ghost use Rattle.alt_machine.specs.Ops.ListTables.{names_after};
 ghost use Rattle.std.specs.Option.{option_map_or};
 ghost use Rattle.alt_schema.specs.declared.schema.TableSchema.{TableSchema};
-ghost use Rattle.alt_opening.specs.Families.{HasOwnFamilies};
+ghost use Rattle.alt_tablerows.specs.Families.{HasOwnFamilies};
 ghost use Rattle.alt_opening.specs.Live.{AreLiveIn, with_tables};
 ghost use Rattle.alt_opening.specs.private.Opening.{IsLeastAbove, IsNextTable, shares};
 ghost use Rattle.alt_opening.specs.Order.{first_after};
@@ -17,9 +17,9 @@ ghost use Rattle.alt_opening.specs.StateRows.{catalog_family};
 ghost use Rattle.alt_value.specs.Members.{text_order};
 
 use crate::live::Live;
-use crate::opened::has_family;
 use alt_base::NoMemory;
 use alt_schema::{IndexSchema, TableSchema};
+use alt_tablerows::has_family;
 use alt_value::Text;
 use std::alloc::Global;
 use std::cmp::Ordering;
@@ -39,7 +39,7 @@ impl Model for Catalog {
     ghost use Rattle.alt_machine.specs.State.{Texts};
     ghost use Rattle.alt_schema.specs.declared.schema.TableSchema.{TableSchema};
     ghost use Rattle.alt_opening.specs.Codes.{coded_catalog};
-    ghost use Rattle.alt_opening.specs.Families.{HasOwnFamilies};
+    ghost use Rattle.alt_tablerows.specs.Families.{HasOwnFamilies};
 
     ghost Value = { Texts TableSchema };
 

@@ -12,9 +12,9 @@ ghost use Rattle.alt_schema.specs.declared.schema.IndexSchema.{IndexSchema};
 ghost use Rattle.alt_opening.specs.private.IndexScans.{HasRow, IndexRead, IndexesRead, IsFirstForeign, IsIndexFault, IsLeastMissing, IsOwnFault, TellsMissingOf, lesser};
 ghost use Rattle.alt_opening.specs.Scans.{IsDeviceFault, ItemsRead, Walked};
 ghost use Rattle.alt_value.specs.Tree.{Pair};
-ghost use Rattle.alt_views.specs.IndexRows.{built_row};
-ghost use Rattle.alt_views.specs.ItemRows.{IsReadItem, item_columns};
-ghost use Rattle.alt_views.specs.Read.{IsKeptAt, row_at};
+ghost use Rattle.alt_tablerows.specs.IndexRows.{built_row};
+ghost use Rattle.alt_tablerows.specs.ItemRows.{IsReadItem, item_columns};
+ghost use Rattle.alt_tablerows.specs.Read.{IsKeptAt, row_at};
 
 use crate::faults::OpenFault;
 use crate::scan::{key_after, next_row};
@@ -24,7 +24,9 @@ use alt_disk::Disk;
 use alt_engine::Engine;
 use alt_fields::Bytes;
 use alt_schema::TableSchema;
-use alt_views::{IndexRow, Unread, built_row, index_at, item_of_index_row, item_of_row, place_of};
+use alt_tablerows::{
+    IndexRow, Unread, built_row, index_at, item_of_index_row, item_of_row, place_of,
+};
 use std::alloc::Global;
 
 /// Tests the indexes of a table whose items are read, in the order of their numbers.

@@ -6,10 +6,9 @@ ghost use Rattle.alt_machine.specs.State.{families_of};
 ghost use Rattle.alt_opening.specs.Live.{with_all, with_first, with_one, without_all};
 ghost use Rattle.alt_opening.specs.StateRows.{catalog_family};
 
-use crate::catalog_row::CATALOG;
-use crate::opened::{families_of, has_family};
 use alt_base::NoMemory;
 use alt_schema::TableSchema;
+use alt_tablerows::{CATALOG, families_of, has_family};
 use std::alloc::Global;
 use std::marker::Model;
 

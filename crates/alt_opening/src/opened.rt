@@ -1,25 +1,21 @@
 //! The catalog of a store that is opened: the next family, and the descriptions of its tables.
 
-ghost use Rattle.std.specs.Prelude.{◌≡◌, ◌↔◌, ◌==◌, ◌++◌, true, None, Err, IfOk, IfErr, IfSome, OnOk, IsErrOf, IsTrue, map as each};
+ghost use Rattle.std.specs.Prelude.{◌≡◌, ◌↔◌, None, Err, IfOk, IfErr, IfSome, OnOk, IsErrOf, IsTrue};
 ghost use Rattle.std.specs.FinMap as map;
-ghost use Rattle.std.specs.List.{list_any};
 ghost use Rattle.alt_base.specs.Counts.{Rose};
 ghost use Rattle.alt_engine.specs.InHand.{Reads};
 ghost use Rattle.alt_layout.specs.Layout.{Layout};
 ghost use Rattle.alt_machine.specs.Building.{IsBuilt};
 ghost use Rattle.alt_machine.specs.State.{families_of};
 ghost use Rattle.alt_schema.specs.Described.{IsDescription};
-ghost use Rattle.alt_schemabytes.specs.Held.{IsHeld};
-ghost use Rattle.alt_schema.specs.Indexes.{indexes};
+ghost use Rattle.alt_tablerows.specs.Held.{IsHeld};
 ghost use Rattle.alt_schema.specs.declared.schema.TableSchema.{TableSchema};
-ghost use Rattle.alt_opening.specs.private.Opening.{IsApart, IsCatalog, IsGood, IsRowFault, IsNextFamily, IsReadOn, IsReadUpTo, IsTableAt, MayStand, are_families, are_within, are_apart, is_number, passes};
+ghost use Rattle.alt_opening.specs.private.Opening.{IsApart, IsCatalog, IsRowFault, IsNextFamily, IsReadOn, IsReadUpTo, IsTableAt, MayStand};
 ghost use Rattle.alt_opening.specs.Scans.{IsAhead, Walked};
 ghost use Rattle.alt_opening.specs.StateRows.{catalog_family};
 
 use crate::catalog::Catalog;
-use crate::catalog_row::{CATALOG, family_of_row, schema_of_row};
 use crate::faults::OpenFault;
-use crate::made::is_as_made;
 use crate::scan::{key_after, next_row};
 use alt_base::NoMemory;
 use alt_cells::ShownRow;
@@ -27,8 +23,8 @@ use alt_disk::Disk;
 use alt_engine::Engine;
 use alt_fields::Bytes;
 use alt_machine::MOST_TABLES;
-use alt_schema::{IndexSchema, TableSchema};
-use alt_views::Unread;
+use alt_schema::TableSchema;
+use alt_tablerows::{CATALOG, Unread, families_of, family_of_row, is_good, schema_of_row};
 use std::alloc::Global;
 
 /// What the rows of a catalog tell: the descriptions of its tables, and the next family.
@@ -212,43 +208,6 @@ fn may_stand(
     Ok(is_apart(catalog, schema, families.as_slice()))
 }
 
-/// Whether it may be that of a table of that name, whatever other tables there are.
-fn is_good(number: u64, family: u32, name: &Bytes, schema: &TableSchema, families: &[u32]) -> bool
-    requires description { IsDescription schema.now }
-    requires held { IsHeld schema.now }
-    requires built { IsBuilt schema.now }
-    requires families { families.now ≡ families_of schema.now }
-    ensures good { IsTrue result ↔ IsGood number family name.now schema.now }
-{
-    passes(number, family, name, schema, families)
-}
-
-fn passes(number: u64, family: u32, name: &Bytes, schema: &TableSchema, families: &[u32]) -> bool
-    requires families { families.now ≡ families_of schema.now }
-    ensures { result ≡ passes number family name.now schema.now }
-{
-    if schema.name.as_str().as_bytes() != name.as_slice() {
-        return false;
-    }
-    if !is_as_made(schema) {
-        return false;
-    }
-    is_number(number, schema.number) && are_families(family, families)
-}
-
-/// Whether a number was taken before the next one.
-fn is_number(next: u64, number: u64) -> bool
-    ensures { result ≡ is_number next number }
-{
-    1 <= number && number < next
-}
-
-fn are_families(next: u32, families: &[u32]) -> bool
-    ensures { result ≡ are_families next families.now }
-{
-    are_within(families, next) && are_apart(families)
-}
-
 /// Whether no table has its name.
 fn is_new(catalog: &Catalog, schema: &TableSchema) -> bool
     ensures new { IsTrue result ↔ (map.get catalog.now schema.now.name ≡ None) }
@@ -262,54 +221,4 @@ fn is_apart(catalog: &Catalog, schema: &TableSchema, families: &[u32]) -> bool
     ensures apart { IsTrue result ↔ IsApart catalog.now schema.now }
 {
     !catalog.clashes(families)
-}
-
-/// The families of a table.
-pub(crate) fn families_of(alloc: Global, schema: &TableSchema) -> Result<Vec<u32>, NoMemory>
-    ensures { IfOk result (λ families. families.items ≡ families_of schema.now) }
-{
-    let mut families = Vec::new(alloc);
-    families.push(schema.family)?;
-    push_families(&mut families, schema.locals.as_slice())?;
-    push_families(&mut families, schema.globals.as_slice())?;
-    if let Some(family) = schema.stream_family {
-        families.push(family)?;
-    }
-    Ok(families)
-}
-
-fn push_families(families: &mut Vec<u32>, indexes: &[IndexSchema]) -> Result<(), NoMemory>
-    ensures { OnOk result (families.new.items
-        ≡ families.old.items ++ each (λ i. i.family) indexes.now) }
-{
-    for index in indexes {
-        families.push(index.family)?;
-    }
-    Ok(())
-}
-
-/// Whether each family is from 1 on and below the next.
-fn are_within(families: &[u32], next: u32) -> bool
-    ensures { result ≡ are_within next families.now }
-{
-    families.iter().all(|family| 1 <= *family && *family < next)
-}
-
-/// Whether no family stands twice.
-fn are_apart(families: &[u32]) -> bool
-    ensures { result ≡ are_apart families.now }
-{
-    for (i, family) in families.iter().enumerate() {
-        if has_family(&families[i + 1..], *family) {
-            return false;
-        }
-    }
-    true
-}
-
-/// Whether a family is one of these.
-pub(crate) fn has_family(families: &[u32], family: u32) -> bool
-    ensures { result ≡ list_any (λ f. f == family) families.now }
-{
-    families.iter().any(|f| *f == family)
 }

@@ -26,7 +26,7 @@ use crate::scan::read_items;
 use crate::trimmed::{Trimmed, know};
 use alt_disk::Disk;
 use alt_engine::{Engine, Limits};
-use alt_schemabytes::held;
+use alt_tablerows::held;
 use std::alloc::Global;
 
 /// A store that was opened: the engine over its files, the descriptions of its tables, the family that the next table gets, and what was

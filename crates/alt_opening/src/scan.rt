@@ -1,13 +1,11 @@
 //! The rows of a family, one after the other, and the items of a table that is opened.
 
-ghost use Rattle.std.specs.Prelude.{◌≡◌, ◌↔◌, ◌++◌, ◌∷◌, [], List, Some, Err, IfOk, IfErr, OnOk, IfSome, IsErrOf, IsTrue, None, true};
+ghost use Rattle.std.specs.Prelude.{◌≡◌, ◌++◌, ◌∷◌, [], IfOk, IfErr, OnOk, IfSome, IsErrOf, IsTrue, None, true};
 ghost use Rattle.alt_base.specs.Counts.{Rose};
 ghost use Rattle.alt_engine.specs.InHand.{Reads};
 ghost use Rattle.alt_engine.specs.HandOpened.{IsUndamaged};
 ghost use Rattle.alt_layout.specs.Layout.{Layout, rows_between};
-ghost use Rattle.alt_machine.specs.Keys.{key_fits, place_of};
-ghost use Rattle.alt_opening.specs.Scans.{Walked, IsAhead, IsNextRow, ItemsRead, IsItemFault, IsDeviceFault, IsItemAt};
-ghost use Rattle.alt_value.specs.Tree.{Pair};
+ghost use Rattle.alt_opening.specs.Scans.{Walked, IsAhead, IsNextRow, ItemsRead, IsItemFault, IsDeviceFault};
 
 use crate::faults::OpenFault;
 use alt_base::NoMemory;
@@ -16,10 +14,8 @@ use alt_disk::Disk;
 use alt_engine::Engine;
 use alt_fields::Bytes;
 use alt_keyorder::KeyRange;
-use alt_machine::LARGEST_ITEM;
 use alt_schema::TableSchema;
-use alt_value::Item;
-use alt_views::{Unread, key_fits, key_of_row, place_of};
+use alt_tablerows::{Unread, test_item};
 use std::alloc::Global;
 
 /// How many rows are asked for at once, since each call of the engine seeks in every row file. An item has 400 KB at most, so those in hand hold 25 MB of names and values at most, and changes, of two items each, 50 MB.
@@ -136,38 +132,4 @@ pub(crate) fn read_items<D: Disk>(
         }
     }
     Err(OpenFault::NoMemory)
-}
-
-/// Whether a row is that of an item that may stand at its key. Of the item the key alone is kept.
-fn test_item(alloc: Global, schema: &TableSchema, key: &Bytes, row: &ShownRow) -> Result<(), Unread>
-    ensures item { OnOk result ((item : List Pair) × IsItemAt schema.now key.now row.now item) }
-    ensures none { result ≡ Err Unread.Bad → (item : List Pair)
-        → IsItemAt schema.now key.now row.now item → ⊥ }
-{
-    match key_of_row(alloc, schema, row, LARGEST_ITEM)? {
-        Some(own) => {
-            if !stands_at(alloc, schema, key, &own)? {
-                return Err(Unread::Bad);
-            }
-            Ok(())
-        }
-        None => Err(Unread::Bad),
-    }
-}
-
-/// Whether the key of an item gives it that place, and fits.
-fn stands_at(
-    alloc: Global,
-    schema: &TableSchema,
-    place: &Bytes,
-    key: &Item,
-) -> Result<bool, NoMemory>
-    ensures stands { IfOk result (λ stands. IsTrue stands
-        ↔ (place_of schema.now key.now ≡ Some place.now) × (key_fits schema.now key.now ≡ true)) }
-{
-    let found = place_of(alloc, schema, key)?;
-    let Some(found) = found else {
-        return Ok(false);
-    };
-    Ok(found == *place && key_fits(schema, key))
 }

@@ -13,8 +13,8 @@ use Rattle.alt_faults.specs.Faults.{OnlyRow}
 use Rattle.alt_opening.specs.Faults.{told_by_opening}
 use Rattle.alt_opening.specs.declared.faults.OpenFault.{OpenFault}
 use Rattle.alt_value.specs.Tree.{Pair}
-use Rattle.alt_views.specs.IndexRows.{built_row}
-use Rattle.alt_views.specs.ItemRows.{item_columns, IsReadItem}
+use Rattle.alt_tablerows.specs.IndexRows.{built_row}
+use Rattle.alt_tablerows.specs.ItemRows.{item_columns, IsReadItem}
 
 -- ---- rows of an index
 

@@ -1,29 +1,22 @@
 -- What is read of the catalog while a store is opened.
-use Rattle.std.specs.FinMap.Entries.{below_all}
-use Rattle.std.specs.Prelude.{◌≡◌, ◌≢◌, ◌<◌, ◌≤◌, ◌==◌, ◌&&◌, ℕ, Bool, true, not, nat_lt, nat_le, List, [], ◌∷◌, Option, Some, None, All, AllPairs, Contains, if◌then◌else◌, length, slice_index_or, T, false}
-use Rattle.std.specs.List.{list_all, list_any}
+use Rattle.std.specs.Prelude.{◌≡◌, ◌≢◌, ◌<◌, ◌≤◌, ◌==◌, ℕ, Bool, nat_le, List, [], Option, Some, None, Contains, if◌then◌else◌, length, slice_index_or}
+use Rattle.std.specs.List.{list_any}
 use Rattle.std.specs.Option.{option_map_or}
-use Rattle.std.specs.Str.{bytes_eq}
 use Rattle.std.specs.FinMap as map
 use Rattle.alt_cells.specs.Changes.{Columns}
-use Rattle.alt_cells.specs.Keys.{key_cmp}
 use Rattle.alt_layout.specs.Layout.{Layout, shown}
 use Rattle.alt_machine.specs.declared.TheConstants.{FAMILIES_END, MOST_TABLES}
 use Rattle.alt_machine.specs.State.{State, Texts, descriptions, families_of}
-use Rattle.alt_machine.specs.Valid.{IsMade, IsValid}
-use Rattle.alt_machine.specs.Building.{is_built_to}
-use Rattle.alt_schema.specs.Bare.{is_whole}
-use Rattle.alt_schemabytes.specs.Held.{IsHeld}
-use Rattle.alt_schema.specs.declared.schema.Built.{Built}
+use Rattle.alt_machine.specs.Valid.{IsValid}
 use Rattle.alt_schema.specs.declared.schema.TableSchema.{TableSchema}
-use Rattle.alt_opening.specs.private.Made.{is_as_made}
 use Rattle.alt_opening.specs.private.IndexScans.{IndexesRead, IsFirstOfOwn}
 use Rattle.alt_opening.specs.Recovery.{IsFirstWrong}
 use Rattle.alt_opening.specs.Scans.{IsBelow, ItemsRead}
-use Rattle.alt_opening.specs.StateRows.{Shows, IsHeldWhole, built_bytes, catalog_family, next_row, table_row}
+use Rattle.alt_opening.specs.StateRows.{Shows, IsHeldWhole, catalog_family, next_row, table_row}
 use Rattle.alt_opening.specs.StreamScans.{ChangesRead, IsFirstOfStream, stream_trimmed}
 use Rattle.alt_opening.specs.Trimmed.{AreTrimmedOf, number_at}
 use Rattle.alt_opening.specs.declared.trimmed.Trimmed.{Trimmed}
+use Rattle.alt_tablerows.specs.Good.{IsGood}
 use Rattle.alt_faults.specs.Faults.{OnlyRow}
 use Rattle.alt_opening.specs.Faults.{told_by_opening}
 use Rattle.alt_opening.specs.declared.faults.OpenFault.{OpenFault}
@@ -36,52 +29,11 @@ pub record IsNextFamily (l : Layout) (family : ℕ) : Type 0 where
 
 -- ---- families
 
--- each is from 1 on and below the next
-abbrev pub are_within : ℕ → List ℕ → Bool
-are_within next families = list_all (λ f. nat_le 1 f && nat_lt f next) families
-
--- none stands twice
-abbrev pub are_apart : List ℕ → Bool
-are_apart [] = true
-are_apart (f ∷ fs) = not (list_any (λ g. g == f) fs) && are_apart fs
-
--- both
-abbrev pub are_families : ℕ → List ℕ → Bool
-are_families next families = are_within next families && are_apart families
-
--- a number was taken before the next one
-abbrev pub is_number : ℕ → ℕ → Bool
-is_number next number = nat_le 1 number && nat_lt number next
-
 -- one of them is a table's
 abbrev pub shares : List ℕ → TableSchema → Bool
 shares families d = list_any (λ f. list_any (λ g. g == f) families) (families_of d)
 
 -- ---- a table
-
--- A description may stand under a name, by the next number and the next family.
-pub record IsGood (next_number next : ℕ) (name : List ℕ) (d : TableSchema) : Type 0 where
-  pub named : d.name ≡ name
-  pub made : IsMade d
-  pub held : IsHeld d
-  pub number : (1 ≤ d.number) × (d.number < next_number)
-  pub families : All (λ f. (1 ≤ f) × (f < next)) (families_of d)
-  pub differ : AllPairs (λ f g. f ≢ g) (families_of d)
-
--- a name stands before those of all these cells
-abbrev pub AllBelow : List ℕ → List (List ℕ × List ℕ) → Type 0
-AllBelow name cells = T (below_all key_cmp name cells)
-
--- Bytes tell how far an index of a table is built, which is up to a key of the table and not whole.
-pub record TellsBuilt (d : TableSchema) (bytes : List ℕ) (built : Built) : Type 0 where
-  pub part : is_whole built ≡ false
-  pub to : is_built_to d built ≡ true
-  pub told : bytes ≡ built_bytes d built
-
--- the tests of it, beside those of its bytes
-abbrev pub passes : ℕ → ℕ → List ℕ → TableSchema → Bool
-passes number next name d = bytes_eq d.name name && (is_as_made d && (is_number number d.number
-    && are_families next (families_of d)))
 
 -- Two tables have no family in common.
 pub record AreApart (d e : TableSchema) : Type 0 where

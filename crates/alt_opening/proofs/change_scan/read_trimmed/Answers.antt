@@ -1,6 +1,6 @@
 -- What the row of number 0 tells, or a fault of the device.
 use Rattle.std.proofs.Common.{ap, ◌∙◌}
-use Rattle.alt_changes.specs.TrimRows.{trimmed_told}
+use Rattle.alt_tablerows.specs.TrimRows.{trimmed_told}
 use Rattle.alt_opening.proofs.DeviceFaults.{device_walk}
 use Rattle.alt_opening.proofs.change_scan.read_trimmed.Goals as goal
 

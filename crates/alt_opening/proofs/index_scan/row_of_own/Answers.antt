@@ -2,8 +2,8 @@
 use Rattle.std.proofs.Common.{◌≡◌, sym, ap, ◌∙◌}
 use Rattle.std.proofs.lemmas.Result.{IfOk-weaker}
 use Rattle.std.specs.Prelude.{option_and_then}
-use Rattle.alt_views.specs.IndexRows.{built_row}
-use Rattle.alt_views.proofs.ItemRowLaws.{item_columns-one}
+use Rattle.alt_tablerows.specs.IndexRows.{built_row}
+use Rattle.alt_tablerows.proofs.ItemRowLaws.{item_columns-one}
 use Rattle.alt_opening.proofs.index_scan.row_of_own.Goals as goal
 
 pub returns-in-Ok : goal.returns-in-Ok

@@ -1,5 +1,5 @@
 -- No table clashes where all are apart.
-use Rattle.alt_opening.proofs.GoodLaws.{clash_is}
+use Rattle.alt_opening.proofs.Clashes.{clash_is}
 use Rattle.alt_opening.proofs.opened.is_apart.Goals as goal
 
 pub returns : goal.returns

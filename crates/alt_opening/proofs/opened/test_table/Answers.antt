@@ -2,7 +2,7 @@
 use Rattle.std.proofs.Common.{◌≡◌, sym, subst, ◌∙◌, IsTrue}
 use Rattle.std.proofs.lemmas.Bool.{false≢true}
 use Rattle.alt_opening.specs.private.Opening.{MayStand}
-use Rattle.alt_opening.proofs.OneDescription.{one_table_row}
+use Rattle.alt_tablerows.proofs.OneDescription.{one_table_row}
 use Rattle.alt_opening.proofs.opened.test_table.Goals as goal
 
 pub returns-else-branch-clause-none : goal.returns-else-branch-clause-none

@@ -5,7 +5,7 @@ use Rattle.std.specs.FinMap as map
 use Rattle.std.specs.List.{insert}
 use Rattle.alt_machine.specs.State.{Texts}
 use Rattle.alt_schema.specs.declared.schema.TableSchema.{TableSchema}
-use Rattle.alt_opening.specs.Families.{HasOwnFamilies}
+use Rattle.alt_tablerows.specs.Families.{HasOwnFamilies}
 use Rattle.alt_opening.proofs.Listed.{All-insert, AreInOrder, tables, get-found, added, not_both}
 use Rattle.alt_opening.proofs.catalog.Catalog.add.Goals as goal
 

@@ -2,7 +2,7 @@
 use Rattle.std.proofs.Common.{sym, ap, subst, ◌∙◌, Some}
 use Rattle.std.specs.FinMap as map
 use Rattle.alt_schema.specs.declared.schema.TableSchema.{TableSchema}
-use Rattle.alt_opening.specs.Families.{HasOwnFamilies}
+use Rattle.alt_tablerows.specs.Families.{HasOwnFamilies}
 use Rattle.alt_opening.proofs.Listed.{itself, get-found, get-missed}
 use Rattle.alt_opening.proofs.catalog.Catalog.get.Goals as goal
 

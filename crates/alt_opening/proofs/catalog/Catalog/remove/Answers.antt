@@ -3,7 +3,7 @@ use Rattle.std.proofs.Common.{sym, ap, ◌∙◌}
 use Rattle.std.proofs.lemmas.List.Elements.{All-same}
 use Rattle.std.specs.FinMap as map
 use Rattle.std.specs.List.{remove}
-use Rattle.alt_opening.specs.Families.{HasOwnFamilies}
+use Rattle.alt_tablerows.specs.Families.{HasOwnFamilies}
 use Rattle.alt_opening.proofs.Listed.{All-remove, removed, remove-missed}
 use Rattle.alt_opening.proofs.catalog.Catalog.remove.Goals as goal
 

@@ -5,7 +5,7 @@ use Rattle.std.proofs.lemmas.List.Elements.{All-same}
 use Rattle.std.specs.FinMap as map
 use Rattle.alt_machine.specs.State.{Texts}
 use Rattle.alt_schema.specs.declared.schema.TableSchema.{TableSchema}
-use Rattle.alt_opening.specs.Families.{HasOwnFamilies}
+use Rattle.alt_tablerows.specs.Families.{HasOwnFamilies}
 use Rattle.alt_opening.proofs.Listed.{All-set, get-missed, replaced, tables}
 use Rattle.alt_opening.proofs.catalog.Catalog.replace.Goals as goal
 

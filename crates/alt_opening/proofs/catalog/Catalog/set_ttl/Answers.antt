@@ -5,7 +5,7 @@ use Rattle.std.specs.FinMap as map
 use Rattle.std.specs.Option.{option_map_or}
 use Rattle.alt_machine.specs.State.{Texts}
 use Rattle.alt_schema.specs.declared.schema.TableSchema.{TableSchema}
-use Rattle.alt_opening.specs.Families.{HasOwnFamilies}
+use Rattle.alt_tablerows.specs.Families.{HasOwnFamilies}
 use Rattle.alt_opening.proofs.Listed.{All-set, get-found, get-missed, name_of, replaced, retimed}
 use Rattle.alt_opening.proofs.catalog.Catalog.set_ttl.Goals as goal
 

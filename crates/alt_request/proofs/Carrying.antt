@@ -31,8 +31,8 @@ use Rattle.alt_tables.specs.Stands.{Stands, catalog_of}
 use Rattle.alt_tables.specs.declared.tables.Tables.{Tables}
 use Rattle.alt_schema.specs.declared.schema.TableSchema.{TableSchema}
 use Rattle.alt_value.specs.Tree.{Pair}
-use Rattle.alt_tables.specs.declared.faults.TableFault.{TableFault}
-use Rattle.alt_tables.specs.declared.faults.TableFault.TheVariants.{Spent, Damaged, BadRow, Failed, NoMemory}
+use Rattle.alt_tables.specs.DeclaredTableFault.{TableFault}
+use Rattle.alt_tables.specs.DeclaredTableFault.TheVariants.{Spent, Damaged, BadRow, Failed, NoMemory}
 
 -- an answer without a write that may be a refusal, or want of memory for it
 pub does_say : (file : ℕ) (now : State → Type 0) (answer : Answer) (s : State) (r : Result Reply Stop)

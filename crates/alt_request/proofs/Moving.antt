@@ -27,8 +27,8 @@ use Rattle.alt_shape.specs.Refusals.{Answer}
 use Rattle.alt_shape.specs.declared.refusal.Reply.{Reply}
 use Rattle.alt_faults.proofs.Telling.{memory-else, outside-by, outside-more}
 use Rattle.alt_tables.specs.Faults.{IsReadFault, WantsMemory, told_by_tables}
-use Rattle.alt_tables.specs.declared.faults.TableFault.{TableFault}
-use Rattle.alt_tables.specs.declared.faults.TableFault.TheVariants.{Spent, Damaged, BadRow, Failed, NoMemory}
+use Rattle.alt_tables.specs.DeclaredTableFault.{TableFault}
+use Rattle.alt_tables.specs.DeclaredTableFault.TheVariants.{Spent, Damaged, BadRow, Failed, NoMemory}
 use Rattle.alt_tables.specs.Images.{Leaves}
 use Rattle.alt_tables.specs.Stands.{Stands, Reads, catalog_of}
 use Rattle.alt_tables.specs.declared.tables.Tables.{Tables}

@@ -18,8 +18,8 @@ use Rattle.alt_tables.specs.Faults.{AreMade, BreakOff, IsFindFault}
 use Rattle.alt_tables.specs.Images.{Leaves}
 use Rattle.alt_tables.specs.Stands.{Stands, Reads}
 use Rattle.alt_tables.proofs.Left.{reads_then}
-use Rattle.alt_tables.specs.declared.faults.TableFault.{TableFault}
-use Rattle.alt_tables.specs.declared.faults.TableFault.TheVariants.{Failed, NoMemory}
+use Rattle.alt_tables.specs.DeclaredTableFault.{TableFault}
+use Rattle.alt_tables.specs.DeclaredTableFault.TheVariants.{Failed, NoMemory}
 use Rattle.alt_tables.specs.declared.tables.Tables.{Tables}
 use Rattle.alt_value.specs.Tree.{Pair}
 

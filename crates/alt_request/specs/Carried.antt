@@ -16,8 +16,8 @@ use Rattle.alt_shape.specs.declared.refusal.Refusal.{Refusal}
 use Rattle.alt_shape.specs.declared.refusal.Reply.{Reply}
 use Rattle.alt_faults.specs.Faults.{Outside}
 use Rattle.alt_tables.specs.Faults.{BreakOff, WantsMemory, told_by_tables}
-use Rattle.alt_tables.specs.declared.faults.TableFault.{TableFault}
-use Rattle.alt_tables.specs.declared.faults.TableFault.TheVariants.{NoMemory}
+use Rattle.alt_tables.specs.DeclaredTableFault.{TableFault}
+use Rattle.alt_tables.specs.DeclaredTableFault.TheVariants.{NoMemory}
 
 -- Below, `old` and `now` say for which states the tables stand before and after a call, and `file` is the number of the first file that work
 -- made before it.

@@ -18,7 +18,7 @@ pub use Rattle.alt_tables.specs.OpeningTrimmed as TablesOpeningTrimmed
 pub use Rattle.alt_tables.specs.Reading as TablesReading
 pub use Rattle.alt_tables.specs.Several as TablesSeveral
 pub use Rattle.alt_tables.specs.Stands as TablesStands
-pub use Rattle.alt_tables.specs.declared.faults.TableFault as TablesDeclaredTableFault
+pub use Rattle.alt_tables.specs.DeclaredTableFault as TablesDeclaredTableFault
 pub use Rattle.alt_tables.specs.declared.finding.Found as TablesDeclaredFound
 pub use Rattle.alt_tables.specs.declared.several.ItemChange as TablesDeclaredItemChange
 pub use Rattle.alt_tables.specs.declared.tables.Tables as TablesDeclaredTables

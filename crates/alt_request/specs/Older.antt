@@ -12,7 +12,7 @@ use Rattle.alt_request.specs.declared.older.Older.{Older}
 use Rattle.alt_request.specs.declared.stop.Stop.{Stop}
 use Rattle.alt_request.specs.declared.stop.Stop.TheVariants.{Refused, Fault}
 use Rattle.alt_shape.specs.Refusals.{Answer, bad_legacy_parameter, bad_key_condition}
-use Rattle.alt_tables.specs.declared.faults.TableFault.TheVariants.{NoMemory}
+use Rattle.alt_tables.specs.DeclaredTableFault.TheVariants.{NoMemory}
 
 -- the members that stand in the place of expressions
 abbrev pub older_of : Older → machine.Older

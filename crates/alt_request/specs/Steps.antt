@@ -7,7 +7,7 @@ use Rattle.alt_request.specs.declared.stop.Stop.{Stop}
 use Rattle.alt_request.specs.declared.stop.Stop.TheVariants.{Refused, Fault}
 use Rattle.alt_shape.specs.Refusals.{Answer, refused, IsKnown}
 use Rattle.alt_tables.specs.Faults.{IsReadFault}
-use Rattle.alt_tables.specs.declared.faults.TableFault.TheVariants.{NoMemory}
+use Rattle.alt_tables.specs.DeclaredTableFault.TheVariants.{NoMemory}
 
 -- the rules of the program, as the machine has them
 abbrev pub rules_of : Rules → machine.Rules

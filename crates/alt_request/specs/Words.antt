@@ -24,7 +24,7 @@ use Rattle.alt_request.specs.declared.stop.Stop.{Stop}
 use Rattle.alt_request.specs.declared.stop.Stop.TheVariants.{Refused, Fault}
 use Rattle.alt_shape.specs.Refusals.{Answer}
 use Rattle.alt_shape.specs.declared.refusal.Refusal.{Refusal}
-use Rattle.alt_tables.specs.declared.faults.TableFault.TheVariants.{NoMemory}
+use Rattle.alt_tables.specs.DeclaredTableFault.TheVariants.{NoMemory}
 use Rattle.alt_value.specs.Tree.{Pair}
 
 -- the members that are expressions

@@ -36,7 +36,7 @@ impl From<TableFault> for Stop {
 
 impl From<NoMemory> for Stop {
     ghost use Rattle.alt_request.specs.declared.stop.Stop.TheVariants as stop;
-    ghost use Rattle.alt_tables.specs.declared.faults.TableFault.TheVariants as fault;
+    ghost use Rattle.alt_tables.specs.DeclaredTableFault.TheVariants as fault;
 
     ghost from_gives = { λ _ s. s ≡ stop.Fault fault.NoMemory };
 
@@ -47,7 +47,7 @@ impl From<NoMemory> for Stop {
 
 impl From<AllocError> for Stop {
     ghost use Rattle.alt_request.specs.declared.stop.Stop.TheVariants as stop;
-    ghost use Rattle.alt_tables.specs.declared.faults.TableFault.TheVariants as fault;
+    ghost use Rattle.alt_tables.specs.DeclaredTableFault.TheVariants as fault;
 
     ghost from_gives = { λ _ s. s ≡ stop.Fault fault.NoMemory };
 
@@ -58,7 +58,7 @@ impl From<AllocError> for Stop {
 
 impl<T: Drop> From<AllocFailed<T>> for Stop {
     ghost use Rattle.alt_request.specs.declared.stop.Stop.TheVariants as stop;
-    ghost use Rattle.alt_tables.specs.declared.faults.TableFault.TheVariants as fault;
+    ghost use Rattle.alt_tables.specs.DeclaredTableFault.TheVariants as fault;
 
     ghost from_gives = { λ _ s. s ≡ stop.Fault fault.NoMemory };
 

@@ -31,14 +31,14 @@ use Rattle.alt_opening.proofs.LiveLaws.{live_replace}
 use Rattle.alt_opening.proofs.OneState.{some}
 use Rattle.alt_opening.proofs.Ties.{tied}
 use Rattle.alt_opening.proofs.TrimmedLaws.{trimmed-stay}
-use Rattle.alt_tables.specs.Altering.{MayAlter, alter_wants, family_left, has_more}
+use Rattle.alt_rowchanges.specs.Altering.{MayAlter, alter_wants, family_left, has_more}
 use Rattle.alt_tables.specs.Foreseen.{Foresees}
-use Rattle.alt_tables.specs.Fronts.{AreFronts, IsFront}
-use Rattle.alt_tables.specs.RowChanges.{Turns, alter_changes, changed_rows}
+use Rattle.alt_trimming.specs.Fronts.{AreFronts, IsFront}
+use Rattle.alt_rowchanges.specs.RowChanges.{Turns, alter_changes, changed_rows}
 use Rattle.alt_tables.specs.Stands.{HasRows, Stands, catalog_of, fronts_of, number_of, trimmed_of}
-use Rattle.alt_tables.specs.declared.fronts.Front.{Front}
+use Rattle.alt_trimming.specs.declared.fronts.Front.{Front}
 use Rattle.alt_tables.specs.declared.tables.Tables.{Tables}
-use Rattle.alt_tables.proofs.AlterLaws.{alter_turns, alter_valid, is_longer}
+use Rattle.alt_rowchanges.proofs.AlterLaws.{alter_turns, alter_valid, is_longer}
 use Rattle.alt_tables.proofs.Foreseen.{foresees_redescribed}
 use Rattle.alt_tables.proofs.Making.{OfCatalog, catalog_fronts, fronts_of_rows}
 use Rattle.alt_tables.proofs.Standing.{descriptions-insert, known, still_live, still_trimmed, there}

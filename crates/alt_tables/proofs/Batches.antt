@@ -9,7 +9,7 @@ use Rattle.alt_layout.proofs.PastLaws.{is_past_after}
 use Rattle.alt_machine.specs.State.{State}
 use Rattle.alt_machine.specs.Valid.{IsValid}
 use Rattle.alt_opening.specs.StateRows.{Shows, IsHeldWhole}
-use Rattle.alt_tables.specs.RowChanges.{Turns, changed_rows}
+use Rattle.alt_rowchanges.specs.RowChanges.{Turns, changed_rows}
 use Rattle.alt_tables.specs.Several.{AreDistinct, TurnsAll, with_batches}
 
 -- ---- rows

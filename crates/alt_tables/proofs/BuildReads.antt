@@ -25,7 +25,7 @@ use Rattle.alt_schema.specs.declared.schema.Built.{Built}
 use Rattle.alt_schema.specs.declared.schema.Built.TheVariants.{Whole, UpTo}
 use Rattle.alt_schema.specs.declared.schema.IndexSchema.{IndexSchema}
 use Rattle.alt_schema.specs.declared.schema.TableSchema.{TableSchema}
-use Rattle.alt_tables.specs.private.Steps.{built_to, first_behind}
+use Rattle.alt_rowchanges.specs.Steps.{built_to, first_behind}
 use Rattle.alt_value.specs.Members.{text_order}
 use Rattle.alt_value.specs.Tree.{Pair}
 use Rattle.alt_value.proofs.Texts.{text_apart, text_total}

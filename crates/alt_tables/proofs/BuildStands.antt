@@ -38,21 +38,21 @@ use Rattle.alt_opening.proofs.LiveLaws.{live_alike}
 use Rattle.alt_opening.proofs.OneState.{some}
 use Rattle.alt_opening.proofs.TrimmedLaws.{trimmed-stay}
 use Rattle.alt_tables.specs.Foreseen.{Foresees}
-use Rattle.alt_tables.specs.Fronts.{AreFronts}
-use Rattle.alt_tables.specs.RowChanges.{Turns, changed_rows, step_changes}
+use Rattle.alt_trimming.specs.Fronts.{AreFronts}
+use Rattle.alt_rowchanges.specs.RowChanges.{Turns, changed_rows, step_changes}
 use Rattle.alt_tables.specs.Stands.{HasRows, Stands, catalog_of, fronts_of, number_of, trimmed_of}
 use Rattle.alt_tables.specs.declared.tables.Tables.{Tables}
-use Rattle.alt_tables.specs.private.Steps.{AreApartIn, step_of}
+use Rattle.alt_rowchanges.specs.Steps.{AreApartIn, step_of}
 use Rattle.alt_tables.proofs.Altered.{fronts_described}
-use Rattle.alt_tables.proofs.BuildLaws.{low, of_stream, others_built, step_turns}
+use Rattle.alt_rowchanges.proofs.BuildLaws.{low, of_stream, others_built, step_turns}
 use Rattle.alt_tables.proofs.BuildReads.{item_in, taken_built, taken_items}
-use Rattle.alt_tables.proofs.ChangeLaws.{AreOthers}
-use Rattle.alt_tables.proofs.Elsewhere.{shown_elsewhere}
+use Rattle.alt_rowchanges.proofs.ChangeLaws.{AreOthers}
+use Rattle.alt_rowchanges.proofs.Elsewhere.{shown_elsewhere}
 use Rattle.alt_tables.proofs.Foreseen.{foresees_redescribed}
-use Rattle.alt_tables.proofs.FrontLaws.{fronts_alike}
+use Rattle.alt_trimming.proofs.FrontLaws.{fronts_alike}
 use Rattle.alt_tables.proofs.Making.{fronts_of_rows}
 use Rattle.alt_tables.proofs.Standing.{descriptions-insert, known, still_live, still_trimmed}
-use Rattle.alt_tables.proofs.WriteLaws.{stream_within}
+use Rattle.alt_rowchanges.proofs.WriteLaws.{stream_within}
 
 -- ---- items in order
 

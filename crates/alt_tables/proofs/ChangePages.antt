@@ -1,5 +1,5 @@
 -- The changes that are read from the rows of a walk over the family of a stream.
-use Rattle.std.proofs.Common.{◌≡◌, ◌<◌, ◌≤◌, ◌+◌, ◌^◌, refl, sym, ap, subst, ◌∙◌, ℕ, zero, suc, Bool, true, false, cond, T, List, [], ◌∷◌, ◌++◌, map, max, take, length, get_or, Option, Some, None, IsTrue, All, option_map, Equal, arith}
+use Rattle.std.proofs.Common.{◌≡◌, ◌<◌, ◌≤◌, ◌+◌, ◌^◌, refl, sym, ap, subst, ◌∙◌, ℕ, zero, suc, Bool, true, false, cond, T, List, [], ◌∷◌, ◌++◌, map, max, take, Option, Some, None, IsTrue, All, option_map, Equal, arith}
 use Rattle.std.proofs.lemmas.Bool.{false≢true}
 use Rattle.std.proofs.lemmas.List.Elements.{All-head, All-tail, All-filter}
 use Rattle.std.specs.BTreeMap.Range.{range_contains}
@@ -25,8 +25,7 @@ use Rattle.alt_machine.specs.Ops.GetRecords.{changes_from}
 use Rattle.alt_machine.specs.State.{Change, State, Table, Texts}
 use Rattle.alt_machine.specs.Valid.{AreChanges}
 use Rattle.alt_schema.specs.declared.schema.TableSchema.{TableSchema}
-use Rattle.alt_tables.specs.private.Pages.{AreChangesOf}
-use Rattle.alt_opening.specs.StreamScans.{IsChangeAt}
+use Rattle.alt_rowchanges.specs.Pages.{AreChangesOf}
 use Rattle.alt_opening.specs.StateRows.{keyed_changes}
 use Rattle.alt_opening.specs.Trimmed.{number_at}
 use Rattle.alt_tables.specs.Stands.{Stands, catalog_of, trimmed_of}
@@ -34,7 +33,6 @@ use Rattle.alt_tables.specs.declared.tables.Tables.{Tables}
 use Rattle.alt_tables.proofs.Pages.{as_row, placed_between, row_at, row_of, same_table, shown_of-rows}
 use Rattle.alt_opening.proofs.OverEngine.{finds_shown}
 use Rattle.alt_opening.proofs.OneStream.{ShowsStream}
-use Rattle.alt_opening.proofs.StreamSteps.{one_change_at}
 use Rattle.alt_opening.proofs.StreamKeys.{Above, IsKept, IsSmall, above, entries_keyed, filter_keyed, key_order, keyed, late_of, low_of, up_to}
 use Rattle.alt_opening.proofs.KeptChanges.{are_kept, are_small}
 use Rattle.alt_opening.proofs.Ties.{tied}
@@ -44,41 +42,6 @@ use Rattle.alt_value.specs.Members.{text_order}
 pub take_none : (n : ℕ) → take {A = Change} n [] ≡ []
 take_none zero = refl
 take_none (suc n) = refl
-
--- ---- changes as they are read one by one
-
--- the change of one row more
-pub changes_more : (page : List (List ℕ × Columns)) (e : List ℕ × Columns) (cs : List Change)
-    (c : Change) → AreChangesOf page cs → IsChangeAt e.0 e.1 c
-    → AreChangesOf (page ++ e ∷ []) (cs ++ c ∷ [])
-changes_more [] e [] c are is = (is, tt)
-changes_more [] e (d ∷ ds) c are is = absurd are
-changes_more (p ∷ ps) e [] c are is = absurd are
-changes_more (p ∷ ps) e (d ∷ ds) c are is = (are.0, changes_more ps e ds c are.1 is)
-
--- each row is that of a change
-pub change_row_at : (page : List (List ℕ × Columns)) (cs : List Change) (k : ℕ)
-    (e : List ℕ × Columns) → AreChangesOf page cs → k < length page → e ≡ get_or page k e
-    → (c : Change) × IsChangeAt e.0 e.1 c
-change_row_at [] cs k e are within is = absurd (omega (arith, within))
-change_row_at (p ∷ ps) [] k e are within is = absurd are
-change_row_at (p ∷ ps) (c ∷ cs) zero e are within is =
-    (c, subst (λ (q : List ℕ × Columns). IsChangeAt q.0 q.1 c) (sym is) are.0)
-change_row_at (p ∷ ps) (c ∷ cs) (suc k) e are within is =
-    change_row_at ps cs k e are.1 (omega (arith, within)) is
-
--- so rows are those of one list
-pub one_changes : (page : List (List ℕ × Columns)) (cs ds : List Change) → AreChangesOf page cs
-    → AreChangesOf page ds → cs ≡ ds
-one_changes [] [] [] p q = refl
-one_changes [] [] (b ∷ ds) p q = absurd q
-one_changes [] (a ∷ cs) ds p q = absurd p
-one_changes (e ∷ es) [] ds p q = absurd p
-one_changes (e ∷ es) (a ∷ cs) [] p q = absurd q
-one_changes (e ∷ es) (a ∷ cs) (b ∷ ds) p q =
-    let first = one_change_at e.0 e.1 a b p.0 q.0 in
-    let rest = one_changes es cs ds p.1 q.1 in
-    λ i. first i ∷ rest i
 
 -- ---- the rows of a walk
 

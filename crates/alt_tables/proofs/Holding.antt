@@ -20,13 +20,13 @@ use Rattle.alt_machine.specs.State.{State}
 use Rattle.alt_machine.specs.Valid.{IsValid}
 use Rattle.alt_opening.specs.HandFaults.{told_by_engine}
 use Rattle.alt_faults.specs.Faults.{no_memory, IsOutside}
-use Rattle.alt_tables.specs.Faults.{IsFindFault, told_by_tables}
-use Rattle.alt_tables.specs.declared.faults.TableFault.{TableFault}
-use Rattle.alt_tables.specs.declared.faults.TableFault.TheVariants.{NoMemory}
+use Rattle.alt_rowchanges.specs.Faults.{IsFindFault, told_by_tables}
+use Rattle.alt_rowchanges.specs.declared.faults.TableFault.{TableFault}
+use Rattle.alt_rowchanges.specs.declared.faults.TableFault.TheVariants.{NoMemory}
 use Rattle.alt_opening.specs.Images.{StandsFor}
 use Rattle.alt_tables.specs.Images.{AfterSome, Leaves}
 use Rattle.alt_opening.specs.StateRows.{Shows}
-use Rattle.alt_tables.specs.RowChanges.{Turns}
+use Rattle.alt_rowchanges.specs.RowChanges.{Turns}
 use Rattle.alt_tables.specs.Several.{AreDistinct, TurnsAll, with_batches}
 use Rattle.alt_opening.specs.Opened.{Holds}
 use Rattle.alt_tables.proofs.Batches.{with_batches-writes}

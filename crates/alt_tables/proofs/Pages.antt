@@ -1,7 +1,7 @@
 -- The rows of the items in a range of places, and the items that are read from them.
-use Rattle.std.proofs.Common.{◌≡◌, ◌<◌, refl, sym, ap, subst, ◌∙◌, ℕ, zero, suc, Bool, true, false, cond, T, List, [], ◌∷◌, ◌++◌, map, reverse, take, length, get_or, Option, Some, None, Result, Ok, Err, OnOk, IfErr, IsTrue, option_map, slice_get, All, append_assoc, arith}
-use Rattle.std.proofs.lemmas.List.{map-append, take-map}
-use Rattle.std.proofs.lemmas.List.Elements.{All-nil, All-cons, All-head, All-tail, All-push, All-map, All-take, All-filter}
+use Rattle.std.proofs.Common.{◌≡◌, ◌<◌, refl, sym, ap, subst, ◌∙◌, ℕ, zero, suc, Bool, true, false, cond, T, List, [], ◌∷◌, ◌++◌, map, reverse, take, length, Option, Some, None, Result, Ok, Err, OnOk, IfErr, IsTrue, option_map, slice_get, All, arith}
+use Rattle.std.proofs.lemmas.List.{take-map}
+use Rattle.std.proofs.lemmas.List.Elements.{All-nil, All-cons, All-head, All-tail, All-map, All-take, All-filter}
 use Rattle.std.proofs.lemmas.List.Sorted.{All-permutation, IsPermutation-reverse}
 use Rattle.std.specs.BTreeMap.Range.{entries_between, range_contains}
 use Rattle.std.specs.FinMap as finite
@@ -33,136 +33,25 @@ use Rattle.alt_schema.specs.declared.schema.TableSchema.{TableSchema}
 use Rattle.alt_opening.specs.HandFaults.{told_by_engine}
 use Rattle.alt_faults.specs.Faults.{IsOutside}
 use Rattle.alt_faults.proofs.Telling.{memory-outside, outside-neither}
-use Rattle.alt_tables.specs.Faults.{IsFindFault, IsReadFault, told_by_tables}
+use Rattle.alt_rowchanges.specs.Faults.{IsFindFault, IsReadFault, told_by_tables}
 use Rattle.alt_views.specs.ItemRows.{IsReadItem, item_columns}
-use Rattle.alt_tables.specs.private.Pages.{AreItemsOf, AreKept, ArePut}
+use Rattle.alt_rowchanges.specs.Pages.{AreItemsOf, AreKept, ArePut}
 use Rattle.alt_tables.specs.Stands.{Stands, catalog_of}
-use Rattle.alt_tables.specs.declared.faults.TableFault.{TableFault}
+use Rattle.alt_rowchanges.specs.declared.faults.TableFault.{TableFault}
 use Rattle.alt_tables.specs.declared.tables.Tables.{Tables}
 use Rattle.alt_opening.proofs.Ties.{tied, itself}
 use Rattle.alt_opening.proofs.OverEngine.{finds_shown}
 use Rattle.alt_opening.specs.StateRows.{index_rows}
 use Rattle.alt_views.specs.IndexRows.{index_columns}
 use Rattle.alt_views.specs.Read.{IsKeptAt}
-use Rattle.alt_views.proofs.ItemRowLaws.{item_columns-one}
 use Rattle.alt_views.proofs.Keeping.{kept_at}
 use Rattle.alt_opening.proofs.OneState.{some, has_whole}
+use Rattle.alt_rowchanges.proofs.PageRows.{same_items}
 use Rattle.alt_tables.proofs.Standing.{known}
 use Rattle.alt_value.specs.Members.{text_order}
 use Rattle.alt_opening.specs.HandOpened.{IsUndamaged, IsUnspent}
 use Rattle.alt_opening.specs.HandDeclaredEngineFault.{EngineFault}
 use Rattle.alt_value.specs.Tree.{Pair}
-
--- ---- items as they are put one by one
-
--- the item of one row more
-pub put_more : (page : List (List ℕ × Columns)) (e : List ℕ × Columns) (item : List Pair)
-    (old mid new : List (List Pair)) → ArePut page old mid → IsReadItem item
-    → e.1 ≡ item_columns item → new ≡ mid ++ item ∷ [] → ArePut (page ++ e ∷ []) old new
-put_more page e item old mid new so_far read row push = record {
-  items = so_far.items ++ item ∷ [];
-  are = record {
-    read = All-push IsReadItem so_far.items item so_far.are.read read;
-    rows = map-append (λ (x : List ℕ × Columns). x.1) page (e ∷ [])
-        ∙ (λ i. so_far.are.rows i ++ row i ∷ [])
-        ∙ sym (map-append item_columns so_far.items (item ∷ []));
-  };
-  put = push ∙ ap (λ items. items ++ item ∷ []) so_far.put
-      ∙ append_assoc old so_far.items (item ∷ []);
-}
-
--- what two lists begin with, and what follows
-parts : {A : Type 0} (x y : A) (xs ys : List A) → x ∷ xs ≡ y ∷ ys → (x ≡ y) × (xs ≡ ys)
-parts x y xs ys e = (cc, cc)
-
--- Of rows of items each is that of one which can be read.
-pub item_at : (page : List (List ℕ × Columns)) (items : List (List Pair)) (k : ℕ)
-    (e : List ℕ × Columns) → AreItemsOf page items → k < length page → e ≡ get_or page k e
-    → (item : List Pair) × IsReadItem item × (e.1 ≡ item_columns item)
-item_at page items k e are within is = by page items k are.read are.rows within is
-  where
-    by : (page : List (List ℕ × Columns)) (items : List (List Pair)) (k : ℕ)
-        → All IsReadItem items → map (λ e. e.1) page ≡ map item_columns items → k < length page
-        → e ≡ get_or page k e → (item : List Pair) × IsReadItem item × (e.1 ≡ item_columns item)
-    by [] items k read rows within is = absurd (omega arith)
-    by (x ∷ xs) [] k read rows within is =
-        let no : x.1 ∷ map (λ e. e.1) xs ≡ [] = rows in absurd (cc no)
-    by (x ∷ xs) (y ∷ ys) zero read rows within is = (
-      y,
-      All-head IsReadItem y ys read,
-      ap (λ p. p.1) is ∙ (parts x.1 (item_columns y) _ _ rows).0,
-    )
-    by (x ∷ xs) (y ∷ ys) (suc k) read rows within is = by xs ys k
-        (All-tail IsReadItem y ys read) (parts x.1 (item_columns y) _ _ rows).1 (omega arith) is
-
--- items with the same rows are the same
-same_items : (a b : List (List Pair)) → All IsReadItem a → All IsReadItem b
-    → map item_columns a ≡ map item_columns b → a ≡ b
-same_items [] [] h k e = refl
-same_items [] (y ∷ ys) h k e = let no : [] ≡ item_columns y ∷ map item_columns ys = e in
-    absurd (cc no)
-same_items (x ∷ xs) [] h k e = let no : item_columns x ∷ map item_columns xs ≡ [] = e in
-    absurd (cc no)
-same_items (x ∷ xs) (y ∷ ys) h k e =
-    let both = parts (item_columns x) (item_columns y) (map item_columns xs) (map item_columns ys)
-    e in
-    let one = item_columns-one x y (All-head IsReadItem x xs h).whole
-    (All-head IsReadItem y ys k).whole both.0 in
-    let rest = same_items xs ys (All-tail IsReadItem x xs h) (All-tail IsReadItem y ys k) both.1 in
-    λ i. one i ∷ rest i
-
--- ---- what an index keeps, as it is put row by row
-
--- what is kept at some rows and one more
-record KeptMore (d : TableSchema) (i : IndexSchema) (page : List (List ℕ × Columns))
-    (e : List ℕ × Columns) (items : List (List Pair)) : Type 0 where
-  front : List (List Pair)
-  item : List Pair
-  are : items ≡ front ++ item ∷ []
-  kept : AreKept d i page front
-  last : IsKeptAt d i item e.0 e.1
-
-kept_more : (d : TableSchema) (i : IndexSchema) (page : List (List ℕ × Columns))
-    (e : List ℕ × Columns) (items : List (List Pair)) → AreKept d i (page ++ e ∷ []) items
-    → KeptMore d i page e items
-kept_more d i [] e [] kept = absurd kept
-kept_more d i [] e (x ∷ []) kept =
-    record { front = []; item = x; are = refl; kept = tt; last = kept.0 }
-kept_more d i [] e (x ∷ y ∷ ys) kept = absurd kept.1
-kept_more d i (p ∷ page) e [] kept = absurd kept
-kept_more d i (p ∷ page) e (x ∷ xs) kept =
-    let rest = kept_more d i page e xs kept.1 in
-    record {
-      front = x ∷ rest.front;
-      item = rest.item;
-      are = ap (λ items. x ∷ items) rest.are;
-      kept = (kept.0, rest.kept);
-      last = rest.last;
-    }
-
--- what is kept at one row more is put behind what was
-pub put_kept : (d : TableSchema) (i : IndexSchema) (page : List (List ℕ × Columns))
-    (e : List ℕ × Columns) (item : List Pair) (old mid new : List (List Pair))
-    → ((items : List (List Pair)) → AreKept d i page items → mid ≡ old ++ items)
-    → ((kept : List Pair) → IsKeptAt d i kept e.0 e.1 → item ≡ kept) → new ≡ mid ++ item ∷ []
-    → (items : List (List Pair)) → AreKept d i (page ++ e ∷ []) items → new ≡ old ++ items
-put_kept d i page e item old mid new so_far reads push items kept =
-    let more = kept_more d i page e items kept in
-    push ∙ ap (λ put. put ++ item ∷ []) (so_far more.front more.kept)
-    ∙ append_assoc old more.front (item ∷ [])
-    ∙ ap (λ x. old ++ (more.front ++ x ∷ [])) (reads more.item more.last)
-    ∙ ap (λ put. old ++ put) (sym more.are)
-
--- at each row something is kept
-pub kept_row : (d : TableSchema) (i : IndexSchema) (page : List (List ℕ × Columns))
-    (items : List (List Pair)) (k : ℕ) (e : List ℕ × Columns) → AreKept d i page items
-    → k < length page → e ≡ get_or page k e → (item : List Pair) × IsKeptAt d i item e.0 e.1
-kept_row d i [] items k e kept within is = absurd (omega (arith, within))
-kept_row d i (p ∷ page) [] k e kept within is = absurd kept
-kept_row d i (p ∷ page) (x ∷ xs) zero e kept within is =
-    (x, subst (λ (q : List ℕ × Columns). IsKeptAt d i x q.0 q.1) (sym is) kept.0)
-kept_row d i (p ∷ page) (x ∷ xs) (suc k) e kept within is =
-    kept_row d i page xs k e kept.1 (omega (arith, within)) is
 
 -- ---- entries of items as those of rows
 

@@ -1,5 +1,5 @@
 -- What a walk reads, from the words of the engine's rows to those of the items.
-use Rattle.std.proofs.Common.{◌≡◌, ◌≤◌, ◌+◌, ◌*◌, refl, sym, ap, subst, ◌∙◌, ℕ, zero, suc, Bool, true, false, not, ◌&&◌, List, [], ◌∷◌, ◌++◌, map, take, length, Option, Some, None, Result, Ok, Err, OnOk, option_map}
+use Rattle.std.proofs.Common.{◌≡◌, ◌≤◌, ◌+◌, ◌*◌, refl, sym, ap, subst, ◌∙◌, ℕ, zero, suc, Bool, true, false, not, ◌&&◌, List, [], ◌∷◌, map, take, length, Option, Some, None, Result, Ok, Err, OnOk, option_map}
 use Rattle.std.proofs.lemmas.List.{take-map}
 use Rattle.std.specs.BTreeMap.Range.{entries_between, range_contains}
 use Rattle.std.specs.Cmp.Lexicographic.{nat_list_cmp_total}
@@ -101,22 +101,6 @@ places-rows : {X : Type 0} (columns : X → Columns) (es : List (List ℕ × X))
     → map (λ (e : List ℕ × Columns). e.0) (map (row_at columns) es) ≡ map (λ e. e.0) es
 places-rows columns [] = refl
 places-rows columns (e ∷ es) = ap (λ ps. e.0 ∷ ps) (places-rows columns es)
-
--- the last of a list with one more
-pub last_more : {A : Type 0} (o : Option A) (xs : List A) (x : A)
-    → last_or o (xs ++ x ∷ []) ≡ Some x
-last_more o [] x = refl
-last_more o (y ∷ ys) x = last_more (Some y) ys x
-
--- the place of one row more is the last
-pub last_row : (page : List (List ℕ × Columns)) (e : List ℕ × Columns)
-    → Some e.0 ≡ last_or None (map (λ (x : List ℕ × Columns). x.0) (page ++ e ∷ []))
-last_row page e = sym (by None page)
-  where
-    by : (o : Option (List ℕ)) (page : List (List ℕ × Columns))
-        → last_or o (map (λ (x : List ℕ × Columns). x.0) (page ++ e ∷ [])) ≡ Some e.0
-    by o [] = refl
-    by o (x ∷ xs) = by (Some x.0) xs
 
 -- what holds at each Ok holds where it is that
 pub on_ok : {A E P : Type 0} (r : Result A E) → P → OnOk r P

@@ -16,7 +16,7 @@ use Rattle.alt_machine.proofs.Descriptions.{get-descriptions, no_description, ta
 use Rattle.alt_schema.specs.declared.schema.TableSchema.{TableSchema}
 use Rattle.alt_views.specs.ItemRows.{IsReadItem, item_columns}
 use Rattle.alt_opening.proofs.OverEngine.{one_layout_in_hand}
-use Rattle.alt_tables.specs.Fronts.{AreFronts}
+use Rattle.alt_trimming.specs.Fronts.{AreFronts}
 use Rattle.alt_tables.specs.Stands.{AreReady, HasRows, Keeps, Stands, bounds_of, catalog_of, trimmed_of}
 use Rattle.alt_tables.specs.declared.tables.Tables.{Tables}
 use Rattle.alt_opening.specs.Live.{AreLiveIn}

@@ -23,17 +23,17 @@ use Rattle.alt_opening.proofs.Ties.{tied}
 use Rattle.alt_opening.proofs.TrimmedLaws.{trimmed-stay}
 use Rattle.alt_tables.specs.Built.{NoneBuilds}
 use Rattle.alt_tables.specs.Foreseen.{Foresees}
-use Rattle.alt_tables.specs.Fronts.{AreFronts, IsFront}
-use Rattle.alt_tables.specs.RowChanges.{Turns, changed_rows, time_changes}
+use Rattle.alt_trimming.specs.Fronts.{AreFronts, IsFront}
+use Rattle.alt_rowchanges.specs.RowChanges.{Turns, changed_rows, time_changes}
 use Rattle.alt_tables.specs.Stands.{HasRows, Stands, catalog_of, fronts_of, number_of, trimmed_of}
-use Rattle.alt_tables.specs.declared.fronts.Front.{Front}
+use Rattle.alt_trimming.specs.declared.fronts.Front.{Front}
 use Rattle.alt_tables.specs.declared.tables.Tables.{Tables}
 use Rattle.alt_tables.specs.private.Foretold.{IsTold}
 use Rattle.alt_tables.proofs.Foreseen.{foresees_nothing, foresees_untimed}
 use Rattle.alt_tables.proofs.Making.{OfCatalog, catalog_fronts, fronts_of_rows}
 use Rattle.alt_tables.proofs.NoneBuilt.{none_with}
 use Rattle.alt_tables.proofs.Standing.{descriptions-insert, known, still_live, still_trimmed}
-use Rattle.alt_tables.proofs.TimeLaws.{time_turns}
+use Rattle.alt_rowchanges.proofs.TimeLaws.{time_turns}
 
 -- what is known of fronts is so of the tables with another time to live in one of them
 fronts_timed : (l : Layout) (tables : Texts Table) (known : List Front) (name : List ℕ) (t : Table)

@@ -22,15 +22,15 @@ use Rattle.alt_opening.proofs.OverEngine.{one_layout_in_hand}
 use Rattle.alt_opening.proofs.KeptChanges.{are_small, trimmed_small}
 use Rattle.alt_opening.proofs.OneState.{some}
 use Rattle.alt_opening.specs.Trimmed.{number_at}
-use Rattle.alt_tables.specs.Fronts.{IsFront, first_moment, front_at}
-use Rattle.alt_tables.specs.Leftovers.{leftovers}
+use Rattle.alt_trimming.specs.Fronts.{IsFront, first_moment, front_at}
+use Rattle.alt_trimming.specs.Leftovers.{leftovers}
 use Rattle.alt_tables.specs.Stands.{HasRows, Stands, fronts_of, number_of, trimmed_of}
-use Rattle.alt_tables.specs.declared.fronts.Front.{Front}
+use Rattle.alt_trimming.specs.declared.fronts.Front.{Front}
 use Rattle.alt_tables.specs.declared.tables.Tables.{Tables}
-use Rattle.alt_tables.specs.private.Trims.{AreNumbersOf, AreTwo, IsKeptFrom, IsLowest, IsLowestFrom, IsRest, IsTrim, behind, is_over, left_from, leftovers_from}
-use Rattle.alt_tables.proofs.KeptFrom.{KeptPage, all_from, kept_page, page_done, young}
-use Rattle.alt_tables.proofs.LeftoverRows.{left_from_there, lowest_read, range_read, read_numbers, read_two}
-use Rattle.alt_tables.proofs.Rising.{all_further, filter_rising, rising_least}
+use Rattle.alt_trimming.specs.Trims.{AreNumbersOf, AreTwo, IsKeptFrom, IsLowest, IsLowestFrom, IsRest, IsTrim, behind, is_over, left_from, leftovers_from}
+use Rattle.alt_trimming.proofs.KeptFrom.{KeptPage, all_from, kept_page, page_done, young}
+use Rattle.alt_trimming.proofs.LeftoverRows.{left_from_there, lowest_read, range_read, read_numbers, read_two}
+use Rattle.alt_trimming.proofs.Rising.{all_further, filter_rising, rising_least}
 
 -- The walk over the changes of a table has come to a number: those behind it tell the rest.
 pub record WalkedTo (s : State) (t : Table) (moment number : ℕ) : Type 0 where

@@ -29,22 +29,23 @@ use Rattle.alt_opening.specs.StateRows.{Shows, catalog_family}
 use Rattle.alt_opening.proofs.Families.{own_family}
 use Rattle.alt_opening.specs.HandFaults.{told_by_engine}
 use Rattle.alt_faults.specs.Faults.{OnlySpent}
-use Rattle.alt_tables.specs.Faults.{IsLastFile, IsWorkFault, told_by_tables}
+use Rattle.alt_tables.specs.Faults.{IsLastFile, IsWorkFault}
+use Rattle.alt_rowchanges.specs.Faults.{told_by_tables}
 use Rattle.alt_tables.specs.FilesLeft.{most_files}
-use Rattle.alt_tables.specs.declared.faults.TableFault.{TableFault}
+use Rattle.alt_rowchanges.specs.declared.faults.TableFault.{TableFault}
 use Rattle.alt_tables.specs.Images.{StandAt}
 use Rattle.alt_tables.specs.Merged.{IsMergedFor}
 use Rattle.alt_opening.proofs.OverEngine.{one_layout_in_hand}
 use Rattle.alt_tables.specs.Foreseen.{Foresees}
-use Rattle.alt_tables.specs.Fronts.{AreFronts}
+use Rattle.alt_trimming.specs.Fronts.{AreFronts}
 use Rattle.alt_tables.specs.Stands.{Stands, fronts_of, live_of, number_of}
 use Rattle.alt_tables.specs.declared.tables.Tables.{Tables}
 use Rattle.alt_tables.proofs.FilesLaws.{live_few}
-use Rattle.alt_tables.proofs.FrontLaws.{fronts_alike}
-use Rattle.alt_tables.proofs.IndexFamilies.{index_family}
+use Rattle.alt_trimming.proofs.FrontLaws.{fronts_alike}
+use Rattle.alt_rowchanges.proofs.IndexFamilies.{index_family}
 use Rattle.alt_tables.proofs.NoneBuilt.{none_on}
 use Rattle.alt_tables.proofs.Standing.{still_live, still_trimmed}
-use Rattle.alt_tables.proofs.StreamShows.{stream_family}
+use Rattle.alt_rowchanges.proofs.StreamShows.{stream_family}
 
 -- the families of a table of the state are live
 family_live : (s : State) (live : List ℕ) → AreLiveIn (descriptions s.tables) live

@@ -1,23 +1,14 @@
 -- What a call that gives no answer tells, and what it leaves.
 use Rattle.std.specs.Prelude.{take, length, ◌≡◌, ◌⊎◌, ◌≤◌, ◌<◌, ◌+◌, ◌-◌, ◌^◌, ℕ, List, Some, None, Result, Ok, Err}
 use Rattle.alt_disk.specs.Disk.{DiskState}
-use Rattle.alt_faults.specs.Faults as view
-use Rattle.alt_faults.specs.Faults.{Fault, failed, no_memory, spent, damaged, bad_bytes, bad_row, IsMemory, IsOutside, OnlySpent}
+use Rattle.alt_faults.specs.Faults.{OnlySpent}
 use Rattle.alt_machine.specs.declared.TheConstants.{NUMBERS_END}
 use Rattle.alt_machine.specs.Outcomes.{Wants, last_state, state_after}
 use Rattle.alt_machine.specs.State.{State}
 use Rattle.alt_machine.specs.Wanted.{lack_among}
 use Rattle.alt_tables.specs.Images.{Lasts}
-use Rattle.alt_tables.specs.declared.faults.TableFault.{TableFault}
-use Rattle.alt_tables.specs.declared.faults.TableFault.TheVariants.{Spent, Damaged, BadRow, Failed, NoMemory}
-
--- What each variant tells.
-abbrev pub told_by_tables : TableFault → Fault
-told_by_tables (Spent number) = spent number
-told_by_tables (Damaged file at) = damaged (bad_bytes file at)
-told_by_tables (BadRow family key) = damaged (bad_row family key)
-told_by_tables Failed = failed
-told_by_tables NoMemory = no_memory
+pub use Rattle.alt_rowchanges.specs.Faults.{IsFindFault, IsReadFault, IsUnspent, told_by_tables}
+use Rattle.alt_rowchanges.specs.declared.faults.TableFault.{TableFault}
 
 -- Below, `now` says for which states the tables stand after a call, `s` is a state for which they stood before it, and `file` is the number of
 -- the first file that work made before it.
@@ -89,18 +80,6 @@ abbrev pub WritesAll : {A : Type 0} → ℕ → (State → Type 0) → State →
     → Result A TableFault → Type 0
 WritesAll file now s writes (Ok x) = AreAllMade now s writes
 WritesAll file now s writes (Err fault) = BreakOffAll file now s writes fault
-
--- a fault of a step that asks nothing of the disk and writes nothing: memory was wanting
-abbrev pub IsReadFault : TableFault → Type 0
-IsReadFault fault = IsMemory (told_by_tables fault)
-
--- a fault of a call that reads rows which stand for a state: the device failed, or memory was wanting
-abbrev pub IsFindFault : TableFault → Type 0
-IsFindFault fault = IsOutside (told_by_tables fault)
-
--- a fault for which no number or family was wanting
-abbrev pub IsUnspent : TableFault → Type 0
-IsUnspent fault = view.IsUnspent (told_by_tables fault)
 
 -- a fault of work between requests on tables that stand for a state: the last number of a file is wanted, which so many from the next one
 -- on reach, the device failed, or memory was wanting

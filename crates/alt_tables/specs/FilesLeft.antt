@@ -9,9 +9,9 @@ use Rattle.alt_machine.specs.declared.TheConstants.{MOST_FAMILIES, MOST_TABLES}
 use Rattle.alt_manifest.specs.Versions.{HasVersion}
 use Rattle.alt_manifest.specs.declared.version.Version.{Version}
 use Rattle.alt_opening.specs.FirstFiles.{IsFirstFile}
-use Rattle.alt_tables.specs.Faults.{told_by_tables}
+use Rattle.alt_rowchanges.specs.Faults.{told_by_tables}
 use Rattle.alt_tables.specs.Stands.{live_of}
-use Rattle.alt_tables.specs.declared.faults.TableFault.{TableFault}
+use Rattle.alt_rowchanges.specs.declared.faults.TableFault.{TableFault}
 use Rattle.alt_tables.specs.declared.tables.Tables.{Tables}
 
 -- As many numbers as one task takes at most with a write before it: one for each family of the most tables, one for that of the catalog, one for the

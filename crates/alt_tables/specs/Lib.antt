@@ -1,19 +1,17 @@
-pub mod Altering
 pub mod Built
 pub mod Faults
 pub mod FilesLeft
 pub mod Foreseen
 pub mod Found
-pub mod Fronts
 pub mod Images
 pub mod Laws
-pub mod Leftovers
 pub mod Merged
 pub mod Reading
-pub mod RowChanges
 pub mod Several
 pub mod Stands
 pub mod private
+pub use Rattle.alt_rowchanges.specs.Altering as Altering
+pub use Rattle.alt_rowchanges.specs.declared.faults.TableFault as DeclaredTableFault
 pub use Rattle.alt_opening.specs.EngineInHand as EngineInHand
 pub use Rattle.alt_opening.specs.EngineDeclaredTask as EngineDeclaredTask
 pub use Rattle.alt_opening.specs.HandMaking as HandMaking

@@ -16,8 +16,8 @@ use Rattle.alt_machine.specs.Writes.{with_write_by}
 use Rattle.alt_opening.specs.StateRows.{Shows, IsHeldWhole}
 use Rattle.alt_schema.specs.declared.schema.TableSchema.{TableSchema}
 use Rattle.alt_tables.specs.Found.{IsFoundIn}
-use Rattle.alt_tables.specs.Leftovers.{lowest_left}
-use Rattle.alt_tables.specs.RowChanges.{changed_rows, write_changes}
+use Rattle.alt_trimming.specs.Leftovers.{lowest_left}
+use Rattle.alt_rowchanges.specs.RowChanges.{changed_rows, write_changes}
 use Rattle.alt_tables.specs.declared.by_keys.ItemWrite.{ItemWrite}
 use Rattle.alt_tables.specs.declared.several.ItemChange.{ItemChange}
 

@@ -18,8 +18,8 @@ use Rattle.alt_opening.specs.Trimmed.{AreTrimmedOf}
 use Rattle.alt_opening.specs.declared.trimmed.Trimmed.{Trimmed}
 use Rattle.alt_tables.specs.Built.{NoneBuilds}
 use Rattle.alt_tables.specs.Foreseen.{Foresees}
-use Rattle.alt_tables.specs.Fronts.{AreFronts}
-use Rattle.alt_tables.specs.declared.fronts.Front.{Front}
+use Rattle.alt_trimming.specs.Fronts.{AreFronts}
+use Rattle.alt_trimming.specs.declared.fronts.Front.{Front}
 use Rattle.alt_tables.specs.declared.tables.Tables.{Tables}
 
 -- ---- what is known of the tables without the disk

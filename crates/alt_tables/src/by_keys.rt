@@ -1,7 +1,6 @@
 //! Writes of several items at one moment by their keys: one entry of the log.
 
-ghost use Rattle.std.specs.Prelude.{◌≡◌, ◌<◌, ◌≤◌, ◌^◌, [], length, map as each, ℕ, List, None, Ok, IfOk, IfErr, OnOk, IsErrOf};
-ghost use Rattle.std.specs.FinMap as map;
+ghost use Rattle.std.specs.Prelude.{◌≡◌, ◌<◌, ◌^◌, length, map as each, None, Ok, IfOk, IfErr, OnOk, IsErrOf};
 ghost use Rattle.alt_base.specs.Counts.{Rose};
 ghost use Rattle.alt_disk.specs.Disk.{Goes};
 ghost use Rattle.alt_layout.specs.Layout.{Layout};
@@ -13,13 +12,12 @@ ghost use Rattle.alt_tables.specs.Images.{Leaves};
 ghost use Rattle.alt_tables.specs.Several.{AreAllApart, Every, IsFound, MayWriteKey, WasThere, batches_of, with_batches, written_at, written_in};
 ghost use Rattle.alt_tables.specs.Stands.{AreReady, HasRows, Reads, Stands, bounds_of, catalog_of};
 
-use crate::faults::TableFault;
 use crate::finding::Found;
-use crate::rows::{copy_of, row_of};
 use crate::several::ItemChange;
 use crate::tables::Tables;
 use alt_codec::Writer;
 use alt_disk::Disk;
+use alt_rowchanges::{TableFault, copy_of, row_of};
 use alt_value::{Item, Text};
 
 /// What is to stand in the place of a key of a table, or nothing, with the item that is there.

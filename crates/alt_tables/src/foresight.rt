@@ -8,9 +8,9 @@ ghost use Rattle.alt_tables.specs.Foreseen.{Foresees, ForeseesWrite};
 ghost use Rattle.alt_tables.specs.private.Foretold.{IsTold};
 ghost use Rattle.alt_tables.specs.Stands.{Keeps, KeepsCatalog, Stands, catalog_of, due_of};
 
-use crate::moments::expires_from;
 use crate::tables::Tables;
 use alt_due::Due;
+use alt_rowchanges::expires_from;
 use alt_value::{Item, Text};
 
 impl Tables {

@@ -1,13 +1,10 @@
-//! The items of tables: what stands at a place, and what is to stand there.
+//! The items of tables at their places: what stands at one, and what is to stand there.
 
-ghost use Rattle.std.specs.Prelude.{◌^◌, ◌≡◌, ◌↔◌, ◌<◌, ◌++◌, ◌∷◌, [], drop, ℕ, true, false, None, Some, IsSome, IfOk, IfErr, IfSome, OnOk, IsErrOf, Ok, Err, List, Option, option_map};
+ghost use Rattle.std.specs.Prelude.{◌^◌, ◌≡◌, ◌↔◌, ◌<◌, ◌∷◌, [], drop, ℕ, true, false, None, Some, IsSome, IfOk, IfErr, IfSome, OnOk, IsErrOf, Ok};
 ghost use Rattle.std.specs.FinMap as map;
 ghost use Rattle.alt_base.specs.Counts.{Rose};
-ghost use Rattle.alt_cells.specs.Changes.{change_between};
-ghost use Rattle.alt_changes.specs.TrimRows.{trim_changes};
 ghost use Rattle.alt_disk.specs.Disk.{IsTrusted, Goes};
 ghost use Rattle.alt_layout.specs.Layout.{Layout};
-ghost use Rattle.alt_machine.specs.Keys.{place_of};
 ghost use Rattle.alt_machine.specs.Outcomes.{a_number};
 ghost use Rattle.alt_machine.specs.Same.{is_same};
 ghost use Rattle.alt_machine.specs.State.{State, Table};
@@ -15,37 +12,30 @@ ghost use Rattle.alt_machine.specs.Valid.{IsStored};
 ghost use Rattle.alt_machine.specs.Writes.{after_item, item_writes};
 ghost use Rattle.alt_opening.specs.Trimmed.{IsRenumbered, number_at};
 ghost use Rattle.alt_schema.specs.declared.schema.TableSchema.{TableSchema};
-ghost use Rattle.alt_opening.specs.Families.{HasOwnFamilies};
-ghost use Rattle.alt_tables.specs.Faults.{IsFindFault, IsUnspent, Writes};
+ghost use Rattle.alt_rowchanges.specs.Faults.{IsFindFault, IsUnspent};
+ghost use Rattle.alt_tables.specs.Faults.{Writes};
 ghost use Rattle.alt_tables.specs.Foreseen.{ForeseesWrite};
 ghost use Rattle.alt_tables.specs.Found.{IsFoundIn, number_taken};
 ghost use Rattle.alt_tables.specs.Images.{Leaves};
-ghost use Rattle.alt_views.specs.IndexRows.{index_changes};
-ghost use Rattle.alt_views.specs.ItemRows.{IsReadItem, item_columns};
-ghost use Rattle.alt_tables.specs.Leftovers.{leftovers, lowest_left};
-ghost use Rattle.alt_tables.specs.RowChanges.{changed_rows, item_changes, write_changes};
-ghost use Rattle.alt_tables.specs.private.Trims.{CanTrim, IsNoted, IsTrim, IsWithin, IsWrittenAs};
+ghost use Rattle.alt_trimming.specs.Leftovers.{leftovers, lowest_left};
+ghost use Rattle.alt_rowchanges.specs.RowChanges.{changed_rows, write_changes};
+ghost use Rattle.alt_trimming.specs.Trims.{IsNoted, IsTrim, IsWithin};
+ghost use Rattle.alt_tables.specs.private.Written.{IsWrittenAs};
 ghost use Rattle.alt_tables.specs.Stands.{AreReady, HasRows, Reads, Stands, KeepsCatalog, catalog_of, due_of, fronts_of, bounds_of, number_of, trimmed_of};
-ghost use Rattle.alt_value.specs.Tree.{Pair};
-ghost use Rattle.alt_value.specs.Values.{IsItemOfValues};
 
-use crate::faults::TableFault;
 use crate::finding::Found;
-use crate::fronts::know_front;
 use crate::tables::Tables;
-use crate::trimming::Trim;
 use alt_base::NoMemory;
-use alt_cells::{Batch, RowChange, ShownRow};
-use alt_changes::{change_row, trim_rows};
 use alt_codec::Writer;
 use alt_disk::Disk;
 use alt_fields::Bytes;
 use alt_machine::NUMBERS_END;
 use alt_opening::{renumber, same};
+use alt_rowchanges::{TableFault, item_batch, item_of};
 use alt_schema::TableSchema;
+use alt_trimming::{Trim, know_front, put_trim};
 use alt_value::Item;
-use alt_views::{Unread, index_changes, item_of_row, place_of, row_of_item};
-use std::alloc::Global;
+use alt_views::Unread;
 
 impl Tables {
     /// What stands at a place of a table that is there.
@@ -257,274 +247,5 @@ impl Tables {
         }
         let oldest = trim.oldest.unwrap_or(moment);
         know_front(self.alloc, &mut self.fronts, table, Some(oldest), trim.from)
-    }
-}
-
-impl Tables {
-    /// The item of a key in a table that is there, `None` exactly where there is none.
-    pub fn item<D: Disk>(
-        &mut self,
-        disk: &mut D,
-        table: &str,
-        key: &Item,
-    ) -> Result<Option<Item>, TableFault>
-        requires ready { AreReady (D.state disk.old) self.old }
-        requires there { map.contains_key (catalog_of self.old) table.now ≡ true }
-        requires key { (d : TableSchema) → map.get (catalog_of self.old) table.now ≡ Some d
-            → IsSome (place_of d key.now) }
-        ensures item { (s : State) (t : Table) (place : List ℕ)
-            → Stands (D.state disk.old) self.old s → map.get s.tables table.now ≡ Some t
-            → place_of t.description key.now ≡ Some place
-            → IfOk result (λ o. o ≡ map.get t.items place) }
-        ensures stays { (s : State) → Stands (D.state disk.old) self.old s ↔ Stands
-            (D.state disk.new) self.new s }
-        ensures catalog { KeepsCatalog self.old self.new }
-        ensures unspent { IfErr result IsUnspent }
-        ensures fault { (s : State) → Stands (D.state disk.old) self.old s
-            → IfErr result IsFindFault }
-        ensures disk { Reads (D.state disk.old) (D.state disk.new) }
-        ensures cause { IsErrOf result TableFault.Failed
-            → Rose (D.state disk.old).faults (D.state disk.new).faults }
-    {
-        let place = match self.place_in(table, key) {
-            Ok(place) => place,
-            Err(fault) => return Err(fault),
-        };
-        match self.find(disk, table, place) {
-            Ok(found) => Ok(found.item),
-            Err(fault) => Err(fault),
-        }
-    }
-
-    /// Leaves `new` as the item of a key in a table that is there, or none. `old` is the item that is there. The answer is the number
-    /// that the write took, and `None` exactly where there was nothing to write.
-    pub fn write_item<D: Disk>(
-        &mut self,
-        disk: &mut D,
-        table: &str,
-        key: &Item,
-        old: Option<&Item>,
-        new: Option<&Item>,
-        moment: u64,
-    ) -> Result<Option<u64>, TableFault>
-        requires ready { AreReady (D.state disk.old) self.old }
-        requires there { map.contains_key (catalog_of self.old) table.now ≡ true }
-        requires key { (d : TableSchema) → map.get (catalog_of self.old) table.now ≡ Some d
-            → IsSome (place_of d key.now) }
-        requires old { (s : State) (t : Table) (place : List ℕ)
-            → Stands (D.state disk.old) self.old s → map.get s.tables table.now ≡ Some t
-            → place_of t.description key.now ≡ Some place
-            → option_map (λ i. i.now) old ≡ map.get t.items place }
-        requires new { (d : TableSchema) (place : List ℕ)
-            → map.get (catalog_of self.old) table.now ≡ Some d
-            → place_of d key.now ≡ Some place
-            → IfSome (option_map (λ i. i.now) new) (IsStored d place) }
-        ensures writes { (s : State) (t : Table) (place : List ℕ)
-            → Stands (D.state disk.old) self.old s → map.get s.tables table.now ≡ Some t
-            → place_of t.description key.now ≡ Some place
-            → Writes (bounds_of self.old).file (Stands (D.state disk.new) self.new) a_number s
-            (item_writes s moment table.now t place (option_map (λ i. i.now) new.entry)) result }
-        ensures number { (s : State) (t : Table) (place : List ℕ)
-            → Stands (D.state disk.old) self.old s → map.get s.tables table.now ≡ Some t
-            → place_of t.description key.now ≡ Some place
-            → IfOk result (λ n. n ≡ number_taken (number_of self.old)
-            (item_writes s moment table.now t place (option_map (λ i. i.now) new.entry))) }
-        ensures disk { (s : State) (t : Table) (place : List ℕ)
-            → Stands (D.state disk.old) self.old s → map.get s.tables table.now ≡ Some t
-            → place_of t.description key.now ≡ Some place
-            → Leaves (D.state disk.old) (D.state disk.new) s
-            (item_writes s moment table.now t place (option_map (λ i. i.now) new.entry)) }
-        ensures rows { IfOk result (λ n. IsSome n → IsTrusted (D.state disk.old)
-            → (d : TableSchema) (place : List ℕ) (l : Layout)
-            → map.get (catalog_of self.old) table.now ≡ Some d → place_of d key.now ≡ Some place
-            → HasRows (D.state disk.old) self.old l → HasRows (D.state disk.new) self.new
-            (changed_rows l (write_changes d (number_of self.old) moment Writer.User place
-            (option_map (λ i. i.now) old.entry) (option_map (λ i. i.now) new.entry)
-            (number_at table.now (trimmed_of self.old)) (number_at table.now (trimmed_of self.new))
-            (lowest_left l d (number_at table.now (trimmed_of self.new)))))) }
-        ensures leftovers { IfOk result (λ n. IsSome n → IsTrusted (D.state disk.old)
-            → (d : TableSchema) (family : ℕ) (l m : Layout)
-            → map.get (catalog_of self.old) table.now ≡ Some d → d.stream_family ≡ Some family
-            → HasRows (D.state disk.old) self.old l → HasRows (D.state disk.new) self.new m
-            → leftovers m family (number_at table.now (trimmed_of self.new))
-            ≡ drop 2 (leftovers l family (number_at table.now (trimmed_of self.new)))) }
-        ensures no_memory { IsErrOf result TableFault.NoMemory
-            → Reads (D.state disk.old) (D.state disk.new) }
-        ensures goes { Goes (D.state disk.old) (D.state disk.new) }
-        ensures unchanged { result ≡ Ok None → D.state disk.new ≡ D.state disk.old }
-        ensures limits { bounds_of self.new ≡ bounds_of self.old }
-        ensures cause { IsErrOf result TableFault.Failed
-            → Rose (D.state disk.old).faults (D.state disk.new).faults }
-    {
-        let place = match self.place_in(table, key) {
-            Ok(place) => place,
-            Err(fault) => return Err(fault),
-        };
-        let Ok(item) = copy_of(old) else {
-            return Err(TableFault::NoMemory);
-        };
-        let Ok(new) = copy_of(new) else {
-            return Err(TableFault::NoMemory);
-        };
-        let Ok(row) = row_of(self.alloc, &item) else {
-            return Err(TableFault::NoMemory);
-        };
-        self.write(disk, table, Found { place, item, row }, new, moment)
-    }
-
-    /// The place of a key in a table that is there.
-    pub(crate) fn place_in(&self, table: &str, key: &Item) -> Result<Bytes, TableFault>
-        requires there { map.contains_key (catalog_of self.now) table.now ≡ true }
-        requires key { (d : TableSchema) → map.get (catalog_of self.now) table.now ≡ Some d
-            → IsSome (place_of d key.now) }
-        ensures place { IfOk result (λ place. (d : TableSchema)
-            → map.get (catalog_of self.now) table.now ≡ Some d
-            → place_of d key.now ≡ Some place) }
-        ensures cause { IfErr result (λ fault. fault ≡ TableFault.NoMemory) }
-    {
-        let Some(schema) = self.table(table) else {
-            unreachable!();
-        };
-        match place_of(self.alloc, schema, key) {
-            Ok(Some(place)) => Ok(place),
-            Ok(None) => unreachable!(),
-            Err(_) => Err(TableFault::NoMemory),
-        }
-    }
-}
-
-/// The item of a row, where one is shown.
-fn item_of(alloc: Global, row: &Option<ShownRow>) -> Result<Option<Item>, Unread>
-    ensures item { IfOk result (λ item. IfSome item IsReadItem
-        × (row.now ≡ option_map item_columns item)) }
-    ensures none { result ≡ Err Unread.Bad → (item : Option (List Pair)) → IfSome item IsReadItem
-        → row.now ≡ option_map item_columns item → ⊥ }
-{
-    match row {
-        Some(row) => Ok(Some(item_of_row(alloc, row)?)),
-        None => Ok(None),
-    }
-}
-
-/// The row changes of an item by the write of a number at a moment: in its table, in the indexes and in the stream, which tells who made
-/// the write. `row` is that of the old item.
-pub(crate) fn item_batch(
-    alloc: Global,
-    schema: &TableSchema,
-    number: u64,
-    moment: u64,
-    by: Writer,
-    place: Bytes,
-    row: Option<ShownRow>,
-    old: &Option<Item>,
-    new: &Option<Item>,
-) -> Result<Batch, NoMemory>
-    requires families { HasOwnFamilies schema.now }
-    requires row { row ≡ option_map item_columns old.now }
-    ensures changes { IfOk result (λ batch.
-        batch ≡ item_changes schema.now number moment by place old.now new.now) }
-    ensures held { OnOk result (IfSome new.now IsItemOfValues) }
-{
-    let mut batch = view_batch(alloc, schema, place, row, old, new)?;
-    change_row(
-        alloc,
-        schema,
-        old.as_ref(),
-        new.as_ref(),
-        number,
-        moment,
-        by,
-        &mut batch,
-    )?;
-    Ok(batch)
-}
-
-/// Puts what a write does to the rows of the changes that the stream of a table trimmed behind the row changes of the item.
-pub(crate) fn put_trim(
-    alloc: Global,
-    schema: &TableSchema,
-    before: u64,
-    trim: &Trim,
-    batch: &mut Batch,
-) -> Result<(), NoMemory>
-    requires rows { (family : ℕ) → schema.now.stream_family ≡ Some family
-        → CanTrim before trim.now batch.old family }
-    ensures changes { OnOk result (batch.new ≡ batch.old
-        ++ trim_changes schema.now before trim.now.number trim.now.leftovers.items) }
-{
-    if schema.stream_family.is_none() {
-        return Ok(());
-    }
-    trim_rows(
-        alloc,
-        schema,
-        trim.number,
-        before,
-        trim.leftovers.as_slice(),
-        batch,
-    )
-}
-
-/// Those in its table and in the indexes: a row that is made or removed is cleared, and of one that changes only what differs is written.
-fn view_batch(
-    alloc: Global,
-    schema: &TableSchema,
-    place: Bytes,
-    row: Option<ShownRow>,
-    old: &Option<Item>,
-    new: &Option<Item>,
-) -> Result<Batch, NoMemory>
-    requires families { HasOwnFamilies schema.now }
-    requires row { row ≡ option_map item_columns old.now }
-    ensures changes { IfOk result (λ batch. batch ≡ change_between schema.now.family place
-        (option_map item_columns old.now) (option_map item_columns new.now)
-        ∷ index_changes schema.now old.now new.now) }
-    ensures held { OnOk result (IfSome new.now IsItemOfValues) }
-{
-    let after = row_of(alloc, new)?;
-    let change = change_of(alloc, schema.family, place, row, after)?;
-    let mut batch = Batch::new(alloc);
-    batch.add(change)?;
-    index_changes(alloc, schema, old.as_ref(), new.as_ref(), &mut batch)?;
-    Ok(batch)
-}
-
-/// The change that turns one row into another; one that is made is moved.
-fn change_of(
-    alloc: Global,
-    family: u32,
-    key: Bytes,
-    old: Option<ShownRow>,
-    new: Option<ShownRow>,
-) -> Result<RowChange, NoMemory>
-    ensures { IfOk result (λ change. change ≡ change_between family key old new) }
-{
-    match (old, new) {
-        (None, Some(row)) => RowChange::made(alloc, family, key, row),
-        (old, new) => RowChange::between(alloc, family, key, old.as_ref(), new.as_ref()),
-    }
-}
-
-/// The row of an item, where there is one.
-pub(crate) fn row_of(alloc: Global, item: &Option<Item>) -> Result<Option<ShownRow>, NoMemory>
-    ensures row { IfOk result (λ row. row ≡ option_map item_columns item.now) }
-    ensures held { IfSome item.now IsItemOfValues }
-{
-    match item {
-        Some(item) => {
-            let _count = item.len();
-            Ok(Some(row_of_item(alloc, item)?))
-        }
-        None => Ok(None),
-    }
-}
-
-/// An item of its own, where one is given.
-pub(crate) fn copy_of(item: Option<&Item>) -> Result<Option<Item>, NoMemory>
-    ensures { IfOk result (λ o. o ≡ option_map (λ i. i.now) item.entry) }
-{
-    match item {
-        Some(item) => Ok(Some(item.copy()?)),
-        None => Ok(None),
     }
 }

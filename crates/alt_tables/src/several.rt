@@ -1,42 +1,37 @@
 //! Writes of several items at one moment: one entry of the log, so a stop leaves all of them or none.
 
-ghost use Rattle.std.specs.Prelude.{◌≡◌, ◌<◌, ◌≤◌, ◌+◌, ◌++◌, ◌∷◌, ◌^◌, [], false, length, map as each, option_map, ℕ, true, List, Ok, Some, IsSome, IfOk, IfErr, IfSome, OnOk, IsErrOf};
+ghost use Rattle.std.specs.Prelude.{◌≡◌, ◌<◌, ◌≤◌, ◌+◌, length, map as each, option_map, true, List, Ok, Some, IsSome, IfOk, IfErr, IfSome, OnOk, IsErrOf};
 ghost use Rattle.std.specs.FinMap as map;
 ghost use Rattle.alt_base.specs.Counts.{Rose};
-ghost use Rattle.alt_changes.specs.TrimRows.{trim_changes};
 ghost use Rattle.alt_cells.specs.declared.batch.RowChange.{RowChange};
-ghost use Rattle.alt_disk.specs.Disk.{IsTrusted, Goes};
+ghost use Rattle.alt_disk.specs.Disk.{Goes};
 ghost use Rattle.alt_layout.specs.Layout.{Layout};
 ghost use Rattle.alt_machine.specs.Ops.BatchWriteItem.{writes_of_all_by};
 ghost use Rattle.alt_machine.specs.Outcomes.{together};
-ghost use Rattle.alt_machine.specs.Same.{is_same};
 ghost use Rattle.alt_machine.specs.State.{State, Table};
-ghost use Rattle.alt_machine.specs.Valid.{IsStored, IsValid};
-ghost use Rattle.alt_opening.specs.Opened.{Holds};
 ghost use Rattle.alt_schema.specs.declared.schema.TableSchema.{TableSchema};
-ghost use Rattle.alt_tables.specs.Faults.{IsFindFault, IsUnspent, WritesAll};
+ghost use Rattle.alt_rowchanges.specs.Faults.{IsFindFault, IsUnspent};
+ghost use Rattle.alt_tables.specs.Faults.{WritesAll};
 ghost use Rattle.alt_tables.specs.Foreseen.{ForeseesWritten};
 ghost use Rattle.alt_tables.specs.Images.{Leaves};
-ghost use Rattle.alt_tables.specs.RowChanges.{item_changes, write_changes};
-ghost use Rattle.alt_tables.specs.Several.{AreAllApart, AreDistinct, Every, IsFound, MayWrite, TurnsAll, batches_of, with_batches, written_at};
+ghost use Rattle.alt_rowchanges.specs.RowChanges.{write_changes};
+ghost use Rattle.alt_tables.specs.Several.{AreAllApart, AreDistinct, Every, IsFound, MayWrite, batches_of, with_batches, written_at};
 ghost use Rattle.alt_tables.specs.Stands.{AreReady, HasRows, Keeps, Reads, Stands, catalog_of, due_of, fronts_of, bounds_of, number_of, trimmed_of};
 ghost use Rattle.alt_tables.specs.private.Staging.{AreKnown, AreNotes, Differs, IsAgain, IsAhead, IsBehind, IsStaged, IsStagedOn, IsTouched, differing_of, note_at};
-ghost use Rattle.alt_tables.specs.private.Trims.{IsTrim, IsWithin};
+ghost use Rattle.alt_trimming.specs.Trims.{IsWithin};
 ghost use Rattle.alt_value.specs.Values.{IsItemOfValues};
 
-use crate::faults::TableFault;
 use crate::finding::Found;
-use crate::rows::{item_batch, put_trim};
 use crate::tables::Tables;
-use crate::trimming::Trim;
 use alt_base::NoMemory;
 use alt_cells::Batch;
 use alt_codec::Writer;
 use alt_disk::Disk;
 use alt_machine::NUMBERS_END;
 use alt_opening::same;
+use alt_rowchanges::{TableFault, item_batch};
+use alt_trimming::{Trim, put_trim};
 use alt_value::{Item, Text};
-use std::alloc::Global;
 
 /// What is to stand at a place of a table, with what was found there.
 #[derive(Drop)]

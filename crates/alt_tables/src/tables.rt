@@ -11,36 +11,31 @@ ghost use Rattle.alt_machine.specs.Ops.DeleteTable.{without_table};
 ghost use Rattle.alt_machine.specs.Ops.ListTables.{names_after};
 ghost use Rattle.alt_machine.specs.Ops.UpdateTimeToLive.{with_time};
 ghost use Rattle.alt_machine.specs.Outcomes.{a_number, a_table};
-ghost use Rattle.alt_machine.specs.State.{State, Table, families_of};
+ghost use Rattle.alt_machine.specs.State.{State, Table};
 ghost use Rattle.alt_machine.specs.Valid.{IsMade, IsValid};
 ghost use Rattle.alt_machine.specs.Wanted.{table_lack};
 ghost use Rattle.alt_schema.specs.Described.{IsNew};
-ghost use Rattle.alt_schemabytes.specs.Held.{IsHeldText, Where};
-ghost use Rattle.alt_tables.specs.Faults.{IsFindFault, Writes};
+ghost use Rattle.alt_rowchanges.specs.Faults.{IsFindFault};
+ghost use Rattle.alt_tables.specs.Faults.{Writes};
 ghost use Rattle.alt_tables.specs.Images.{Leaves};
 ghost use Rattle.alt_opening.specs.Order.{first_after};
-ghost use Rattle.alt_tables.specs.RowChanges.{Turns, changed_rows, creation_changes, drop_changes, time_changes};
+ghost use Rattle.alt_rowchanges.specs.RowChanges.{Turns, changed_rows};
 ghost use Rattle.alt_tables.specs.Several.{AreDistinct, TurnsAll, with_batches};
 ghost use Rattle.alt_tables.specs.Stands.{AreReady, HasRows, Stands, catalog_of, number_of, family_of, bounds_of, trimmed_of};
 ghost use Rattle.alt_opening.specs.Opened.{Holds};
 ghost use Rattle.alt_opening.specs.Trimmed.{number_at};
 
-use crate::faults::TableFault;
 use crate::foresight::forget_for;
-use crate::fronts::{Front, forget_front};
 use alt_base::NoMemory;
-use alt_cells::{Batch, RowChange};
+use alt_cells::Batch;
 use alt_disk::Disk;
 use alt_due::Due;
-use alt_fields::Bytes;
 use alt_machine::{FAMILIES_END, MOST_FAMILIES, MOST_TABLES, NUMBERS_END};
-use alt_opening::{
-    CATALOG, Catalog, Engine, Live, Trimmed, forget, row_of_family, row_of_schema, row_with_time,
-    trimmed_number,
-};
+use alt_opening::{Catalog, Engine, Live, Trimmed, forget, trimmed_number};
+use alt_rowchanges::{TableFault, creation, family_count, named, removal, timing};
 use alt_schema::TableSchema;
 use alt_schemabytes::held;
-use alt_value::Text;
+use alt_trimming::{Front, forget_front};
 use std::alloc::Global;
 
 /// All tables with their items, over an engine. With the disk beneath it they stand for a state of the machine (docs/ARCHITECTURE.md).
@@ -320,67 +315,4 @@ impl Tables {
             Err(fault) => Err(TableFault::from(fault)),
         }
     }
-}
-
-/// The row changes of a new table: its description, and the next family.
-fn creation(alloc: Global, before: u32, after: u32, schema: &TableSchema) -> Result<Batch, NoMemory>
-    requires named { 0 < length schema.now.name }
-    ensures changes { IfOk result (λ batch. batch ≡ creation_changes before after schema.now) }
-{
-    let row = row_of_schema(alloc, schema)?;
-    let key = Bytes::new(alloc, schema.name.as_str().as_bytes())?;
-    let old = row_of_family(alloc, before)?;
-    let new = row_of_family(alloc, after)?;
-    let mut batch = Batch::new(alloc);
-    batch.add(RowChange::between(alloc, CATALOG, key, None, Some(&row))?)?;
-    let next = Bytes::new(alloc, &[])?;
-    batch.add(RowChange::between(alloc, CATALOG, next, old.as_ref(), new.as_ref())?)?;
-    Ok(batch)
-}
-
-/// That of a table that is dropped: its description goes, and its rows stay where nobody looks.
-fn removal(alloc: Global, schema: &TableSchema) -> Result<Batch, NoMemory>
-    ensures changes { IfOk result (λ batch. batch ≡ drop_changes schema.now) }
-{
-    let row = row_of_schema(alloc, schema)?;
-    let key = Bytes::new(alloc, schema.name.as_str().as_bytes())?;
-    let mut batch = Batch::new(alloc);
-    batch.add(RowChange::between(alloc, CATALOG, key, Some(&row), None)?)?;
-    Ok(batch)
-}
-
-/// That of a table with another attribute for time to live, or none: the row of its description changes.
-fn timing(alloc: Global, schema: &TableSchema, ttl: Option<&Text>) -> Result<Batch, NoMemory>
-    ensures changes { IfOk result (λ batch. batch
-        ≡ time_changes schema.now (option_map (λ t. t.now) ttl.entry)) }
-{
-    let old = row_of_schema(alloc, schema)?;
-    let new = row_with_time(alloc, schema, ttl)?;
-    let key = Bytes::new(alloc, schema.name.as_str().as_bytes())?;
-    let mut batch = Batch::new(alloc);
-    batch.add(RowChange::between(alloc, CATALOG, key, Some(&old), Some(&new))?)?;
-    Ok(batch)
-}
-
-/// A copy of a name, where one is given.
-fn named(alloc: Global, name: Option<&str>) -> Result<Option<Text>, NoMemory>
-    ensures copied { IfOk result (λ text. text ≡ option_map (λ n. n.now) name.entry) }
-    ensures held { IfOk result (Where IsHeldText) }
-{
-    let Some(name) = name else {
-        return Ok(None);
-    };
-    let text = Text::new(alloc, name)?;
-    let _length = text.len();
-    Ok(Some(text))
-}
-
-/// How many families a table takes.
-fn family_count(schema: &TableSchema) -> usize
-    requires { IsNew schema.now }
-    ensures count { result ≡ length (families_of schema.now) }
-    ensures few { result ≤ MOST_FAMILIES }
-{
-    let stream = if schema.stream_family.is_some() { 1 } else { 0 };
-    1 + (schema.locals.as_slice().len() + schema.globals.as_slice().len() + stream)
 }

@@ -1,52 +1,29 @@
 //! What a write takes from the front of a table's stream: the changes that are over a day older, and rows that are left over of such.
 
-ghost use Rattle.std.specs.Prelude.{◌≡◌, ◌↔◌, ◌≤◌, ◌<◌, ◌-◌, ◌+◌, ◌^◌, ◌&&◌, nat_le, nat_lt, map as each, true, ℕ, List, Some, None, All, IfOk, IfErr, IfSome, IsErrOf, IsSome, IsTrue};
+ghost use Rattle.std.specs.Prelude.{◌≡◌, ◌≤◌, ◌<◌, ◌+◌, true, ℕ, List, Some, All, IfOk, IfErr, IfSome, IsErrOf, IsSome};
 ghost use Rattle.std.specs.FinMap as map;
 ghost use Rattle.alt_base.specs.Counts.{Rose};
-ghost use Rattle.alt_changes.specs.ChangeRows.{change_in, row_key};
 ghost use Rattle.alt_layout.specs.Layout.{Layout};
 ghost use Rattle.alt_machine.specs.State.{State, Table};
 ghost use Rattle.alt_opening.specs.Trimmed.{number_at};
 ghost use Rattle.alt_schema.specs.declared.schema.TableSchema.{TableSchema};
-ghost use Rattle.alt_tables.specs.Faults.{IsFindFault, IsReadFault, IsUnspent};
-ghost use Rattle.alt_tables.specs.Leftovers.{leftovers};
-ghost use Rattle.alt_tables.specs.private.Trims.{AreNumbersOf, AreTwo, IsKeptFrom, IsLowest, IsLowestFrom, IsRest, IsTrim, IsWithin, IsYoung, behind, is_over, left_from};
+ghost use Rattle.alt_rowchanges.specs.Faults.{IsFindFault, IsUnspent};
+ghost use Rattle.alt_trimming.specs.Leftovers.{leftovers};
+ghost use Rattle.alt_trimming.specs.Trims.{AreTwo, IsKeptFrom, IsLowest, IsLowestFrom, IsRest, IsTrim, IsWithin, IsYoung, left_from};
 ghost use Rattle.alt_tables.specs.Stands.{AreReady, HasRows, Keeps, Stands, catalog_of, fronts_of, number_of as next_of, trimmed_of};
 
-use crate::faults::TableFault;
-use crate::fronts::front_of;
 use crate::tables::Tables;
 use alt_base::NoMemory;
-use alt_cells::ShownRow;
-use alt_changes::Change;
 use alt_disk::Disk;
-use alt_fields::{Bytes, put_u64};
-use alt_keyorder::KeyRange;
+use alt_fields::Bytes;
 use alt_machine::NUMBERS_END;
-use alt_opening::number_of;
-use std::alloc::Global;
-
-/// The seconds of a day.
-const DAY: u64 = 86_400;
-
-/// How many changes are read first: a stream that is written steadily loses about as many with a write as it gains.
-const FIRST_CHANGES: u32 = 4;
-
-/// How many changes are read at once where more go: of two items each, they have 50 MB of names and values at most.
-const CHANGES_AHEAD: u32 = 64;
+use alt_rowchanges::TableFault;
+use alt_trimming::{
+    Trim, ahead, behind, front_of, is_over, is_within, kept_in, next, numbers_of, range_of,
+};
 
 /// How many rows that are left over go with a write.
 const LEFTOVERS: u32 = 2;
-
-/// What a write takes from the front of a table's stream: the number of the last change that is trimmed then, the moment of the oldest
-/// that is kept, the lowest rows that are left over, and a number below which none is once these are hidden.
-#[derive(Drop)]
-pub struct Trim {
-    pub number: u64,
-    pub oldest: Option<u64>,
-    pub leftovers: Vec<u64>,
-    pub from: u64,
-}
 
 impl Tables {
     /// What a write at a moment takes from the front of the stream of a table that is there, as it is read before the write.
@@ -247,147 +224,5 @@ impl Tables {
             }
             Err(fault) => Err(fault),
         }
-    }
-}
-
-/// Whether a number is no less than one from before, and below the next one.
-fn is_within(before: u64, number: u64, next: u64) -> bool
-    ensures { result ≡ (nat_le before number && nat_lt number next) }
-{
-    before <= number && number < next
-}
-
-/// The number behind one.
-fn next(number: u64) -> u64
-    ensures { number < 2 ^ 63 → result ≡ number + 1 }
-{
-    number.saturating_add(1)
-}
-
-/// How many changes are read at once behind a number, where the walk began behind another one.
-fn ahead(number: u64, begun: u64) -> u32
-    ensures { 1 ≤ result }
-{
-    if number == begun {
-        FIRST_CHANGES
-    } else {
-        CHANGES_AHEAD
-    }
-}
-
-/// Whether the moment of the oldest change is over a day before another one.
-fn is_over(oldest: Option<u64>, moment: u64) -> bool
-    ensures { result ≡ is_over oldest moment }
-{
-    match oldest {
-        Some(oldest) => oldest < moment.saturating_sub(DAY),
-        None => false,
-    }
-}
-
-/// The number of the last of the first changes that are over a day before a moment, and the moment of the one behind them.
-fn kept_in(changes: &[Change], moment: u64, before: u64) -> (u64, Option<u64>)
-    ensures { IsKeptFrom moment before (each change_in changes.now) result }
-{
-    let mut last = before;
-    for i in 0..changes.len() {
-        let oldest = Some(changes[i].moment);
-        if !is_over(oldest, moment) {
-            return (last, oldest);
-        }
-        last = changes[i].number;
-    }
-    (last, None)
-}
-
-/// The keys of the rows of the numbers from one on and below another.
-fn range_of(alloc: Global, from: u64, to: u64) -> Result<KeyRange, NoMemory>
-    ensures from { IfOk result (λ range. range.from ≡ row_key from) }
-    ensures to { IfOk result (λ range. range.to ≡ Some (row_key to)) }
-{
-    Ok(KeyRange {
-        from: key_of(alloc, from)?,
-        to: Some(key_of(alloc, to)?),
-    })
-}
-
-/// The key of the row of a number.
-fn key_of(alloc: Global, number: u64) -> Result<Bytes, NoMemory>
-    ensures { IfOk result (λ key. key ≡ row_key number) }
-{
-    let mut key = Vec::new(alloc);
-    put_u64(&mut key, number)?;
-    Ok(Bytes::from_vec(key))
-}
-
-/// The numbers of rows: two at most, which rise from 1 on up to another one.
-fn numbers_of(
-    alloc: Global,
-    family: u32,
-    page: Vec<(Bytes, ShownRow)>,
-    most: u64,
-) -> Result<Vec<u64>, TableFault>
-    ensures numbers { IfOk result (λ numbers. AreNumbersOf page.items numbers.items) }
-    ensures two { IfOk result (λ numbers. AreTwo most numbers.items) }
-    ensures unspent { IfErr result IsUnspent }
-    ensures fault { (numbers : List ℕ) → AreNumbersOf page.items numbers → AreTwo most numbers
-        → IfErr result IsReadFault }
-    ensures unfailed { IsErrOf result TableFault.Failed → ⊥ }
-{
-    let numbers = match numbers_at(alloc, family, page) {
-        Ok(numbers) => numbers,
-        Err(fault) => return Err(fault),
-    };
-    if are_two(numbers.as_slice(), most) {
-        return Ok(numbers);
-    }
-    let key = Bytes::from_vec(Vec::new(alloc));
-    Err(TableFault::BadRow { family, key })
-}
-
-/// The numbers of rows. A row is let go as soon as its key is read.
-fn numbers_at(
-    alloc: Global,
-    family: u32,
-    page: Vec<(Bytes, ShownRow)>,
-) -> Result<Vec<u64>, TableFault>
-    ensures numbers { IfOk result (λ numbers. AreNumbersOf page.items numbers.items) }
-    ensures unspent { IfErr result IsUnspent }
-    ensures fault { (numbers : List ℕ) → AreNumbersOf page.items numbers → IfErr result IsReadFault }
-    ensures unfailed { IsErrOf result TableFault.Failed → ⊥ }
-{
-    let mut numbers = Vec::new(alloc);
-    for row in page {
-        match number_of(row.0.as_slice()) {
-            Some(number) => numbers.push(number)?,
-            None => return Err(TableFault::BadRow { family, key: row.0 }),
-        }
-    }
-    Ok(numbers)
-}
-
-/// Whether these are two numbers at most, which rise from 1 on up to another one.
-fn are_two(numbers: &[u64], most: u64) -> bool
-    ensures { IsTrue result ↔ AreTwo most numbers.now }
-{
-    if numbers.is_empty() {
-        return true;
-    }
-    if numbers.len() == 1 {
-        return 1 <= numbers[0] && numbers[0] <= most;
-    }
-    numbers.len() == 2 && 1 <= numbers[0] && numbers[0] < numbers[1] && numbers[1] <= most
-}
-
-/// The number behind the second of two, and behind the last that may be left over where there are fewer.
-fn behind(numbers: &[u64], most: u64) -> u64
-    requires two { AreTwo most numbers.now }
-    requires room { most < 2 ^ 64 - 1 }
-    ensures { result ≡ behind most numbers.now }
-{
-    if numbers.len() == 2 {
-        numbers[1] + 1
-    } else {
-        most + 1
     }
 }

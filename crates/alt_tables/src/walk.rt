@@ -1,6 +1,6 @@
 //! Walks over the items of a table, or of one of its indexes, in the order of their places or the other way.
 
-ghost use Rattle.std.specs.Prelude.{◌≡◌, ◌↔◌, ◌++◌, ◌+◌, ◌<◌, ◌≤◌, take, map as each, true, List, Some, None, IfOk, IfErr, IfSome, OnOk, OnErr, IsErrOf};
+ghost use Rattle.std.specs.Prelude.{◌≡◌, ◌↔◌, ◌++◌, ◌+◌, ◌≤◌, take, true, List, Some, None, IfOk, IfErr, IfSome, OnOk, OnErr, IsErrOf};
 ghost use Rattle.std.specs.FinMap as map;
 ghost use Rattle.std.specs.List.{last_or};
 ghost use Rattle.alt_base.specs.Counts.{Rose};
@@ -11,23 +11,19 @@ ghost use Rattle.alt_machine.specs.State.{State, Table};
 ghost use Rattle.alt_machine.specs.Walks.{items_between};
 ghost use Rattle.alt_schema.specs.declared.schema.IndexSchema.{IndexSchema};
 ghost use Rattle.alt_schema.specs.declared.schema.TableSchema.{TableSchema};
-ghost use Rattle.alt_tables.specs.Faults.{IsFindFault, IsReadFault, IsUnspent};
-ghost use Rattle.alt_tables.specs.private.Pages.{AreItemsOf, AreKept, ArePut};
+ghost use Rattle.alt_rowchanges.specs.Faults.{IsFindFault, IsUnspent};
 ghost use Rattle.alt_tables.specs.Reading.{HasRowFiles, family_read, places_between, walk_reads};
 ghost use Rattle.alt_tables.specs.Stands.{AreReady, Reads, Stands, KeepsCatalog, catalog_of};
-ghost use Rattle.alt_value.specs.Tree.{Pair};
 ghost use Rattle.alt_views.specs.Readable.{CanRead};
 
-use crate::faults::TableFault;
 use crate::tables::Tables;
-use alt_cells::ShownRow;
 use alt_disk::Disk;
 use alt_fields::Bytes;
 use alt_keyorder::KeyRange;
+use alt_rowchanges::{TableFault, read_index_page, read_page};
 use alt_schema::{IndexSchema, TableSchema};
 use alt_value::Item;
-use alt_views::{Unread, index_at, item_of_index_row, item_of_row};
-use std::alloc::Global;
+use alt_views::index_at;
 
 impl Tables {
     /// Puts those items of a table that is there, or of its index of that number, whose places there are in the range at the end of the
@@ -187,62 +183,4 @@ impl Tables {
             Err(fault) => Err(TableFault::from(fault)),
         }
     }
-}
-
-/// Puts the items of rows at the end of the list: the place of the last of them. A row is let go as soon as it is read.
-fn read_page(
-    alloc: Global,
-    family: u32,
-    page: Vec<(Bytes, ShownRow)>,
-    out: &mut Vec<Item>,
-) -> Result<Option<Bytes>, TableFault>
-    ensures items { OnOk result (ArePut page.items out.old.items out.new.items) }
-    ensures last { IfOk result (λ last. last ≡ last_or None (each (λ e. e.0) page.items)) }
-    ensures begun { OnErr result (IsPrefix out.old.items out.new.items) }
-    ensures unspent { IfErr result IsUnspent }
-    ensures fault { (items : List (List Pair)) → AreItemsOf page.items items
-        → IfErr result IsReadFault }
-    ensures unfailed { IsErrOf result TableFault.Failed → ⊥ }
-{
-    let mut last = None;
-    for (place, row) in page {
-        match item_of_row(alloc, &row) {
-            Ok(item) => out.push(item)?,
-            Err(Unread::Bad) => return Err(TableFault::BadRow { family, key: place }),
-            Err(Unread::NoMemory) => return Err(TableFault::NoMemory),
-        }
-        last = Some(place);
-    }
-    Ok(last)
-}
-
-/// Puts what an index keeps of items at the end of the list, from its rows: the place of the last of them. A row is let go as soon as it
-/// is read.
-fn read_index_page(
-    alloc: Global,
-    schema: &TableSchema,
-    index: &IndexSchema,
-    page: Vec<(Bytes, ShownRow)>,
-    out: &mut Vec<Item>,
-) -> Result<Option<Bytes>, TableFault>
-    ensures items { (items : List (List Pair)) → AreKept schema.now index.now page.items items
-        → OnOk result (out.new.items ≡ out.old.items ++ items) }
-    ensures last { IfOk result (λ last. last ≡ last_or None (each (λ e. e.0) page.items)) }
-    ensures begun { OnErr result (IsPrefix out.old.items out.new.items) }
-    ensures unspent { IfErr result IsUnspent }
-    ensures fault { (items : List (List Pair)) → AreKept schema.now index.now page.items items
-        → IfErr result IsReadFault }
-    ensures unfailed { IsErrOf result TableFault.Failed → ⊥ }
-{
-    let family = index.family;
-    let mut last = None;
-    for (key, row) in page {
-        match item_of_index_row(alloc, schema, index, key.as_slice(), &row) {
-            Ok(item) => out.push(item)?,
-            Err(Unread::Bad) => return Err(TableFault::BadRow { family, key }),
-            Err(Unread::NoMemory) => return Err(TableFault::NoMemory),
-        }
-        last = Some(key);
-    }
-    Ok(last)
 }

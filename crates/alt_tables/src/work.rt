@@ -12,10 +12,10 @@ ghost use Rattle.alt_tables.specs.Images.{StandAt};
 ghost use Rattle.alt_tables.specs.Merged.{IsMergedFor};
 ghost use Rattle.alt_tables.specs.Stands.{AreReady, KeepsLimits, Stands, bounds_of, limits_of};
 
-use crate::faults::TableFault;
 use crate::tables::Tables;
 use alt_disk::Disk;
 use alt_opening::{Task, Worked};
+use alt_rowchanges::TableFault;
 
 impl Tables {
     /// Does a task of the engine, in which the families of tables are live. After an Err the tables are spent.

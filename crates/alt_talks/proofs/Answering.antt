@@ -11,8 +11,8 @@ use Rattle.alt_talks.specs.Stops.{Image, IsAmong, IsUncut, AtEach}
 use Rattle.alt_tables.specs.Faults.{BreakOff, IsLastFile, WantFile, told_by_tables}
 use Rattle.alt_tables.specs.Images.{Leaves, StandsFor}
 use Rattle.alt_tables.specs.Stands.{Stands}
-use Rattle.alt_tables.specs.declared.faults.TableFault.{TableFault}
-use Rattle.alt_tables.specs.declared.faults.TableFault.TheVariants.{Spent, Damaged, BadRow, Failed, NoMemory}
+use Rattle.alt_tables.specs.DeclaredTableFault.{TableFault}
+use Rattle.alt_tables.specs.DeclaredTableFault.TheVariants.{Spent, Damaged, BadRow, Failed, NoMemory}
 use Rattle.alt_faults.specs.Faults.{OnlySpent}
 use Rattle.alt_talks.specs.Faults.{IsAnswerFault, told_by_run}
 use Rattle.alt_talks.specs.declared.fault.RunFault.{RunFault}

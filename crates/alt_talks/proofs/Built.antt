@@ -9,7 +9,7 @@ use Rattle.alt_tables.specs.Faults.{BreakOff, told_by_tables}
 use Rattle.alt_tables.specs.FilesLeft.{most_files}
 use Rattle.alt_tables.specs.Images.{Leaves}
 use Rattle.alt_tables.specs.Stands.{Stands}
-use Rattle.alt_tables.specs.declared.faults.TableFault.{TableFault}
+use Rattle.alt_tables.specs.DeclaredTableFault.{TableFault}
 use Rattle.alt_tables.specs.declared.tables.Tables.{Tables}
 use Rattle.alt_talks.specs.Faults.{IsFileFault, told_by_run}
 use Rattle.alt_talks.specs.Own.{FollowsNot, Own, after_behind, own_behind}

@@ -13,7 +13,7 @@ use Rattle.alt_machine.specs.Wanted.{Lack, wanted}
 use Rattle.alt_tables.specs.Images.{Leaves, StandsFor}
 use Rattle.alt_tables.specs.Faults.{AreMade, BreakOff, told_by_tables}
 use Rattle.alt_tables.specs.Stands.{Stands}
-use Rattle.alt_tables.specs.declared.faults.TableFault.{TableFault}
+use Rattle.alt_tables.specs.DeclaredTableFault.{TableFault}
 use Rattle.alt_tables.specs.declared.tables.Tables.{Tables}
 use Rattle.alt_talks.specs.Faults.{IsCausedBy, IsFileFault, told_by_run}
 use Rattle.alt_talks.specs.Own.{BetweenNot, Own, expiries, none_own}

@@ -6,7 +6,7 @@ use Rattle.alt_machine.specs.State.{State}
 use Rattle.alt_machine.specs.Wanted.{Lack}
 use Rattle.alt_tables.specs.FilesLeft.{most_files}
 use Rattle.alt_tables.specs.Faults.{IsWorkFault as IsTableFault, told_by_tables}
-use Rattle.alt_tables.specs.declared.faults.TableFault.{TableFault}
+use Rattle.alt_tables.specs.DeclaredTableFault.{TableFault}
 use Rattle.alt_talks.specs.Own.{BetweenNot, Own}
 use Rattle.alt_talks.specs.Faults.{IsAnswerFault, IsCausedBy, IsFileFault, reach, told_by_run}
 use Rattle.alt_talks.specs.declared.fault.RunFault.{RunFault}

@@ -9,10 +9,10 @@ use Rattle.alt_machine.specs.State.{Texts, families_of}
 use Rattle.alt_machine.specs.declared.TheConstants.{FAMILIES_END}
 use Rattle.alt_opening.specs.Live.{with_all}
 use Rattle.alt_schema.specs.declared.schema.TableSchema.{TableSchema}
-use Rattle.alt_tables.specs.Altering.{alter_wants, family_left, has_more}
+use Rattle.alt_rowchanges.specs.Altering.{alter_wants, family_left, has_more}
 use Rattle.alt_tables.specs.Faults.{BreakOff}
 use Rattle.alt_tables.specs.Stands.{Stands, bounds_of, catalog_of}
-use Rattle.alt_tables.specs.declared.faults.TableFault.TheVariants.{Spent}
+use Rattle.alt_rowchanges.specs.declared.faults.TableFault.TheVariants.{Spent}
 use Rattle.alt_tables.proofs.Altered.{alter_enough, alter_family, alter_number, alter_stands, alter_turned, is_free, own_families, same_name}
 use Rattle.alt_tables.proofs.Holding.{leaves_quiet}
 use Rattle.alt_tables.proofs.Making.{broke, one_made, spent, spent_file}

@@ -11,7 +11,7 @@ use Rattle.alt_machine.proofs.Lacks.{has_number}
 use Rattle.alt_schema.specs.declared.schema.TableSchema.{TableSchema}
 use Rattle.alt_tables.specs.Faults.{Writes}
 use Rattle.alt_tables.specs.Stands.{Reads, Stands}
-use Rattle.alt_tables.specs.private.Steps.{built_to, first_behind}
+use Rattle.alt_rowchanges.specs.Steps.{built_to, first_behind}
 use Rattle.alt_tables.proofs.BuildReads.{read_left}
 use Rattle.alt_tables.proofs.Holding.{leaves_quiet}
 use Rattle.alt_tables.proofs.Left.{leaves_after, leaves_reads, ready_on}

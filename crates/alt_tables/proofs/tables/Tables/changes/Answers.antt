@@ -4,7 +4,8 @@ use Rattle.std.proofs.lemmas.Result.{IfOk-weaker}
 use Rattle.alt_changes.specs.ChangeRows.{change_in}
 use Rattle.alt_machine.specs.Ops.GetRecords.{changes_from}
 use Rattle.alt_machine.specs.State.{Change}
-use Rattle.alt_tables.proofs.ChangePages.{first_kept, no_changes, one_changes, page_changes, take_none}
+use Rattle.alt_tables.proofs.ChangePages.{first_kept, no_changes, page_changes, take_none}
+use Rattle.alt_rowchanges.proofs.PageRows.{one_changes}
 use Rattle.alt_tables.proofs.Pages.{find_fault, engine_fault}
 use Rattle.alt_tables.proofs.Standing.{stays, there}
 use Rattle.alt_disk.proofs.Runs.{tells_of}

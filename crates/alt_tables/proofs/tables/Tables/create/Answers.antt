@@ -8,7 +8,7 @@ use Rattle.alt_machine.proofs.Lacks.{has_table, lacks_table_family, lacks_table_
 use Rattle.alt_machine.specs.Wanted.{table_lack}
 use Rattle.alt_tables.specs.Faults.{BreakOff}
 use Rattle.alt_tables.specs.Stands.{Stands, bounds_of}
-use Rattle.alt_tables.specs.declared.faults.TableFault.TheVariants.{Spent}
+use Rattle.alt_rowchanges.specs.declared.faults.TableFault.TheVariants.{Spent}
 use Rattle.alt_tables.proofs.Holding.{leaves_quiet}
 use Rattle.alt_tables.proofs.Making.{broke, not_lacking, one_made, spent, spent_file, table_lacked, table_stands, table_turned, want_told}
 use Rattle.alt_tables.proofs.tables.Tables.create.Goals as goal

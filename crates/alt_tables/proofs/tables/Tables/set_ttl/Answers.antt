@@ -10,7 +10,7 @@ use Rattle.alt_machine.specs.State.{Texts}
 use Rattle.alt_schemabytes.specs.Held.{IsHeldText, Where}
 use Rattle.alt_schema.specs.declared.schema.TableSchema.{TableSchema}
 use Rattle.alt_due.specs.declared.due.Due.{Due}
-use Rattle.alt_tables.specs.RowChanges.{time_changes}
+use Rattle.alt_rowchanges.specs.RowChanges.{time_changes}
 use Rattle.alt_tables.specs.Stands.{Stands, bounds_of}
 use Rattle.alt_tables.specs.private.Foretold.{IsTold}
 use Rattle.alt_tables.proofs.Holding.{leaves_quiet}

@@ -19,13 +19,14 @@ use Rattle.alt_tables.specs.Faults.{BreakOff, Writes}
 use Rattle.alt_tables.specs.Foreseen.{ForeseesItem}
 use Rattle.alt_tables.specs.Found.{number_taken}
 use Rattle.alt_tables.specs.Images.{Leaves}
-use Rattle.alt_tables.specs.Leftovers.{leftovers, lowest_left}
-use Rattle.alt_tables.specs.RowChanges.{changed_rows, write_changes}
+use Rattle.alt_trimming.specs.Leftovers.{leftovers, lowest_left}
+use Rattle.alt_rowchanges.specs.RowChanges.{changed_rows, write_changes}
 use Rattle.alt_tables.specs.Stands.{HasRows, Reads, Stands, bounds_of, catalog_of, due_of, number_of, trimmed_of}
-use Rattle.alt_tables.specs.declared.faults.TableFault.TheVariants.{Spent}
+use Rattle.alt_rowchanges.specs.declared.faults.TableFault.TheVariants.{Spent}
 use Rattle.alt_tables.specs.declared.tables.Tables.{Tables}
-use Rattle.alt_tables.specs.declared.trimming.Trim.{Trim}
-use Rattle.alt_tables.specs.private.Trims.{IsWithin, IsWrittenAs}
+use Rattle.alt_trimming.specs.declared.trimming.Trim.{Trim}
+use Rattle.alt_trimming.specs.Trims.{IsWithin}
+use Rattle.alt_tables.specs.private.Written.{IsWrittenAs}
 use Rattle.alt_tables.proofs.Holding.{leaves_quiet}
 use Rattle.alt_tables.proofs.Left.{leaves_after, leaves_reads}
 use Rattle.alt_tables.proofs.Making.{broke, item_differs, spent, spent_file}

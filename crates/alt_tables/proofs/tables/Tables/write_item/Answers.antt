@@ -6,7 +6,7 @@ use Rattle.alt_codec.specs.declared.writer.Writer.TheVariants.{User}
 use Rattle.alt_disk.specs.Disk.{DiskState, IsTrusted}
 use Rattle.alt_layout.specs.Layout.{Layout}
 use Rattle.alt_schema.specs.declared.schema.TableSchema.{TableSchema}
-use Rattle.alt_tables.specs.RowChanges.{changed_rows, write_changes}
+use Rattle.alt_rowchanges.specs.RowChanges.{changed_rows, write_changes}
 use Rattle.alt_tables.specs.declared.tables.Tables.{Tables}
 use Rattle.alt_value.specs.Tree.{Pair}
 use Rattle.alt_disk.proofs.Runs.{quiet_start}
@@ -18,7 +18,7 @@ use Rattle.alt_tables.specs.Faults.{Writes}
 use Rattle.alt_tables.specs.Found.{number_taken}
 use Rattle.alt_opening.specs.Trimmed.{number_at}
 use Rattle.alt_tables.specs.Images.{Leaves}
-use Rattle.alt_tables.specs.Leftovers.{lowest_left}
+use Rattle.alt_trimming.specs.Leftovers.{lowest_left}
 use Rattle.alt_tables.specs.Stands.{HasRows, Stands, bounds_of, catalog_of, number_of, trimmed_of}
 use Rattle.alt_tables.proofs.Holding.{leaves_quiet}
 use Rattle.alt_tables.proofs.Standing.{known, one_place}

@@ -12,12 +12,13 @@ use Rattle.alt_machine.specs.Writes.{after_item}
 use Rattle.alt_machine.proofs.Lacks.{has_number}
 use Rattle.alt_opening.specs.Opened.{Holds}
 use Rattle.alt_opening.specs.Trimmed.{IsRenumbered, number_at}
-use Rattle.alt_tables.specs.RowChanges.{write_changes}
+use Rattle.alt_rowchanges.specs.RowChanges.{write_changes}
 use Rattle.alt_tables.specs.Stands.{Stands, bounds_of, fronts_of, trimmed_of}
-use Rattle.alt_tables.specs.private.Trims.{IsNoted, IsWithin, IsWrittenAs}
+use Rattle.alt_trimming.specs.Trims.{IsNoted, IsWithin}
+use Rattle.alt_tables.specs.private.Written.{IsWrittenAs}
 use Rattle.alt_tables.proofs.Holding.{leaves_quiet}
 use Rattle.alt_tables.proofs.Making.{broke, item_stands, item_turned, one_made, want_told}
-use Rattle.alt_tables.proofs.Trimmed.{can_trim}
+use Rattle.alt_trimming.proofs.CanTrim.{can_trim}
 use Rattle.alt_tables.proofs.tables.Tables.write_trimmed.Goals as goal
 
 same_Some : {A : Type 0} (x y : A) → Some x ≡ Some y → x ≡ y

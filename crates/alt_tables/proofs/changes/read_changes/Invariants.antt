@@ -1,8 +1,0 @@
--- The changes of the rows so far are read.
-use Rattle.std.proofs.Common.{map}
-use Rattle.alt_changes.specs.ChangeRows.{change_in}
-use Rattle.alt_tables.specs.private.Pages.{AreChangesOf}
-use Rattle.alt_tables.proofs.changes.read_changes.Given as goal
-
-abbrev pub invariant-loop-key : goal.invariant-loop-key
-invariant-loop-key l = AreChangesOf l.yielded (map change_in l.changes.items)

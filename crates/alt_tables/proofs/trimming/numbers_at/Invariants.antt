@@ -1,6 +1,0 @@
--- The numbers of the rows so far are read.
-use Rattle.alt_tables.specs.private.Trims.{AreNumbersOf}
-use Rattle.alt_tables.proofs.trimming.numbers_at.Given as goal
-
-abbrev pub invariant-loop-row : goal.invariant-loop-row
-invariant-loop-row l = AreNumbersOf l.yielded l.numbers.items

@@ -105,8 +105,8 @@ impl Engine {
             → HasVersion w ((D.state disk.new).file versions_file) → (f : ℕ) → IsOf v f
             → (IsOf w f → ⊥) → (D.state disk.new).file f ≡ None) }
 
-        // A step adds one version at most: at each moment the last one is that from before, or one other.
-        ensures one_version { task ≡ Task.Step → IsTrusted (D.state disk.old) → (v : Version)
+        // A step and a flush of all add one version at most: at each moment the last one is that from before, or one other.
+        ensures one_version { task ≢ Task.MergeAll → IsTrusted (D.state disk.old) → (v : Version)
             → HasVersion v ((D.state disk.old).file versions_file) → (w : Version)
             × Spans (D.state disk.old) (D.state disk.new) (λ _. ⊤) (HasOneOf v w) }
 

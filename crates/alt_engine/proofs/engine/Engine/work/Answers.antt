@@ -617,6 +617,30 @@ returns-in-Step-clause-one_version g c it trusted v has =
       one_behind a b d (hand_of e) later.0 (c.give_up.ensures.last trusted l stands) later.1,
     )
 
+pub returns-in-FlushAll-clause-one_version : goal.returns-in-FlushAll-clause-one_version
+returns-in-FlushAll-clause-one_version g c it trusted v has =
+    let given = c.requires.ready trusted in let l = given.0 in let stands = given.1 in
+    let a : DiskState = g.D.Disk.state c.args.disk.now in
+    let b : DiskState = g.D.Disk.state c.give_up.new.disk in
+    let e : Engine = c.args.self.now in
+    let f : Engine = c.give_up.new.self in
+    let live = c.args.live.now in
+    let turned = c.in_ok-give_up.ensures.turned in
+    let same : hand_of f ≡ hand_of e = c.give_up.ensures.hand in
+    let told = trusted_on a b c.give_up.ensures.goes trusted in
+    let at : Stands b f l = c.in_ok-give_up.ensures.ok trusted l stands in
+    let d : DiskState = g.D.Disk.state c.flush_all.new.disk in
+    let later = subst (λ (h : Hand). (w : Version) × Spans b d (λ k. Unit {0}) (HasOneOf (version_in h) w))
+    same (c.flush_all.ensures.one_version told l at) in
+    subst (λ (u : Version). (w : Version) × Spans a d (λ k. Unit {0}) (HasOneOf u w))
+    (version_read a (hand_of e) l stands.hand v has) (
+      later.0,
+      one_behind a b d (hand_of e) later.0 (c.give_up.ensures.last trusted l stands) later.1,
+    )
+
+pub returns-in-MergeAll-clause-one_version : goal.returns-in-MergeAll-clause-one_version
+returns-in-MergeAll-clause-one_version g c other = absurd (other c.in-MergeAll.is)
+
 pub returns-in-MergeAll-clause-memory : goal.returns-in-MergeAll-clause-memory
 returns-in-MergeAll-clause-memory g c it = on_ok_weaker c.merge_all.result (λ memory family lives.
     memory family lives ∙ ap (λ (h : Hand). memory_at h family) c.give_up.ensures.hand)

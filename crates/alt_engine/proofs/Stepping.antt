@@ -66,10 +66,10 @@ taken_stands s e j is going = subst (IsGoing s (hand_of e)) is going
 -- ---- faults of flushes
 
 pub due_file : (live : List ℕ) (e : Hand) (f : EngineFault) → IsDueFor live e f → IsFileSpent f
-due_file live e f due = ⊎_elim (λ all. file_for _ f all) (λ one. file_for _ f one.2) due
+due_file live e f due = ⊎_elim (λ all. file_for _ f all.1) (λ one. file_for _ f one.1.2) due
 
 pub due_whole : (live : List ℕ) (e : Hand) (f : EngineFault) → IsDueFor live e f → IsNoDamage f
-due_whole live e f due = ⊎_elim (λ all. whole_for _ f all) (λ one. whole_for _ f one.2) due
+due_whole live e f due = ⊎_elim (λ all. whole_for _ f all.1) (λ one. whole_for _ f one.1.2) due
 
 -- ---- many files
 

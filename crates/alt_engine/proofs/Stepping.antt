@@ -1,5 +1,5 @@
 -- A step behind a flush that had nothing to do.
-use Rattle.std.proofs.Common.{◌≡◌, ◌∙◌, ⊎_elim, ℕ, List, [], ◌∷◌, Some, None, length, sym, ap, subst}
+use Rattle.std.proofs.Common.{◌≡◌, ◌∙◌, ◌+◌, ⊎_elim, ℕ, List, [], ◌∷◌, Some, None, length, sym, ap, subst}
 use Rattle.std.specs.List.{AllByRecursion}
 use Rattle.alt_disk.specs.Disk.{DiskState}
 use Rattle.alt_manifest.specs.Versions.{IsIn}
@@ -32,6 +32,7 @@ furthered_back a b d e x new job p q h = record {
   is = h.is;
   further = λ left stands. h.further left (at_both (λ s k. MergingStands s k job left) a b (hand_of e)
       (hand_of x) p q stands);
+  next_file = h.next_file ∙ ap (λ (k : Hand). k.next_file) q;
 }
 
 pub ended_back : (a b d : DiskState) (e x new : Engine) (job : Merging) → b ≡ a
@@ -41,6 +42,7 @@ ended_back a b d e x new job p q h = record {
   last = λ left stands. h.last left (at_both (λ s k. MergingStands s k job left) a b (hand_of e)
       (hand_of x) p q stands);
   gives = subst (λ (k : Hand). GivesWay d k (hand_of new) (family_of job) (taken_of job)) q h.gives;
+  next_file = h.next_file ∙ ap (λ (k : Hand). k.next_file) q;
 }
 
 pub begins_at : (live : List ℕ) (e x new : Engine) → hand_of x ≡ hand_of e → merge_of e ≡ None
@@ -53,6 +55,7 @@ begins_at live e x new q none h = record {
   is = h.is;
   of = h.of;
   all = h.all ∙ ap (λ (k : Hand). length (files_at k h.family)) q;
+  next_file = h.next_file ∙ ap (λ (k : Hand). k.next_file + 1) q;
 }
 
 -- the merge that was taken out stands
@@ -63,10 +66,10 @@ taken_stands s e j is going = subst (IsGoing s (hand_of e)) is going
 -- ---- faults of flushes
 
 pub due_file : (live : List ℕ) (e : Hand) (f : EngineFault) → IsDueFor live e f → IsFileSpent f
-due_file live e f due = ⊎_elim (λ all. file_for _ f all) (λ one. file_for _ f one.2) due
+due_file live e f due = ⊎_elim (λ all. file_for _ f all.1) (λ one. file_for _ f one.1.2) due
 
 pub due_whole : (live : List ℕ) (e : Hand) (f : EngineFault) → IsDueFor live e f → IsNoDamage f
-due_whole live e f due = ⊎_elim (λ all. whole_for _ f all) (λ one. whole_for _ f one.2) due
+due_whole live e f due = ⊎_elim (λ all. whole_for _ f all.1) (λ one. whole_for _ f one.1.2) due
 
 -- ---- many files
 

@@ -1,5 +1,5 @@
 -- A task behind what became of the merge under way, as one of the engine before it.
-use Rattle.std.proofs.Common.{◌≡◌, ⊎_elim, inl, inr, ℕ, List, [], ◌∷◌, Option, Some, None, refl, sym, ap, subst, ◌∙◌, arith, length}
+use Rattle.std.proofs.Common.{◌≡◌, ◌+◌, ⊎_elim, inl, inr, ℕ, List, [], ◌∷◌, Option, Some, None, refl, sym, ap, subst, ◌∙◌, arith, length}
 use Rattle.std.specs.Prelude.{◌⊎◌, ◌<◌, Result, Ok, Err, IfOk}
 use Rattle.std.specs.FinMap.{entries}
 use Rattle.alt_disk.specs.Disk.{DiskState}
@@ -14,6 +14,7 @@ use Rattle.alt_rowfile.specs.Format.{IsRowFile}
 use Rattle.alt_rowfile.specs.Summaries.{any_tombstone}
 use Rattle.alt_rowfile.specs.declared.rowfile.RowFile.{RowFile}
 use Rattle.alt_rowfile.proofs.OneFile.{one_list}
+use Rattle.alt_merging.specs.HandAdding.{MakesNone}
 use Rattle.alt_merging.specs.HandCarrying.{AreStill}
 use Rattle.alt_merging.specs.HandInHand.{AreOpen, Stands as HandStands, length_of, next_file_of}
 use Rattle.alt_merging.specs.HandMerging.{IsFirstMany, files_at, version_in}
@@ -102,6 +103,7 @@ module _ (a b : DiskState) (live : List ℕ) (e f : Engine)
     is = begins.is;
     of = begins.of;
     all = begins.all ∙ ap (λ (h : Hand). length (files_at h begins.family)) same;
+    next_file = begins.next_file ∙ ap (λ (h : Hand). h.next_file + 1) same;
   }
 
   pub goes_back : (d : DiskState) (new : Engine) → GoesOn b d live f new → GoesOn a d live e new
@@ -121,6 +123,18 @@ module _ (a b : DiskState) (live : List ℕ) (e f : Engine)
         subst (λ (s : DiskState). Ended s d e new ends.0) way.1.0
             (subst (λ (x : Engine). Ended b d x new ends.0) way.1.1 ends.2),
       )
+
+  -- ---- the files that it made
+
+  -- Where none was under way, no file below the next one is made.
+  pub makes_back : (d : DiskState) → (merge_of f ≡ None → MakesNone b d (next_file_of (hand_of f)))
+      → merge_of e ≡ None → MakesNone a d (next_file_of (hand_of e))
+  makes_back d makes none = ⊎_elim
+      (λ (kept : WasKept a b live e f).
+      subst (λ (s : DiskState). MakesNone s d (next_file_of (hand_of e))) kept.disk
+      (subst (λ (x : Engine). (merge_of x ≡ None → MakesNone b d (next_file_of (hand_of x)))) kept.engine
+      makes none))
+      (λ (gone : WasGivenUp live e f). absurd (no_job (merge_of e) gone.job none gone.was)) turned
 
 -- Where one of a family that isn't live was under way, none is behind.
 pub none_after : (a b : DiskState) (live : List ℕ) (e f : Engine)

@@ -77,7 +77,7 @@ IsIdle MergeAll s live e = IsFree live e × AllMerged s live (hand_of e)
 
 -- ---- What goes on.
 
--- A merge of all files of the lowest live family with many files has begun.
+-- A merge of all files of the lowest live family with many files has begun: it takes one number of a file.
 pub record Begins (live : List ℕ) (old new : Engine) : Type 0 where
   pub free : IsFree live old
   pub family : ℕ
@@ -86,13 +86,15 @@ pub record Begins (live : List ℕ) (old new : Engine) : Type 0 where
   pub is : merge_of new ≡ Some job
   pub of : merged_family job ≡ family
   pub all : taken_of job ≡ length (files_at (hand_of old) family)
+  pub next_file : next_file_of new ≡ next_file_of old + 1
 
--- A merge has taken 256 rows more, and more are left.
+-- A merge has taken 256 rows more, and more are left. It takes no number of a file, nor does its end.
 pub record Furthered (a b : DiskState) (old new : Engine) (job : Merging) : Type 0 where
   pub after : Merging
   pub is : merge_of new ≡ Some after
   pub further : (left : RowList) → MergingStands a (hand_of old) job left
       → MergingStands b (hand_of new) after (drop 256 left) × (drop 256 left ≡ [] → ⊥)
+  pub next_file : next_file_of new ≡ next_file_of old
 
 -- So has the one under way.
 abbrev pub GoesOn : DiskState → DiskState → List ℕ → Engine → Engine → Type 0
@@ -110,6 +112,7 @@ pub record Ended (a b : DiskState) (old new : Engine) (job : Merging) : Type 0 w
   pub none : merge_of new ≡ None
   pub last : (left : RowList) → MergingStands a (hand_of old) job left → drop 256 left ≡ []
   pub gives : GivesWay b (hand_of old) (hand_of new) (merged_family job) (taken_of job)
+  pub next_file : next_file_of new ≡ next_file_of old
 
 -- So had the one under way.
 abbrev pub Ends : DiskState → DiskState → List ℕ → Engine → Engine → Type 0

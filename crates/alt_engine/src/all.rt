@@ -6,9 +6,10 @@ ghost use Rattle.alt_disk.specs.Disk.{IsTrusted, Goes};
 ghost use Rattle.alt_disk.specs.Runs.{Spans};
 ghost use Rattle.alt_layout.specs.Layout.{Layout};
 ghost use Rattle.alt_manifest.specs.Versions.{IsIn};
-ghost use Rattle.alt_merging.specs.HandAdding.{Adds, IsOverNewLog, LeavesOut, MakesNone};
+ghost use Rattle.alt_manifest.specs.declared.version.Version.{Version};
+ghost use Rattle.alt_merging.specs.HandAdding.{Adds, HasOneOf, IsOverNewLog, LeavesOut, MakesNone};
 ghost use Rattle.alt_merging.specs.HandCarrying.{AreStill};
-ghost use Rattle.alt_merging.specs.HandMerging.{files_at, memory_at};
+ghost use Rattle.alt_merging.specs.HandMerging.{files_at, memory_at, version_in};
 ghost use Rattle.alt_merging.specs.Merged.{AreMerged};
 ghost use Rattle.alt_merging.specs.Mergings.{family_of as merged_family};
 ghost use Rattle.alt_merging.specs.declared.merging.Merging.{Merging};
@@ -57,6 +58,10 @@ impl Engine {
         ensures missing { OnOk result (IsTrusted (D.state disk.old) → (l : Layout)
             → Stands (D.state disk.old) self.old l
             → MakesNone (D.state disk.old) (D.state disk.new) (next_file_of self.old)) }
+        ensures one_version { IsTrusted (D.state disk.old) → (l : Layout)
+            → Stands (D.state disk.old) self.old l → (w : Version)
+            × Spans (D.state disk.old) (D.state disk.new) (λ _. ⊤)
+            (HasOneOf (version_in (hand_of self.old)) w) }
         ensures length { OnOk result (length_of (hand_of self.new) ≡ 0) }
         ensures any_moment { IsTrusted (D.state disk.old) → (l : Layout)
             → Stands (D.state disk.old) self.old l

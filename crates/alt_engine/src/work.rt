@@ -10,7 +10,7 @@ ghost use Rattle.alt_layout.specs.Layout.{Layout};
 ghost use Rattle.alt_layout.specs.Moments.{Has};
 ghost use Rattle.alt_manifest.specs.Versions.{HasVersion, IsIn};
 ghost use Rattle.alt_manifest.specs.declared.version.Version.{Version};
-ghost use Rattle.alt_merging.specs.HandAdding.{HasLast, HasOneOf};
+ghost use Rattle.alt_merging.specs.HandAdding.{HasLast, HasOneOf, MakesNone};
 ghost use Rattle.alt_merging.specs.HandCarrying.{AreStill};
 ghost use Rattle.alt_merging.specs.HandMerging.{files_at, memory_at, version_in};
 ghost use Rattle.alt_merging.specs.Merged.{AreMerged};
@@ -65,9 +65,13 @@ impl Engine {
             → (m : Layout) × Stands (D.state disk.new) self.new m × Works live.now l m) }
         ensures next { next_of self.new ≡ next_of self.old }
         ensures limits { limits_of self.new ≡ limits_of self.old }
-        // It takes one number of a file for each live family at most, and one more.
+        // It takes one number of a file for each live family at most, and one more. Where no merge is under way it makes no file below
+        // them.
         ensures taken { OnOk result (next_file_of self.new
             ≤ next_file_of self.old + most_files live.now) }
+        ensures missing { OnOk result (IsTrusted (D.state disk.old) → (l : Layout)
+            → Stands (D.state disk.old) self.old l → merge_of self.old ≡ None
+            → MakesNone (D.state disk.old) (D.state disk.new) (next_file_of self.old)) }
 
         // It is idle exactly where nothing applies, and then leaves all as it was, but for a merge that was given up.
         ensures idle { IfOk result (λ w. w ≡ Worked.Idle → IsTrusted (D.state disk.old) → (l : Layout)
@@ -105,8 +109,8 @@ impl Engine {
             → HasVersion w ((D.state disk.new).file versions_file) → (f : ℕ) → IsOf v f
             → (IsOf w f → ⊥) → (D.state disk.new).file f ≡ None) }
 
-        // A step adds one version at most: at each moment the last one is that from before, or one other.
-        ensures one_version { task ≡ Task.Step → IsTrusted (D.state disk.old) → (v : Version)
+        // A step and a flush of all add one version at most: at each moment the last one is that from before, or one other.
+        ensures one_version { task ≢ Task.MergeAll → IsTrusted (D.state disk.old) → (v : Version)
             → HasVersion v ((D.state disk.old).file versions_file) → (w : Version)
             × Spans (D.state disk.old) (D.state disk.new) (λ _. ⊤) (HasOneOf v w) }
 

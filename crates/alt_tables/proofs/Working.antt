@@ -162,12 +162,12 @@ needed_reach : (task : Task) (live : List ℕ) (e : Engine) (fault : EngineFault
 needed_reach Step live e fault (inl (inl all)) =
     let most = needed-most e.hand.families live in
     spent_more fault (e.hand.next_file + files_needed e.hand.families live + 1)
-    (e.hand.next_file + most_for live) (omega (arith, most)) all
+    (e.hand.next_file + most_for live) (omega (arith, most)) all.1
 needed_reach Step live e fault (inl (inr one)) =
-    let rows = entries (rows_in (get nat_cmp e.hand.families one.0)) in
+    let rows = entries (rows_in (get nat_cmp e.hand.families one.1.0)) in
     let most = files_for-most rows in
     spent_more fault (e.hand.next_file + files_for rows) (e.hand.next_file + most_for live)
-    (omega (arith, most)) one.2
+    (omega (arith, most)) one.1.2
 needed_reach Step live e fault (inr begun) = spent_more fault (e.hand.next_file + 1)
     (e.hand.next_file + most_for live) (omega arith) begun.2
 needed_reach FlushAll live e fault all =

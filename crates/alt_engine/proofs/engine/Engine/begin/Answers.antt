@@ -37,6 +37,7 @@ returns-in_ok-merging-in-Some-clause-went g c it = record {
   is = refl;
   of = c.in_ok-merging-in-Some.ensures.family;
   all = c.in_ok-merging-in-Some.ensures.taken;
+  next_file = c.in_ok-merging-in-Some.ensures.next_file;
 }
 
 pub returns-in_ok-merging-in-Some-clause-any_moment :

@@ -1,5 +1,9 @@
 -- A merge under way is carried on.
 use Rattle.alt_disk.specs.Disk.{DiskState}
+use Rattle.alt_flush.specs.Drafts.{From}
+use Rattle.alt_flush.proofs.RemoveLaws.{none_removed}
+use Rattle.alt_merging.specs.HandDeclaredHand.{Hand}
+use Rattle.alt_merging.proofs.HandAddingLaws.{no_version}
 use Rattle.alt_merging.proofs.HandEndLaws.{works_same, works_still}
 use Rattle.alt_merging.proofs.HandWorkLaws.{worked_in, works_of}
 use Rattle.alt_merging.specs.Mergings.{family_of}
@@ -58,3 +62,18 @@ returns-clause-missing g c trusted l stands =
 pub returns-clause-next_file : goal.returns-clause-next_file
 returns-clause-next_file g c = taken_all c.args.live.now c.args.self.now.hand c.flush_all.new.self
     c.in_ok-flush_all.ensures.flushed
+
+pub returns-then-not-has_entries-clause-one_version :
+    goal.returns-then-not-has_entries-clause-one_version
+returns-then-not-has_entries-clause-one_version g c trusted l stands =
+    let a : DiskState = g.D.Disk.state c.args.disk.now in
+    let e : Hand = c.args.self.now.hand in
+    no_version a a e l stands.hand (none_removed a (From e.next_file))
+
+pub returns-in_err-flush_all-clause-one_version : goal.returns-in_err-flush_all-clause-one_version
+returns-in_err-flush_all-clause-one_version g c trusted l stands =
+    c.flush_all.ensures.one_version trusted l stands.hand
+
+pub returns-clause-one_version : goal.returns-clause-one_version
+returns-clause-one_version g c trusted l stands =
+    c.flush_all.ensures.one_version trusted l stands.hand

@@ -79,6 +79,7 @@ returns-in-More-clause-went g c it trusted l stands = record {
   further = λ left standing.
       let at = c.in_ok-step.ensures.taken trusted l stands left standing in
       (at.0, subst (λ (s : Stepped). Says s (drop 256 left)) c.in-More.is at.1);
+  next_file = refl;
 }
 
 pub returns-in-More-clause-any_moment : goal.returns-in-More-clause-any_moment
@@ -124,6 +125,7 @@ returns-in_ok-end-in-Done-clause-done g c it trusted l stands =
           (subst (λ k. GivesWay z e c.end.new.hand k (taken_of c.step.new.self)) c.step.ensures.family
           (c.in_ok-end-in-Done.ensures.files (trusted_on a b c.step.ensures.goes trusted) l
           (c.step.ensures.ok trusted l stands given.1 given.3)));
+      next_file = c.in_ok-end-in-Done.ensures.next_file;
     }
 
 pub returns-in_ok-end-in-Done-clause-any_moment : goal.returns-in_ok-end-in-Done-clause-any_moment

@@ -23,7 +23,7 @@ use Rattle.alt_engine.specs.Versions.{IsAfter}
 use Rattle.alt_engine.specs.Working.{AllMerged, Begins, Did, Ends, GoesOn, IsIdle}
 use Rattle.alt_engine.specs.declared.engine.Engine.{Engine}
 use Rattle.alt_engine.specs.declared.work.Task.{Task}
-use Rattle.alt_engine.proofs.Turning.{all_merged, begins_back, busy_all, busy_by, did_flush, ends_back, first_lives, flush_busy, flushed, free_back, free_none, free_on, goes_back, idle_all, job_back, job_below, keeps_after, merged_back, merged_forth, none_after, none_free}
+use Rattle.alt_engine.proofs.Turning.{all_merged, begins_back, busy_all, busy_by, did_flush, ends_back, first_lives, flush_busy, flushed, free_back, free_none, free_on, goes_back, idle_all, job_back, job_below, keeps_after, makes_back, merged_back, merged_forth, none_after, none_free}
 use Rattle.alt_engine.proofs.Versioning.{after_step, new_log_read, next_read, once_done, once_done_with, one_behind, removed_read, version_read, without_read}
 use Rattle.alt_engine.proofs.engine.Engine.work.Goals as goal
 
@@ -617,6 +617,30 @@ returns-in-Step-clause-one_version g c it trusted v has =
       one_behind a b d (hand_of e) later.0 (c.give_up.ensures.last trusted l stands) later.1,
     )
 
+pub returns-in-FlushAll-clause-one_version : goal.returns-in-FlushAll-clause-one_version
+returns-in-FlushAll-clause-one_version g c it trusted v has =
+    let given = c.requires.ready trusted in let l = given.0 in let stands = given.1 in
+    let a : DiskState = g.D.Disk.state c.args.disk.now in
+    let b : DiskState = g.D.Disk.state c.give_up.new.disk in
+    let e : Engine = c.args.self.now in
+    let f : Engine = c.give_up.new.self in
+    let live = c.args.live.now in
+    let turned = c.in_ok-give_up.ensures.turned in
+    let same : hand_of f ≡ hand_of e = c.give_up.ensures.hand in
+    let told = trusted_on a b c.give_up.ensures.goes trusted in
+    let at : Stands b f l = c.in_ok-give_up.ensures.ok trusted l stands in
+    let d : DiskState = g.D.Disk.state c.flush_all.new.disk in
+    let later = subst (λ (h : Hand). (w : Version) × Spans b d (λ k. Unit {0}) (HasOneOf (version_in h) w))
+    same (c.flush_all.ensures.one_version told l at) in
+    subst (λ (u : Version). (w : Version) × Spans a d (λ k. Unit {0}) (HasOneOf u w))
+    (version_read a (hand_of e) l stands.hand v has) (
+      later.0,
+      one_behind a b d (hand_of e) later.0 (c.give_up.ensures.last trusted l stands) later.1,
+    )
+
+pub returns-in-MergeAll-clause-one_version : goal.returns-in-MergeAll-clause-one_version
+returns-in-MergeAll-clause-one_version g c other = absurd (other c.in-MergeAll.is)
+
 pub returns-in-MergeAll-clause-memory : goal.returns-in-MergeAll-clause-memory
 returns-in-MergeAll-clause-memory g c it = on_ok_weaker c.merge_all.result (λ memory family lives.
     memory family lives ∙ ap (λ (h : Hand). memory_at h family) c.give_up.ensures.hand)
@@ -654,3 +678,45 @@ pub returns-in-MergeAll-clause-taken : goal.returns-in-MergeAll-clause-taken
 returns-in-MergeAll-clause-taken g c = on_ok_weaker c.merge_all.result (λ it.
     let same = ap (λ (h : Hand). h.next_file) c.give_up.ensures.hand in
     omega (arith, it, same)) c.merge_all.ensures.next_file
+
+pub returns-in-Step-clause-missing : goal.returns-in-Step-clause-missing
+returns-in-Step-clause-missing g c = on_ok_weaker c.step.result (λ missing trusted l stands.
+    let a : DiskState = g.D.Disk.state c.args.disk.now in
+    let b : DiskState = g.D.Disk.state c.give_up.new.disk in
+    let e : Engine = c.args.self.now in
+    let f : Engine = c.give_up.new.self in
+    let live = c.args.live.now in
+    let turned = c.in_ok-give_up.ensures.turned in
+    let same : hand_of f ≡ hand_of e = c.give_up.ensures.hand in
+    let told = trusted_on a b c.give_up.ensures.goes trusted in
+    let at : Stands b f l = c.in_ok-give_up.ensures.ok trusted l stands in
+    makes_back a b live e f turned same (g.D.Disk.state c.step.new.disk) (λ none. missing told l at none))
+    c.step.ensures.missing
+
+pub returns-in-FlushAll-clause-missing : goal.returns-in-FlushAll-clause-missing
+returns-in-FlushAll-clause-missing g c = on_ok_weaker c.flush_all.result (λ missing trusted l stands.
+    let a : DiskState = g.D.Disk.state c.args.disk.now in
+    let b : DiskState = g.D.Disk.state c.give_up.new.disk in
+    let e : Engine = c.args.self.now in
+    let f : Engine = c.give_up.new.self in
+    let live = c.args.live.now in
+    let turned = c.in_ok-give_up.ensures.turned in
+    let same : hand_of f ≡ hand_of e = c.give_up.ensures.hand in
+    let told = trusted_on a b c.give_up.ensures.goes trusted in
+    let at : Stands b f l = c.in_ok-give_up.ensures.ok trusted l stands in
+    makes_back a b live e f turned same (g.D.Disk.state c.flush_all.new.disk) (λ none. missing told l at))
+    c.flush_all.ensures.missing
+
+pub returns-in-MergeAll-clause-missing : goal.returns-in-MergeAll-clause-missing
+returns-in-MergeAll-clause-missing g c = on_ok_weaker c.merge_all.result (λ missing trusted l stands.
+    let a : DiskState = g.D.Disk.state c.args.disk.now in
+    let b : DiskState = g.D.Disk.state c.give_up.new.disk in
+    let e : Engine = c.args.self.now in
+    let f : Engine = c.give_up.new.self in
+    let live = c.args.live.now in
+    let turned = c.in_ok-give_up.ensures.turned in
+    let same : hand_of f ≡ hand_of e = c.give_up.ensures.hand in
+    let told = trusted_on a b c.give_up.ensures.goes trusted in
+    let at : Stands b f l = c.in_ok-give_up.ensures.ok trusted l stands in
+    makes_back a b live e f turned same (g.D.Disk.state c.merge_all.new.disk) (λ none. missing told l at none))
+    c.merge_all.ensures.missing

@@ -36,6 +36,7 @@ pub mod OneStream
 pub mod Recovering
 pub mod Scanning
 pub mod Sharing
+pub mod Sizing
 pub mod Sorted
 pub mod StreamKeys
 pub mod StreamList

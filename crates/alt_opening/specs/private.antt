@@ -2,3 +2,4 @@
 pub mod IndexScans
 pub mod Made
 pub mod Opening
+pub mod RowSizes

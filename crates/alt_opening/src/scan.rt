@@ -7,6 +7,7 @@ ghost use Rattle.alt_engine.specs.HandOpened.{IsUndamaged};
 ghost use Rattle.alt_layout.specs.Layout.{Layout, rows_between};
 ghost use Rattle.alt_machine.specs.Keys.{key_fits, place_of};
 ghost use Rattle.alt_opening.specs.Scans.{Walked, IsAhead, IsNextRow, ItemsRead, IsItemFault, IsDeviceFault, IsItemAt};
+ghost use Rattle.alt_opening.specs.private.RowSizes.{AreWithin, IsWithin};
 ghost use Rattle.alt_value.specs.Tree.{Pair};
 
 use crate::faults::OpenFault;
@@ -97,15 +98,18 @@ pub(crate) fn key_after(key: &[u8], alloc: Global) -> Result<Bytes, NoMemory>
     Ok(Bytes::from_vec(bytes))
 }
 
-/// Tests that each row of a table's family is that of an item which may stand there.
+/// Tests that each row of a table's family is that of an item which may stand there, and tells a number of bytes than which none has more.
 pub(crate) fn read_items<D: Disk>(
     alloc: Global,
     disk: &mut D,
     engine: &mut Engine,
     schema: &TableSchema,
-) -> Result<(), OpenFault>
+) -> Result<u64, OpenFault>
     ensures read { IsTrue (D.state disk.old).tells → (l : Layout)
         → Reads (D.state disk.old) engine.old l → OnOk result (ItemsRead l schema.now) }
+    ensures largest { IsTrue (D.state disk.old).tells → (l : Layout)
+        → Reads (D.state disk.old) engine.old l
+        → IfOk result (λ largest. AreWithin l largest schema.now) }
     ensures wrong { IsTrue (D.state disk.old).tells → (l : Layout)
         → Reads (D.state disk.old) engine.old l → IfErr result (IsItemFault l schema.now) }
     ensures walked { Walked (D.state disk.old) (D.state disk.new) engine.old engine.new }
@@ -114,14 +118,15 @@ pub(crate) fn read_items<D: Disk>(
 {
     let mut from = Bytes::from_vec(Vec::new(alloc));
     let mut ahead = Vec::new(alloc);
+    let mut largest = 0;
     'rows: for _ in 0..u64::MAX {
         let (key, row) = match next_row(disk, engine, schema.family, &from, &mut ahead) {
             Ok(Some(next)) => next,
-            Ok(None) => return Ok(()),
+            Ok(None) => return Ok(largest),
             Err(fault) => return Err(fault),
         };
         match test_item(alloc, schema, &key, &row) {
-            Ok(()) => {}
+            Ok(size) => largest = size.max(largest),
             Err(Unread::Bad) => {
                 return Err(OpenFault::BadRow {
                     family: schema.family,
@@ -138,18 +143,24 @@ pub(crate) fn read_items<D: Disk>(
     Err(OpenFault::NoMemory)
 }
 
-/// Whether a row is that of an item that may stand at its key. Of the item the key alone is kept.
-fn test_item(alloc: Global, schema: &TableSchema, key: &Bytes, row: &ShownRow) -> Result<(), Unread>
+/// How many bytes the item has whose row this is, where it may stand at that key. Of the item the key alone is kept.
+fn test_item(
+    alloc: Global,
+    schema: &TableSchema,
+    key: &Bytes,
+    row: &ShownRow,
+) -> Result<u64, Unread>
     ensures item { OnOk result ((item : List Pair) × IsItemAt schema.now key.now row.now item) }
+    ensures size { IfOk result (λ size. IsWithin size key.now row.now) }
     ensures none { result ≡ Err Unread.Bad → (item : List Pair)
         → IsItemAt schema.now key.now row.now item → ⊥ }
 {
     match key_of_row(alloc, schema, row, LARGEST_ITEM)? {
-        Some(own) => {
+        Some((own, size)) => {
             if !stands_at(alloc, schema, key, &own)? {
                 return Err(Unread::Bad);
             }
-            Ok(())
+            Ok(size)
         }
         None => Err(Unread::Bad),
     }

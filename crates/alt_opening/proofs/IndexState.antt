@@ -10,6 +10,9 @@ use Rattle.alt_opening.specs.Recovery.{IsFirstWrong}
 use Rattle.alt_opening.specs.declared.faults.OpenFault.{OpenFault}
 use Rattle.alt_opening.specs.declared.faults.OpenFault.TheVariants.{Damaged, DigestDiffers, BadRow, Failed, NoMemory}
 use Rattle.alt_opening.proofs.IndexRead.{agrees_right, right_agrees}
+use Rattle.alt_opening.specs.StateRows.{Shows}
+use Rattle.alt_opening.specs.private.RowSizes.{AreAllWithin}
+use Rattle.alt_opening.proofs.Sizing.{sized_state}
 use Rattle.alt_opening.proofs.StreamState.{AssembledTables, assembled_tables, known_at, table_of}
 use Rattle.alt_opening.proofs.TrimmedSteps.{trimmed_state}
 use Rattle.alt_opening.specs.declared.trimmed.Trimmed.{Trimmed}
@@ -17,24 +20,31 @@ use Rattle.alt_opening.specs.declared.trimmed.Trimmed.{Trimmed}
 module _ (l : Layout) (next : ℕ) (known : Texts TableSchema) (s : State)
     (made : AssembledTables l next known s) where
   -- where its indexes are read the rows show it
-  pub whole_state : (trimmed : List Trimmed) → AreTrimmedIn l known trimmed
-      → AllIndexesRead l known → Assembled l next known trimmed s
-  whole_state trimmed told read = record {
-    shows = record {
-      number = made.agrees.rows.number;
-      catalog = λ key. made.agrees.rows.catalog key tt;
-      items = λ name t at key. made.agrees.rows.items name t at key tt;
-      indexes = λ name t number i at at_index key.
-          right_agrees l s made.agrees name t at i key
-          (read name t.description (known_at known s made.catalog name t at) number i tt
-          at_index key);
-      changes = made.agrees.changes;
-      beyond = λ family key high. made.agrees.rows.beyond family key high tt;
-    };
+  shows_it : AllIndexesRead l known → Shows l s
+  shows_it read = record {
+    number = made.agrees.rows.number;
+    catalog = λ key. made.agrees.rows.catalog key tt;
+    items = λ name t at key. made.agrees.rows.items name t at key tt;
+    indexes = λ name t number i at at_index key.
+        right_agrees l s made.agrees name t at i key
+        (read name t.description (known_at known s made.catalog name t at) number i tt
+        at_index key);
+    changes = made.agrees.changes;
+    beyond = λ family key high. made.agrees.rows.beyond family key high tt;
+  }
+
+  -- and that is the state
+  pub whole_state : (largest : ℕ) → AreAllWithin l known largest → (trimmed : List Trimmed)
+      → AreTrimmedIn l known trimmed → AllIndexesRead l known
+      → Assembled l next known largest trimmed s
+  whole_state largest within trimmed told read = record {
+    shows = shows_it read;
     valid = made.agrees.rows.valid;
     held = made.agrees.rows.held;
     catalog = made.catalog;
     family = made.family;
+    sized = sized_state l known s made.catalog (shows_it read) made.agrees.rows.valid
+        made.agrees.rows.held largest within;
     trimmed_known = trimmed_state l known s made.catalog made.trimmed trimmed told;
   }
 
@@ -81,8 +91,9 @@ module _ (l : Layout) (next : ℕ) (known : Texts TableSchema) (read : AreTables
   index_fault NoMemory is = is
 
   -- where there is none they show a state
-  pub shown_state : (trimmed : List Trimmed) → AreTrimmedIn l known trimmed
-      → AllIndexesRead l known → (s : State) × Assembled l next known trimmed s
-  shown_state trimmed told indexes =
+  pub shown_state : (largest : ℕ) → AreAllWithin l known largest → (trimmed : List Trimmed)
+      → AreTrimmedIn l known trimmed → AllIndexesRead l known
+      → (s : State) × Assembled l next known largest trimmed s
+  shown_state largest within trimmed told indexes =
       let (s, made) = assembled_tables l next known read number changes in
-      (s, whole_state l next known s made trimmed told indexes)
+      (s, whole_state l next known s made largest within trimmed told indexes)

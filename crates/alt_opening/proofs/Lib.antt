@@ -27,6 +27,7 @@ pub mod OverEngine
 pub mod Recovering
 pub mod Scanning
 pub mod Sharing
+pub mod Sizing
 pub mod Sorted
 pub mod StreamKeys
 pub mod StreamList

@@ -109,7 +109,7 @@ stands_behind a b c same quiet s stands =
 
 module _ (old mid new : DiskState) (e f : Engine) (l : Layout) (is : IsLayout old.file l)
     (reads : Reads mid e l) (walked : Walked mid new e f) (t : Store) (known : t.engine ≡ f)
-    (s : State) (made : Assembled l t.family t.catalog t.trimmed.items s) where
+    (s : State) (made : Assembled l t.family t.catalog t.largest t.trimmed.items s) where
   -- the files stand for it
   pub read_state : StandsFor old.file s
   read_state = record {
@@ -132,6 +132,7 @@ module _ (old mid new : DiskState) (e f : Engine) (l : Layout) (is : IsLayout ol
         number = there.hand.reads.next ∙ made.shows.number;
         family = sym made.family;
         trimmed = made.trimmed_known;
+        sized = made.sized;
         rows = record {
           trusted = trusted_on mid new walked.goes trusted;
           layout = l;

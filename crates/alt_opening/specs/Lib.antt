@@ -7,6 +7,7 @@ pub mod Opened
 pub mod Order
 pub mod Recovery
 pub mod Scans
+pub mod Sized
 pub mod StateRows
 pub mod StreamScans
 pub mod Trimmed

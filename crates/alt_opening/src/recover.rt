@@ -13,6 +13,7 @@ ghost use Rattle.alt_manifest.specs.declared.version.Version.{Version};
 ghost use Rattle.alt_opening.specs.FirstFiles.{IsFirstFile};
 ghost use Rattle.alt_opening.specs.Images.{StandsFor};
 ghost use Rattle.alt_opening.specs.private.Opening.{AllChangesRead, AllIndexesRead, AllItemsRead, AreTablesRead, AreTrimmedIn, Assembled, IsCatalog, IsIndexesFault, IsRowFault, IsStreamsFault};
+ghost use Rattle.alt_opening.specs.private.RowSizes.{AreAllWithin};
 ghost use Rattle.alt_opening.specs.Recovery.{IsExplained, HasNoState, WasLeft};
 ghost use Rattle.alt_opening.specs.Scans.{Walked};
 ghost use Rattle.alt_opening.specs.Opened.{OpensAs};
@@ -29,13 +30,14 @@ use alt_engine::{Engine, Limits};
 use alt_tablerows::held;
 use std::alloc::Global;
 
-/// A store that was opened: the engine over its files, the descriptions of its tables, the family that the next table gets, and what was
-/// trimmed of the tables' changes.
+/// A store that was opened: the engine over its files, the descriptions of its tables, the family that the next table gets, how many bytes
+/// the largest of the tables' items has, and what was trimmed of their changes.
 #[derive(Drop)]
 pub struct Store {
     pub engine: Engine,
     pub catalog: Catalog,
     pub family: u32,
+    pub largest: u64,
     pub trimmed: Vec<Trimmed>,
 }
 
@@ -77,33 +79,35 @@ pub fn open_store<D: Disk>(alloc: Global, disk: &mut D, limits: Limits) -> Resul
         Err(fault) => return Err(OpenFault::from(fault)),
     };
     match read_rows(alloc, disk, &mut engine) {
-        Ok((opened, trimmed)) => Ok(Store {
+        Ok((opened, largest, trimmed)) => Ok(Store {
             engine,
             catalog: opened.catalog,
             family: opened.family,
+            largest,
             trimmed,
         }),
         Err(fault) => Err(fault),
     }
 }
 
-/// Reads the rows of a store, and tests them.
+/// Reads the rows of a store, and tests them. It tells how many bytes the largest item has, and what was trimmed of changes.
 fn read_rows<D: Disk>(
     alloc: Global,
     disk: &mut D,
     engine: &mut Engine,
-) -> Result<(Opened, Vec<Trimmed>), OpenFault>
+) -> Result<(Opened, u64, Vec<Trimmed>), OpenFault>
     ensures read { IsTrue (D.state disk.old).tells → (l : Layout)
         → Reads (D.state disk.old) engine.old l
-        → IfOk result (λ o. (s : State) × Assembled l o.0.family o.0.catalog o.1.items s) }
+        → IfOk result (λ o. (s : State)
+        × Assembled l o.0.family o.0.catalog o.1 o.2.items s) }
     ensures wrong { IsTrue (D.state disk.old).tells → (l : Layout)
         → Reads (D.state disk.old) engine.old l → IfErr result (IsRowFault l) }
     ensures walked { Walked (D.state disk.old) (D.state disk.new) engine.old engine.new }
     ensures cause { IsErrOf result OpenFault.Failed
         → Rose (D.state disk.old).faults (D.state disk.new).faults }
 {
-    let opened = match read_state(alloc, disk, engine) {
-        Ok(opened) => opened,
+    let (opened, largest) = match read_state(alloc, disk, engine) {
+        Ok(state) => state,
         Err(fault) => return Err(fault),
     };
     let trimmed = match read_streams(alloc, disk, engine, &opened.catalog) {
@@ -111,20 +115,23 @@ fn read_rows<D: Disk>(
         Err(fault) => return Err(fault),
     };
     match read_indexes(alloc, disk, engine, &opened.catalog) {
-        Ok(()) => Ok((opened, trimmed)),
+        Ok(()) => Ok((opened, largest, trimmed)),
         Err(fault) => Err(fault),
     }
 }
 
-/// Reads the rows of the catalog and of the tables, and what stands from the next family on.
+/// Reads the rows of the catalog and of the tables, and what stands from the next family on. It tells how many bytes the largest item has.
 fn read_state<D: Disk>(
     alloc: Global,
     disk: &mut D,
     engine: &mut Engine,
-) -> Result<Opened, OpenFault>
+) -> Result<(Opened, u64), OpenFault>
     ensures read { IsTrue (D.state disk.old).tells → (l : Layout)
         → Reads (D.state disk.old) engine.old l
-        → IfOk result (λ o. AreTablesRead l o.family o.catalog) }
+        → IfOk result (λ o. AreTablesRead l o.0.family o.0.catalog) }
+    ensures largest { IsTrue (D.state disk.old).tells → (l : Layout)
+        → Reads (D.state disk.old) engine.old l
+        → IfOk result (λ o. AreAllWithin l o.0.catalog o.1) }
     ensures wrong { IsTrue (D.state disk.old).tells → (l : Layout)
         → Reads (D.state disk.old) engine.old l → IfErr result (IsRowFault l) }
     ensures walked { Walked (D.state disk.old) (D.state disk.new) engine.old engine.new }
@@ -135,27 +142,30 @@ fn read_state<D: Disk>(
         Ok(opened) => opened,
         Err(fault) => return Err(fault),
     };
-    match read_tables(alloc, disk, engine, &opened.catalog) {
-        Ok(()) => {}
+    let largest = match read_tables(alloc, disk, engine, &opened.catalog) {
+        Ok(largest) => largest,
         Err(fault) => return Err(fault),
-    }
+    };
     match engine.first_from(disk, opened.family) {
-        Ok(None) => Ok(opened),
+        Ok(None) => Ok((opened, largest)),
         Ok(Some((family, key))) => Err(OpenFault::BadRow { family, key }),
         Err(fault) => Err(OpenFault::from(fault)),
     }
 }
 
-/// Tests the items of all tables, in the order of their families.
+/// Tests the items of all tables, in the order of their families, and tells a number of bytes than which none has more.
 fn read_tables<D: Disk>(
     alloc: Global,
     disk: &mut D,
     engine: &mut Engine,
     catalog: &Catalog,
-) -> Result<(), OpenFault>
+) -> Result<u64, OpenFault>
     ensures read { IsTrue (D.state disk.old).tells → (l : Layout) (next : ℕ)
         → Reads (D.state disk.old) engine.old l → IsCatalog l next catalog.now
         → OnOk result (AllItemsRead l catalog.now) }
+    ensures largest { IsTrue (D.state disk.old).tells → (l : Layout) (next : ℕ)
+        → Reads (D.state disk.old) engine.old l → IsCatalog l next catalog.now
+        → IfOk result (AreAllWithin l catalog.now) }
     ensures wrong { IsTrue (D.state disk.old).tells → (l : Layout) (next : ℕ)
         → Reads (D.state disk.old) engine.old l → IsCatalog l next catalog.now
         → IfErr result (IsRowFault l) }
@@ -164,15 +174,16 @@ fn read_tables<D: Disk>(
         → Rose (D.state disk.old).faults (D.state disk.new).faults }
 {
     let mut family = 0;
+    let mut largest = 0;
     'tables: while let Some(schema) = catalog.above(family) {
         held(schema);
         match read_items(alloc, disk, engine, schema) {
-            Ok(()) => {}
+            Ok(size) => largest = size.max(largest),
             Err(fault) => return Err(fault),
         }
         family = schema.family;
     }
-    Ok(())
+    Ok(largest)
 }
 
 /// Tests the streams of all tables, in the order of the tables' families, and tells what was trimmed of their changes.

@@ -6,6 +6,7 @@ ghost use Rattle.alt_engine.specs.InHand.{Reads};
 ghost use Rattle.alt_engine.specs.HandOpened.{IsUndamaged};
 ghost use Rattle.alt_layout.specs.Layout.{Layout, rows_between};
 ghost use Rattle.alt_opening.specs.Scans.{Walked, IsAhead, IsNextRow, ItemsRead, IsItemFault, IsDeviceFault};
+ghost use Rattle.alt_opening.specs.private.RowSizes.{AreWithin};
 
 use crate::faults::OpenFault;
 use alt_base::NoMemory;
@@ -93,15 +94,18 @@ pub(crate) fn key_after(key: &[u8], alloc: Global) -> Result<Bytes, NoMemory>
     Ok(Bytes::from_vec(bytes))
 }
 
-/// Tests that each row of a table's family is that of an item which may stand there.
+/// Tests that each row of a table's family is that of an item which may stand there, and tells a number of bytes than which none has more.
 pub(crate) fn read_items<D: Disk>(
     alloc: Global,
     disk: &mut D,
     engine: &mut Engine,
     schema: &TableSchema,
-) -> Result<(), OpenFault>
+) -> Result<u64, OpenFault>
     ensures read { IsTrue (D.state disk.old).tells → (l : Layout)
         → Reads (D.state disk.old) engine.old l → OnOk result (ItemsRead l schema.now) }
+    ensures largest { IsTrue (D.state disk.old).tells → (l : Layout)
+        → Reads (D.state disk.old) engine.old l
+        → IfOk result (λ largest. AreWithin l largest schema.now) }
     ensures wrong { IsTrue (D.state disk.old).tells → (l : Layout)
         → Reads (D.state disk.old) engine.old l → IfErr result (IsItemFault l schema.now) }
     ensures walked { Walked (D.state disk.old) (D.state disk.new) engine.old engine.new }
@@ -110,14 +114,15 @@ pub(crate) fn read_items<D: Disk>(
 {
     let mut from = Bytes::from_vec(Vec::new(alloc));
     let mut ahead = Vec::new(alloc);
+    let mut largest = 0;
     'rows: for _ in 0..u64::MAX {
         let (key, row) = match next_row(disk, engine, schema.family, &from, &mut ahead) {
             Ok(Some(next)) => next,
-            Ok(None) => return Ok(()),
+            Ok(None) => return Ok(largest),
             Err(fault) => return Err(fault),
         };
         match test_item(alloc, schema, &key, &row) {
-            Ok(()) => {}
+            Ok(size) => largest = size.max(largest),
             Err(Unread::Bad) => {
                 return Err(OpenFault::BadRow {
                     family: schema.family,

@@ -1,8 +1,8 @@
-//! Whether a row is that of an item which may stand at its key.
+//! Whether a row is that of an item which may stand at its key, and how many bytes that has.
 
 ghost use Rattle.std.specs.Prelude.{◌≡◌, ◌↔◌, List, Some, Err, IfOk, OnOk, IsTrue, true};
 ghost use Rattle.alt_machine.specs.Keys.{key_fits, place_of};
-ghost use Rattle.alt_tablerows.specs.ItemTests.{IsItemAt};
+ghost use Rattle.alt_tablerows.specs.ItemTests.{IsItemAt, IsWithin};
 ghost use Rattle.alt_value.specs.Tree.{Pair};
 
 use alt_base::NoMemory;
@@ -14,23 +14,24 @@ use alt_value::Item;
 use alt_views::{Unread, key_fits, key_of_row, place_of};
 use std::alloc::Global;
 
-/// Whether a row is that of an item that may stand at its key. Of the item the key alone is kept.
+/// How many bytes the item has whose row this is, where it may stand at that key. Of the item the key alone is kept.
 pub fn test_item(
     alloc: Global,
     schema: &TableSchema,
     key: &Bytes,
     row: &ShownRow,
-) -> Result<(), Unread>
+) -> Result<u64, Unread>
     ensures item { OnOk result ((item : List Pair) × IsItemAt schema.now key.now row.now item) }
+    ensures size { IfOk result (λ size. IsWithin size key.now row.now) }
     ensures none { result ≡ Err Unread.Bad → (item : List Pair)
         → IsItemAt schema.now key.now row.now item → ⊥ }
 {
     match key_of_row(alloc, schema, row, LARGEST_ITEM)? {
-        Some(own) => {
+        Some((own, size)) => {
             if !stands_at(alloc, schema, key, &own)? {
                 return Err(Unread::Bad);
             }
-            Ok(())
+            Ok(size)
         }
         None => Err(Unread::Bad),
     }

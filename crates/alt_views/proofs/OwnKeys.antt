@@ -214,13 +214,16 @@ all_read d most es k key left sorted short all so =
       sym same,
     )
 
--- where a budget isn't spent the item is no larger, and else it is
-pub left_within : (most n left : ℕ) → Some left ≡ left_after most n → n ≤ most
+-- where a budget isn't spent the item is no larger, and what is left tells how large it is; else it is larger
+pub left_within : (most n left : ℕ) → Some left ≡ left_after most n
+    → (n ≤ most) × (left + n ≡ most)
 left_within most n left e = elim (cases_lt most n) [
   | inl h ↦
       let f : Some left ≡ None = e ∙ wanting most n h in
       absurd (let g : ⊥ = cc in g)
-  | inr h ↦ h
+  | inr h ↦
+      let f : Some left ≡ Some (most - n) = e ∙ enough most n h in
+      let same : left ≡ most - n = cc in (h, omega arith)
 ]
 
 pub none_within : (most n : ℕ) → None ≡ left_after most n → most < n

@@ -11,7 +11,8 @@ abbrev pub HasKeyOf : TableSchema → List Pair → List Pair → Type 0
 HasKeyOf d item key = (name : List ℕ) → is_key d.hash d.range name ≡ true
     → at_name name key ≡ at_name name item
 
--- the key of an item that has so many bytes at most; None for one that has more
-abbrev pub IsKeyWithin : TableSchema → ℕ → List Pair → Option (List Pair) → Type 0
+-- the key of an item that has so many bytes at most, and how many it has; None for one that has more
+abbrev pub IsKeyWithin : TableSchema → ℕ → List Pair → Option (List Pair × ℕ) → Type 0
 IsKeyWithin d most item None = most < item_size item
-IsKeyWithin d most item (Some key) = (item_size item ≤ most) × HasKeyOf d item key
+IsKeyWithin d most item (Some own) = (item_size item ≤ most) × HasKeyOf d item own.0
+    × (own.1 ≡ item_size item)

@@ -19,13 +19,14 @@ use alt_schema::TableSchema;
 use alt_value::{Attr, Item, size_within};
 use std::alloc::Global;
 
-/// The key attributes of the item whose row this is, where it has so many bytes at most; None where it has more.
+/// The key attributes of the item whose row this is, and how many bytes the item has, where these are so many at most; None where it has
+/// more.
 pub fn key_of_row(
     alloc: Global,
     schema: &TableSchema,
     row: &ShownRow,
     most: u64,
-) -> Result<Option<Item>, Unread>
+) -> Result<Option<(Item, u64)>, Unread>
     ensures key { IfOk result (λ key. (item : List Pair) × IsReadItem item
         × (row.now ≡ item_columns item) × IsKeyWithin schema.now most item key) }
     ensures none { result ≡ Err Unread.Bad → (item : List Pair) → IsReadItem item
@@ -37,13 +38,13 @@ pub fn key_of_row(
     key_of_columns(alloc, schema, columns, most)
 }
 
-/// The key of the item with these attributes.
+/// The key of the item with these attributes, and how many bytes the item has.
 fn key_of_columns(
     alloc: Global,
     schema: &TableSchema,
     columns: &[(Bytes, Bytes)],
     most: u64,
-) -> Result<Option<Item>, Unread>
+) -> Result<Option<(Item, u64)>, Unread>
     requires { T (is_sorted key_cmp (([], []) ∷ columns.now)) }
     ensures key { IfOk result (λ key. (item : List Pair) × IsReadItem item
         × (columns.now ≡ each column_of item) × IsKeyWithin schema.now most item key) }
@@ -59,7 +60,7 @@ fn key_of_columns(
     }
     let _count = columns.len();
     match left {
-        Some(_) => Ok(Some(key)),
+        Some(left) => Ok(Some((key, most - left))),
         None => Ok(None),
     }
 }

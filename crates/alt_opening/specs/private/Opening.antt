@@ -12,6 +12,7 @@ use Rattle.alt_schema.specs.declared.schema.TableSchema.{TableSchema}
 use Rattle.alt_opening.specs.private.IndexScans.{IndexesRead, IsFirstOfOwn}
 use Rattle.alt_opening.specs.Recovery.{IsFirstWrong}
 use Rattle.alt_opening.specs.Scans.{IsBelow, ItemsRead}
+use Rattle.alt_opening.specs.Sized.{AreSized}
 use Rattle.alt_opening.specs.StateRows.{Shows, IsHeldWhole, catalog_family, next_row, table_row}
 use Rattle.alt_opening.specs.StreamScans.{ChangesRead, IsFirstOfStream, stream_trimmed}
 use Rattle.alt_opening.specs.Trimmed.{AreTrimmedOf, number_at}
@@ -172,15 +173,16 @@ AreTrimmedUpTo l catalog family known = (name : List ℕ) → number_at name kno
     ≡ option_map_or (λ (d : TableSchema). if nat_le d.family family then stream_trimmed l d else 0)
     (map.get catalog name) 0
 
--- A state whose rows these are with those of streams and of indexes, whose tables are those of the catalog, and of whose changes
--- so much was trimmed as is known.
-pub record Assembled (l : Layout) (next : ℕ) (known : Texts TableSchema) (trimmed : List Trimmed)
-    (s : State) : Type 0 where
+-- A state whose rows these are with those of streams and of indexes, whose tables are those of the catalog, of whose items none has more
+-- bytes than the largest, and of whose changes so much was trimmed as is known.
+pub record Assembled (l : Layout) (next : ℕ) (known : Texts TableSchema) (largest : ℕ)
+    (trimmed : List Trimmed) (s : State) : Type 0 where
   pub shows : Shows l s
   pub valid : IsValid s
   pub held : IsHeldWhole s
   pub catalog : descriptions s.tables ≡ known
   pub family : s.next_family ≡ next
+  pub sized : AreSized s.tables largest
   pub trimmed_known : AreTrimmedOf s.tables trimmed
 
 -- a wrong row is the first one

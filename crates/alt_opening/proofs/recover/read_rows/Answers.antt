@@ -10,11 +10,11 @@ use Rattle.alt_opening.proofs.recover.read_rows.Goals as goal
 pub returns-in-Err-read_streams-clause-wrong : goal.returns-in-Err-read_streams-clause-wrong
 returns-in-Err-read_streams-clause-wrong g c tells l reads =
     let tables = c.in-Ok.ensures.read tells l reads in
-    stream_fault l c.in-Ok.opened.family c.in-Ok.opened.catalog tables
+    stream_fault l c.in-Ok.state.0.family c.in-Ok.state.0.catalog tables
     (number_within (g.D.Disk.state c.args.disk.now) c.args.engine.now l reads)
     c.in-Err-read_streams.fault
     (c.in-Err-read_streams.ensures.wrong
-    (subst IsTrue (sym c.in-Ok.ensures.walked.goes.tells) tells) l c.in-Ok.opened.family
+    (subst IsTrue (sym c.in-Ok.ensures.walked.goes.tells) tells) l c.in-Ok.state.0.family
     (reads_on (g.D.Disk.state c.args.disk.now) (g.D.Disk.state c.read_state.new.disk)
     c.args.engine.now c.read_state.new.engine l c.in-Ok.ensures.walked tells reads) tables)
 
@@ -27,18 +27,18 @@ returns-in-Ok-read_indexes-clause-read g c tells l reads =
     c.args.engine.now c.read_state.new.engine c.read_streams.new.engine c.in-Ok.ensures.walked
     c.in-Ok-read_streams.ensures.walked in
     let streams = c.in-Ok-read_streams.ensures.read
-    (subst IsTrue (sym c.in-Ok.ensures.walked.goes.tells) tells) l c.in-Ok.opened.family
+    (subst IsTrue (sym c.in-Ok.ensures.walked.goes.tells) tells) l c.in-Ok.state.0.family
     (reads_on (g.D.Disk.state c.args.disk.now) (g.D.Disk.state c.read_state.new.disk)
     c.args.engine.now c.read_state.new.engine l c.in-Ok.ensures.walked tells reads) tables in
-    shown_state l c.in-Ok.opened.family c.in-Ok.opened.catalog tables
+    shown_state l c.in-Ok.state.0.family c.in-Ok.state.0.catalog tables
     (number_within (g.D.Disk.state c.args.disk.now) c.args.engine.now l reads) streams
-    c.in-Ok-read_streams.trimmed.items
+    c.in-Ok.state.1 (c.in-Ok.ensures.largest tells l reads) c.in-Ok-read_streams.trimmed.items
     (c.in-Ok-read_streams.ensures.trimmed
-    (subst IsTrue (sym c.in-Ok.ensures.walked.goes.tells) tells) l c.in-Ok.opened.family
+    (subst IsTrue (sym c.in-Ok.ensures.walked.goes.tells) tells) l c.in-Ok.state.0.family
     (reads_on (g.D.Disk.state c.args.disk.now) (g.D.Disk.state c.read_state.new.disk)
     c.args.engine.now c.read_state.new.engine l c.in-Ok.ensures.walked tells reads) tables)
     (c.in-Ok-read_indexes.ensures.read (subst IsTrue (sym both.goes.tells) tells) l
-    c.in-Ok.opened.family
+    c.in-Ok.state.0.family
     (reads_on (g.D.Disk.state c.args.disk.now) (g.D.Disk.state c.read_streams.new.disk)
     c.args.engine.now c.read_streams.new.engine l both tells reads) tables)
 
@@ -51,14 +51,14 @@ returns-in-Err-read_indexes-clause-wrong g c tells l reads =
     c.args.engine.now c.read_state.new.engine c.read_streams.new.engine c.in-Ok.ensures.walked
     c.in-Ok-read_streams.ensures.walked in
     let streams = c.in-Ok-read_streams.ensures.read
-    (subst IsTrue (sym c.in-Ok.ensures.walked.goes.tells) tells) l c.in-Ok.opened.family
+    (subst IsTrue (sym c.in-Ok.ensures.walked.goes.tells) tells) l c.in-Ok.state.0.family
     (reads_on (g.D.Disk.state c.args.disk.now) (g.D.Disk.state c.read_state.new.disk)
     c.args.engine.now c.read_state.new.engine l c.in-Ok.ensures.walked tells reads) tables in
-    index_fault l c.in-Ok.opened.family c.in-Ok.opened.catalog tables
+    index_fault l c.in-Ok.state.0.family c.in-Ok.state.0.catalog tables
     (number_within (g.D.Disk.state c.args.disk.now) c.args.engine.now l reads) streams
     c.in-Err-read_indexes.fault
     (c.in-Err-read_indexes.ensures.wrong (subst IsTrue (sym both.goes.tells) tells) l
-    c.in-Ok.opened.family
+    c.in-Ok.state.0.family
     (reads_on (g.D.Disk.state c.args.disk.now) (g.D.Disk.state c.read_streams.new.disk)
     c.args.engine.now c.read_streams.new.engine l both tells reads) tables)
 

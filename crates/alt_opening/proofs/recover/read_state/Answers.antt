@@ -40,6 +40,14 @@ returns-in-Ok-None-clause-read g c tells l reads =
           c.args.engine.now c.read_tables.new.engine l both tells reads));
     }
 
+pub returns-in-Ok-None-clause-largest : goal.returns-in-Ok-None-clause-largest
+returns-in-Ok-None-clause-largest g c tells l reads =
+    c.in-Ok-read_tables.ensures.largest
+    (subst IsTrue (sym c.in-Ok.ensures.walked.goes.tells) tells) l c.in-Ok.opened.family
+    (reads_on (g.D.Disk.state c.args.disk.now) (g.D.Disk.state c.read_catalog.new.disk)
+    c.args.engine.now c.read_catalog.new.engine l c.in-Ok.ensures.walked tells reads)
+    (c.in-Ok.ensures.read tells l reads)
+
 pub returns-in-Ok-Some-clause-wrong : goal.returns-in-Ok-Some-clause-wrong
 returns-in-Ok-Some-clause-wrong g c tells l reads =
     let catalog : IsCatalog l c.in-Ok.opened.family c.in-Ok.opened.catalog =

@@ -1,9 +1,11 @@
 -- One row more.
 use Rattle.std.proofs.Common.{sym, ap, subst, ◌∙◌, ◌++◌, ◌∷◌, [], refl, Err, IsTrue}
 use Rattle.alt_opening.specs.Scans.{IsItemRow, IsNextRow, IsFirstFrom}
+use Rattle.alt_tablerows.specs.ItemTests.{IsWithin}
 use Rattle.alt_opening.proofs.Ahead.{ahead_then, none_ahead}
 use Rattle.alt_opening.proofs.Scanning.{walk_start, walk_then, reads_on, rows_none, rows_next, rows_all, rows_more}
 use Rattle.alt_opening.proofs.DeviceFaults.{device_item}
+use Rattle.alt_opening.proofs.Sizing.{sized_more}
 use Rattle.alt_opening.proofs.scan.read_items.Goals as goal
 
 pub rows-init : goal.rows-init
@@ -12,6 +14,8 @@ rows-init g c = record {
   items = λ tells layout reads. rows_none layout c.args.schema.now.family
       (IsItemRow c.args.schema.now) c.from_vec-from.result
       (c.from_vec-from.ensures.same ∙ c.new.ensures.items);
+  sized = λ tells layout reads. rows_none layout c.args.schema.now.family (IsWithin 0)
+      c.from_vec-from.result (c.from_vec-from.ensures.same ∙ c.new.ensures.items);
   ahead = λ tells layout reads. none_ahead layout c.args.schema.now.family c.from_vec-from.result
       c.new-ahead.result.items c.new-ahead.ensures.items;
 }
@@ -20,6 +24,17 @@ pub returns-in-Ok-None-clause-read : goal.returns-in-Ok-None-clause-read
 returns-in-Ok-None-clause-read g c tells l reads =
     rows_all l c.args.schema.now.family (IsItemRow c.args.schema.now) c.rows.from
     (c.rows.invariant.items tells l reads)
+    (subst (IsNextRow l c.args.schema.now.family c.rows.from) c.in-Ok-None.field-0-is
+    (c.in-Ok-None.ensures.row
+    (subst IsTrue (sym c.rows.invariant.walked.goes.tells) tells) l
+    (reads_on (g.D.Disk.state c.args.disk.now) (g.D.Disk.state c.rows.disk) c.args.engine.now
+    c.rows.engine l c.rows.invariant.walked tells reads)
+    (c.rows.invariant.ahead tells l reads)))
+
+pub returns-in-Ok-None-clause-largest : goal.returns-in-Ok-None-clause-largest
+returns-in-Ok-None-clause-largest g c tells l reads =
+    rows_all l c.args.schema.now.family (IsWithin c.rows.largest) c.rows.from
+    (c.rows.invariant.sized tells l reads)
     (subst (IsNextRow l c.args.schema.now.family c.rows.from) c.in-Ok-None.field-0-is
     (c.in-Ok-None.ensures.row
     (subst IsTrue (sym c.rows.invariant.walked.goes.tells) tells) l
@@ -67,6 +82,20 @@ rows-preserved g c = record {
       (rows_next l c.args.schema.now.family (IsItemRow c.args.schema.now) c.rows.from
       (c.rows.invariant.items tells l reads)
       c.in-Ok-Some.next.0 c.in-Ok-Some.next.1 first) first.shows c.in-Ok.ensures.item
+      c.in-Ok-key_after.after
+      (c.in-Ok-key_after.ensures ∙ ap (λ k. k ++ 0 ∷ []) c.as_slice.ensures.same);
+  sized = λ tells l reads.
+      let first : IsFirstFrom l c.args.schema.now.family c.rows.from c.in-Ok-Some.next.0
+      c.in-Ok-Some.next.1 =
+      subst (IsNextRow l c.args.schema.now.family c.rows.from) c.in-Ok-Some.field-0-is
+      (c.in-Ok-Some.ensures.row
+      (subst IsTrue (sym c.rows.invariant.walked.goes.tells) tells) l
+      (reads_on (g.D.Disk.state c.args.disk.now) (g.D.Disk.state c.rows.disk) c.args.engine.now
+      c.rows.engine l c.rows.invariant.walked tells reads)
+      (c.rows.invariant.ahead tells l reads)) in
+      sized_more l c.args.schema.now.family c.rows.largest c.in-Ok.size c.max-largest.result
+      c.max-largest.ensures c.rows.from (c.rows.invariant.sized tells l reads)
+      c.in-Ok-Some.next.0 c.in-Ok-Some.next.1 first c.in-Ok.ensures.size
       c.in-Ok-key_after.after
       (c.in-Ok-key_after.ensures ∙ ap (λ k. k ++ 0 ∷ []) c.as_slice.ensures.same);
   ahead = λ tells l reads. ahead_then l c.args.schema.now.family c.in-Ok-Some.field-0 c.in-Ok-Some.next

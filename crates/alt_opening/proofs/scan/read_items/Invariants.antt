@@ -1,8 +1,9 @@
--- The items of the rows so far are read, and the engine reads as it read.
+-- The items of the rows so far are read, none has more bytes than the largest, and the engine reads as it read.
 use Rattle.std.proofs.Common.{IsTrue}
 use Rattle.alt_engine.specs.InHand.{Reads}
 use Rattle.alt_layout.specs.Layout.{Layout}
-use Rattle.alt_opening.specs.Scans.{IsAhead, IsBelow, ItemsWhere, Walked}
+use Rattle.alt_opening.specs.Scans.{IsAhead, IsBelow, ItemsWhere, RowsWhere, Walked}
+use Rattle.alt_tablerows.specs.ItemTests.{IsWithin}
 use Rattle.alt_opening.proofs.scan.read_items.Given as goal
 
 abbrev pub invariant-rows : goal.invariant-rows
@@ -11,6 +12,9 @@ invariant-rows g l = record {
   items : IsTrue (g.D.Disk.state l.fn.disk).tells → (layout : Layout)
       → Reads (g.D.Disk.state l.fn.disk) l.fn.engine layout
       → ItemsWhere (λ k. IsBelow k l.from) layout l.schema;
+  sized : IsTrue (g.D.Disk.state l.fn.disk).tells → (layout : Layout)
+      → Reads (g.D.Disk.state l.fn.disk) l.fn.engine layout
+      → RowsWhere (λ k. IsBelow k l.from) layout l.schema.family (IsWithin l.largest);
   ahead : IsTrue (g.D.Disk.state l.fn.disk).tells → (layout : Layout)
       → Reads (g.D.Disk.state l.fn.disk) l.fn.engine layout
       → IsAhead layout l.schema.family l.from l.ahead.items;

@@ -12,7 +12,7 @@ use Rattle.alt_tablerows.proofs.items.test_item.Goals as goal
 pub returns-else-not-branch-clause-item : goal.returns-else-not-branch-clause-item
 returns-else-not-branch-clause-item c =
     let (item, read, row, within) = c.in_ok-own.ensures.key in
-    let (size, has) = subst (IsKeyWithin c.args.schema.now LARGEST_ITEM item) c.in-Some.is within in
+    let (size, has, told) = subst (IsKeyWithin c.args.schema.now LARGEST_ITEM item) c.in-Some.is within in
     let may = c.in_ok-stands_at-in-Some.ensures.stands.0 (search rules) in (
       item,
       record {
@@ -29,10 +29,18 @@ returns-else-not-branch-clause-item c =
       },
     )
 
+pub returns-else-not-branch-clause-size : goal.returns-else-not-branch-clause-size
+returns-else-not-branch-clause-size c item is row =
+    let (found, read, same_row, within) = c.in_ok-own.ensures.key in
+    let (size, has, told) = subst (IsKeyWithin c.args.schema.now LARGEST_ITEM found) c.in-Some.is within in
+    let same : item ≡ found = item_columns-one item found is.whole read.whole
+    (sym row ∙ same_row) in
+    omega (arith, told, ap item_size same)
+
 pub returns-then-not-branch-clause-none : goal.returns-then-not-branch-clause-none
 returns-then-not-branch-clause-none c bad item is =
     let (found, read, row, within) = c.in_ok-own.ensures.key in
-    let (size, has) = subst (IsKeyWithin c.args.schema.now LARGEST_ITEM found) c.in-Some.is within in
+    let (size, has, told) = subst (IsKeyWithin c.args.schema.now LARGEST_ITEM found) c.in-Some.is within in
     let same : item ≡ found = item_columns-one item found is.read.whole read.whole
     (sym is.row ∙ row) in
     let may : IsTrue c.in_ok-stands_at-in-Some.field-0 = c.in_ok-stands_at-in-Some.ensures.stands.1 (

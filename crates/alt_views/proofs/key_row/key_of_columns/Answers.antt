@@ -1,7 +1,8 @@
 -- One column more.
-use Rattle.std.proofs.Common.{Err, Some, ap, arith, rules, sym, subst, ◌∙◌}
+use Rattle.std.proofs.Common.{◌≡◌, ◌≤◌, ◌+◌, Err, Some, ap, arith, rules, sym, subst, ◌∙◌}
 use Rattle.alt_views.proofs.Columns.{bad_is, read_attribute}
 use Rattle.alt_views.proofs.OwnKeys.{IsReadTo, all_read, left_within, none_read, none_within, read_more}
+use Rattle.alt_value.specs.Size.{item_size}
 use Rattle.alt_value.specs.Stands.{tree_of}
 use Rattle.alt_value.specs.Tree.{Pair}
 use Rattle.alt_views.proofs.key_row.key_of_columns.Goals as goal
@@ -34,7 +35,10 @@ returns-in-Some-clause-key c =
     let read = all_read c.args.schema.now c.args.most c.args.columns.now
     c.loop-column.column-index c.loop-column.key c.loop-column.left c.requires (search rules)
     (omega arith) so in
-    (so.item, read.0, read.1, (left_within c.args.most _ _ (sym c.in-Some.is ∙ so.less), so.own))
+    let within : (item_size so.item ≤ c.args.most) × (c.in-Some.left + item_size so.item
+    ≡ c.args.most) = left_within c.args.most (item_size so.item) c.in-Some.left
+    (sym c.in-Some.is ∙ so.less) in
+    (so.item, read.0, read.1, (within.0, so.own, omega (arith, within.1)))
 
 pub returns-in-None-clause-key : goal.returns-in-None-clause-key
 returns-in-None-clause-key c =

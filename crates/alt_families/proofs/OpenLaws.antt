@@ -52,15 +52,18 @@ pub record RowLeft (s : DiskState) (fs : List RowFile) (key : List ℕ) (row : O
   pub each : Each2 (IsOpen s) fs maps
   pub is : get rows key ≡ either join_row row (get (all_rows maps) key)
 
--- at first what memory has
-pub row_first : (s : DiskState) (f : Family) (key : List ℕ) (rows : RowMap)
-    → FamilyReads s (Some f) rows → RowLeft s f.files.items key (get f.table.0 key) rows
-row_first s f key rows reads = record {
-  maps = reads.maps;
-  each = reads.each;
-  is = ap (λ (m : RowMap). get m key) reads.is
-      ∙ get-joined_map key_cmp key_total join_row f.table.0 (all_rows reads.maps) key;
-}
+-- at first nothing
+pub row_first : (s : DiskState) (fs : List RowFile) (key : List ℕ) (maps : List RowMap)
+    → Each2 (IsOpen s) fs maps → RowLeft s fs key None (all_rows maps)
+row_first s fs key maps each = record { maps = maps; each = each; is = refl }
+
+-- a family's row is the one in memory, joined with what its files have
+pub row_joined : (s : DiskState) (f : Family) (key : List ℕ) (rows : RowMap)
+    → (reads : FamilyReads s (Some f) rows)
+    → get rows key ≡ either join_row (get f.table.0 key) (get (all_rows reads.maps) key)
+row_joined s f key rows reads =
+    ap (λ (m : RowMap). get m key) reads.is
+    ∙ get-joined_map key_cmp key_total join_row f.table.0 (all_rows reads.maps) key
 
 -- one file more
 row_next : (s : DiskState) (f : RowFile) (fs : List RowFile) (key : List ℕ)

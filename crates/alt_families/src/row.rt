@@ -1,6 +1,6 @@
 //! One row, joined of memory and files.
 
-ghost use Rattle.std.specs.Prelude.{◌≡◌, ◌≤◌, ◌+◌, Some, length, option_and_then, IfOk, IfErr, IsErrOf, IsTrue};
+ghost use Rattle.std.specs.Prelude.{◌≡◌, ◌≤◌, ◌+◌, List, Some, length, option_and_then, IfOk, IfErr, IsErrOf, IsTrue};
 ghost use Rattle.std.specs.BTreeMap.{get as tree_get};
 ghost use Rattle.std.specs.FinMap.{get};
 ghost use Rattle.std.specs.Ordering.{nat_cmp};
@@ -12,7 +12,8 @@ ghost use Rattle.alt_disk.specs.Disk.{Goes};
 ghost use Rattle.alt_disk.specs.Runs.{Quiet};
 ghost use Rattle.alt_layout.specs.Layout.{RowMap};
 ghost use Rattle.alt_families.specs.Families.{files_in};
-ghost use Rattle.alt_families.specs.Opened.{FamilyReads, IsUndamaged};
+ghost use Rattle.alt_families.specs.Opened.{FamilyReads, IsOpen, IsUndamaged};
+ghost use Rattle.alt_merge.specs.Merges.{Each2, all_rows};
 
 use crate::family::Family;
 use alt_base::NoMemory;
@@ -48,62 +49,22 @@ pub fn shown_row<D: Disk>(
     ensures reads { (D.state disk.new).reads ≤ (D.state disk.old).reads
         + length (files_in (tree_get nat_cmp families.now family)) }
 {
-    match cells_at(alloc, disk, families, family, key) {
-        Ok(row) => Ok(shown_of(alloc, row)?),
-        Err(fault) => Err(fault),
-    }
-}
-
-/// What a row shows, if there is one. Its bytes are moved and not copied.
-fn shown_of(alloc: Global, row: Option<RowCells>) -> Result<Option<ShownRow>, NoMemory>
-    ensures { IfOk result (λ shown. shown ≡ option_and_then row_shown row) }
-{
-    match row {
-        Some(row) => row.into_shown(alloc),
-        None => Ok(None),
-    }
-}
-
-/// The row of a family and key, None exactly where there is none.
-fn cells_at<D: Disk>(
-    alloc: Global,
-    disk: &mut D,
-    families: &BTreeMap<u32, Family>,
-    family: u32,
-    key: &[u8],
-) -> Result<Option<RowCells>, SourceFault>
-    ensures row { IsTrue (D.state disk.old).tells → (rows : RowMap)
-        → FamilyReads (D.state disk.old) (tree_get nat_cmp families.now family) rows
-        → IfOk result (λ row. row ≡ get rows key.now) }
-    ensures undamaged { IsTrue (D.state disk.old).tells → (rows : RowMap)
-        → FamilyReads (D.state disk.old) (tree_get nat_cmp families.now family) rows
-        → IfErr result IsUndamaged }
-    ensures quiet { IsTrue (D.state disk.old).tells
-        → Quiet (D.state disk.old) (D.state disk.new) }
-    ensures goes { Goes (D.state disk.old) (D.state disk.new) }
-    ensures cause { IsErrOf result SourceFault.Failed
-        → Rose (D.state disk.old).faults (D.state disk.new).faults }
-    ensures well { (IsErrOf result SourceFault.Failed → ⊥)
-        → (D.state disk.new).faults ≡ (D.state disk.old).faults }
-    ensures reads { (D.state disk.new).reads ≤ (D.state disk.old).reads
-        + length (files_in (tree_get nat_cmp families.now family)) }
-{
     match families.get(&family) {
-        Some(found) => row_of(alloc, disk, found, key),
+        Some(found) => shown_in(alloc, disk, found, key),
         None => Ok(None),
     }
 }
 
-/// The row of a key, in memory and in files.
-fn row_of<D: Disk>(
+/// What the row of a key shows, in memory and in files.
+fn shown_in<D: Disk>(
     alloc: Global,
     disk: &mut D,
     family: &Family,
     key: &[u8],
-) -> Result<Option<RowCells>, SourceFault>
+) -> Result<Option<ShownRow>, SourceFault>
     ensures row { IsTrue (D.state disk.old).tells → (rows : RowMap)
         → FamilyReads (D.state disk.old) (Some family.now) rows
-        → IfOk result (λ row. row ≡ get rows key.now) }
+        → IfOk result (λ row. row ≡ option_and_then row_shown (get rows key.now)) }
     ensures undamaged { IsTrue (D.state disk.old).tells → (rows : RowMap)
         → FamilyReads (D.state disk.old) (Some family.now) rows → IfErr result IsUndamaged }
     ensures quiet { IsTrue (D.state disk.old).tells
@@ -116,7 +77,35 @@ fn row_of<D: Disk>(
     ensures reads { (D.state disk.new).reads
         ≤ (D.state disk.old).reads + length family.now.files.items }
 {
-    let mut row = row_in(alloc, &family.table, key)?;
+    match row_in_files(disk, family, key) {
+        Ok(found) => Ok(shown_over(alloc, &family.table, key, found)?),
+        Err(fault) => Err(fault),
+    }
+}
+
+/// The row of a key in files, None exactly where none has one.
+fn row_in_files<D: Disk>(
+    disk: &mut D,
+    family: &Family,
+    key: &[u8],
+) -> Result<Option<RowCells>, SourceFault>
+    ensures row { IsTrue (D.state disk.old).tells → (maps : List RowMap)
+        → Each2 (IsOpen (D.state disk.old)) family.now.files.items maps
+        → IfOk result (λ row. row ≡ get (all_rows maps) key.now) }
+    ensures undamaged { IsTrue (D.state disk.old).tells → (maps : List RowMap)
+        → Each2 (IsOpen (D.state disk.old)) family.now.files.items maps
+        → IfErr result IsUndamaged }
+    ensures quiet { IsTrue (D.state disk.old).tells
+        → Quiet (D.state disk.old) (D.state disk.new) }
+    ensures goes { Goes (D.state disk.old) (D.state disk.new) }
+    ensures cause { IsErrOf result SourceFault.Failed
+        → Rose (D.state disk.old).faults (D.state disk.new).faults }
+    ensures well { (IsErrOf result SourceFault.Failed → ⊥)
+        → (D.state disk.new).faults ≡ (D.state disk.old).faults }
+    ensures reads { (D.state disk.new).reads
+        ≤ (D.state disk.old).reads + length family.now.files.items }
+{
+    let mut row = None;
     for file in &family.files {
         match file.row(disk, key) {
             Ok(more) => row = joined(row, more)?,
@@ -126,13 +115,48 @@ fn row_of<D: Disk>(
     Ok(row)
 }
 
-/// The row of a key in memory.
-fn row_in(alloc: Global, table: &Memtable, key: &[u8]) -> Result<Option<RowCells>, NoMemory>
-    ensures { IfOk result (λ row. row ≡ get table.now.0 key.now) }
+/// What the row of a key shows, of the one in memory and of that in files.
+fn shown_over(
+    alloc: Global,
+    table: &Memtable,
+    key: &[u8],
+    found: Option<RowCells>,
+) -> Result<Option<ShownRow>, NoMemory>
+    ensures { IfOk result (λ shown. shown
+        ≡ option_and_then row_shown (either join_row (get table.now.0 key.now) found)) }
 {
     let key = Bytes::new(alloc, key)?;
     match table.get(&key) {
-        Some(row) => Ok(Some(row.copy()?)),
+        Some(row) => shown_with(alloc, row, found),
+        None => shown_of(alloc, found),
+    }
+}
+
+/// What a row in memory shows, with the one in files where there is one. Where there is none, what isn't shown isn't copied.
+fn shown_with(
+    alloc: Global,
+    row: &RowCells,
+    found: Option<RowCells>,
+) -> Result<Option<ShownRow>, NoMemory>
+    ensures { IfOk result (λ shown. shown
+        ≡ option_and_then row_shown (either join_row (Some row.now) found)) }
+{
+    match found {
+        Some(found) => {
+            let mut row = row.copy()?;
+            row.join(&found)?;
+            row.into_shown(alloc)
+        }
+        None => row.shown(),
+    }
+}
+
+/// What a row shows, if there is one. Its bytes are moved and not copied.
+fn shown_of(alloc: Global, row: Option<RowCells>) -> Result<Option<ShownRow>, NoMemory>
+    ensures { IfOk result (λ shown. shown ≡ option_and_then row_shown row) }
+{
+    match row {
+        Some(row) => row.into_shown(alloc),
         None => Ok(None),
     }
 }

@@ -1,9 +1,9 @@
 -- One batch more.
-use Rattle.std.proofs.Common.{◌≡◌, ◌+◌, ◌∷◌, ℕ, List, [], drop, refl, subst, sym, arith}
-use Rattle.std.proofs.lemmas.List.{drop_all, drop_more}
+use Rattle.std.proofs.Common.{List, refl, subst, sym, arith}
+use Rattle.std.proofs.lemmas.List.{drop_all}
 use Rattle.alt_cells.specs.declared.batch.RowChange.{RowChange}
-use Rattle.alt_families.specs.Memory.{AreChanged, AreWrittenTo}
-use Rattle.alt_writes.specs.Writes.{Write, numbered}
+use Rattle.alt_families.specs.Memory.{AreWrittenTo}
+use Rattle.alt_writes.specs.Writes.{numbered}
 use Rattle.alt_families.proofs.MemoryLaws.{batch_others, batch_written}
 use Rattle.alt_families.proofs.memory.put_batches.Goals as goal
 

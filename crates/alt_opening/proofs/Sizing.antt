@@ -15,7 +15,7 @@ use Rattle.alt_opening.proofs.Scanning.{rows_more, rows_next}
 use Rattle.alt_opening.proofs.StreamState.{known_at}
 use Rattle.alt_opening.proofs.TableSteps.{AreUpTo}
 use Rattle.alt_schema.specs.declared.schema.TableSchema.{TableSchema}
-use Rattle.alt_views.specs.ItemRows.{item_columns}
+use Rattle.alt_tablerows.specs.ItemRows.{item_columns}
 
 -- an item that has no more than one number has no more than a larger one
 pub within_more : (m n : ℕ) → m ≤ n → (key : List ℕ) (row : Columns) → IsWithin m key row

@@ -36,6 +36,7 @@ pub mod Pages
 pub mod Paying
 pub mod Rising
 pub mod Staged
+pub mod Sizing
 pub mod Standing
 pub mod Starting
 pub mod StepParts

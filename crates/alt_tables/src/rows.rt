@@ -24,8 +24,9 @@ ghost use Rattle.alt_views.specs.IndexRows.{index_changes};
 ghost use Rattle.alt_views.specs.ItemRows.{IsReadItem, item_columns};
 ghost use Rattle.alt_tables.specs.Leftovers.{leftovers, lowest_left};
 ghost use Rattle.alt_tables.specs.RowChanges.{changed_rows, item_changes, write_changes};
+ghost use Rattle.alt_tables.specs.private.Foretold.{FitsWrite};
 ghost use Rattle.alt_tables.specs.private.Trims.{CanTrim, IsNoted, IsTrim, IsWithin, IsWrittenAs};
-ghost use Rattle.alt_tables.specs.Stands.{AreReady, HasRows, Reads, Stands, KeepsCatalog, catalog_of, due_of, fronts_of, bounds_of, number_of, trimmed_of};
+ghost use Rattle.alt_tables.specs.Stands.{AreReady, HasRows, Reads, Stands, KeepsCatalog, catalog_of, due_of, fronts_of, bounds_of, largest_of, number_of, trimmed_of};
 ghost use Rattle.alt_value.specs.Tree.{Pair};
 ghost use Rattle.alt_value.specs.Values.{IsItemOfValues};
 
@@ -189,6 +190,7 @@ impl Tables {
             → IsWithin (number_at table.now (trimmed_of self.old)) (number_of self.old) trim }
         requires foretold { ForeseesWrite (catalog_of self.old) table.now found.place new
             (due_of self.old) }
+        requires fits { FitsWrite (largest_of self.old) new }
         ensures writes { (s : State) (t : Table) → Stands (D.state disk.old) self.old s
             → map.get s.tables table.now ≡ Some t
             → Writes (bounds_of self.old).file (Stands (D.state disk.new) self.new) a_number s
@@ -246,7 +248,8 @@ impl Tables {
             (fronts_of self.new)) }
         ensures kept { (self.new.engine ≡ self.old.engine) × (self.new.catalog ≡ self.old.catalog)
             × (self.new.live ≡ self.old.live) × (self.new.family ≡ self.old.family)
-            × (self.new.due ≡ self.old.due) × (self.new.builds ≡ self.old.builds) }
+            × (self.new.due ≡ self.old.due) × (self.new.builds ≡ self.old.builds)
+            × (self.new.largest ≡ self.old.largest) }
     {
         renumber(self.alloc, &mut self.trimmed, table, trim.number)?;
         let Some(schema) = self.catalog.get(table) else {

@@ -55,6 +55,7 @@ pub struct Tables {
     pub(crate) trimmed: Vec<Trimmed>,
     pub(crate) fronts: Vec<Front>,
     pub(crate) due: Due,
+    pub(crate) largest: u64,
     pub(crate) builds: bool,
 }
 
@@ -261,7 +262,7 @@ impl Tables {
         ensures kept { (self.new.catalog ≡ self.old.catalog) × (self.new.live ≡ self.old.live)
             × (self.new.family ≡ self.old.family) × (self.new.trimmed ≡ self.old.trimmed)
             × (self.new.fronts ≡ self.old.fronts) × (self.new.due ≡ self.old.due)
-            × (self.new.builds ≡ self.old.builds) }
+            × (self.new.builds ≡ self.old.builds) × (self.new.largest ≡ self.old.largest) }
         ensures limits { bounds_of self.new ≡ bounds_of self.old }
         ensures fault { IfErr result IsFindFault }
         ensures no_memory { IsErrOf result TableFault.NoMemory
@@ -303,7 +304,7 @@ impl Tables {
         ensures kept { (self.new.catalog ≡ self.old.catalog) × (self.new.live ≡ self.old.live)
             × (self.new.family ≡ self.old.family) × (self.new.trimmed ≡ self.old.trimmed)
             × (self.new.fronts ≡ self.old.fronts) × (self.new.due ≡ self.old.due)
-            × (self.new.builds ≡ self.old.builds) }
+            × (self.new.builds ≡ self.old.builds) × (self.new.largest ≡ self.old.largest) }
         ensures limits { bounds_of self.new ≡ bounds_of self.old }
         ensures fault { IfErr result IsFindFault }
         ensures no_memory { IsErrOf result TableFault.NoMemory

@@ -42,6 +42,8 @@ use Rattle.alt_rowchanges.proofs.AlterLaws.{alter_turns, alter_valid, is_longer}
 use Rattle.alt_tables.proofs.Foreseen.{foresees_redescribed}
 use Rattle.alt_tables.proofs.Making.{OfCatalog, catalog_fronts, fronts_of_rows}
 use Rattle.alt_tables.proofs.Standing.{descriptions-insert, known, still_live, still_trimmed, there}
+use Rattle.alt_tables.proofs.Sizing.{each_alike, largest_is}
+use Rattle.alt_value.specs.Size.{item_size}
 
 -- what is known of fronts is so of the tables with another description of one of them, with the same stream
 pub fronts_described : (l : Layout) (tables : Texts Table) (known : List Front) (name : List ℕ)
@@ -265,10 +267,11 @@ module _ (before : DiskState) (old : Tables) (s : State) (stands : Stands before
         → new.catalog ≡ map.insert old.catalog e.name e
         → new.live ≡ with_all (families_of e) (without_all (families_of d) old.live)
         → new.family ≡ after → new.trimmed ≡ old.trimmed
-        → new.fronts ≡ old.fronts → new.due ≡ old.due → new.builds ≡ true
+        → new.fronts ≡ old.fronts → new.due ≡ old.due → new.largest ≡ old.largest
+        → new.builds ≡ true
         → number_of new ≡ number_of old + 1 → T (is_distinct batch)
         → HasRows now new (changed_rows stands.rows.layout batch) → Stands now new r
-    alter_stands now new holds valid catalog live family trimmed fronts due builds number distinct rows =
+    alter_stands now new holds valid catalog live family trimmed fronts due largest builds number distinct rows =
         record {
           catalog = catalog
               ∙ (λ i. map.insert (stands.catalog i) (named i) e)
@@ -298,6 +301,9 @@ module _ (before : DiskState) (old : Tables) (s : State) (stands : Stands before
           due = subst (Foresees (map.insert s.tables name (redescribed e t))) (sym due)
               (foresees_redescribed s.tables name old.due stands.due t at e
               (same_time s.next_family t.description e may_state));
+          sized = largest_is (map.insert s.tables name (redescribed e t)) old.largest new.largest largest
+              (each_alike (λ item. item_size item ≤ old.largest) s.tables name stands.sized t
+              (redescribed e t) at refl);
           builds = λ none. absurd (false≢true (sym none ∙ builds));
           valid = valid;
         }

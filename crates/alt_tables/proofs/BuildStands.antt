@@ -53,6 +53,8 @@ use Rattle.alt_trimming.proofs.FrontLaws.{fronts_alike}
 use Rattle.alt_tables.proofs.Making.{fronts_of_rows}
 use Rattle.alt_tables.proofs.Standing.{descriptions-insert, known, still_live, still_trimmed}
 use Rattle.alt_rowchanges.proofs.WriteLaws.{stream_within}
+use Rattle.alt_tables.proofs.Sizing.{each_alike, largest_is}
+use Rattle.alt_value.specs.Size.{item_size}
 
 -- ---- items in order
 
@@ -215,10 +217,11 @@ module _ (before : DiskState) (old : Tables) (s : State) (stands : Stands before
     pub step_stands : (now : DiskState) (new : Tables) → Holds now new.engine r → IsValid r
         → later.name ≡ name → new.catalog ≡ map.insert old.catalog later.name later
         → new.live ≡ old.live → new.family ≡ old.family → new.trimmed ≡ old.trimmed
-        → new.fronts ≡ old.fronts → new.due ≡ old.due → new.builds ≡ old.builds
+        → new.fronts ≡ old.fronts → new.due ≡ old.due → new.largest ≡ old.largest
+        → new.builds ≡ old.builds
         → number_of new ≡ number_of old + 1 → T (is_distinct batch)
         → HasRows now new (changed_rows stands.rows.layout batch) → Stands now new r
-    step_stands now new holds valid named catalog live family trimmed fronts due builds number
+    step_stands now new holds valid named catalog live family trimmed fronts due largest builds number
         distinct rows = record {
           catalog = catalog
               ∙ (λ j. map.insert (stands.catalog j) (named j) (is_later j))
@@ -242,6 +245,9 @@ module _ (before : DiskState) (old : Tables) (s : State) (stands : Stands before
               t e refl at (step_fronts distinct)));
           due = subst (Foresees (map.insert s.tables name (redescribed e t))) (sym due)
               (foresees_redescribed s.tables name old.due stands.due t at e refl);
+          sized = largest_is (map.insert s.tables name (redescribed e t)) old.largest new.largest largest
+              (each_alike (λ item. item_size item ≤ old.largest) s.tables name stands.sized t
+              (redescribed e t) at refl);
           builds = λ none. absurd (let no : None ≡ Some i =
               sym (stands.builds (sym builds ∙ none) name t.description
               (known before old s name t stands at)) ∙ building in cc no);

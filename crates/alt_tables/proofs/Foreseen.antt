@@ -56,7 +56,7 @@ foresees_nothing tables due none name place t item at there moment fits over cov
 -- ---- other tables
 
 -- the table of a name that was put there, or one from before
-put_or_old : (tables : Texts Table) (name : List ℕ) (u : Table) (q : List ℕ) (t : Table)
+pub put_or_old : (tables : Texts Table) (name : List ℕ) (u : Table) (q : List ℕ) (t : Table)
     (P : Type 0) → map.get (map.insert tables name u) q ≡ Some t
     → (q ≡ name → u ≡ t → P) → (map.get tables q ≡ Some t → P) → P
 put_or_old tables name u q t P at own old =
@@ -141,6 +141,12 @@ module _ (tables : Texts Table) (name : List ℕ) (due : Due) (knows : Foresees 
 
 -- ---- several writes
 
+-- the last of some and of others behind them
+pub last-append : (s : State) (xs ys : List State)
+    → last_state s (xs ++ ys) ≡ last_state (last_state s xs) ys
+last-append s [] ys = refl
+last-append s (x ∷ xs) ys = last-append x xs ys
+
 -- behind those of a state
 pub foresees_all : (catalog : Texts TableSchema) (due : Due) (s : State) (moment : ℕ)
     (writer : Writer) (ws : List Written) → catalog ≡ descriptions s.tables
@@ -154,11 +160,6 @@ foresees_all catalog due s moment writer (w ∷ ws) same told knows =
     (same ∙ sym (one (map.get s.tables w.table) refl).0) told.1
     (one (map.get s.tables w.table) refl).1)
   where
-    last-append : (s : State) (xs ys : List State)
-        → last_state s (xs ++ ys) ≡ last_state (last_state s xs) ys
-    last-append s [] ys = refl
-    last-append s (x ∷ xs) ys = last-append x xs ys
-
     -- behind one that writes or leaves what is there
     either : (t : Table) → map.get s.tables w.table ≡ Some t → (b : Bool)
         → (descriptions (last_state s (if b then [] else after_item_by s moment writer w.table t w.place w.new ∷ [])).tables

@@ -53,6 +53,7 @@ stands_quiet a b t s tells honest quiet stands = record {
       (one_layout_in_hand b t.engine stands.rows.layout m
       (stays_quiet a b t.engine stands.rows.layout stands.rows.is quiet) rows) stands.rows.is);
   due = stands.due;
+  sized = stands.sized;
   builds = stands.builds;
   valid = stands.valid;
 }

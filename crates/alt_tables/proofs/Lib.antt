@@ -18,6 +18,7 @@ pub mod Noting
 pub mod Pages
 pub mod Paying
 pub mod Staged
+pub mod Sizing
 pub mod Standing
 pub mod Starting
 pub mod Timed

@@ -40,7 +40,7 @@ use Rattle.alt_tables.specs.Built.{NoneBuilds}
 use Rattle.alt_tables.specs.Foreseen.{Foresees, ForeseesWrite}
 use Rattle.alt_trimming.specs.Fronts.{AreFronts, IsFront, front_at, without_front}
 use Rattle.alt_trimming.specs.Leftovers.{leftovers}
-use Rattle.alt_tables.specs.Stands.{HasRows, Stands, catalog_of, due_of, fronts_of, number_of, trimmed_of}
+use Rattle.alt_tables.specs.Stands.{HasRows, Stands, catalog_of, due_of, fronts_of, largest_of, number_of, trimmed_of}
 use Rattle.alt_rowchanges.specs.RowChanges.{Turns, changed_rows, write_changes, creation_changes, drop_changes}
 use Rattle.alt_trimming.specs.Trims.{IsNoted, IsTrim}
 use Rattle.alt_trimming.specs.declared.fronts.Front.{Front}
@@ -61,6 +61,10 @@ use Rattle.alt_tables.proofs.Standing.{descriptions-insert, descriptions-stay, d
 use Rattle.alt_rowchanges.proofs.WriteLaws.{item_turns, stream_within}
 use Rattle.alt_value.specs.Tree.{Pair}
 use Rattle.alt_value.specs.Values.{IsItemOfValues}
+use Rattle.std.proofs.Math.Nat.{le_refl}
+use Rattle.alt_tables.specs.private.Foretold.{Fits, FitsWrite}
+use Rattle.alt_tables.proofs.Sizing.{each_left, each_new, each_written, fits_of, largest_is, sized_valid}
+use Rattle.alt_value.specs.Size.{item_size}
 
 -- what holds of an option's value holds of it by name
 of_some : {A : Type 0} (P : A → Type 0) (o : Option A) (x : A) → IfSome o P → o ≡ Some x → P x
@@ -233,8 +237,8 @@ module _ (before : DiskState) (old : Tables) (s : State) (t : Table) (stands : S
         → IsRenumbered name r.number (trimmed_of old) (trimmed_of new)
         → IsNoted d name moment r (fronts_of old) (fronts_of new)
         → ForeseesWrite (catalog_of old) name place to (due_of old) → new.due ≡ old.due
-        → new.builds ≡ old.builds → number_of new ≡ number_of old + 1 → Stands now new after
-    item_stands now new holds valid rows distinct catalog live family trimmed noted told due builds next = record {
+        → FitsWrite (largest_of old) to → new.largest ≡ old.largest → new.builds ≡ old.builds → number_of new ≡ number_of old + 1 → Stands now new after
+    item_stands now new holds valid rows distinct catalog live family trimmed noted told due fits largest builds next = record {
       catalog = catalog ∙ stands.catalog ∙ sym (descriptions-stay s.tables name t table_after at refl);
       number = next ∙ ap (λ n. n + 1) stands.number;
       family = family ∙ stands.family;
@@ -249,6 +253,10 @@ module _ (before : DiskState) (old : Tables) (s : State) (t : Table) (stands : S
       due = subst (Foresees after.tables) (sym due) (foresees_written s.tables name old.due
           stands.due s.next_number moment writer t place to at
           (told t.description (known before old s name t stands at)));
+      sized = largest_is after.tables old.largest new.largest largest
+          (sized_valid after valid old.largest (each_written (Fits old.largest) s.tables name
+          (fits_of s.tables old.largest old.largest (le_refl old.largest) stands.sized)
+          s.next_number moment writer t place to at fits));
       builds = none_on old new catalog builds stands.builds;
       valid = valid;
     }
@@ -299,11 +307,11 @@ module _ (before : DiskState) (old : Tables) (s : State) (stands : Stands before
       → new.live ≡ without_all (families_of d) old.live → new.family ≡ old.family
       → trimmed_of new ≡ without name (trimmed_of old)
       → fronts_of new ≡ without_front name (fronts_of old) → new.due ≡ old.due
-      → new.builds ≡ old.builds → number_of new ≡ number_of old + 1
+      → new.largest ≡ old.largest → new.builds ≡ old.builds → number_of new ≡ number_of old + 1
       → (batch : List RowChange) → batch ≡ drop_changes d → T (is_distinct batch)
       → HasRows now new (changed_rows stands.rows.layout batch)
       → Stands now new (without_table s name)
-  drop_stands name d now new described holds valid catalog live family trimmed fronts due builds number batch is
+  drop_stands name d now new described holds valid catalog live family trimmed fronts due largest builds number batch is
       distinct rows = record {
         catalog = catalog ∙ ap (λ (m : Texts TableSchema). map.remove m name) stands.catalog
             ∙ sym (descriptions-remove s.tables name);
@@ -329,6 +337,8 @@ module _ (before : DiskState) (old : Tables) (s : State) (stands : Stands before
             (catalog_fronts batch distinct (subst OfCatalog (sym is) (refl, tt)))));
         due = subst (Foresees (map.remove s.tables name)) (sym due)
             (foresees_gone s.tables name old.due stands.due);
+        sized = largest_is (map.remove s.tables name) old.largest new.largest largest
+            (each_left (λ item. item_size item ≤ old.largest) s.tables name stands.sized);
         builds = λ none. subst NoneBuilds (sym catalog)
             (none_without old.catalog (stands.builds (sym builds ∙ none)) name);
         valid = valid;
@@ -360,12 +370,13 @@ module _ (before : DiskState) (old : Tables) (s : State) (stands : Stands before
         → IsValid (with_table s d) → new.catalog ≡ map.insert old.catalog d.name d
         → new.live ≡ with_all (families_of d) old.live
         → new.family ≡ old.family + length (families_of d) → new.trimmed ≡ old.trimmed
-        → new.fronts ≡ old.fronts → new.due ≡ old.due → new.builds ≡ old.builds
+        → new.fronts ≡ old.fronts → new.due ≡ old.due → new.largest ≡ old.largest
+        → new.builds ≡ old.builds
         → number_of new ≡ number_of old + 1
         → (next : ℕ) (batch : List RowChange) → batch ≡ creation_changes old.family next d
         → T (is_distinct batch) → HasRows now new (changed_rows stands.rows.layout batch)
         → Stands now new (with_table s d)
-    table_stands now new holds valid catalog live families trimmed fronts due builds numbers next batch is
+    table_stands now new holds valid catalog live families trimmed fronts due largest builds numbers next batch is
         distinct rows = record {
           catalog = catalog ∙ ap (λ (m : Texts TableSchema). map.insert m d.name d) stands.catalog
               ∙ sym (descriptions-insert s.tables d.name (new_table d));
@@ -387,6 +398,8 @@ module _ (before : DiskState) (old : Tables) (s : State) (stands : Stands before
               (new_table d) (absent before old s d.name stands free)));
           due = subst (Foresees (map.insert s.tables d.name (new_table d))) (sym due)
               (foresees_new s.tables d.name old.due stands.due d);
+          sized = largest_is (map.insert s.tables d.name (new_table d)) old.largest new.largest largest
+              (each_new (λ item. item_size item ≤ old.largest) s.tables d.name stands.sized d);
           builds = λ none. subst NoneBuilds (sym catalog)
               (none_with old.catalog (stands.builds (sym builds ∙ none)) d.name d
               (none_of_whole d is_new.whole));

@@ -14,7 +14,7 @@ use Rattle.alt_schema.specs.declared.schema.TableSchema.{TableSchema}
 use Rattle.alt_tables.specs.Foreseen.{Foresees, ForeseesWritten}
 use Rattle.alt_tables.specs.Images.{Leaves}
 use Rattle.alt_tables.specs.Several.{AreAllApart, Every, IsFound, MayWrite, batches_of, with_batches, written_at}
-use Rattle.alt_tables.specs.Stands.{HasRows, Keeps, Stands, catalog_of, due_of, fronts_of, number_of, trimmed_of}
+use Rattle.alt_tables.specs.Stands.{HasRows, Keeps, Stands, catalog_of, due_of, fronts_of, number_of, trimmed_of, largest_of}
 use Rattle.alt_tables.specs.declared.several.ItemChange.{ItemChange}
 use Rattle.alt_tables.specs.declared.several.Staged.{Staged}
 use Rattle.alt_tables.specs.declared.tables.Tables.{Tables}
@@ -24,6 +24,8 @@ use Rattle.alt_tables.proofs.Foreseen.{foresees_all, foresees_on}
 use Rattle.alt_tables.proofs.Left.{leaves_after}
 use Rattle.alt_tables.proofs.Staged.{stand_behind, together_last}
 use Rattle.alt_tables.proofs.Standing.{rows_kept, stands_kept}
+use Rattle.alt_tables.specs.private.Foretold.{Fits, FitsWrites}
+use Rattle.alt_tables.proofs.Sizing.{EachItem, each_behind, fits_of}
 
 -- what holds of each element may be weakened
 every_weaker : {A : Type 0} (P Q : A → Type 0) → ((x : A) → P x → Q x) → (xs : List A)
@@ -117,12 +119,15 @@ module _ (a m : DiskState) (old mid known : Tables) (keeps : Keeps a m old mid)
         → new.catalog ≡ mid.catalog → new.live ≡ mid.live → new.family ≡ mid.family
         → new.trimmed ≡ known.trimmed → new.fronts ≡ known.fronts
         → Every (ForeseesWritten (catalog_of old) (due_of mid)) ws → new.due ≡ mid.due
-        → new.builds ≡ mid.builds → number_of new ≡ number_of known + length staged.batches.items → Stands b new last
-    stand_then noted holds rows catalog live family trimmed fronts told due builds number =
+        → FitsWrites (largest_of mid) ws → new.largest ≡ mid.largest → new.builds ≡ mid.builds → number_of new ≡ number_of known + length staged.batches.items → Stands b new last
+    stand_then noted holds rows catalog live family trimmed fronts told due fits largest builds number =
         stand_behind a b old new s last stands moment staged.notes.items staged.batches.items
         are.ahead (noted_then noted trimmed fronts)
         (subst (Foresees last.tables) (sym due) (foresees_all (catalog_of old) mid.due s moment
         writer ws stands.catalog told (foresees_on s.tables old.due mid.due keeps.due stands.due)))
+        (subst (λ n. EachItem (Fits n) last.tables) (sym largest)
+        (each_behind (Fits mid.largest) s moment writer ws fits
+        (fits_of s.tables old.largest mid.largest keeps.largest stands.sized)))
         holds rows (catalog ∙ keeps.catalog)
         (live ∙ keeps.live) (family ∙ keeps.family) (builds ∙ keeps.builds)
         (number ∙ ap (λ n. n + length staged.batches.items)

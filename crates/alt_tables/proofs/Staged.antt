@@ -25,7 +25,7 @@ use Rattle.alt_trimming.specs.Fronts.{AreFronts}
 use Rattle.alt_trimming.specs.Leftovers.{lowest_left}
 use Rattle.alt_rowchanges.specs.RowChanges.{write_changes}
 use Rattle.alt_tables.specs.Several.{AreAllApart, AreDistinct, Every, IsFound, MayWrite, batch_of, batches_of, with_batches, written_at}
-use Rattle.alt_tables.specs.Stands.{HasRows, Keeps, Stands, catalog_of, due_of, fronts_of, number_of, trimmed_of}
+use Rattle.alt_tables.specs.Stands.{HasRows, Keeps, Stands, catalog_of, due_of, fronts_of, number_of, trimmed_of, largest_of}
 use Rattle.alt_tables.specs.declared.several.ItemChange.{ItemChange}
 use Rattle.alt_tables.specs.declared.several.Noted.{Noted}
 use Rattle.alt_tables.specs.declared.several.Staged.{Staged}
@@ -43,6 +43,9 @@ use Rattle.alt_tables.proofs.NoneBuilt.{none_on}
 use Rattle.alt_tables.proofs.Standing.{keeps_nothing, keeps_then, known, rows_kept, stands_kept, still_live}
 use Rattle.alt_value.specs.Tree.{Pair}
 use Rattle.alt_value.specs.Values.{IsItemOfValues}
+use Rattle.std.proofs.Math.Nat.{le_trans}
+use Rattle.alt_tables.specs.private.Foretold.{Fits, FitsWrite, FitsWrites}
+use Rattle.alt_tables.proofs.Sizing.{EachItem, fits_up, sized_valid}
 
 -- ---- the table of a write
 
@@ -240,6 +243,8 @@ pub record IsStaging (a : DiskState) (old : Tables) (b : DiskState) (now : Table
   pub told : (due : Due) → KeepsKnown (due_of now) due
       → Every (ForeseesWritten (catalog_of old) due) (each written_at rest)
       → Every (ForeseesWritten (catalog_of old) due) (each written_at all)
+  pub fits : (most : ℕ) → largest_of now ≤ most → FitsWrites most (each written_at rest)
+      → FitsWrites most (each written_at all)
   pub so : (s : State) (l : Layout) → Stands a old s → HasRows a old l
       → AreUnderWay l s moment writer all rest staged.notes.items staged.batches.items
 
@@ -260,6 +265,7 @@ staging_none a old moment writer all rest staged same empty none may apart diffe
       count = let e : length staged.batches.items ≡ 0 = ap length empty in omega (arith, e);
       notes = subst (AreNotes (catalog_of old) (number_of old)) (sym none) tt;
       told = λ due keeps h. h;
+      fits = λ most up h. h;
       so = λ s l stands rows. subst (λ bs. AreUnderWay l s moment writer all all
           staged.notes.items bs) (sym empty)
           (subst (λ ns. AreUnderWay l s moment writer all all ns []) (sym none)
@@ -276,8 +282,9 @@ pub staging_more : (a b d : DiskState) (old now new : Tables) (moment : ℕ) (wr
     → AreDistinct y.batches.items → length y.batches.items ≡ length x.batches.items + 1
     → AreNotes (catalog_of now) (number_of now) y.notes.items
     → ForeseesWritten (catalog_of now) (due_of new) (written_at c)
+    → FitsWrite (largest_of new) (written_at c).new
     → IsStaging a old d new moment writer all rest y
-staging_more a b d old now new moment writer all rest c x y so keeps on distinct count notes told = record {
+staging_more a b d old now new moment writer all rest c x y so keeps on distinct count notes told fits = record {
   keeps = keeps_then a b d old now new so.keeps keeps;
   may = so.may.1;
   apart = so.apart.1;
@@ -294,6 +301,8 @@ staging_more a b d old now new moment writer all rest c x y so keeps on distinct
             so.keeps.catalog told),
         h,
       );
+  fits = λ most up h. so.fits most (le_trans keeps.largest up)
+      (fits_up new.largest most up c.new fits, h);
   so = λ s l stands rows.
       let under = so.so s l stands rows in
       staged_more l s moment writer all rest c x y under so.apart so.differ.0
@@ -308,7 +317,8 @@ module _ (a b : DiskState) (old new : Tables) (s r : State) (stands : Stands a o
     (notes : List Noted) (batches : List (List RowChange))
     (ahead : IsAhead stands.rows.layout s moment notes batches r)
     (noted : AreKnown (catalog_of old) moment notes (trimmed_of old) (trimmed_of new)
-    (fronts_of old) (fronts_of new)) (due : Foresees r.tables (due_of new)) where
+    (fronts_of old) (fronts_of new)) (due : Foresees r.tables (due_of new))
+    (fits : EachItem (Fits (largest_of new)) r.tables) where
   changes_of : (u : State) → IsValid u → (q : List ℕ) (t : Table) → map.get u.tables q ≡ Some t
       → (k : ℕ) × AreChanges t.description k t.trimmed t.changes
   changes_of u valid q t at = (u.next_number, (valid.tables q t at).changes)
@@ -339,6 +349,7 @@ module _ (a b : DiskState) (old new : Tables) (s r : State) (stands : Stands a o
         (fronts_of new) noted (changes_of r ahead.turns.valid) (changes_of s stands.valid)
         (stands.fronts stands.rows.layout stands.rows.is));
     due = due;
+    sized = sized_valid r ahead.turns.valid (largest_of new) fits;
     builds = none_on old new catalog builds stands.builds;
     valid = ahead.turns.valid;
   }

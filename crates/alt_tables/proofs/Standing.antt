@@ -1,5 +1,6 @@
 -- For which state the tables stand, and what the catalog knows of it.
-use Rattle.std.proofs.Common.{◌≡◌, refl, sym, ap, subst, ◌∙◌, ℕ, Bool, true, false, cond, List, Option, Some, None, IfSome, IsTrue, option_map}
+use Rattle.std.proofs.Common.{◌≡◌, ◌≤◌, refl, sym, ap, subst, ◌∙◌, ℕ, Bool, true, false, cond, List, Option, Some, None, IfSome, IsTrue, option_map}
+use Rattle.std.proofs.Math.Nat.{le_refl, le_trans}
 use Rattle.std.specs.Prelude.{◌↔◌}
 use Rattle.std.specs.Ordering.{eq_by_cmp}
 use Rattle.std.specs.FinMap as map
@@ -137,7 +138,8 @@ still_trimmed tables t u trimmed are name =
 
 module _ (old new : DiskState) (t u : Tables) (catalog : u.catalog ≡ t.catalog)
     (live : u.live ≡ t.live) (family : u.family ≡ t.family) (trimmed : u.trimmed ≡ t.trimmed)
-    (fronts : u.fronts ≡ t.fronts) (due : KeepsKnown t.due u.due) (builds : u.builds ≡ t.builds)
+    (fronts : u.fronts ≡ t.fronts) (due : KeepsKnown t.due u.due) (largest : t.largest ≤ u.largest)
+    (builds : u.builds ≡ t.builds)
     (goes : Goes old new)
     (same : IsTrue old.tells → StaysOn old new t.engine u.engine) where
   -- the tables stand for what they stood for
@@ -162,6 +164,8 @@ module _ (old new : DiskState) (t u : Tables) (catalog : u.catalog ≡ t.catalog
             (on.stands stands.rows.layout stands.rows.is) rows) stands.rows.is));
         due = λ name place v item at there moment fits over.
             due moment _ (stands.due name place v item at there moment fits over);
+        sized = λ name place v item at there.
+            le_trans (stands.sized name place v item at there) largest;
         builds = none_on t u catalog builds stands.builds;
         valid = stands.valid;
       }
@@ -181,11 +185,11 @@ module _ (old new : DiskState) (t u : Tables) (keeps : Keeps old new t u) where
   -- the tables stand for what they stood for
   pub stays_kept : AreReady old t → (s : State) → Stands old t s ↔ Stands new u s
   stays_kept = stays old new t u keeps.catalog keeps.live keeps.family keeps.trimmed keeps.fronts
-      keeps.due keeps.builds keeps.reads.goes keeps.same
+      keeps.due keeps.largest keeps.builds keeps.reads.goes keeps.same
 
   pub stands_kept : (s : State) → Stands old t s → Stands new u s
   stands_kept = stays_on old new t u keeps.catalog keeps.live keeps.family keeps.trimmed
-      keeps.fronts keeps.due keeps.builds keeps.reads.goes keeps.same
+      keeps.fronts keeps.due keeps.largest keeps.builds keeps.reads.goes keeps.same
 
   -- they are ready
   pub ready_kept : AreReady old t → AreReady new u
@@ -206,6 +210,7 @@ keeps_then a b c t u v first then = record {
   trimmed = then.trimmed ∙ first.trimmed;
   fronts = then.fronts ∙ first.fronts;
   due = λ moment spot knows. then.due moment spot (first.due moment spot knows);
+  largest = le_trans first.largest then.largest;
   builds = then.builds ∙ first.builds;
   limits = then.limits ∙ first.limits;
   number = then.number ∙ first.number;
@@ -238,6 +243,7 @@ keeps_nothing a t = record {
   trimmed = refl;
   fronts = refl;
   due = λ moment spot knows. knows;
+  largest = le_refl t.largest;
   builds = refl;
   limits = refl;
   number = refl;

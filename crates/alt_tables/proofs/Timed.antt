@@ -1,5 +1,5 @@
 -- The write that gives a table another attribute for time to live, or none: what it leaves is what the machine's leaves.
-use Rattle.std.proofs.Common.{◌≡◌, refl, sym, ap, subst, ◌∙◌, ℕ, ◌+◌, ◌<◌, Bool, true, false, cond, T, List, Option, Some, None, arith}
+use Rattle.std.proofs.Common.{◌≤◌, ◌≡◌, refl, sym, ap, subst, ◌∙◌, ℕ, ◌+◌, ◌<◌, Bool, true, false, cond, T, List, Option, Some, None, arith}
 use Rattle.std.specs.FinMap as map
 use Rattle.std.specs.Option.{option_map_or}
 use Rattle.std.specs.Ordering.{eq_by_cmp}
@@ -34,6 +34,8 @@ use Rattle.alt_tables.proofs.Making.{OfCatalog, catalog_fronts, fronts_of_rows}
 use Rattle.alt_tables.proofs.NoneBuilt.{none_with}
 use Rattle.alt_tables.proofs.Standing.{descriptions-insert, known, still_live, still_trimmed}
 use Rattle.alt_rowchanges.proofs.TimeLaws.{time_turns}
+use Rattle.alt_tables.proofs.Sizing.{each_alike, largest_is}
+use Rattle.alt_value.specs.Size.{item_size}
 
 -- what is known of fronts is so of the tables with another time to live in one of them
 fronts_timed : (l : Layout) (tables : Texts Table) (known : List Front) (name : List ℕ) (t : Table)
@@ -102,10 +104,10 @@ module _ (before : DiskState) (old : Tables) (s : State) (stands : Stands before
       → new.catalog ≡ map.insert old.catalog name (record d { ttl = ttl })
       → new.live ≡ old.live → new.family ≡ old.family → new.trimmed ≡ old.trimmed
       → new.fronts ≡ old.fronts → IsTold ttl old.due new.due
-      → new.builds ≡ old.builds → number_of new ≡ number_of old + 1 → T (is_distinct batch)
+      → new.largest ≡ old.largest → new.builds ≡ old.builds → number_of new ≡ number_of old + 1 → T (is_distinct batch)
       → HasRows now new (changed_rows stands.rows.layout batch)
       → Stands now new (with_time s name t ttl)
-  time_stands now new holds valid catalog live family trimmed fronts told builds number distinct rows = record {
+  time_stands now new holds valid catalog live family trimmed fronts told largest builds number distinct rows = record {
     catalog = catalog
         ∙ ap (λ (m : Texts TableSchema). map.insert m name (record d { ttl = ttl })) stands.catalog
         ∙ ap (λ (e : TableSchema). map.insert (descriptions s.tables) name (record e { ttl = ttl }))
@@ -127,6 +129,9 @@ module _ (before : DiskState) (old : Tables) (s : State) (stands : Stands before
         (catalog_fronts before old s stands batch distinct
         (subst OfCatalog (sym is) (refl, tt)))));
     due = foresees_timed s.tables name t old.due new.due stands.due ttl told;
+    sized = largest_is (map.insert s.tables name (timed ttl t)) old.largest new.largest largest
+        (each_alike (λ item. item_size item ≤ old.largest) s.tables name stands.sized t (timed ttl t)
+        at refl);
     builds = λ is. subst NoneBuilds (sym catalog) (let none = stands.builds (sym builds ∙ is) in
         none_with old.catalog none name (record d { ttl = ttl }) (none name d described));
     valid = valid;

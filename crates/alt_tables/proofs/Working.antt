@@ -46,6 +46,7 @@ use Rattle.alt_rowchanges.proofs.IndexFamilies.{index_family}
 use Rattle.alt_tables.proofs.NoneBuilt.{none_on}
 use Rattle.alt_tables.proofs.Standing.{still_live, still_trimmed}
 use Rattle.alt_rowchanges.proofs.StreamShows.{stream_family}
+use Rattle.alt_tables.proofs.Sizing.{largest_is}
 
 -- the families of a table of the state are live
 family_live : (s : State) (live : List ℕ) → AreLiveIn (descriptions s.tables) live
@@ -105,10 +106,10 @@ module _ (old new : DiskState) (t : Tables) (s : State) (stands : Stands old t s
   -- and the tables stand for it after work that is done
   pub worked_stands : (u : Tables) → Goes old new → u.catalog ≡ t.catalog → u.live ≡ t.live
       → u.family ≡ t.family → u.trimmed ≡ t.trimmed → u.fronts ≡ t.fronts → u.due ≡ t.due
-      → u.builds ≡ t.builds → number_of u ≡ number_of t
+      → u.largest ≡ t.largest → u.builds ≡ t.builds → number_of u ≡ number_of t
       → (m : Layout) × EngineStands new u.engine m × Works live stands.rows.layout m
       → Stands new u s
-  worked_stands u goes catalog lives family trimmed fronts due builds number after = record {
+  worked_stands u goes catalog lives family trimmed fronts due largest builds number after = record {
     catalog = catalog ∙ stands.catalog;
     number = number ∙ stands.number;
     family = family ∙ stands.family;
@@ -130,6 +131,7 @@ module _ (old new : DiskState) (t : Tables) (s : State) (stands : Stands old t s
         (subst (λ known. AreFronts stands.rows.layout s.tables known.items) (sym fronts)
         (stands.fronts stands.rows.layout stands.rows.is)));
     due = subst (Foresees s.tables) (sym due) stands.due;
+    sized = largest_is s.tables t.largest u.largest largest stands.sized;
     builds = none_on t u catalog builds stands.builds;
     valid = stands.valid;
   }

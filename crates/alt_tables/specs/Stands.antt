@@ -1,5 +1,5 @@
 -- What the tables in hand stand for, with the disk beneath them.
-use Rattle.std.specs.Prelude.{◌≡◌, ℕ, Bool, false, List}
+use Rattle.std.specs.Prelude.{◌≡◌, ◌≤◌, ℕ, Bool, false, List}
 use Rattle.alt_disk.specs.Disk.{DiskState, IsTrusted, Goes}
 use Rattle.alt_disk.specs.Runs.{Quiet}
 use Rattle.alt_due.specs.Due.{KeepsKnown}
@@ -14,6 +14,7 @@ use Rattle.alt_machine.specs.Valid.{IsValid}
 use Rattle.alt_schema.specs.declared.schema.TableSchema.{TableSchema}
 use Rattle.alt_opening.specs.Live.{AreLiveIn}
 use Rattle.alt_opening.specs.Opened.{Holds}
+use Rattle.alt_opening.specs.Sized.{AreSized}
 use Rattle.alt_opening.specs.Trimmed.{AreTrimmedOf}
 use Rattle.alt_opening.specs.declared.trimmed.Trimmed.{Trimmed}
 use Rattle.alt_tables.specs.Built.{NoneBuilds}
@@ -47,6 +48,10 @@ fronts_of t = t.fronts.items
 -- the items that are due next
 abbrev pub due_of : Tables → Due
 due_of t = t.due
+
+-- how many bytes an item has at most
+abbrev pub largest_of : Tables → ℕ
+largest_of t = t.largest
 
 -- whether an index of one may be being built
 abbrev pub builds_of : Tables → Bool
@@ -86,8 +91,8 @@ HasRows disk t l = EngineStands disk t.engine l
 
 -- The tables and the disk beneath them stand for a valid state of the machine: it has the tables that are known, what was trimmed of their
 -- changes, and the next number and the next family, and its rows are those on the disk. Live are the families of its tables, the fronts
--- that are known are those of its streams, the list of the items that are due next knows of each of its items, and where it is known that no
--- index is being built none is.
+-- that are known are those of its streams, the list of the items that are due next knows of each of its items, none of which has more bytes
+-- than the largest, and where it is known that no index is being built none is.
 pub record Stands (disk : DiskState) (t : Tables) (s : State) : Type 0 where
   pub catalog : catalog_of t ≡ descriptions s.tables
   pub number : number_of t ≡ s.next_number
@@ -97,6 +102,7 @@ pub record Stands (disk : DiskState) (t : Tables) (s : State) : Type 0 where
   pub rows : Holds disk t.engine s
   pub fronts : (l : Layout) → HasRows disk t l → AreFronts l s.tables (fronts_of t)
   pub due : Foresees s.tables (due_of t)
+  pub sized : AreSized s.tables (largest_of t)
   pub builds : builds_of t ≡ false → NoneBuilds (catalog_of t)
   pub valid : IsValid s
 
@@ -112,7 +118,8 @@ pub record Reads (old new : DiskState) : Type 0 where
   pub goes : Goes old new
   pub quiet : IsTrue old.tells → Quiet old new
 
--- It leaves what is known of the tables, and the rows beneath them; of the items that are due next more may be known.
+-- It leaves what is known of the tables, and the rows beneath them; of the items that are due next more may be known, and the largest item
+-- may have more bytes.
 pub record Keeps (old new : DiskState) (t u : Tables) : Type 0 where
   pub catalog : u.catalog ≡ t.catalog
   pub live : u.live ≡ t.live
@@ -120,6 +127,7 @@ pub record Keeps (old new : DiskState) (t u : Tables) : Type 0 where
   pub trimmed : u.trimmed ≡ t.trimmed
   pub fronts : u.fronts ≡ t.fronts
   pub due : KeepsKnown t.due u.due
+  pub largest : t.largest ≤ u.largest
   pub builds : u.builds ≡ t.builds
   pub limits : bounds_of u ≡ bounds_of t
   pub number : number_of u ≡ number_of t

@@ -69,6 +69,7 @@ impl Tables {
             engine,
             catalog,
             family,
+            largest,
             trimmed,
         } = store;
         match catalog.live(alloc) {
@@ -81,6 +82,7 @@ impl Tables {
                 trimmed,
                 fronts: Vec::new(alloc),
                 due: Due::new(alloc),
+                largest,
                 builds: true,
             }),
             Err(_) => Err(OpenFault::NoMemory),

@@ -21,7 +21,8 @@ ghost use Rattle.alt_trimming.specs.Leftovers.{leftovers, lowest_left};
 ghost use Rattle.alt_rowchanges.specs.RowChanges.{changed_rows, write_changes};
 ghost use Rattle.alt_trimming.specs.Trims.{IsNoted, IsTrim, IsWithin};
 ghost use Rattle.alt_tables.specs.private.Written.{IsWrittenAs};
-ghost use Rattle.alt_tables.specs.Stands.{AreReady, HasRows, Reads, Stands, KeepsCatalog, catalog_of, due_of, fronts_of, bounds_of, number_of, trimmed_of};
+ghost use Rattle.alt_tables.specs.Stands.{AreReady, HasRows, Reads, Stands, KeepsCatalog, catalog_of, due_of, fronts_of, bounds_of, largest_of, number_of, trimmed_of};
+ghost use Rattle.alt_tables.specs.private.Foretold.{FitsWrite};
 
 use crate::finding::Found;
 use crate::tables::Tables;
@@ -179,6 +180,7 @@ impl Tables {
             → IsWithin (number_at table.now (trimmed_of self.old)) (number_of self.old) trim }
         requires foretold { ForeseesWrite (catalog_of self.old) table.now found.place new
             (due_of self.old) }
+        requires fits { FitsWrite (largest_of self.old) new }
         ensures writes { (s : State) (t : Table) → Stands (D.state disk.old) self.old s
             → map.get s.tables table.now ≡ Some t
             → Writes (bounds_of self.old).file (Stands (D.state disk.new) self.new) a_number s
@@ -236,7 +238,8 @@ impl Tables {
             (fronts_of self.new)) }
         ensures kept { (self.new.engine ≡ self.old.engine) × (self.new.catalog ≡ self.old.catalog)
             × (self.new.live ≡ self.old.live) × (self.new.family ≡ self.old.family)
-            × (self.new.due ≡ self.old.due) × (self.new.builds ≡ self.old.builds) }
+            × (self.new.due ≡ self.old.due) × (self.new.builds ≡ self.old.builds)
+            × (self.new.largest ≡ self.old.largest) }
     {
         renumber(self.alloc, &mut self.trimmed, table, trim.number)?;
         let Some(schema) = self.catalog.get(table) else {

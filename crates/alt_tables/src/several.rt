@@ -16,7 +16,8 @@ ghost use Rattle.alt_tables.specs.Foreseen.{ForeseesWritten};
 ghost use Rattle.alt_tables.specs.Images.{Leaves};
 ghost use Rattle.alt_rowchanges.specs.RowChanges.{write_changes};
 ghost use Rattle.alt_tables.specs.Several.{AreAllApart, AreDistinct, Every, IsFound, MayWrite, batches_of, with_batches, written_at};
-ghost use Rattle.alt_tables.specs.Stands.{AreReady, HasRows, Keeps, Reads, Stands, catalog_of, due_of, fronts_of, bounds_of, number_of, trimmed_of};
+ghost use Rattle.alt_tables.specs.Stands.{AreReady, HasRows, Keeps, Reads, Stands, catalog_of, due_of, fronts_of, bounds_of, largest_of, number_of, trimmed_of};
+ghost use Rattle.alt_tables.specs.private.Foretold.{FitsWrite, FitsWrites};
 ghost use Rattle.alt_tables.specs.private.Staging.{AreKnown, AreNotes, Differs, IsAgain, IsAhead, IsBehind, IsStaged, IsStagedOn, IsTouched, differing_of, note_at};
 ghost use Rattle.alt_trimming.specs.Trims.{IsWithin};
 ghost use Rattle.alt_value.specs.Values.{IsItemOfValues};
@@ -145,6 +146,8 @@ impl Tables {
             AreNotes (catalog_of self.old) (number_of self.old) r.notes.items) }
         ensures foretold { OnOk result (Every (ForeseesWritten (catalog_of self.old)
             (due_of self.new)) (each written_at changes.items)) }
+        ensures fits { OnOk result (FitsWrites (largest_of self.new)
+            (each written_at changes.items)) }
         ensures keeps { Keeps (D.state disk.old) (D.state disk.new) self.old self.new }
         ensures fault { (s : State) → Stands (D.state disk.old) self.old s
             → IfErr result IsFindFault }
@@ -192,6 +195,7 @@ impl Tables {
             staged.new.notes.items) }
         ensures foretold { OnOk result (ForeseesWritten (catalog_of self.old) (due_of self.new)
             (written_at change)) }
+        ensures fits { OnOk result (FitsWrite (largest_of self.new) (written_at change).new) }
         ensures keeps { Keeps (D.state disk.old) (D.state disk.new) self.old self.new }
         ensures fault { (s r : State) (l : Layout) → Stands (D.state disk.old) self.old s
             → HasRows (D.state disk.old) self.old l
@@ -367,7 +371,8 @@ impl Tables {
             (fronts_of self.new)) }
         ensures kept { (self.new.engine ≡ self.old.engine) × (self.new.catalog ≡ self.old.catalog)
             × (self.new.live ≡ self.old.live) × (self.new.family ≡ self.old.family)
-            × (self.new.due ≡ self.old.due) × (self.new.builds ≡ self.old.builds) }
+            × (self.new.due ≡ self.old.due) × (self.new.builds ≡ self.old.builds)
+            × (self.new.largest ≡ self.old.largest) }
     {
         let mut notes = notes;
         while let Some(note) = notes.pop() {

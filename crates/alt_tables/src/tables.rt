@@ -50,6 +50,7 @@ pub struct Tables {
     pub(crate) trimmed: Vec<Trimmed>,
     pub(crate) fronts: Vec<Front>,
     pub(crate) due: Due,
+    pub(crate) largest: u64,
     pub(crate) builds: bool,
 }
 
@@ -256,7 +257,7 @@ impl Tables {
         ensures kept { (self.new.catalog ≡ self.old.catalog) × (self.new.live ≡ self.old.live)
             × (self.new.family ≡ self.old.family) × (self.new.trimmed ≡ self.old.trimmed)
             × (self.new.fronts ≡ self.old.fronts) × (self.new.due ≡ self.old.due)
-            × (self.new.builds ≡ self.old.builds) }
+            × (self.new.builds ≡ self.old.builds) × (self.new.largest ≡ self.old.largest) }
         ensures limits { bounds_of self.new ≡ bounds_of self.old }
         ensures fault { IfErr result IsFindFault }
         ensures no_memory { IsErrOf result TableFault.NoMemory
@@ -298,7 +299,7 @@ impl Tables {
         ensures kept { (self.new.catalog ≡ self.old.catalog) × (self.new.live ≡ self.old.live)
             × (self.new.family ≡ self.old.family) × (self.new.trimmed ≡ self.old.trimmed)
             × (self.new.fronts ≡ self.old.fronts) × (self.new.due ≡ self.old.due)
-            × (self.new.builds ≡ self.old.builds) }
+            × (self.new.builds ≡ self.old.builds) × (self.new.largest ≡ self.old.largest) }
         ensures limits { bounds_of self.new ≡ bounds_of self.old }
         ensures fault { IfErr result IsFindFault }
         ensures no_memory { IsErrOf result TableFault.NoMemory

@@ -195,7 +195,7 @@ returns-in-Ok-clause-writes g c s t stands at =
     ∙ ap (λ (m : Texts TableSchema). map.insert m c.args.schema.name c.args.schema)
     c.make.ensures.kept.0)
     (c.in_ok-live-2.ensures ∙ ap (with_all (families_of c.args.schema)) c.in_ok-live.ensures)
-    refl c.make.ensures.kept.3 c.make.ensures.kept.4 c.make.ensures.kept.5 refl
+    refl c.make.ensures.kept.3 c.make.ensures.kept.4 c.make.ensures.kept.5 c.make.ensures.kept.7 refl
     c.in-Ok.ensures.next c.in-Ok.ensures.distinct
     (c.in-Ok.ensures.rows stands.rows.trusted stands.rows.layout stands.rows.is))
     enough

@@ -70,7 +70,7 @@ returns-in-Ok-clause-writes g c s t i stands at building =
     ∙ ap (λ (m : Texts TableSchema). map.insert m c.in_ok-later.later.name c.in_ok-later.later)
     c.make.ensures.kept.0)
     c.make.ensures.kept.1 c.make.ensures.kept.2 c.make.ensures.kept.3 c.make.ensures.kept.4
-    c.make.ensures.kept.5 c.make.ensures.kept.6 c.in-Ok.ensures.next c.in-Ok.ensures.distinct
+    c.make.ensures.kept.5 c.make.ensures.kept.7 c.make.ensures.kept.6 c.in-Ok.ensures.next c.in-Ok.ensures.distinct
     (c.in-Ok.ensures.rows stands.rows.trusted stands.rows.layout stands.rows.is))
     (has_number s.next_number (omega (arith, stands.number, c.requires.room)))
 

@@ -1,5 +1,6 @@
 -- The rows of the walk are those of the changes, and nothing else changed.
 use Rattle.std.proofs.Common.{refl, sym, ap, ◌∙◌, List, take, map, rules}
+use Rattle.std.proofs.Math.Nat.{le_refl}
 use Rattle.std.proofs.lemmas.Result.{IfOk-weaker}
 use Rattle.alt_changes.specs.ChangeRows.{change_in}
 use Rattle.alt_machine.specs.Ops.GetRecords.{changes_from}
@@ -45,12 +46,14 @@ returns-in-Ok-rows-clause-fault g c s stands =
 
 pub returns-in-Ok-rows-clause-stays : goal.returns-in-Ok-rows-clause-stays
 returns-in-Ok-rows-clause-stays g c s = stays (g.D.Disk.state c.args.disk.now)
-    (g.D.Disk.state c.rows.new.disk) c.args.self.now _ refl refl refl refl refl (λ moment spot knows. knows) refl c.rows.ensures.goes
+    (g.D.Disk.state c.rows.new.disk) c.args.self.now _ refl refl refl refl refl (λ moment spot knows. knows)
+    (le_refl c.args.self.now.largest) refl c.rows.ensures.goes
     c.rows.ensures.same c.requires.ready s
 
 pub returns-clause-stays : goal.returns-clause-stays
 returns-clause-stays g c s = stays (g.D.Disk.state c.args.disk.now)
-    (g.D.Disk.state c.rows.new.disk) c.args.self.now _ refl refl refl refl refl (λ moment spot knows. knows) refl c.rows.ensures.goes
+    (g.D.Disk.state c.rows.new.disk) c.args.self.now _ refl refl refl refl refl (λ moment spot knows. knows)
+    (le_refl c.args.self.now.largest) refl c.rows.ensures.goes
     c.rows.ensures.same c.requires.ready s
 
 -- a table without a stream has no changes

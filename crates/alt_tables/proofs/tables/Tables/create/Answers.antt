@@ -140,7 +140,7 @@ returns-in-Ok-clause-writes g c s stands =
     (c.in-Ok.ensures.ok s (with_table s c.args.schema) stands.rows turned)
     turned.valid (c.make.ensures.kept.0 ∙ c.in_ok-add.ensures.ok) c.in_ok-live.ensures
     (ap (λ n. c.args.self.now.family + n) c.family_count.ensures.count) c.make.ensures.kept.3
-    c.make.ensures.kept.4 c.make.ensures.kept.5 c.make.ensures.kept.6 c.in-Ok.ensures.next (c.args.self.now.family + c.family_count.result)
+    c.make.ensures.kept.4 c.make.ensures.kept.5 c.make.ensures.kept.7 c.make.ensures.kept.6 c.in-Ok.ensures.next (c.args.self.now.family + c.family_count.result)
     c.in_ok-batch.batch c.in_ok-batch.ensures.changes c.in-Ok.ensures.distinct
     (c.in-Ok.ensures.rows stands.rows.trusted stands.rows.layout stands.rows.is))
     (sym (λ i. table_lack (stands.number i) (stands.family i))

@@ -79,7 +79,7 @@ returns-in-Ok-clause-writes g c s stands =
     (c.forget.ensures ∙ ap (λ known. without c.args.name.now known.items) c.make.ensures.kept.3)
     (c.forget_front.ensures
     ∙ ap (λ known. without_front c.args.name.now known.items) c.make.ensures.kept.4)
-    c.make.ensures.kept.5 c.make.ensures.kept.6 c.in-Ok.ensures.next c.in_ok-batch.batch c.in_ok-batch.ensures.changes
+    c.make.ensures.kept.5 c.make.ensures.kept.7 c.make.ensures.kept.6 c.in-Ok.ensures.next c.in_ok-batch.batch c.in_ok-batch.ensures.changes
     c.in-Ok.ensures.distinct
     (c.in-Ok.ensures.rows stands.rows.trusted stands.rows.layout stands.rows.is))
     (has_number s.next_number (omega (arith, stands.number, c.next_number-number.ensures.next, c.if-number-ge-NUMBERS_END.false)))

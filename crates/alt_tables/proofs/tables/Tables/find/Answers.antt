@@ -1,5 +1,6 @@
 -- What the row shows is the item, and nothing else changed.
 use Rattle.std.proofs.Common.{sym, ap, ◌∙◌, refl, Err}
+use Rattle.std.proofs.Math.Nat.{le_refl}
 use Rattle.alt_layout.specs.Layout.{shown}
 use Rattle.std.specs.FinMap as map
 use Rattle.alt_disk.proofs.Runs.{tells_of}
@@ -9,22 +10,26 @@ use Rattle.alt_tables.proofs.tables.Tables.find.Goals as goal
 
 pub returns-in-Err-clause-stays : goal.returns-in-Err-clause-stays
 returns-in-Err-clause-stays g c s = stays (g.D.Disk.state c.args.disk.now)
-    (g.D.Disk.state c.row.new.disk) c.args.self.now _ refl refl refl refl refl (λ moment spot knows. knows) refl c.row.ensures.goes
+    (g.D.Disk.state c.row.new.disk) c.args.self.now _ refl refl refl refl refl (λ moment spot knows. knows)
+    (le_refl c.args.self.now.largest) refl c.row.ensures.goes
     c.row.ensures.same c.requires.ready s
 
 pub returns-in-Ok-item_of-clause-stays : goal.returns-in-Ok-item_of-clause-stays
 returns-in-Ok-item_of-clause-stays g c s = stays (g.D.Disk.state c.args.disk.now)
-    (g.D.Disk.state c.row.new.disk) c.args.self.now _ refl refl refl refl refl (λ moment spot knows. knows) refl c.row.ensures.goes
+    (g.D.Disk.state c.row.new.disk) c.args.self.now _ refl refl refl refl refl (λ moment spot knows. knows)
+    (le_refl c.args.self.now.largest) refl c.row.ensures.goes
     c.row.ensures.same c.requires.ready s
 
 pub returns-in-Err-Bad-clause-stays : goal.returns-in-Err-Bad-clause-stays
 returns-in-Err-Bad-clause-stays g c s = stays (g.D.Disk.state c.args.disk.now)
-    (g.D.Disk.state c.row.new.disk) c.args.self.now _ refl refl refl refl refl (λ moment spot knows. knows) refl c.row.ensures.goes
+    (g.D.Disk.state c.row.new.disk) c.args.self.now _ refl refl refl refl refl (λ moment spot knows. knows)
+    (le_refl c.args.self.now.largest) refl c.row.ensures.goes
     c.row.ensures.same c.requires.ready s
 
 pub returns-in-Err-NoMemory-clause-stays : goal.returns-in-Err-NoMemory-clause-stays
 returns-in-Err-NoMemory-clause-stays g c s = stays (g.D.Disk.state c.args.disk.now)
-    (g.D.Disk.state c.row.new.disk) c.args.self.now _ refl refl refl refl refl (λ moment spot knows. knows) refl c.row.ensures.goes
+    (g.D.Disk.state c.row.new.disk) c.args.self.now _ refl refl refl refl refl (λ moment spot knows. knows)
+    (le_refl c.args.self.now.largest) refl c.row.ensures.goes
     c.row.ensures.same c.requires.ready s
 
 pub returns-in-Ok-item_of-clause-item : goal.returns-in-Ok-item_of-clause-item

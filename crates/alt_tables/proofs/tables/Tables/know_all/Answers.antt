@@ -16,7 +16,7 @@ pub loop-note-init : goal.loop-note-init
 loop-note-init c = record {
   known = last_none (catalog_of c.args.self.now) c.args.moment c.args.notes.items
       (trimmed_of c.args.self.now) (fronts_of c.args.self.now);
-  kept = (refl, refl, refl, refl, refl, refl);
+  kept = (refl, refl, refl, refl, refl, refl, refl);
 }
 
 -- the table of one that is taken is there
@@ -48,6 +48,7 @@ returns-in_err-know-clause-kept c = (
   c.know.ensures.kept.3 ∙ c.loop-note.invariant.kept.3,
   c.know.ensures.kept.4 ∙ c.loop-note.invariant.kept.4,
   c.know.ensures.kept.5 ∙ c.loop-note.invariant.kept.5,
+  c.know.ensures.kept.6 ∙ c.loop-note.invariant.kept.6,
 )
 
 pub loop-note-smaller : goal.loop-note-smaller
@@ -83,6 +84,7 @@ loop-note-preserved c =
         c.know.ensures.kept.3 ∙ c.loop-note.invariant.kept.3,
         c.know.ensures.kept.4 ∙ c.loop-note.invariant.kept.4,
         c.know.ensures.kept.5 ∙ c.loop-note.invariant.kept.5,
+        c.know.ensures.kept.6 ∙ c.loop-note.invariant.kept.6,
       );
     }
 

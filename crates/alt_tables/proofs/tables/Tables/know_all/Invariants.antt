@@ -10,7 +10,8 @@ invariant-loop-note l = record {
       (trimmed_of l.fn.self) (trimmed_of l.self) (fronts_of l.fn.self) (fronts_of l.self);
   kept : (l.self.engine ≡ l.fn.self.engine) × (l.self.catalog ≡ l.fn.self.catalog)
       × (l.self.live ≡ l.fn.self.live) × (l.self.family ≡ l.fn.self.family)
-      × (l.self.due ≡ l.fn.self.due) × (l.self.builds ≡ l.fn.self.builds);
+      × (l.self.due ≡ l.fn.self.due) × (l.self.builds ≡ l.fn.self.builds)
+      × (l.self.largest ≡ l.fn.self.largest);
 }
 
 abbrev pub decreases-loop-note : goal.decreases-loop-note

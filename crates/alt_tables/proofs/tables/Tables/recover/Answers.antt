@@ -19,6 +19,7 @@ returns-in-Ok-live-clause-stands g c trusted s stood =
           sym (ap (front_at name) c.new.ensures.items) ∙ told in let e : ⊥ = cc no in e);
       builds = λ is. absurd (false≢true (sym is));
       due = foresees_nothing s.tables c.new-in-Ok-live.result c.new-in-Ok-live.ensures.none;
+      sized = opens.sized;
       valid = opens.valid;
     }
 

@@ -92,7 +92,7 @@ returns-in-Ok-clause-writes g c s t stands at =
     c.in_ok-ttl.ensures.copied
     (subst (λ (e : Due). IsTold c.in_ok-ttl.ttl e c.forget_for.new.due) c.make.ensures.kept.5
     c.forget_for.ensures))
-    c.make.ensures.kept.6 c.in-Ok.ensures.next c.in-Ok.ensures.distinct
+    c.make.ensures.kept.7 c.make.ensures.kept.6 c.in-Ok.ensures.next c.in-Ok.ensures.distinct
     (c.in-Ok.ensures.rows stands.rows.trusted stands.rows.layout stands.rows.is))
     (has_number s.next_number (omega (arith, stands.number, c.next_number-number.ensures.next, c.if-number-ge-NUMBERS_END.false)))
 

@@ -1,5 +1,6 @@
 -- One more is got ready behind the others.
 use Rattle.std.proofs.Common.{sym, subst, List, [], ◌∷◌, arith}
+use Rattle.std.proofs.Math.Nat.{le_refl}
 use Rattle.std.specs.Vec.Iter.{into_iter_items}
 use Rattle.std.proofs.lemmas.List.{nil_from_length}
 use Rattle.alt_disk.specs.Disk.{DiskState}
@@ -102,7 +103,7 @@ loop-change-preserved g c =
     staging_more a m (g.D.Disk.state c.stage.new.disk) old now c.stage.new.self c.args.moment
     c.args.by all rest change staged c.stage.new.staged so c.stage.ensures.keeps
     c.in-Ok.ensures.staged (c.in-Ok.ensures.distinct so.distinct) c.in-Ok.ensures.count
-    c.in-Ok.ensures.notes c.in-Ok.ensures.foretold
+    c.in-Ok.ensures.notes c.in-Ok.ensures.foretold c.in-Ok.ensures.fits
 
 pub returns-in-Err-clause-keeps : goal.returns-in-Err-clause-keeps
 returns-in-Err-clause-keeps g c =
@@ -186,6 +187,21 @@ returns-clause-foretold g c =
     (omega (arith, c.loop-change.change-iterator.rest.ok, c.in-None.ensures.steps.0)))
     c.loop-change.invariant in
     so.told now.due (λ moment spot knows. knows) tt
+
+pub returns-clause-fits : goal.returns-clause-fits
+returns-clause-fits g c =
+    let a : DiskState = g.D.Disk.state c.args.disk.now in
+    let m : DiskState = g.D.Disk.state c.loop-change.disk in
+    let old : Tables = c.args.self.now in
+    let now : Tables = c.loop-change.self in
+    let all : List ItemChange = c.args.changes.items in
+    let staged : Staged = c.loop-change.staged in
+    let so : IsStaging a old m now c.args.moment c.args.by all [] staged =
+    subst (λ cs. IsStaging a old m now c.args.moment c.args.by all cs staged)
+    (nil_from_length (into_iter_items c.loop-change.change-iterator)
+    (omega (arith, c.loop-change.change-iterator.rest.ok, c.in-None.ensures.steps.0)))
+    c.loop-change.invariant in
+    so.fits now.largest (le_refl now.largest) tt
 
 pub returns-clause-notes : goal.returns-clause-notes
 returns-clause-notes g c = c.loop-change.invariant.notes

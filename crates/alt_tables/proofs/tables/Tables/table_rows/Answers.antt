@@ -1,5 +1,6 @@
 -- The rows of the walk are those of the items, and nothing else changed.
 use Rattle.std.proofs.Common.{◌≡◌, ◌∙◌, refl, sym, ap, subst, IfOk}
+use Rattle.std.proofs.Math.Nat.{le_refl}
 use Rattle.std.specs.Prelude.{◌≤◌, ◌+◌}
 use Rattle.alt_opening.specs.EngineInHand.{hand_of}
 use Rattle.alt_families.specs.Reads.{most_reads}
@@ -68,12 +69,14 @@ returns-in-Ok-clause-fault g c s stands =
 
 pub returns-in-Ok-clause-stays : goal.returns-in-Ok-clause-stays
 returns-in-Ok-clause-stays g c s = stays (g.D.Disk.state c.args.disk.now)
-    (g.D.Disk.state c.rows.new.disk) c.args.self.now _ refl refl refl refl refl (λ moment spot knows. knows) refl c.rows.ensures.goes
+    (g.D.Disk.state c.rows.new.disk) c.args.self.now _ refl refl refl refl refl (λ moment spot knows. knows)
+    (le_refl c.args.self.now.largest) refl c.rows.ensures.goes
     c.rows.ensures.same c.requires.ready s
 
 pub returns-in-Err-clause-stays : goal.returns-in-Err-clause-stays
 returns-in-Err-clause-stays g c s = stays (g.D.Disk.state c.args.disk.now)
-    (g.D.Disk.state c.rows.new.disk) c.args.self.now _ refl refl refl refl refl (λ moment spot knows. knows) refl c.rows.ensures.goes
+    (g.D.Disk.state c.rows.new.disk) c.args.self.now _ refl refl refl refl refl (λ moment spot knows. knows)
+    (le_refl c.args.self.now.largest) refl c.rows.ensures.goes
     c.rows.ensures.same c.requires.ready s
 
 pub returns-in-Err-clause-fault : goal.returns-in-Err-clause-fault

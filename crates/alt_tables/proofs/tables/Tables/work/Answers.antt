@@ -14,7 +14,7 @@ pub returns-in-Ok-clause-ok : goal.returns-in-Ok-clause-ok
 returns-in-Ok-clause-ok g c s stands =
     worked_stands (g.D.Disk.state c.args.disk.now) (g.D.Disk.state c.work.new.disk)
     c.args.self.now s stands c.as_slice.result.now c.as_slice.ensures.same c.as_slice.ensures.live
-    _ c.in-Ok.ensures.goes refl refl refl refl refl refl refl c.in-Ok.ensures.next
+    _ c.in-Ok.ensures.goes refl refl refl refl refl refl refl refl c.in-Ok.ensures.next
     (c.in-Ok.ensures.ok stands.rows.trusted stands.rows.layout stands.rows.is)
 
 pub returns-in-Ok-clause-disk : goal.returns-in-Ok-clause-disk

@@ -277,6 +277,7 @@ returns-in-Ok-make_all-clause-writes g c s stands =
           (c.make_all.ensures.kept.2 ∙ c.know_all.ensures.kept.3)
           c.make_all.ensures.kept.3 c.make_all.ensures.kept.4
           c.in-Ok.ensures.foretold (c.make_all.ensures.kept.5 ∙ c.know_all.ensures.kept.4)
+          c.in-Ok.ensures.fits (c.make_all.ensures.kept.7 ∙ c.know_all.ensures.kept.6)
           (c.make_all.ensures.kept.6 ∙ c.know_all.ensures.kept.5)
           (subst (λ bs. number_of new ≡ number_of known + length bs) given
           c.in-Ok-make_all.ensures.next));

@@ -135,6 +135,7 @@ returns-in-Ok-clause-writes g c s t stands at =
     (fronts_of c.args.self.now) v.items) (sym c.make.ensures.kept.4)
     (c.in_ok-know.ensures.fronts c.in-Some.schema.now (sym c.in-Some.ensures.table)))
     c.requires.foretold (c.make.ensures.kept.5 ∙ c.know.ensures.kept.4)
+    c.requires.fits (c.make.ensures.kept.7 ∙ c.know.ensures.kept.6)
     (c.make.ensures.kept.6 ∙ c.know.ensures.kept.5)
     (c.in-Ok.ensures.next ∙ ap (λ (e : Engine). next_of e + 1) c.know.ensures.kept.0))
     (has_number s.next_number (omega (arith, stands.number, c.requires.room)))

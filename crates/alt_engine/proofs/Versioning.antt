@@ -25,7 +25,7 @@ use Rattle.alt_merging.proofs.HandAddingLaws.{last_or}
 use Rattle.alt_merging.proofs.HandHandLaws.{lies_of}
 use Rattle.alt_merging.proofs.HandWorkLaws.{long_entries, no_entries, short_entries}
 use Rattle.alt_engine.specs.InHand.{hand_of}
-use Rattle.alt_engine.specs.Versions.{GetsFile, HasNewLog, IsAfter}
+use Rattle.alt_engine.specs.Versions.{GetsFile, HasNewLog, HasOldLog, IsAfter}
 use Rattle.alt_engine.specs.declared.engine.Engine.{Engine}
 use Rattle.alt_engine.specs.declared.work.Task.TheVariants.{Step}
 use Rattle.alt_engine.specs.declared.work.Worked.{Worked}
@@ -134,13 +134,14 @@ module _ (a d : DiskState) (e f : Hand) (l m : Layout) (old : Stands a e l) (new
   }
 
   -- any other one
-  pub without_read : (live : List ℕ) → LeavesOut live e f → (family : ℕ)
-      → (IsIn live family → ⊥) → IsThere v (family_of e family) family
-      → IsLeftOut w family (e.next - 1)
-  without_read live leaves family out there =
-      subst (λ (u : Version). IsLeftOut u family (e.next - 1)) is_w
-      (leaves.named family out
-      (subst (λ (u : Version). IsThere u (family_of e family) family) (sym is_v) there))
+  pub without_read : (live : List ℕ) → LeavesOut live e f → HasOldLog live e v w
+  without_read live leaves = record {
+    segments = ap (λ (u : Version). u.segments) (sym is_w) ∙ leaves.segments
+        ∙ ap (λ (u : Version). u.segments) is_v;
+    dead = λ family out there. subst (λ (u : Version). IsLeftOut u family (e.next - 1)) is_w
+        (leaves.named family out
+        (subst (λ (u : Version). IsThere u (family_of e family) family) (sym is_v) there));
+  }
 
 -- The version of a step that was done.
 pub after_step : (a d : DiskState) (live : List ℕ) (e : Engine) (f : Hand) (l m : Layout)

@@ -9,11 +9,11 @@ use Rattle.alt_manifest.specs.Versions.{HasVersion, IsIn, numbers_of}
 use Rattle.alt_manifest.specs.declared.version.Version.{Version}
 use Rattle.alt_merging.specs.HandAdding.{IsLeftOut, IsThere}
 use Rattle.alt_merging.specs.HandDrafting.{files_for}
-use Rattle.alt_merging.specs.HandInHand.{family_of}
+use Rattle.alt_merging.specs.HandInHand.{family_of, next_of}
 use Rattle.alt_merging.specs.HandMerging.{memory_at}
 use Rattle.alt_merging.specs.HandWorking.{HasEntries, most_entries}
 use Rattle.alt_merging.specs.HandDeclaredHand.{Hand}
-use Rattle.alt_engine.specs.InHand.{hand_of, limits_of, next_of}
+use Rattle.alt_engine.specs.InHand.{hand_of, limits_of}
 use Rattle.alt_engine.specs.declared.engine.Engine.{Engine}
 use Rattle.alt_engine.specs.declared.work.Task.{Task}
 use Rattle.alt_engine.specs.declared.work.Task.TheVariants.{Step, FlushAll, MergeAll}
@@ -35,11 +35,12 @@ pub record HasNewLog (a b : Image) (live : List ℕ) (old : Hand) (v w : Version
   pub only : (family : ℕ) → IsIn (numbers_of w.families) family → IsIn live family
   pub gone : (f : ℕ) → IsIn v.segments f → b f ≡ None
 
--- Any other version: it names those families that aren't live, and that the last one names or that have rows in memory, without files, and flushed up to
--- the last write.
-abbrev pub NamesDead : List ℕ → Engine → Version → Version → Type 0
-NamesDead live old v w = (family : ℕ) → (IsIn live family → ⊥)
-    → IsThere v (family_of (hand_of old) family) family → IsLeftOut w family (next_of old - 1)
+-- Any other version: it names the segments that the last one names, and those families that aren't live, and that the last one names or that have rows in
+-- memory, without files, and flushed up to the last write.
+pub record HasOldLog (live : List ℕ) (old : Hand) (v w : Version) : Type 0 where
+  pub segments : w.segments ≡ v.segments
+  pub dead : (family : ℕ) → (IsIn live family → ⊥) → IsThere v (family_of old family) family
+      → IsLeftOut w family (next_of old - 1)
 
 -- The last version after a flush of all, and after work of any other kind.
 abbrev pub IsNewLog : DiskState → DiskState → List ℕ → Engine → Type 0
@@ -48,7 +49,7 @@ IsNewLog a b live old = (v w : Version) → HasVersion v (a.file versions_file)
 
 abbrev pub IsWithoutDead : DiskState → DiskState → List ℕ → Engine → Type 0
 IsWithoutDead a b live old = (v w : Version) → HasVersion v (a.file versions_file)
-    → HasVersion w (b.file versions_file) → NamesDead live old v w
+    → HasVersion w (b.file versions_file) → HasOldLog live (hand_of old) v w
 
 -- Which it is, once a task is done: of a step the first where the log was long.
 abbrev pub IsAfter : Task → DiskState → DiskState → List ℕ → Engine → Type 0

@@ -1,6 +1,6 @@
 //! The engine in hand, from its opening on, and its writes.
 
-ghost use Rattle.std.specs.Prelude.{ℕ, ◌≡◌, ◌<◌, ◌≤◌, ◌+◌, ◌-◌, ◌^◌, ⊤, Err, IfOk, IfErr, IfSome, None, OnOk, IsErrOf, IsTrue, length, max};
+ghost use Rattle.std.specs.Prelude.{ℕ, ◌≡◌, ◌<◌, ◌≤◌, ◌+◌, ◌-◌, ◌^◌, ⊤, Err, IfOk, IfErr, IfSome, None, OnOk, OnErr, IsErrOf, IsTrue, length, max};
 ghost use Rattle.alt_base.specs.Counts.{Rose};
 ghost use Rattle.alt_disk.specs.Disk.{DiskState, IsTrusted, Goes};
 ghost use Rattle.alt_disk.specs.Runs.{Spans};
@@ -51,8 +51,8 @@ impl Engine {
         ensures synced { OnOk result (IsTrusted (D.state disk.old)
             → AllSynced (D.state disk.new)) }
 
-        // Its next file is past all that were there, those too that are removed then: each that the last version doesn't name, but none
-        // where damage or a digest that differs is told.
+        // Its next file is past all that were there, those too that are removed then: each that the last version doesn't name. Where the
+        // call fails, whatever the cause, none was removed before all that it names was read.
         ensures next_file { IfOk result (λ e. IsTrue (D.state disk.old).tells → (v : Version)
             → HasVersion v ((D.state disk.old).file versions_file)
             → IsNextFile v (D.state disk.old).file (next_file_of e)) }
@@ -60,7 +60,7 @@ impl Engine {
             → HasVersion v ((D.state disk.old).file versions_file)
             → LeavesStore v (D.state disk.old).file (D.state disk.new).file) }
         ensures none_before { IsTrue (D.state disk.old).tells
-            → IfErr result (LeavesFiles (D.state disk.old).file (D.state disk.new).file) }
+            → OnErr result (LeavesFiles (D.state disk.old).file (D.state disk.new).file) }
 
         // The files have, as they read, the layout that they had, also where the call fails.
         ensures files { IsTrue (D.state disk.old).tells → (l : Layout)

@@ -1,7 +1,7 @@
 -- Why files that are explained as no store's have no layout, and what is left on the way of a recovery.
 use Rattle.std.proofs.Common.{◌≡◌, ◌<◌, ◌≤◌, ◌+◌, ◌-◌, ◌++◌, ◌∷◌, ⊎_elim, inl, inr, ℕ, List, [], take, drop, length, max, Option, Some, refl, sym, ap, subst, ◌∙◌, length-append, append_assoc, arith}
 use Rattle.std.proofs.lemmas.List.{drop_at, take_at}
-use Rattle.std.specs.Prelude.{⊤, Result, Ok, Err, IfOk, OnOk}
+use Rattle.std.specs.Prelude.{⊤, Result, Ok, Err, IfOk, OnOk, OnErr}
 use Rattle.std.specs.FinMap.{entries, same_entries_map}
 use Rattle.std.specs.List.{AllByRecursion}
 use Rattle.sha2.specs.Sha256.{sha256}
@@ -353,3 +353,8 @@ pub ok_if : {A E : Type 0} (r : Result A E) (P : Type 0) (Q : A → Type 0) → 
     → OnOk r P → IfOk r Q
 ok_if (Ok x) P Q leads ok = leads x ok
 ok_if (Err e) P Q leads ok = tt
+
+-- what holds is so of each fault
+pub on_err_of : {A E P : Type 0} (r : Result A E) → P → OnErr r P
+on_err_of (Ok x) it = tt
+on_err_of (Err e) it = it

@@ -51,8 +51,10 @@ pub record IsLeftOut (v : Version) (family last : ℕ) : Type 0 where
   pub files : files_of v.families family ≡ []
   pub flushed : flushed_of v.families family ≡ last
 
--- The new version names those that were there without files, flushed up to the last write, and no family that isn't live has rows in memory.
+-- The new version names the segments of the last one, and those families that were there without files, flushed up to the last write; and no family that
+-- isn't live has rows in memory.
 pub record LeavesOut (live : List ℕ) (old new : Hand) : Type 0 where
+  pub segments : (version_in new).segments ≡ (version_in old).segments
   pub named : (family : ℕ) → (IsIn live family → ⊥)
       → IsThere (version_in old) (family_of old family) family
       → IsLeftOut (version_in new) family (next_of old - 1)

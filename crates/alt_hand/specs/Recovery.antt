@@ -116,10 +116,10 @@ pub record LeavesStore (v : Version) (before after : Image) : Type 0 where
   pub kept : (f : ℕ) → IsOf v f → after f ≡ before f
   pub removed : (f : ℕ) → (IsOf v f → ⊥) → after f ≡ None
 
--- Where damage or a digest that differs is told every file is as it was.
-abbrev pub LeavesFiles : Image → Image → RecoverFault → Type 0
-LeavesFiles before after fault = OnlyDamaged (λ damage. (f : ℕ) → after f ≡ before f)
-    (told_by_recovery fault)
+-- Where a store isn't opened every file is as it was, unless all that the last version names was read: then the files had a layout.
+abbrev pub LeavesFiles : Image → Image → Type 0
+LeavesFiles before after =
+    ((f : ℕ) → after f ≡ before f) ⊎ ((l : Layout) × IsLayout before l)
 
 -- The greater of the version's next file and one past the greatest that is there, but at most 2^32 - 1.
 pub record IsNextFile (v : Version) (files : Image) (next : ℕ) : Type 0 where

@@ -106,10 +106,11 @@ IsFileSpent f = Tells (λ number. number ≡ 2 ^ 32 - 1) (λ damage. Unit {0}) (
 abbrev pub IsAllFor : List ℕ → Hand → EngineFault → Type 0
 IsAllFor live e fault = IsSpentFor (next_file_of e + files_needed e.families live + 1) fault
 
--- And one of the lowest live family that is full where its file does.
+-- A flush of a step does where the log is long, and else where the file of the lowest live family that is full goes beyond it.
 abbrev pub IsDueFor : List ℕ → Hand → EngineFault → Type 0
-IsDueFor live e fault = IsAllFor live e fault ⊎ ((family : ℕ) × IsFirstFull live e family
-    × IsSpentFor (next_file_of e + files_for (entries (rows_in (family_of e family)))) fault)
+IsDueFor live e fault = (IsLong e × IsAllFor live e fault)
+    ⊎ (IsShort e × ((family : ℕ) × IsFirstFull live e family
+    × IsSpentFor (next_file_of e + files_for (entries (rows_in (family_of e family)))) fault))
 
 -- It tells of no damage.
 abbrev pub IsNoDamage : EngineFault → Type 0

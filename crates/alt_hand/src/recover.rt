@@ -1,6 +1,6 @@
 //! Opening a store: what its files hold, and why they have no layout.
 
-ghost use Rattle.std.specs.Prelude.{◌≡◌, ⊤, ℕ, List, None, IfOk, IfErr, OnOk, IsErrOf, IsTrue};
+ghost use Rattle.std.specs.Prelude.{◌≡◌, ⊤, ℕ, List, None, IfOk, IfErr, OnOk, OnErr, IsErrOf, IsTrue};
 ghost use Rattle.alt_base.specs.Counts.{Rose};
 ghost use Rattle.alt_disk.specs.Disk.{DiskState, IsNames, IsTrusted, Goes};
 ghost use Rattle.alt_disk.specs.Runs.{Spans};
@@ -120,8 +120,8 @@ impl Hand {
         ensures synced { OnOk result (IsTrusted (D.state disk.old)
             → AllSynced (D.state disk.new)) }
 
-        // Its next file is past all that were there, those too that are removed then: each that the last version doesn't name, but none
-        // where damage or a digest that differs is told.
+        // Its next file is past all that were there, those too that are removed then: each that the last version doesn't name. Where the
+        // call fails, whatever the cause, none was removed before all that it names was read.
         ensures next_file { IfOk result (λ e. IsTrue (D.state disk.old).tells → (v : Version)
             → HasVersion v ((D.state disk.old).file versions_file)
             → IsNextFile v (D.state disk.old).file (next_file_of e)) }
@@ -129,7 +129,7 @@ impl Hand {
             → HasVersion v ((D.state disk.old).file versions_file)
             → LeavesStore v (D.state disk.old).file (D.state disk.new).file) }
         ensures none_before { IsTrue (D.state disk.old).tells
-            → IfErr result (LeavesFiles (D.state disk.old).file (D.state disk.new).file) }
+            → OnErr result (LeavesFiles (D.state disk.old).file (D.state disk.new).file) }
 
         // The files have, as they read, the layout that they had, also where the call fails.
         ensures files { IsTrue (D.state disk.old).tells → (l : Layout)

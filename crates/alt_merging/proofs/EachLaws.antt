@@ -1,5 +1,5 @@
 -- Files that need no merge, and work behind work.
-use Rattle.std.proofs.Common.{◌≡◌, ◌≢◌, ◌<◌, ◌≤◌, ◌-◌, ⊎_elim, inl, inr, ℕ, Bool, true, false, List, [], ◌∷◌, length, get_or, refl, sym, subst, ◌∙◌, arith}
+use Rattle.std.proofs.Common.{◌≡◌, ◌≢◌, ◌<◌, ◌≤◌, ◌-◌, ⊎_elim, inl, inr, ℕ, Bool, true, false, List, [], ◌∷◌, length, get_or, refl, sym, ap, subst, ◌∙◌, arith}
 use Rattle.std.specs.Prelude.{◌⊎◌, None, not}
 use Rattle.std.specs.FinMap.{empty, entries}
 use Rattle.std.specs.List.{AllByRecursion}
@@ -133,6 +133,7 @@ adds_then a b c e f g l stands first later low missing = record {
 pub leaves_then : (live : List ℕ) (e f g : Hand) → LeavesOut live e f → LeavesOut live f g
     → next_of f ≡ next_of e → LeavesOut live e g
 leaves_then live e f g first later next = record {
+  segments = later.segments ∙ first.segments;
   named = λ family out there. subst (λ n. IsLeftOut (version_in g) family (n - 1)) next
       (later.named family out (inl (first.named family out there).named));
   emptied = later.emptied;
@@ -149,6 +150,7 @@ pub leaves_from : (live : List ℕ) (e f g : Hand) → version_in f ≡ version_
     → ((family : ℕ) → memory_at f family ≡ memory_at e family) → next_of f ≡ next_of e
     → LeavesOut live f g → LeavesOut live e g
 leaves_from live e f g same memory next leaves = record {
+  segments = leaves.segments ∙ ap (λ (v : Version). v.segments) same;
   named = λ family out there. subst (λ n. IsLeftOut (version_in g) family (n - 1)) next
       (leaves.named family out (⊎_elim
       (λ (name : IsIn (numbers_of (version_in e).families) family).

@@ -154,6 +154,8 @@ returns-clause-leaves_out g c =
     let is : c.in_ok-first.first ≡ renumbered (version_of e.manifest) e.next_file e.next =
     c.in_ok-first.ensures ∙ ap (λ (v : Version). renumbered v e.next_file e.next) c.current.ensures in
     on_ok_weaker c.publish.result (λ (version : version_in c.publish.new.self ≡ c.in_ok-draft.draft). record {
+      segments = ap (λ (v : Version). v.segments) version ∙ c.in_ok-draft.ensures.segments
+          ∙ c.in_ok-alive.ensures.segments ∙ ap (λ (v : Version). v.segments) is;
       named = λ other out there. subst (λ (v : Version). IsLeftOut v other (e.next - 1)) (sym version)
           (c.in_ok-draft.ensures.past other (e.next - 1)
           (λ (same : other ≡ family). out (subst (IsIn live) (sym same) c.requires.live))

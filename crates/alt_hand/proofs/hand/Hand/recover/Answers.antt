@@ -1,5 +1,5 @@
 -- All files synced, then read, and then those removed that aren't named.
-use Rattle.std.proofs.Common.{◌≡◌, ℕ, List, None, IsTrue, sym, subst, ap, ◌∙◌}
+use Rattle.std.proofs.Common.{◌≡◌, inl, inr, ℕ, List, None, IsTrue, sym, subst, ap, ◌∙◌}
 use Rattle.std.specs.Prelude.{⊤}
 use Rattle.alt_cells.proofs.Keeping.{tells_on}
 use Rattle.alt_disk.specs.Disk.{DiskState, IsNames, IsTrusted}
@@ -18,7 +18,7 @@ use Rattle.alt_hand.specs.Recovery.{ExplainsStore, IsNextFile, LeavesStore, Left
 use Rattle.alt_hand.specs.Syncing.{AllSynced}
 use Rattle.alt_hand.specs.declared.hand.Hand.{Hand}
 use Rattle.alt_hand.proofs.KeepLaws.{found_layout, found_version, layout_kept, synced_kept, synced_stands}
-use Rattle.alt_hand.proofs.RecoverLaws.{if_ok, no_layout, ok_if, spans_narrow, spans_removed}
+use Rattle.alt_hand.proofs.RecoverLaws.{if_ok, no_layout, ok_if, on_err_of, spans_narrow, spans_removed}
 use Rattle.alt_hand.proofs.SyncLaws.{narrows_quiet, synced_quiet}
 use Rattle.alt_hand.proofs.hand.Hand.recover.Goals as goal
 
@@ -26,6 +26,9 @@ pub returns-in-Err-clause-any_moment : goal.returns-in-Err-clause-any_moment
 returns-in-Err-clause-any_moment g c trusted =
     spans_narrow (g.D.Disk.state c.args.disk.now) (g.D.Disk.state c.sync_all.new.disk)
     (c.sync_all.ensures.any_moment trusted)
+
+pub returns-in-Err-clause-none_before : goal.returns-in-Err-clause-none_before
+returns-in-Err-clause-none_before g c told = inl (λ f. c.sync_all.ensures.files told f)
 
 pub returns-in-Ok-read_store-clause-ok : goal.returns-in-Ok-read_store-clause-ok
 returns-in-Ok-read_store-clause-ok g c =
@@ -137,6 +140,21 @@ returns-in-Ok-read_store-clause-files g c told l layout =
     (subst (λ (files : Image). IsLayout files l)
     (λ i f. sym ((c.read_store.ensures.quiet told_b).file f ∙ c.sync_all.ensures.files told f) i) layout)
 
+pub returns-in-Ok-read_store-clause-none_before : goal.returns-in-Ok-read_store-clause-none_before
+returns-in-Ok-read_store-clause-none_before g c told =
+    let a : DiskState = g.D.Disk.state c.args.disk.now in
+    let b : DiskState = g.D.Disk.state c.sync_all.new.disk in
+    let d : DiskState = g.D.Disk.state c.read_store.new.disk in
+    let n : DiskState = g.D.Disk.state c.keep_named.new.disk in
+    let told_b = tells_on a b c.sync_all.ensures.goes told in
+    let found = c.in-Ok-read_store.ensures.ok told_b in
+    on_err_of c.keep_named.result (inr (
+      found.0,
+      subst (λ (files : Image). IsLayout files found.0)
+          (λ i f. ((c.read_store.ensures.quiet told_b).file f ∙ c.sync_all.ensures.files told f) i)
+          (found_layout d c.in-Ok-read_store.engine found.0 found.1),
+    ))
+
 pub returns-in-Ok-read_store-clause-any_moment : goal.returns-in-Ok-read_store-clause-any_moment
 returns-in-Ok-read_store-clause-any_moment g c trusted =
     let a : DiskState = g.D.Disk.state c.args.disk.now in
@@ -162,6 +180,13 @@ returns-in-Err-read_store-clause-files g c told l layout =
     subst (λ (files : Image). IsLayout files l)
     (λ i f. sym ((c.read_store.ensures.quiet (tells_on a b c.sync_all.ensures.goes told)).file f
     ∙ c.sync_all.ensures.files told f) i) layout
+
+pub returns-in-Err-read_store-clause-none_before : goal.returns-in-Err-read_store-clause-none_before
+returns-in-Err-read_store-clause-none_before g c told =
+    let a : DiskState = g.D.Disk.state c.args.disk.now in
+    let b : DiskState = g.D.Disk.state c.sync_all.new.disk in
+    inl (λ f. (c.read_store.ensures.quiet (tells_on a b c.sync_all.ensures.goes told)).file f
+    ∙ c.sync_all.ensures.files told f)
 
 pub returns-in-Err-read_store-clause-any_moment : goal.returns-in-Err-read_store-clause-any_moment
 returns-in-Err-read_store-clause-any_moment g c trusted =

@@ -1,10 +1,15 @@
 -- A step behind a flush that had nothing to do.
 use Rattle.std.proofs.Common.{◌≡◌, ◌∙◌, ◌+◌, ⊎_elim, ℕ, List, [], ◌∷◌, Some, None, length, sym, ap, subst}
 use Rattle.std.specs.List.{AllByRecursion}
+use Rattle.std.specs.Prelude.{Result, Ok, Err, IfErr}
 use Rattle.alt_disk.specs.Disk.{DiskState}
+use Rattle.alt_faults.proofs.Telling.{outside-neither}
 use Rattle.alt_manifest.specs.Versions.{IsIn}
+use Rattle.alt_merging.specs.HandDrafting.{IsUnspent as IsOutsideFault}
+use Rattle.alt_merging.specs.HandFaults.{told_by_engine}
 use Rattle.alt_merging.specs.HandMerging.{HasMany, IsFirstMany, files_at}
 use Rattle.alt_merging.specs.HandWorking.{IsDueFor, IsFileSpent, IsNoDamage}
+use Rattle.alt_merging.specs.HandOpened.{IsUnspent}
 use Rattle.alt_merging.specs.HandDeclaredEngineFault.{EngineFault}
 use Rattle.alt_merging.specs.HandDeclaredHand.{Hand}
 use Rattle.alt_merging.specs.Mergings.{GivesWay, MergingStands, family_of, taken_of}
@@ -13,6 +18,7 @@ use Rattle.alt_merging.proofs.EachLaws.{file_for, whole_for}
 use Rattle.alt_engine.specs.InHand.{IsGoing, hand_of, merge_of}
 use Rattle.alt_engine.specs.Working.{Begins, Ended, Furthered}
 use Rattle.alt_engine.specs.declared.engine.Engine.{Engine}
+use Rattle.alt_engine.specs.declared.work.Worked.{Worked}
 use Rattle.alt_engine.proofs.Turning.{free_none}
 
 -- ---- the same disk and the same rows
@@ -70,6 +76,13 @@ due_file live e f due = ⊎_elim (λ all. file_for _ f all.1) (λ one. file_for 
 
 pub due_whole : (live : List ℕ) (e : Hand) (f : EngineFault) → IsDueFor live e f → IsNoDamage f
 due_whole live e f due = ⊎_elim (λ all. whole_for _ f all.1) (λ one. whole_for _ f one.1.2) due
+
+-- What tells neither a number nor damage needs no file.
+pub outside_need : {P : EngineFault → Type 0} (r : Result Worked EngineFault) → IfErr r IsUnspent
+    → IfErr r IsNoDamage → ((f : EngineFault) → IsOutsideFault f → P f) → IfErr r P
+outside_need (Ok w) unspent whole all = tt
+outside_need (Err f) unspent whole all =
+    all f (outside-neither (told_by_engine f) unspent whole)
 
 -- ---- many files
 

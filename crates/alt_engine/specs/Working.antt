@@ -11,7 +11,7 @@ use Rattle.alt_manifest.specs.declared.version.Version.{Version}
 use Rattle.alt_families.specs.Families.{rows_in}
 use Rattle.alt_rowfile.specs.Format.{IsRowFile}
 use Rattle.alt_rowfile.specs.Summaries.{any_tombstone}
-use Rattle.alt_merging.specs.HandDrafting.{IsSpentFor}
+use Rattle.alt_merging.specs.HandDrafting.{IsSpentFor, IsUnspent}
 use Rattle.alt_merging.specs.HandInHand.{family_of}
 use Rattle.alt_merging.specs.HandMerging.{HasMany, IsFirstMany, files_at}
 use Rattle.alt_merging.specs.HandWorking.{AreAllFlushed, HasEntries, IsAllFor, IsCalm, IsDueFor, IsFirstFull, IsOneFlushed, most_entries}
@@ -147,12 +147,12 @@ IsMerged live files = (v : Version) → HasVersion v (files versions_file) → (
 
 -- ---- Faults.
 
--- A spent number is told only where the files that the task needs go beyond file 2^32 - 1: those of its flush; one for a merge that a step begins; and for
--- merges of all one for each live family at most.
+-- A spent number is told only where the files that the task needs go beyond file 2^32 - 1: those of a flush that is due to a step, or one for a merge that
+-- it begins; those of a flush of all; and for merges of all one for each live family at most.
 abbrev pub IsNeeded : Task → List ℕ → Engine → EngineFault → Type 0
-IsNeeded Step live e fault = IsDueFor live (hand_of e) fault
+IsNeeded Step live e fault = IsUnspent fault ⊎ (IsDueFor live (hand_of e) fault
     ⊎ (IsFree live e × ((family : ℕ) × IsFirstMany live (hand_of e) family)
-    × IsSpentFor (next_file_of e + 1) fault)
+    × IsSpentFor (next_file_of e + 1) fault))
 IsNeeded FlushAll live e fault = IsAllFor live (hand_of e) fault
 IsNeeded MergeAll live e fault = IsSpentFor (next_file_of e + length live) fault
 

@@ -17,6 +17,7 @@ pub use Rattle.alt_engine.specs.Opened as EngineOpened
 pub use Rattle.alt_engine.specs.Working as EngineWorking
 pub use Rattle.alt_engine.specs.declared.engine.Engine as EngineDeclaredEngine
 pub use Rattle.alt_engine.specs.declared.work.Task as EngineDeclaredTask
+pub use Rattle.alt_engine.specs.declared.work.Worked as EngineDeclaredWorked
 pub use Rattle.alt_engine.specs.HandDrafting as HandDrafting
 pub use Rattle.alt_engine.specs.HandFaults as HandFaults
 pub use Rattle.alt_engine.specs.HandInHand as HandInHand

@@ -29,6 +29,7 @@ use Rattle.alt_opening.specs.StateRows.{Shows, catalog_family}
 use Rattle.alt_opening.proofs.Families.{own_family}
 use Rattle.alt_opening.specs.HandFaults.{told_by_engine}
 use Rattle.alt_faults.specs.Faults.{OnlySpent}
+use Rattle.alt_faults.proofs.Telling.{outside-tells}
 use Rattle.alt_tables.specs.Faults.{IsLastFile, IsWorkFault}
 use Rattle.alt_rowchanges.specs.Faults.{told_by_tables}
 use Rattle.alt_tables.specs.FilesLeft.{most_files}
@@ -161,16 +162,17 @@ few_live old t s stands live same are =
 -- so a task needs no more
 needed_reach : (task : Task) (live : List ℕ) (e : Engine) (fault : EngineFault)
     → IsNeeded task live e fault → IsSpentFor (next_file_of e + most_for live) fault
-needed_reach Step live e fault (inl (inl all)) =
+needed_reach Step live e fault (inl none) = outside-tells _ _ (told_by_engine fault) none
+needed_reach Step live e fault (inr (inl (inl all))) =
     let most = needed-most e.hand.families live in
     spent_more fault (e.hand.next_file + files_needed e.hand.families live + 1)
     (e.hand.next_file + most_for live) (omega (arith, most)) all.1
-needed_reach Step live e fault (inl (inr one)) =
+needed_reach Step live e fault (inr (inl (inr one))) =
     let rows = entries (rows_in (get nat_cmp e.hand.families one.1.0)) in
     let most = files_for-most rows in
     spent_more fault (e.hand.next_file + files_for rows) (e.hand.next_file + most_for live)
     (omega (arith, most)) one.1.2
-needed_reach Step live e fault (inr begun) = spent_more fault (e.hand.next_file + 1)
+needed_reach Step live e fault (inr (inr begun)) = spent_more fault (e.hand.next_file + 1)
     (e.hand.next_file + most_for live) (omega arith) begun.2
 needed_reach FlushAll live e fault all =
     let most = needed-most e.hand.families live in

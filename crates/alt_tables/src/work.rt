@@ -1,16 +1,17 @@
 //! Work between requests: none of it changes the state.
 
-ghost use Rattle.std.specs.Prelude.{◌≡◌, ◌≤◌, ◌<◌, ◌+◌, ◌*◌, ⊤, ℕ, IfErr, OnOk, IsErrOf};
+ghost use Rattle.std.specs.Prelude.{◌≡◌, ◌≤◌, ◌<◌, ◌+◌, ◌*◌, ⊤, ℕ, IfErr, IfOk, OnOk, IsErrOf};
 ghost use Rattle.alt_base.specs.Counts.{Rose};
 ghost use Rattle.alt_disk.specs.Disk.{IsTrusted, Goes};
 ghost use Rattle.alt_disk.specs.Runs.{Spans};
+ghost use Rattle.alt_opening.specs.EngineWorking.{Did, IsIdle, Went};
 ghost use Rattle.alt_opening.specs.HandWorking.{HasEntries};
 ghost use Rattle.alt_machine.specs.State.{State};
 ghost use Rattle.alt_tables.specs.Faults.{IsWorkFault};
 ghost use Rattle.alt_tables.specs.FilesLeft.{LacksFile, most_files};
 ghost use Rattle.alt_tables.specs.Images.{StandAt};
 ghost use Rattle.alt_tables.specs.Merged.{IsMergedFor};
-ghost use Rattle.alt_tables.specs.Stands.{AreReady, KeepsLimits, Stands, bounds_of, limits_of};
+ghost use Rattle.alt_tables.specs.Stands.{AreReady, KeepsLimits, Stands, bounds_of, limits_of, live_of};
 
 use crate::tables::Tables;
 use alt_disk::Disk;
@@ -24,6 +25,22 @@ impl Tables {
         ensures ok { OnOk result ((s : State) → Stands (D.state disk.old) self.old s
             → Stands (D.state disk.new) self.new s) }
         ensures kept { KeepsLimits self.old self.new }
+
+        // What is answered is what the engine did with the families of tables: Idle comes exactly where nothing applies to these.
+        ensures idle { IfOk result (λ w. w ≡ Worked.Idle → (s : State)
+            → Stands (D.state disk.old) self.old s
+            → IsIdle task (D.state disk.old) (live_of self.old) self.old.engine) }
+        ensures busy { IfOk result (λ w. (w ≡ Worked.Idle → ⊥) → (s : State)
+            → Stands (D.state disk.old) self.old s
+            → IsIdle task (D.state disk.old) (live_of self.old) self.old.engine → ⊥) }
+        ensures went { IfOk result (λ w. w ≡ Worked.Went → (s : State)
+            → Stands (D.state disk.old) self.old s → (task ≡ Task.Step)
+            × Went (D.state disk.old) (D.state disk.new) (live_of self.old)
+            self.old.engine self.new.engine) }
+        ensures done { IfOk result (λ w. w ≡ Worked.Done → (s : State)
+            → Stands (D.state disk.old) self.old s
+            → Did task (D.state disk.old) (D.state disk.new) (live_of self.old)
+            self.old.engine self.new.engine) }
 
         // A stop at any moment of the call, also one that fails, leaves files that stand for the state.
         ensures disk { (s : State) → Stands (D.state disk.old) self.old s

@@ -19,7 +19,7 @@ use Rattle.alt_merging.proofs.StepLaws.{has_works}
 use Rattle.alt_engine.specs.InHand.{IsGoing, Stands, merge_of}
 use Rattle.alt_engine.specs.declared.engine.Engine.{Engine}
 use Rattle.alt_engine.proofs.EngineLaws.{going_carried}
-use Rattle.alt_engine.proofs.Stepping.{at_both, back_both, begins_at, ended_back, furthered_back, taken_stands}
+use Rattle.alt_engine.proofs.Stepping.{at_both, back_both, begins_at, ended_back, furthered_back, outside_need, taken_stands}
 use Rattle.alt_engine.proofs.Taking.{taken_due}
 use Rattle.alt_engine.proofs.Turning.{no_job}
 use Rattle.alt_engine.proofs.engine.Engine.step.Goals as goal
@@ -394,3 +394,9 @@ pub returns-in-None-clause-next_file : goal.returns-in-None-clause-next_file
 returns-in-None-clause-next_file g c = on_ok_weaker c.begin.result (λ it.
     let q = ap (λ (h : Hand). h.next_file) (c.in_ok-flushed.ensures.idle_hand c.if-flushed.false) in
     omega (arith, it, q)) c.begin.ensures.next_file
+
+pub returns-in-Some-clause-needed : goal.returns-in-Some-clause-needed
+returns-in-Some-clause-needed g c trusted =
+    let told = trusted_on (g.D.Disk.state c.args.disk.now) (g.D.Disk.state c.flush_due.new.disk)
+    c.flush_due.ensures.goes trusted in
+    outside_need c.go_on.result c.go_on.ensures.unspent (c.go_on.ensures.sound told) (λ f none. inl none)

@@ -1,6 +1,6 @@
 -- The families of all tables are live, so the rows of the state stay.
-use Rattle.std.proofs.Common.{refl, subst, arith}
-use Rattle.alt_opening.specs.EngineWorking.{IsNeeded}
+use Rattle.std.proofs.Common.{refl, sym, subst, arith}
+use Rattle.alt_opening.specs.EngineWorking.{Did, IsIdle, IsNeeded, Went}
 use Rattle.alt_opening.specs.HandInHand.{last_form_of}
 use Rattle.alt_opening.proofs.HandSegmentFiles.{files_made-few}
 use Rattle.alt_tables.proofs.Working.{few_live, merged_for, work_fault, worked_left, worked_stands}
@@ -57,3 +57,29 @@ returns-in-Ok-clause-merge_all g c is trusted s stands =
     merged_for (g.D.Disk.state c.args.disk.now) c.args.self.now s stands c.as_slice.result.now
     c.as_slice.ensures.same c.as_slice.ensures.live (g.D.Disk.state c.work.new.disk).file
     (c.in-Ok.ensures.merge_all is trusted)
+
+pub returns-in-Ok-clause-idle : goal.returns-in-Ok-clause-idle
+returns-in-Ok-clause-idle g c is s stands =
+    subst (λ live. IsIdle c.args.task (g.D.Disk.state c.args.disk.now) live c.args.self.now.engine)
+    c.as_slice.ensures.same
+    (c.in-Ok.ensures.idle is stands.rows.trusted stands.rows.layout stands.rows.is)
+
+pub returns-in-Ok-clause-busy : goal.returns-in-Ok-clause-busy
+returns-in-Ok-clause-busy g c is s stands idle =
+    c.in-Ok.ensures.busy is stands.rows.trusted stands.rows.layout stands.rows.is
+    (subst (λ live. IsIdle c.args.task (g.D.Disk.state c.args.disk.now) live c.args.self.now.engine)
+    (sym c.as_slice.ensures.same) idle)
+
+pub returns-in-Ok-clause-went : goal.returns-in-Ok-clause-went
+returns-in-Ok-clause-went g c is s stands =
+    let went = c.in-Ok.ensures.went is stands.rows.trusted stands.rows.layout stands.rows.is in (
+      went.0,
+      subst (λ live. Went (g.D.Disk.state c.args.disk.now) (g.D.Disk.state c.work.new.disk) live
+          c.args.self.now.engine c.work.new.self) c.as_slice.ensures.same went.1,
+    )
+
+pub returns-in-Ok-clause-done : goal.returns-in-Ok-clause-done
+returns-in-Ok-clause-done g c is s stands =
+    subst (λ live. Did c.args.task (g.D.Disk.state c.args.disk.now) (g.D.Disk.state c.work.new.disk) live
+    c.args.self.now.engine c.work.new.self) c.as_slice.ensures.same
+    (c.in-Ok.ensures.done is stands.rows.trusted stands.rows.layout stands.rows.is)

@@ -4,7 +4,7 @@
 set -eu
 # shellcheck source=bench/rounds.sh
 . "$(dirname "$0")/rounds.sh"
-crates='alt_base alt_fields alt_decimal alt_value alt_codec alt_shape alt_schema alt_expr alt_keyorder alt_legacy alt_machine alt_named alt_members alt_disk alt_cells alt_cellbytes alt_views alt_http'
+crates='alt_base alt_fields alt_decimal alt_value alt_codec alt_shape alt_description alt_schema alt_expr alt_keyorder alt_legacy alt_machine alt_named alt_members alt_disk alt_cells alt_cellbytes alt_views alt_http'
 # shellcheck disable=SC2086
 begin HEAD "$crates serde_json" $crates
 cat >"$main" <<'RATTLE'

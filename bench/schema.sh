@@ -4,7 +4,7 @@
 set -eu
 # shellcheck source=bench/rounds.sh
 . "$(dirname "$0")/rounds.sh"
-begin "${1:-HEAD}" "alt_schema serde_json" alt_base alt_decimal alt_fields alt_value alt_shape alt_schema
+begin "${1:-HEAD}" "alt_schema serde_json" alt_base alt_decimal alt_fields alt_value alt_codec alt_shape alt_description alt_schema
 cat >"$main" <<'RATTLE'
 //! Makes a hostile body of CreateTable, with `indexes` as the first word one of many indexes. With two words its JSON is read, and
 //! with three it is tested too.

@@ -4,10 +4,10 @@ use Rattle.std.specs.List.{filter}
 use Rattle.alt_schema.specs.Altered.{definitions_fit, definitions_with, index_added, indexes_fit_with, keys_fit_with, refused_with, stated_with, with_index}
 use Rattle.alt_schema.specs.Described.{index_for}
 use Rattle.alt_schema.specs.Rules.{indexes_fit, is_defined, keys_fit_together}
-use Rattle.alt_schema.specs.declared.schema.Built.TheVariants.{UpTo}
-use Rattle.alt_schema.specs.declared.schema.IndexSchema.{IndexSchema}
-use Rattle.alt_schema.specs.declared.schema.KeyAttr.{KeyAttr}
-use Rattle.alt_schema.specs.declared.schema.TableSchema.{TableSchema}
+use Rattle.alt_description.specs.declared.schema.Built.TheVariants.{UpTo}
+use Rattle.alt_description.specs.declared.schema.IndexSchema.{IndexSchema}
+use Rattle.alt_description.specs.declared.schema.KeyAttr.{KeyAttr}
+use Rattle.alt_description.specs.declared.schema.TableSchema.{TableSchema}
 use Rattle.alt_schema.specs.declared.stated.Stated.{Stated}
 use Rattle.alt_schema.specs.declared.stated.StatedIndex.{StatedIndex}
 use Rattle.alt_shape.specs.Refusals.{bad_key_schema, bad_index}

@@ -2,13 +2,13 @@
 use Rattle.std.proofs.Common.{◌≡◌, refl, sym, ap, ◌∙◌, suc, Bool, true, ◌&&◌, List, [], ◌∷◌, ◌++◌, map, length, ℕ, Option, None}
 use Rattle.std.specs.List.{list_all, AllByRecursion}
 use Rattle.std.proofs.lemmas.List.Folds.{list_all-append}
-use Rattle.alt_schema.specs.Bare.{as_whole, bare, is_whole}
+use Rattle.alt_description.specs.Bare.{as_whole, bare, is_whole}
 use Rattle.alt_schema.specs.Described.{IsDescription, keys_defined}
-use Rattle.alt_schema.specs.Indexes.{indexes}
-use Rattle.alt_schema.specs.declared.schema.Built.{Built}
-use Rattle.alt_schema.specs.declared.schema.Built.TheVariants.{Whole, UpTo}
-use Rattle.alt_schema.specs.declared.schema.IndexSchema.{IndexSchema}
-use Rattle.alt_schema.specs.declared.schema.TableSchema.{TableSchema}
+use Rattle.alt_description.specs.Indexes.{indexes}
+use Rattle.alt_description.specs.declared.schema.Built.{Built}
+use Rattle.alt_description.specs.declared.schema.Built.TheVariants.{Whole, UpTo}
+use Rattle.alt_description.specs.declared.schema.IndexSchema.{IndexSchema}
+use Rattle.alt_description.specs.declared.schema.TableSchema.{TableSchema}
 use Rattle.alt_schema.proofs.NewDescriptions.{left, right}
 
 -- ---- one index, and several

@@ -6,8 +6,8 @@ use Rattle.std.specs.Str.{bytes_eq}
 use Rattle.std.proofs.Math.Seq.{drop-cons}
 use Rattle.std.proofs.lemmas.List.Folds.{list_any-append}
 use Rattle.alt_schema.specs.Rules.{is_defined, all_differ}
-use Rattle.alt_schema.specs.declared.schema.KeyAttr.{KeyAttr}
-use Rattle.alt_schema.proofs.Bools.{neither, not_true}
+use Rattle.alt_description.specs.declared.schema.KeyAttr.{KeyAttr}
+use Rattle.alt_description.proofs.Bools.{neither, not_true}
 use Rattle.alt_schema.proofs.NewDescriptions.{left, right}
 
 module _ {A : Type 0} (name : A → List ℕ) where

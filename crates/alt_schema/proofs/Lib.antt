@@ -1,11 +1,9 @@
-pub mod Bools
-pub mod Labels
 pub mod Walks
 pub mod NewDescriptions
 pub mod Differ
 pub mod NamedLemmas
 pub mod InUse
-pub mod Plain
-pub mod Shown
 pub mod AlteredLaws
 pub mod BareLaws
+pub use Rattle.alt_description.proofs.Bools
+pub use Rattle.alt_description.proofs.Shown

@@ -11,7 +11,7 @@ use Rattle.alt_value.specs.declared.kind.KeyKind.{KeyKind}
 use Rattle.alt_schema.specs.Named.{kind_at, kind_defined, AreOf}
 use Rattle.alt_schema.specs.Rules.{is_defined, all_differ}
 use Rattle.alt_schema.specs.declared.named.Kinds.{Kinds}
-use Rattle.alt_schema.specs.declared.schema.KeyAttr.{KeyAttr}
+use Rattle.alt_description.specs.declared.schema.KeyAttr.{KeyAttr}
 use Rattle.alt_schema.proofs.Differ.{differ_more, not_before}
 
 -- a name has a kind exactly where it is defined

@@ -9,15 +9,15 @@ use Rattle.alt_shape.specs.Refusals.{bad_name, bad_key_schema, bad_index, IsKnow
 use Rattle.alt_shape.specs.declared.refusal.Refusal.{Refusal}
 use Rattle.alt_value.specs.declared.kind.KeyKind.{KeyKind}
 use Rattle.alt_value.specs.declared.kind.KeyKind.TheVariants.{S, N, B}
-use Rattle.alt_schema.specs.Bare.{is_whole}
+use Rattle.alt_description.specs.Bare.{is_whole}
 use Rattle.alt_schema.specs.Described.{key_attr, hash_of, range_of, indexes_from, described_by, same_kind, is_one_of, keys_defined, from_on, IsNew}
 use Rattle.alt_schema.specs.Rules.{names_fit, keys_fit_together, indexes_fit, refused_for, is_key_schema, in_each_schema, is_used, is_defined, all_differ, defines_exactly, stated_indexes, most_locals, most_globals, is_projection, is_local_to}
-use Rattle.alt_schema.specs.declared.schema.KeyAttr.{KeyAttr}
-use Rattle.alt_schema.specs.declared.schema.View.{View}
+use Rattle.alt_description.specs.declared.schema.KeyAttr.{KeyAttr}
+use Rattle.alt_description.specs.declared.schema.View.{View}
 use Rattle.alt_schema.specs.declared.stated.Element.{Element}
 use Rattle.alt_schema.specs.declared.stated.StatedIndex.{StatedIndex}
 use Rattle.alt_schema.specs.declared.stated.Stated.{Stated}
-use Rattle.alt_schema.proofs.Bools.{both}
+use Rattle.alt_description.proofs.Bools.{both}
 
 -- ---- tests
 

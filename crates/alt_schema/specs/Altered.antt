@@ -5,16 +5,16 @@ use Rattle.std.specs.List.{filter, list_all, list_any}
 use Rattle.std.specs.Option.{option_map_or}
 use Rattle.std.specs.Str.{bytes_eq}
 use Rattle.alt_schema.specs.Described.{index_for, same_kind}
-use Rattle.alt_schema.specs.Indexes.{is_named, is_used}
+use Rattle.alt_description.specs.Indexes.{is_named, is_used}
 use Rattle.alt_schema.specs.Rules.{all_differ, indexes_fit, is_defined, keys_fit_together}
 use Rattle.alt_schema.specs.declared.described.SchemaFault.{SchemaFault}
 use Rattle.alt_schema.specs.declared.described.SchemaFault.TheVariants.{Refused, NoMemory}
-use Rattle.alt_schema.specs.declared.schema.Built.TheVariants.{UpTo}
-use Rattle.alt_schema.specs.declared.schema.IndexSchema.{IndexSchema}
-use Rattle.alt_schema.specs.declared.schema.KeyAttr.{KeyAttr}
-use Rattle.alt_schema.specs.declared.schema.Projection.{Projection}
-use Rattle.alt_schema.specs.declared.schema.Projection.TheVariants.{All, KeysOnly, Include}
-use Rattle.alt_schema.specs.declared.schema.TableSchema.{TableSchema}
+use Rattle.alt_description.specs.declared.schema.Built.TheVariants.{UpTo}
+use Rattle.alt_description.specs.declared.schema.IndexSchema.{IndexSchema}
+use Rattle.alt_description.specs.declared.schema.KeyAttr.{KeyAttr}
+use Rattle.alt_description.specs.declared.schema.Projection.{Projection}
+use Rattle.alt_description.specs.declared.schema.Projection.TheVariants.{All, KeysOnly, Include}
+use Rattle.alt_description.specs.declared.schema.TableSchema.{TableSchema}
 use Rattle.alt_schema.specs.declared.stated.Element.{Element}
 use Rattle.alt_schema.specs.declared.stated.Stated.{Stated}
 use Rattle.alt_schema.specs.declared.stated.StatedIndex.{StatedIndex}

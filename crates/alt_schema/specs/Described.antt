@@ -7,18 +7,18 @@ use Rattle.serde_json.specs.Data.{Members}
 use Rattle.alt_shape.specs.Refusals.{IsKnown}
 use Rattle.alt_value.specs.declared.kind.KeyKind.{KeyKind}
 use Rattle.alt_value.specs.declared.kind.KeyKind.TheVariants.{S, N, B}
-use Rattle.alt_schema.specs.Bare.{is_whole}
-use Rattle.alt_schema.specs.Indexes.{indexes, of_range}
+use Rattle.alt_description.specs.Bare.{is_whole}
+use Rattle.alt_description.specs.Indexes.{indexes, of_range}
 use Rattle.alt_schema.specs.Rules.{all_differ, most_locals, most_globals, refusal_of}
 use Rattle.alt_schema.specs.declared.described.SchemaFault.{SchemaFault}
 use Rattle.alt_schema.specs.declared.described.SchemaFault.TheVariants.{Refused, NoMemory}
 use Rattle.alt_schema.specs.Stated.{stated}
-use Rattle.alt_schema.specs.declared.schema.Built.TheVariants.{Whole}
-use Rattle.alt_schema.specs.declared.schema.KeyAttr.{KeyAttr}
-use Rattle.alt_schema.specs.declared.schema.Projection.{Projection}
-use Rattle.alt_schema.specs.declared.schema.Projection.TheVariants.{All, KeysOnly, Include}
-use Rattle.alt_schema.specs.declared.schema.IndexSchema.{IndexSchema}
-use Rattle.alt_schema.specs.declared.schema.TableSchema.{TableSchema}
+use Rattle.alt_description.specs.declared.schema.Built.TheVariants.{Whole}
+use Rattle.alt_description.specs.declared.schema.KeyAttr.{KeyAttr}
+use Rattle.alt_description.specs.declared.schema.Projection.{Projection}
+use Rattle.alt_description.specs.declared.schema.Projection.TheVariants.{All, KeysOnly, Include}
+use Rattle.alt_description.specs.declared.schema.IndexSchema.{IndexSchema}
+use Rattle.alt_description.specs.declared.schema.TableSchema.{TableSchema}
 use Rattle.alt_schema.specs.declared.stated.Element.{Element}
 use Rattle.alt_schema.specs.declared.stated.StatedIndex.{StatedIndex}
 use Rattle.alt_schema.specs.declared.stated.Stated.{Stated}

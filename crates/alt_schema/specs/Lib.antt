@@ -1,9 +1,9 @@
 pub mod Altered
-pub mod Bare
 pub mod Described
-pub mod Indexes
-pub mod Json
 pub mod Named
 pub mod Rules
-pub mod SoFar
 pub mod Stated
+pub use Rattle.alt_description.specs.Bare
+pub use Rattle.alt_description.specs.Indexes
+pub use Rattle.alt_description.specs.Json
+pub use Rattle.alt_description.specs.SoFar

@@ -7,7 +7,7 @@ use Rattle.std.specs.Ordering.{nat_cmp}
 use Rattle.std.specs.Str.{bytes_eq}
 use Rattle.alt_value.specs.declared.kind.KeyKind.{KeyKind}
 use Rattle.alt_schema.specs.declared.named.Kinds.{Kinds}
-use Rattle.alt_schema.specs.declared.schema.KeyAttr.{KeyAttr}
+use Rattle.alt_description.specs.declared.schema.KeyAttr.{KeyAttr}
 
 -- the kind that a map has for a name
 abbrev pub kind_at : Kinds → List ℕ → Option KeyKind

@@ -7,7 +7,7 @@ use Rattle.serde_json.specs.Data.{Members}
 use Rattle.alt_shape.specs.declared.refusal.Refusal.{Refusal}
 use Rattle.alt_shape.specs.Refusals.{bad_name, bad_key_schema, bad_index}
 use Rattle.alt_schema.specs.Stated.{stated}
-use Rattle.alt_schema.specs.declared.schema.KeyAttr.{KeyAttr}
+use Rattle.alt_description.specs.declared.schema.KeyAttr.{KeyAttr}
 use Rattle.alt_schema.specs.declared.stated.Element.{Element}
 use Rattle.alt_schema.specs.declared.stated.StatedIndex.{StatedIndex}
 use Rattle.alt_schema.specs.declared.stated.Stated.{Stated}

@@ -9,9 +9,9 @@ use Rattle.serde_json.specs.Find.{as_bool, as_str, as_array, as_object}
 use Rattle.alt_shape.specs.Shape.{given}
 use Rattle.alt_value.specs.declared.kind.KeyKind.{KeyKind}
 use Rattle.alt_value.specs.declared.kind.KeyKind.TheVariants.{S, N, B}
-use Rattle.alt_schema.specs.declared.schema.KeyAttr.{KeyAttr}
-use Rattle.alt_schema.specs.declared.schema.View.{View}
-use Rattle.alt_schema.specs.declared.schema.View.TheVariants.{KeysOnly, NewImage, OldImage, NewAndOldImages}
+use Rattle.alt_description.specs.declared.schema.KeyAttr.{KeyAttr}
+use Rattle.alt_description.specs.declared.schema.View.{View}
+use Rattle.alt_description.specs.declared.schema.View.TheVariants.{KeysOnly, NewImage, OldImage, NewAndOldImages}
 use Rattle.alt_schema.specs.declared.stated.Element.{Element}
 use Rattle.alt_schema.specs.declared.stated.StatedIndex.{StatedIndex}
 use Rattle.alt_schema.specs.declared.stated.Stated.{Stated}

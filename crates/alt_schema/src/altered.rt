@@ -5,21 +5,21 @@ ghost use Rattle.std.specs.Prelude.{◌≡◌, ◌++◌, map, Ok, Err, IfOk, OnO
 ghost use Rattle.serde_json.specs.View.{members_view};
 ghost use Rattle.alt_schema.specs.Altered.{definitions_fit, definitions_with, elements_of, stated_index, stated_with, with_index, without_index, word_of, names_of, IsFaultOf, refused_with, refused_without};
 ghost use Rattle.alt_schema.specs.Described.{IsKnownFault};
-ghost use Rattle.alt_schema.specs.Indexes.{is_named, is_used};
+ghost use Rattle.alt_description.specs.Indexes.{is_named, is_used};
 ghost use Rattle.alt_schema.specs.Rules.{is_defined};
 ghost use Rattle.alt_schema.specs.Stated.{definitions_of, index_in};
-ghost use Rattle.alt_schema.specs.declared.schema.KeyAttr.{KeyAttr};
+ghost use Rattle.alt_description.specs.declared.schema.KeyAttr.{KeyAttr};
 
-use crate::copies::{copied_index, copied_key, copied_keys, copied_schema, copied_texts};
 use crate::described::{SchemaFault, index_for};
 use crate::reading::{definitions_of, index_in};
 use crate::rules::{indexes_fit, keys_fit_together};
 use crate::stated::{Element, ElementList, Stated, StatedIndex, StatedIndexList};
 use crate::used::{definitions_fit, is_defined, is_used};
-use crate::{
-    Built, IndexList, IndexSchema, KeyAttr, KeyAttrList, Projection, TableSchema, TextList,
-};
 use alt_base::NoMemory;
+use alt_description::{
+    Built, IndexList, IndexSchema, KeyAttr, KeyAttrList, Projection, TableSchema, TextList,
+    copied_index, copied_key, copied_keys, copied_schema, copied_texts,
+};
 use alt_shape::Refusal;
 use alt_value::Text;
 use serde_json::{Map, Value};

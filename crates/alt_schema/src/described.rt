@@ -8,12 +8,13 @@ ghost use Rattle.serde_json.specs.View.{members_view};
 ghost use Rattle.alt_schema.specs.Described.{kind_in, key_attr, hash_of, range_of, projection_for, index_for, indexes_from, described_by, description_of, HasCause, IsKnownFault, IsNew};
 ghost use Rattle.alt_schema.specs.Rules.{refusal_of, refused_for};
 
-use crate::copies::copied_texts;
 use crate::reading::stated_of_json;
 use crate::rules::refused_for;
 use crate::stated::{Element, Stated, StatedIndex};
-use crate::{Built, IndexList, IndexSchema, KeyAttr, Projection, TableSchema, TextList};
 use alt_base::NoMemory;
+use alt_description::{
+    Built, IndexList, IndexSchema, KeyAttr, Projection, TableSchema, TextList, copied_texts,
+};
 use alt_shape::Refusal;
 use alt_value::{KeyKind, Text};
 use serde_json::{Map, Value};

@@ -6,8 +6,8 @@ ghost use Rattle.alt_schema.specs.Described.{key_attr};
 ghost use Rattle.alt_schema.specs.Named.{kind_at, AreOf};
 ghost use Rattle.alt_schema.specs.Rules.{is_defined, all_differ};
 
-use crate::{KeyAttr, KeyAttrList};
 use alt_base::NoMemory;
+use alt_description::{KeyAttr, KeyAttrList};
 use alt_value::{KeyKind, Text};
 use std::alloc::Global;
 use std::collections::BTreeMap;
@@ -74,7 +74,7 @@ pub struct Definitions<'n> {
 
 impl<'n> Model for Definitions<'n> {
     ghost use Rattle.std.specs.Prelude.{List};
-    ghost use Rattle.alt_schema.specs.declared.schema.KeyAttr.{KeyAttr};
+    ghost use Rattle.alt_description.specs.declared.schema.KeyAttr.{KeyAttr};
     ghost use Rattle.alt_schema.specs.Named.{AreOf};
 
     ghost Value = { List KeyAttr };

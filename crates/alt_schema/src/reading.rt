@@ -6,8 +6,8 @@ ghost use Rattle.serde_json.specs.View.{view, items_view, members_view};
 ghost use Rattle.alt_schema.specs.Stated.{stated, text_of, stated_by, stated_at, element_in, element_of, key_schema_of, kind_named, definition_in, definition_of, definitions_of, word_of, included_in, projection_of, index_in, index_of, view_named, view_in, view_of};
 
 use crate::stated::{Element, ElementList, Stated, StatedIndex, StatedIndexList};
-use crate::{KeyAttr, KeyAttrList, TextList, View};
 use alt_base::NoMemory;
+use alt_description::{KeyAttr, KeyAttrList, TextList, View};
 use alt_shape::{array_at, field, text_at};
 use alt_value::{KeyKind, Text};
 use serde_json::{Map, Value};

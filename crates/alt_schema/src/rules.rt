@@ -9,8 +9,8 @@ ghost use Rattle.alt_schema.specs.Rules.{is_name_byte, is_name, names_fit, plays
 
 use crate::named::{Kinds, kinds_of};
 use crate::stated::{Element, Stated, StatedIndex};
-use crate::{KeyAttr, TextList};
 use alt_base::NoMemory;
+use alt_description::{KeyAttr, TextList};
 use alt_shape::Refusal;
 use alt_value::Text;
 use std::alloc::Global;

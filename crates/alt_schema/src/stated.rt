@@ -2,8 +2,8 @@
 
 ghost use Rattle.std.specs.Prelude.{◌≡◌, ◌++◌, ◌∷◌, [], OnOk, OnErr};
 
-use crate::{KeyAttrList, TextList, View};
 use alt_base::NoMemory;
+use alt_description::{KeyAttrList, TextList, View};
 use alt_value::Text;
 use std::alloc::Global;
 use std::marker::Model;

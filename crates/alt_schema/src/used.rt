@@ -4,10 +4,10 @@ ghost use Rattle.std.specs.Prelude.{◌≡◌};
 ghost use Rattle.std.specs.List.{list_all, list_any};
 ghost use Rattle.alt_schema.specs.Altered.{definitions_fit, differs_in_kind};
 ghost use Rattle.alt_schema.specs.Described.{same_kind};
-ghost use Rattle.alt_schema.specs.Indexes.{is_key, is_used};
+ghost use Rattle.alt_description.specs.Indexes.{is_key, is_used};
 ghost use Rattle.alt_schema.specs.Rules.{all_differ, is_defined};
 
-use crate::{IndexSchema, KeyAttr, TableSchema};
+use alt_description::{IndexSchema, KeyAttr, TableSchema};
 use alt_value::KeyKind;
 
 /// Whether definitions fit a description as it is and as it is then: of its kinds, each used then, and given once.

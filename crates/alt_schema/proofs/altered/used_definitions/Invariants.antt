@@ -1,7 +1,7 @@
 -- Those so far that are used are copied.
 use Rattle.std.proofs.Common.{◌≡◌, take}
 use Rattle.std.specs.List.{filter}
-use Rattle.alt_schema.specs.Indexes.{is_used}
+use Rattle.alt_description.specs.Indexes.{is_used}
 use Rattle.alt_schema.proofs.altered.used_definitions.Given as goal
 
 abbrev pub invariant-loop-definition : goal.invariant-loop-definition

@@ -2,7 +2,7 @@
 use Rattle.std.proofs.Common.{◌≡◌, ◌++◌, ◌∷◌, [], List, ap, sym, subst, ◌∙◌}
 use Rattle.alt_schema.specs.Named.{AreOf}
 use Rattle.alt_schema.specs.Rules.{is_defined}
-use Rattle.alt_schema.specs.declared.schema.KeyAttr.{KeyAttr}
+use Rattle.alt_description.specs.declared.schema.KeyAttr.{KeyAttr}
 use Rattle.alt_schema.proofs.NamedLemmas.{are_of-with}
 use Rattle.alt_schema.proofs.named.Definitions.with.Goals as goal
 

@@ -1,0 +1,4 @@
+pub mod Bools
+pub mod Labels
+pub mod Plain
+pub mod Shown

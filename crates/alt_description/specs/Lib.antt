@@ -1,0 +1,4 @@
+pub mod Bare
+pub mod Indexes
+pub mod Json
+pub mod SoFar

@@ -1,9 +1,0 @@
--- At the end all are shown.
-use Rattle.alt_schema.specs.Json.{definition_json}
-use Rattle.alt_schema.proofs.Shown.{shown_whole}
-use Rattle.alt_schema.proofs.json.each_definition.Goals as goal
-
-pub returns : goal.returns
-returns c =
-    shown_whole definition_json c.args.definitions.now c.loop-definition.definition-index
-    c.loop-definition.values.items c.loop-definition-test.false c.loop-definition.invariant

@@ -1,9 +1,0 @@
--- Those so far are shown.
-use Rattle.std.proofs.Common.{◌≡◌, map, take}
-use Rattle.serde_json.specs.View.{view}
-use Rattle.alt_schema.specs.Json.{global_json}
-use Rattle.alt_schema.proofs.json.each_global.Given as goal
-
-abbrev pub invariant-loop-index : goal.invariant-loop-index
-invariant-loop-index l = map view l.values.items
-    ≡ map (global_json l.table) (take l.index-index l.indexes)

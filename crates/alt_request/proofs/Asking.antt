@@ -20,7 +20,7 @@ use Rattle.alt_request.specs.private.Decided.{Works}
 use Rattle.alt_request.specs.ItemWrites.{Writer, IsAsked, LeavesStored, of_body, changes, writes_item}
 use Rattle.alt_request.specs.Steps.{Tested}
 use Rattle.alt_request.specs.Targets.{IsAtHand, OnItem, IsAt}
-use Rattle.alt_request.specs.declared.stop.Stop.{Stop}
+use Rattle.alt_said.specs.declared.stop.Stop.{Stop}
 use Rattle.alt_request.specs.declared.targets.Target.{Target}
 use Rattle.alt_request.proofs.Carrying.{item_stopped, item_reached, item_done, untested}
 use Rattle.alt_request.proofs.Moving.{moves_nothing, item_moved, item_unfailed, tested_unfailed}
@@ -28,9 +28,9 @@ use Rattle.alt_schema.specs.declared.schema.TableSchema.{TableSchema}
 use Rattle.alt_shape.specs.Refusals.{Answer, refused}
 use Rattle.alt_shape.specs.declared.refusal.Reply.{Reply}
 use Rattle.alt_shape.specs.declared.rule.Broken.{Broken}
-use Rattle.alt_tables.specs.Stands.{Stands, catalog_of}
-use Rattle.alt_tables.specs.declared.tables.Tables.{Tables}
-use Rattle.alt_tables.proofs.Standing.{known}
+use Rattle.alt_said.specs.TablesStands.{Stands, catalog_of}
+use Rattle.alt_said.specs.TablesDeclaredTables.{Tables}
+use Rattle.alt_said.proofs.TablesStanding.{known}
 use Rattle.alt_value.specs.Tree.{Pair}
 
 -- a request of which the whole body is at hand says what it says

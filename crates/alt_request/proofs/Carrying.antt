@@ -20,19 +20,19 @@ use Rattle.alt_request.specs.Targets.{OnTable, OnItem, IsAt}
 use Rattle.alt_request.specs.declared.targets.Target.{Target}
 use Rattle.alt_request.proofs.Named.{table_found}
 use Rattle.alt_request.proofs.Reaching.{err_is}
-use Rattle.alt_request.specs.declared.stop.Stop.{Stop}
-use Rattle.alt_request.specs.declared.stop.Stop.TheVariants.{Refused, Fault}
+use Rattle.alt_said.specs.declared.stop.Stop.{Stop}
+use Rattle.alt_said.specs.declared.stop.Stop.TheVariants.{Refused, Fault}
 use Rattle.alt_shape.specs.Body.{body_json}
 use Rattle.alt_shape.specs.Refusals.{Answer, answer_of, refused, IsKnown}
 use Rattle.alt_shape.specs.declared.refusal.Refusal.{Refusal}
 use Rattle.alt_shape.specs.declared.refusal.Reply.{Reply}
-use Rattle.alt_tables.specs.Faults.{AreMade, BreakOff, IsReadFault, IsFindFault}
-use Rattle.alt_tables.specs.Stands.{Stands, catalog_of}
-use Rattle.alt_tables.specs.declared.tables.Tables.{Tables}
+use Rattle.alt_said.specs.TablesFaults.{AreMade, BreakOff, IsReadFault, IsFindFault}
+use Rattle.alt_said.specs.TablesStands.{Stands, catalog_of}
+use Rattle.alt_said.specs.TablesDeclaredTables.{Tables}
 use Rattle.alt_schema.specs.declared.schema.TableSchema.{TableSchema}
 use Rattle.alt_value.specs.Tree.{Pair}
-use Rattle.alt_tables.specs.DeclaredTableFault.{TableFault}
-use Rattle.alt_tables.specs.DeclaredTableFault.TheVariants.{Spent, Damaged, BadRow, Failed, NoMemory}
+use Rattle.alt_said.specs.TablesDeclaredTableFault.{TableFault}
+use Rattle.alt_said.specs.TablesDeclaredTableFault.TheVariants.{Spent, Damaged, BadRow, Failed, NoMemory}
 
 -- an answer without a write that may be a refusal, or want of memory for it
 pub does_say : (file : ℕ) (now : State → Type 0) (answer : Answer) (s : State) (r : Result Reply Stop)

@@ -14,13 +14,13 @@ use Rattle.alt_machine.specs.Writes.{item_writes}
 use Rattle.alt_request.specs.private.Decided.{Decision, tells, leaves, left_or_told, decision, comes_to, Decides}
 use Rattle.alt_request.specs.ItemWrites.{Writer, changes}
 use Rattle.alt_request.specs.Steps.{Comes, IsMemory}
-use Rattle.alt_request.specs.declared.stop.Stop.{Stop}
-use Rattle.alt_request.specs.declared.stop.Stop.TheVariants.{Refused, Fault}
+use Rattle.alt_said.specs.declared.stop.Stop.{Stop}
+use Rattle.alt_said.specs.declared.stop.Stop.TheVariants.{Refused, Fault}
 use Rattle.alt_schema.specs.declared.schema.TableSchema.{TableSchema}
 use Rattle.alt_shape.specs.Refusals.{Answer}
-use Rattle.alt_tables.proofs.Standing.{known}
-use Rattle.alt_tables.specs.Stands.{Stands, catalog_of}
-use Rattle.alt_tables.specs.declared.tables.Tables.{Tables}
+use Rattle.alt_said.proofs.TablesStanding.{known}
+use Rattle.alt_said.specs.TablesStands.{Stands, catalog_of}
+use Rattle.alt_said.specs.TablesDeclaredTables.{Tables}
 use Rattle.alt_value.specs.Tree.{Pair}
 
 module _ (w : Writer) (s : State) (moment : ℕ) (ms : Members) (said : Expressions)

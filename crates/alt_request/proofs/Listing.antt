@@ -17,11 +17,11 @@ use Rattle.alt_machine.proofs.Lists.{list-refused, list-no_words, list-no_start,
 use Rattle.alt_request.specs.Carried.{Carries, IfFailed}
 use Rattle.alt_request.specs.Steps.{Comes, Tested}
 use Rattle.alt_request.specs.Targets.{OnList, IsListedAt}
-use Rattle.alt_request.specs.Words.{given_of}
-use Rattle.alt_request.specs.declared.words.Given.{Given}
+use Rattle.alt_said.specs.Words.{given_of}
+use Rattle.alt_said.specs.declared.words.Given.{Given}
 use Rattle.alt_request.specs.declared.lists.ListTarget.{ListTarget}
-use Rattle.alt_request.specs.declared.stop.Stop.{Stop}
-use Rattle.alt_request.specs.declared.stop.Stop.TheVariants.{Refused, Fault}
+use Rattle.alt_said.specs.declared.stop.Stop.{Stop}
+use Rattle.alt_said.specs.declared.stop.Stop.TheVariants.{Refused, Fault}
 use Rattle.alt_request.proofs.Carrying.{refused_so, faulted}
 use Rattle.alt_request.proofs.Moving.{unfailed_fault}
 use Rattle.alt_request.proofs.Named.{some_found, none_found, table_found, table_missed}
@@ -29,8 +29,8 @@ use Rattle.alt_request.proofs.Reaching.{err_is}
 use Rattle.alt_schema.specs.declared.schema.TableSchema.{TableSchema}
 use Rattle.alt_shape.specs.Refusals.{Answer, refused, not_found}
 use Rattle.alt_shape.specs.declared.refusal.Reply.{Reply}
-use Rattle.alt_tables.specs.Stands.{Stands, catalog_of}
-use Rattle.alt_tables.specs.declared.tables.Tables.{Tables}
+use Rattle.alt_said.specs.TablesStands.{Stands, catalog_of}
+use Rattle.alt_said.specs.TablesDeclaredTables.{Tables}
 use Rattle.alt_value.specs.Tree.{Pair}
 
 -- ---- where it stops

@@ -19,22 +19,22 @@ use Rattle.alt_request.specs.Steps.{IsMemory, Tested}
 use Rattle.alt_request.specs.Targets.{OnTable, OnItem, IsAt}
 use Rattle.alt_request.proofs.Carrying.{item_reached}
 use Rattle.alt_request.proofs.Reaching.{err_is}
-use Rattle.alt_request.specs.declared.stop.Stop.{Stop}
-use Rattle.alt_request.specs.declared.stop.Stop.TheVariants.{Refused, Fault}
+use Rattle.alt_said.specs.declared.stop.Stop.{Stop}
+use Rattle.alt_said.specs.declared.stop.Stop.TheVariants.{Refused, Fault}
 use Rattle.alt_request.specs.declared.targets.Target.{Target}
 use Rattle.alt_schema.specs.declared.schema.TableSchema.{TableSchema}
 use Rattle.alt_shape.specs.Refusals.{Answer}
 use Rattle.alt_shape.specs.declared.refusal.Reply.{Reply}
 use Rattle.alt_faults.proofs.Telling.{memory-else, outside-by, outside-more}
-use Rattle.alt_tables.specs.Faults.{IsReadFault, WantsMemory, told_by_tables}
-use Rattle.alt_tables.specs.DeclaredTableFault.{TableFault}
-use Rattle.alt_tables.specs.DeclaredTableFault.TheVariants.{Spent, Damaged, BadRow, Failed, NoMemory}
-use Rattle.alt_tables.specs.Images.{Leaves}
-use Rattle.alt_tables.specs.Stands.{Stands, Reads, catalog_of}
-use Rattle.alt_tables.specs.declared.tables.Tables.{Tables}
+use Rattle.alt_said.specs.TablesFaults.{IsReadFault, WantsMemory, told_by_tables}
+use Rattle.alt_said.specs.TablesDeclaredTableFault.{TableFault}
+use Rattle.alt_said.specs.TablesDeclaredTableFault.TheVariants.{Spent, Damaged, BadRow, Failed, NoMemory}
+use Rattle.alt_said.specs.TablesImages.{Leaves}
+use Rattle.alt_said.specs.TablesStands.{Stands, Reads, catalog_of}
+use Rattle.alt_said.specs.TablesDeclaredTables.{Tables}
 use Rattle.alt_value.specs.Tree.{Pair}
-use Rattle.alt_tables.proofs.Behind.{wants_none}
-use Rattle.alt_tables.proofs.Left.{reads_nothing, leaves_reads, leaves_after, reads_lasts}
+use Rattle.alt_said.proofs.TablesBehind.{wants_none}
+use Rattle.alt_said.proofs.TablesLeft.{reads_nothing, leaves_reads, leaves_after, reads_lasts}
 
 -- ---- what didn't fail
 

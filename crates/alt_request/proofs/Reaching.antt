@@ -16,20 +16,16 @@ use Rattle.alt_machine.specs.Targets.{on_item, member_of, of_length, place_in}
 use Rattle.alt_machine.proofs.Targets.{table-missed, item-refused, item-unread, item-no_words, item-no_table, item-unsaid, item-said}
 use Rattle.alt_request.specs.Steps.{Comes, Tested}
 use Rattle.alt_request.specs.Targets.{OnTable, OnItem, place_that_fits}
-use Rattle.alt_request.specs.Words.{given_of}
-use Rattle.alt_request.specs.declared.words.Given.{Given}
-use Rattle.alt_request.specs.declared.stop.Stop.{Stop}
+pub use Rattle.alt_said.proofs.Passed.{err_is}
+use Rattle.alt_said.specs.Words.{given_of}
+use Rattle.alt_said.specs.declared.words.Given.{Given}
+use Rattle.alt_said.specs.declared.stop.Stop.{Stop}
 use Rattle.alt_request.specs.declared.targets.Target.{Target}
-use Rattle.alt_request.specs.declared.stop.Stop.TheVariants.{Refused, Fault}
+use Rattle.alt_said.specs.declared.stop.Stop.TheVariants.{Refused, Fault}
 use Rattle.alt_request.proofs.Named.{some_found, none_found, table_found, table_missed}
 use Rattle.alt_schema.specs.declared.schema.TableSchema.{TableSchema}
 use Rattle.alt_shape.specs.Refusals.{Answer, refused, not_found, bad_key, key_too_long}
 use Rattle.alt_value.specs.Tree.{Pair}
-
--- an error that is passed on is the same
-pub err_is : {A E : Type 0} (r : Result A E) (e : E) → IsErr r × IsErrAnd r (λ x. x ≡ e) → r ≡ Err e
-err_is (Ok x) e h = absurd (let g = h.0 in let f : ⊥ = cc in f)
-err_is (Err x) e h = ap Err h.1
 
 -- and what is so of it is so of what it is passed on as
 pub passed_on : (tests : List (Option Answer)) (sought : Sought) (texts : machine.Texts)

@@ -8,19 +8,19 @@ use Rattle.alt_machine.specs.State.{State, Table}
 use Rattle.alt_machine.specs.Writes.{item_writes}
 use Rattle.alt_request.specs.private.Decided.{Decision, leaves, comes_to, Decides, Works}
 use Rattle.alt_request.specs.declared.deciding.Decided.TheVariants.{Told, Left}
-use Rattle.alt_request.specs.declared.stop.Stop.{Stop}
-use Rattle.alt_request.specs.declared.stop.Stop.TheVariants.{Refused, Fault}
+use Rattle.alt_said.specs.declared.stop.Stop.{Stop}
+use Rattle.alt_said.specs.declared.stop.Stop.TheVariants.{Refused, Fault}
 use Rattle.alt_request.proofs.Carrying.{refused_so, faulted, unfound, said, broke_off, wrote}
 use Rattle.alt_request.proofs.Moving.{read_wants, reads_move, writes_move, failed_fault, unfailed_fault, unrefused, wanting_fault}
 use Rattle.alt_shape.specs.Refusals.{answer_of}
 use Rattle.alt_shape.specs.declared.refusal.Reply.{Reply}
-use Rattle.alt_tables.specs.Faults.{AreMade, BreakOff, IsFindFault}
-use Rattle.alt_tables.specs.Images.{Leaves}
-use Rattle.alt_tables.specs.Stands.{Stands, Reads}
-use Rattle.alt_tables.proofs.Left.{reads_then}
-use Rattle.alt_tables.specs.DeclaredTableFault.{TableFault}
-use Rattle.alt_tables.specs.DeclaredTableFault.TheVariants.{Failed, NoMemory}
-use Rattle.alt_tables.specs.declared.tables.Tables.{Tables}
+use Rattle.alt_said.specs.TablesFaults.{AreMade, BreakOff, IsFindFault}
+use Rattle.alt_said.specs.TablesImages.{Leaves}
+use Rattle.alt_said.specs.TablesStands.{Stands, Reads}
+use Rattle.alt_said.proofs.TablesLeft.{reads_then}
+use Rattle.alt_said.specs.TablesDeclaredTableFault.{TableFault}
+use Rattle.alt_said.specs.TablesDeclaredTableFault.TheVariants.{Failed, NoMemory}
+use Rattle.alt_said.specs.TablesDeclaredTables.{Tables}
 use Rattle.alt_value.specs.Tree.{Pair}
 
 -- Calls that read led from `before` to `read`, and the tables stood for the same states there.

@@ -3,21 +3,21 @@ use Rattle.std.specs.Prelude.{◌≡◌, ℕ, false, [], None, IsTrue, Result, O
 use Rattle.alt_base.specs.Counts.{Rose}
 use Rattle.alt_disk.specs.Disk.{DiskState, Goes}
 use Rattle.alt_disk.specs.Runs.{Quiet}
-use Rattle.alt_tables.specs.Images.{Leaves}
+use Rattle.alt_said.specs.TablesImages.{Leaves}
 use Rattle.serde_json.specs.Written.{has_float}
 use Rattle.alt_machine.specs.Outcomes.{Outcome, last_state}
 use Rattle.alt_machine.specs.State.{State}
 use Rattle.alt_machine.specs.Wanted.{wanted}
-use Rattle.alt_request.specs.declared.stop.Stop.{Stop}
-use Rattle.alt_request.specs.declared.stop.Stop.TheVariants.{Refused, Fault}
+use Rattle.alt_said.specs.declared.stop.Stop.{Stop}
+use Rattle.alt_said.specs.declared.stop.Stop.TheVariants.{Refused, Fault}
 use Rattle.alt_shape.specs.Body.{body_json}
 use Rattle.alt_shape.specs.Refusals.{Answer, answer_of, refused, IsKnown}
 use Rattle.alt_shape.specs.declared.refusal.Refusal.{Refusal}
 use Rattle.alt_shape.specs.declared.refusal.Reply.{Reply}
 use Rattle.alt_faults.specs.Faults.{Outside}
-use Rattle.alt_tables.specs.Faults.{BreakOff, WantsMemory, told_by_tables}
-use Rattle.alt_tables.specs.DeclaredTableFault.{TableFault}
-use Rattle.alt_tables.specs.DeclaredTableFault.TheVariants.{NoMemory}
+use Rattle.alt_said.specs.TablesFaults.{BreakOff, WantsMemory, told_by_tables}
+use Rattle.alt_said.specs.TablesDeclaredTableFault.{TableFault}
+use Rattle.alt_said.specs.TablesDeclaredTableFault.TheVariants.{NoMemory}
 
 -- Below, `old` and `now` say for which states the tables stand before and after a call, and `file` is the number of the first file that work
 -- made before it.

@@ -1,24 +1,23 @@
 pub mod Carried
 pub mod ItemWrites
-pub mod Older
 pub mod Reads
 pub mod Steps
 pub mod Targets
-pub mod Words
 pub mod private
-pub use Rattle.alt_tables.specs.Altering as TablesAltering
-pub use Rattle.alt_tables.specs.Built as TablesBuilt
-pub use Rattle.alt_tables.specs.Faults as TablesFaults
-pub use Rattle.alt_tables.specs.Foreseen as TablesForeseen
-pub use Rattle.alt_tables.specs.Found as TablesFound
-pub use Rattle.alt_tables.specs.Images as TablesImages
-pub use Rattle.alt_tables.specs.OpeningDeclaredTrimmed as TablesOpeningDeclaredTrimmed
-pub use Rattle.alt_tables.specs.OpeningOrder as TablesOpeningOrder
-pub use Rattle.alt_tables.specs.OpeningTrimmed as TablesOpeningTrimmed
-pub use Rattle.alt_tables.specs.Reading as TablesReading
-pub use Rattle.alt_tables.specs.Several as TablesSeveral
-pub use Rattle.alt_tables.specs.Stands as TablesStands
-pub use Rattle.alt_tables.specs.DeclaredTableFault as TablesDeclaredTableFault
-pub use Rattle.alt_tables.specs.declared.finding.Found as TablesDeclaredFound
-pub use Rattle.alt_tables.specs.declared.several.ItemChange as TablesDeclaredItemChange
-pub use Rattle.alt_tables.specs.declared.tables.Tables as TablesDeclaredTables
+pub use Rattle.alt_said.specs.Words
+pub use Rattle.alt_said.specs.TablesAltering
+pub use Rattle.alt_said.specs.TablesBuilt
+pub use Rattle.alt_said.specs.TablesFaults
+pub use Rattle.alt_said.specs.TablesForeseen
+pub use Rattle.alt_said.specs.TablesFound
+pub use Rattle.alt_said.specs.TablesImages
+pub use Rattle.alt_said.specs.TablesOpeningDeclaredTrimmed
+pub use Rattle.alt_said.specs.TablesOpeningOrder
+pub use Rattle.alt_said.specs.TablesOpeningTrimmed
+pub use Rattle.alt_said.specs.TablesReading
+pub use Rattle.alt_said.specs.TablesSeveral
+pub use Rattle.alt_said.specs.TablesStands
+pub use Rattle.alt_said.specs.TablesDeclaredTableFault
+pub use Rattle.alt_said.specs.TablesDeclaredFound
+pub use Rattle.alt_said.specs.TablesDeclaredItemChange
+pub use Rattle.alt_said.specs.TablesDeclaredTables

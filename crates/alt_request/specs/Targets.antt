@@ -14,12 +14,12 @@ use Rattle.alt_machine.specs.Refusals.{first_answer, or_refused, unless_answer, 
 use Rattle.alt_machine.specs.State.{State, Table, Texts, descriptions}
 use Rattle.alt_machine.specs.Targets.{on_table, on_item, member_of, of_length, place_in, IsPlaced}
 use Rattle.alt_request.specs.declared.lists.ListTarget.{ListTarget}
-use Rattle.alt_request.specs.declared.stop.Stop.{Stop}
-use Rattle.alt_request.specs.declared.stop.Stop.TheVariants.{Refused, Fault}
+use Rattle.alt_said.specs.declared.stop.Stop.{Stop}
+use Rattle.alt_said.specs.declared.stop.Stop.TheVariants.{Refused, Fault}
 use Rattle.alt_request.specs.declared.targets.Target.{Target}
 use Rattle.alt_schema.specs.declared.schema.TableSchema.{TableSchema}
 use Rattle.alt_shape.specs.Refusals.{Answer, IsKnown, bad_key}
-use Rattle.alt_tables.specs.Faults.{IsReadFault}
+use Rattle.alt_said.specs.TablesFaults.{IsReadFault}
 use Rattle.alt_value.specs.Tree.{Pair}
 
 -- Nothing refuses the body, and that is the description of the table that it names; or the machine refuses the request too, whatever

@@ -10,12 +10,11 @@ ghost use Rattle.alt_machine.specs.Refusals.{or_refused};
 ghost use Rattle.alt_request.specs.Steps.{Comes, Tested, rules_of};
 ghost use Rattle.alt_shape.specs.Refusals.{not_found};
 ghost use Rattle.alt_shape.specs.Shape.{given};
-ghost use Rattle.alt_tables.specs.Stands.{catalog_of};
+ghost use Rattle.alt_said.specs.TablesStands.{catalog_of};
 
-use crate::stop::Stop;
+use alt_said::{Stop, Tables};
 use alt_schema::{TableSchema, is_name};
 use alt_shape::{Broken, Refusal, given, text_at};
-use alt_tables::Tables;
 use serde_json::{Map, Value};
 
 /// What an operation says of its members: those of the older interface, those that are expressions, those whose entries

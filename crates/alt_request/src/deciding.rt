@@ -7,15 +7,13 @@ ghost use Rattle.alt_machine.specs.Conditional as machine;
 ghost use Rattle.alt_request.specs.private.Decided.{Decides, decision, tells};
 ghost use Rattle.alt_request.specs.ItemWrites.{AreSaid};
 
-use crate::replies::asks;
-use crate::stop::Stop;
 use crate::writes::ItemWrite;
 use alt_condeval::holds;
 use alt_expr::Cond;
 use alt_machine::Expressions;
+use alt_said::{Stop, TableFault, asks};
 use alt_schema::TableSchema;
 use alt_shape::{Refusal, Reply, refuse_with};
-use alt_tables::TableFault;
 use alt_value::Item;
 use serde_json::{Map, Value};
 use std::alloc::Global;

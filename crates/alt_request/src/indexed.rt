@@ -7,8 +7,7 @@ ghost use Rattle.alt_request.specs.Steps.{Comes};
 ghost use Rattle.alt_schema.specs.Indexes.{indexes};
 ghost use Rattle.alt_views.specs.Readable.{CanRead};
 
-use crate::replies::asks;
-use crate::stop::Stop;
+use alt_said::{Stop, asks};
 use alt_schema::{Projection, TableSchema};
 use alt_shape::{Refusal, text_at, truth_at};
 use alt_views::{index_at, index_named};

@@ -1,25 +1,21 @@
 //! The item or the key at a member, and what its table says of its key.
 
 ghost use Rattle.std.specs.Prelude.{◌≡◌};
-ghost use Rattle.serde_json.specs.View.{view, members_view};
-ghost use Rattle.alt_codec.specs.Reading.{item_in};
+ghost use Rattle.serde_json.specs.View.{members_view};
 ghost use Rattle.alt_machine.specs.Keys.{place_of, key_count, byte_count, is_within, key_fits};
-ghost use Rattle.alt_machine.specs.Members.{item_at, unless_fault};
+ghost use Rattle.alt_machine.specs.Members.{item_at};
 ghost use Rattle.alt_machine.specs.Ops.PutItem.{of_item};
 ghost use Rattle.alt_machine.specs.Targets.{member_of, place_in};
-ghost use Rattle.alt_machine.specs.Refusals.{or_refused, value_refusal, number_refusal};
+ghost use Rattle.alt_machine.specs.Refusals.{or_refused};
 ghost use Rattle.alt_request.specs.Steps.{Comes, Tested};
-ghost use Rattle.alt_shape.specs.Refusals.{IsKnown, bad_key};
+ghost use Rattle.alt_shape.specs.Refusals.{bad_key};
 ghost use Rattle.alt_value.specs.Stands.{tree_of};
 
-use crate::stop::Stop;
-use alt_codec::{ValueFault, item_of_json};
-use alt_decimal::NumberFault;
 use alt_fields::Bytes;
 use alt_machine::{LARGEST_ITEM, Sought};
+use alt_said::{Stop, TableFault, item_of};
 use alt_schema::{KeyAttr, TableSchema};
 use alt_shape::{Refusal, given};
-use alt_tables::TableFault;
 use alt_value::{Attr, Item, item_size_within};
 use alt_views::{index_keys_fit, place_of};
 use serde_json::{Map, Value};
@@ -39,17 +35,6 @@ pub fn item_at(alloc: Global, body: &Map<String, Value>, sought: Sought) -> Resu
         return Err(Stop::Refused(Refusal::MEMBER_MISSING));
     };
     item_of(alloc, value)
-}
-
-/// The item that a JSON tree is.
-pub fn item_of(alloc: Global, value: &Value) -> Result<Item, Stop>
-    ensures read { Comes (λ i. i) (unless_fault (item_in 32 (view value.now))) result }
-{
-    match item_of_json(alloc, value) {
-        Ok(item) => Ok(item),
-        Err(ValueFault::NoMemory) => Err(Stop::Fault(TableFault::NoMemory)),
-        Err(fault) => Err(Stop::Refused(value_refusal(fault))),
-    }
 }
 
 /// The member at which an item or a key stands.
@@ -145,38 +130,5 @@ fn byte_count(value: &Attr) -> usize
         Attr::S(text) => text.as_str().len(),
         Attr::B(bytes) => bytes.as_slice().len(),
         _ => 0,
-    }
-}
-
-/// The refusal of a value for its fault.
-pub(crate) fn value_refusal(fault: ValueFault) -> Refusal
-    ensures refusal { result ≡ value_refusal fault }
-    ensures known { IsKnown result }
-{
-    match fault {
-        ValueFault::NotOneMember => Refusal::NOT_ONE_KIND,
-        ValueFault::UnknownKind => Refusal::NOT_ONE_KIND,
-        ValueFault::WrongJson => Refusal::UNREADABLE,
-        ValueFault::BadNumber(fault) => number_refusal(fault),
-        ValueFault::BadBase64 => Refusal::BAD_BASE64,
-        ValueFault::EmptySet => Refusal::EMPTY_SET,
-        ValueFault::RepeatInSet => Refusal::REPEAT_IN_SET,
-        ValueFault::NullNotTrue => Refusal::NULL_NOT_TRUE,
-        ValueFault::TooDeep => Refusal::NESTED_TOO_DEEP,
-        ValueFault::EmptyName => Refusal::NOT_ONE_KIND,
-        ValueFault::NoMemory => Refusal::UNREADABLE,
-    }
-}
-
-/// The refusal of a number that can't be kept.
-pub fn number_refusal(fault: NumberFault) -> Refusal
-    ensures refusal { result ≡ number_refusal fault }
-    ensures known { IsKnown result }
-{
-    match fault {
-        NumberFault::NotANumber => Refusal::NOT_A_NUMBER,
-        NumberFault::TooManyDigits => Refusal::TOO_MANY_DIGITS,
-        NumberFault::TooLarge => Refusal::NUMBER_TOO_LARGE,
-        NumberFault::TooSmall => Refusal::NUMBER_TOO_SMALL,
     }
 }

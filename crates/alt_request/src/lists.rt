@@ -8,20 +8,16 @@ ghost use Rattle.alt_machine.specs.Lists as machine;
 ghost use Rattle.alt_machine.specs.Lists.{start_at};
 ghost use Rattle.alt_request.specs.Steps.{Comes, rules_of};
 ghost use Rattle.alt_request.specs.Targets.{OnList};
-ghost use Rattle.alt_request.specs.Words.{texts_of};
-ghost use Rattle.alt_tables.specs.Stands.{catalog_of};
+ghost use Rattle.alt_said.specs.Words.{texts_of};
+ghost use Rattle.alt_said.specs.TablesStands.{catalog_of};
 ghost use Rattle.alt_views.specs.Readable.{CanRead};
 
 use crate::body::{Rules, paired_refusal, table_of};
 use crate::indexed::index_asked;
-use crate::items::item_of;
-use crate::older::entries_read;
-use crate::stop::Stop;
-use crate::words::{Texts, expressions, given_at};
 use alt_machine::Expressions;
+use alt_said::{Stop, Tables, Texts, entries_read, expressions, given_at, item_of};
 use alt_schema::TableSchema;
 use alt_shape::{Broken, given};
-use alt_tables::Tables;
 use alt_value::Item;
 use serde_json::{Map, Value};
 use std::alloc::Global;
@@ -68,7 +64,7 @@ pub fn list_target<'t>(
 }
 
 /// The key to start after, if one is given, where the values of the body's entries can be read too.
-#[tactic(auto, using(crate::proofs::OlderSaid::unread_first, crate::proofs::OlderSaid::unread_entries, crate::proofs::OlderSaid::read_entries))]
+#[tactic(auto, using(alt_said::proofs::OlderSaid::unread_first, alt_said::proofs::OlderSaid::unread_entries, alt_said::proofs::OlderSaid::read_entries))]
 fn start_given(
     alloc: Global,
     texts: &Texts,

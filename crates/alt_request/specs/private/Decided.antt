@@ -12,14 +12,14 @@ use Rattle.alt_request.specs.Carried.{Carries, Moves}
 use Rattle.alt_request.specs.ItemWrites.{Writer}
 use Rattle.alt_request.specs.declared.deciding.Decided.{Decided}
 use Rattle.alt_request.specs.declared.deciding.Decided.TheVariants.{Told, Left}
-use Rattle.alt_request.specs.declared.stop.Stop.{Stop}
-use Rattle.alt_request.specs.declared.stop.Stop.TheVariants.{Refused, Fault}
+use Rattle.alt_said.specs.declared.stop.Stop.{Stop}
+use Rattle.alt_said.specs.declared.stop.Stop.TheVariants.{Refused, Fault}
 use Rattle.alt_disk.specs.Disk.{DiskState}
 use Rattle.alt_schema.specs.declared.schema.TableSchema.{TableSchema}
 use Rattle.alt_shape.specs.Body.{body_json}
 use Rattle.alt_shape.specs.Refusals.{Answer, answer_of, refused, IsKnown}
 use Rattle.alt_shape.specs.declared.refusal.Reply.{Reply}
-use Rattle.alt_tables.specs.Faults.{IsReadFault}
+use Rattle.alt_said.specs.TablesFaults.{IsReadFault}
 use Rattle.alt_value.specs.Tree.{Pair}
 
 -- an answer alone, or what is left at the place, and the answer

@@ -7,14 +7,14 @@ use Rattle.alt_machine.specs.Body.{paired_refusals}
 use Rattle.alt_machine.specs.Members.{table_name}
 use Rattle.alt_request.specs.Steps.{rules_of}
 use Rattle.alt_request.specs.Targets.{OnList}
-use Rattle.alt_request.specs.Words.{given_of, texts_of}
+use Rattle.alt_said.specs.Words.{given_of, texts_of}
 use Rattle.alt_request.specs.declared.body.Rules.{Rules}
 use Rattle.alt_request.proofs.Listing.{list_untaken, list_no_words, list_no_start, list_no_table, list_no_index, list_unsaid}
 use Rattle.alt_request.proofs.Named.{some_found}
 use Rattle.alt_request.proofs.Reaching.{err_is}
 use Rattle.alt_shape.specs.Refusals.{Answer, not_found}
 use Rattle.alt_shape.specs.declared.rule.Broken.{Broken}
-use Rattle.alt_tables.specs.Stands.{catalog_of}
+use Rattle.alt_said.specs.TablesStands.{catalog_of}
 use Rattle.alt_request.proofs.lists.list_target.Goals as goal
 
 abbrev tests_of : Option Broken → Bool → Rules → Members → List (Option Answer)

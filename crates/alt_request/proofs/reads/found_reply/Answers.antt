@@ -6,12 +6,12 @@ use Rattle.alt_machine.specs.Outcomes.{says}
 use Rattle.alt_machine.specs.State.{State}
 use Rattle.alt_request.specs.Carried.{Does, IsPlain, Moves}
 use Rattle.alt_request.specs.Reads.{finds}
-use Rattle.alt_request.specs.declared.stop.Stop.TheVariants.{Fault}
+use Rattle.alt_said.specs.declared.stop.Stop.TheVariants.{Fault}
 use Rattle.alt_request.proofs.Carrying.{does_say, unread, says_so, plain_so}
 use Rattle.alt_request.proofs.Moving.{reads_move, reply_unfailed, failed_fault}
 use Rattle.alt_request.proofs.Reaching.{err_is}
 use Rattle.alt_shape.specs.Refusals.{Answer}
-use Rattle.alt_tables.specs.Stands.{Stands, catalog_of, bounds_of}
+use Rattle.alt_said.specs.TablesStands.{Stands, catalog_of, bounds_of}
 use Rattle.alt_value.specs.Tree.{Pair}
 use Rattle.alt_request.proofs.reads.found_reply.Goals as goal
 

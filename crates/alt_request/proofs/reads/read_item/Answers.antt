@@ -13,11 +13,11 @@ use Rattle.alt_request.proofs.Carrying.{item_passed, item_done}
 use Rattle.alt_request.proofs.Moving.{moves_stopped, item_moved, item_unfailed}
 use Rattle.alt_request.specs.Reads.{finds}
 use Rattle.alt_request.specs.Steps.{rules_of}
-use Rattle.alt_request.specs.Words.{texts_of}
+use Rattle.alt_said.specs.Words.{texts_of}
 use Rattle.alt_shape.specs.Refusals.{Answer}
 use Rattle.alt_shape.specs.declared.rule.Broken.{Broken}
-use Rattle.alt_tables.proofs.Left.{reads_nothing}
-use Rattle.alt_tables.specs.Stands.{Stands, catalog_of}
+use Rattle.alt_said.proofs.TablesLeft.{reads_nothing}
+use Rattle.alt_said.specs.TablesStands.{Stands, catalog_of}
 use Rattle.alt_value.specs.Tree.{Pair}
 use Rattle.std.proofs.Common.{List}
 use Rattle.alt_request.proofs.reads.read_item.Goals as goal

@@ -12,7 +12,7 @@ use Rattle.alt_request.specs.Steps.{rules_of}
 use Rattle.alt_schema.specs.declared.schema.TableSchema.{TableSchema}
 use Rattle.alt_shape.specs.Refusals.{Answer}
 use Rattle.alt_shape.specs.declared.rule.Broken.{Broken}
-use Rattle.alt_tables.specs.Stands.{Stands, catalog_of}
+use Rattle.alt_said.specs.TablesStands.{Stands, catalog_of}
 use Rattle.alt_request.proofs.reads.read_table.Goals as goal
 
 -- what the read comes to

@@ -4,12 +4,12 @@ use Rattle.serde_json.specs.Data.{Members}
 use Rattle.serde_json.specs.View.{members_view}
 use Rattle.alt_machine.specs.Body.{body_refusals}
 use Rattle.alt_request.specs.Steps.{Comes, rules_of}
-use Rattle.alt_request.specs.Words.{texts_of}
+use Rattle.alt_said.specs.Words.{texts_of}
 use Rattle.alt_request.specs.declared.body.Rules.{Rules}
 use Rattle.alt_shape.specs.Refusals.{Answer}
 use Rattle.alt_shape.specs.declared.rule.Broken.{Broken}
 use Rattle.alt_request.proofs.Reaching.{untaken, unread}
-use Rattle.alt_tables.specs.Stands.{catalog_of}
+use Rattle.alt_said.specs.TablesStands.{catalog_of}
 use Rattle.alt_value.specs.Tree.{Pair}
 use Rattle.alt_request.proofs.targets.given_target.Goals as goal
 

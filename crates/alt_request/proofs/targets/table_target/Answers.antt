@@ -3,7 +3,7 @@ use Rattle.serde_json.specs.View.{members_view}
 use Rattle.alt_machine.specs.Body.{body_refusals}
 use Rattle.alt_request.specs.Steps.{rules_of}
 use Rattle.alt_request.proofs.Reaching.{unnamed}
-use Rattle.alt_tables.specs.Stands.{catalog_of}
+use Rattle.alt_said.specs.TablesStands.{catalog_of}
 use Rattle.alt_request.proofs.targets.table_target.Goals as goal
 
 pub returns : goal.returns

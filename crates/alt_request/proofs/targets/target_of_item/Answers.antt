@@ -9,13 +9,13 @@ use Rattle.alt_machine.specs.Members.{table_name}
 use Rattle.alt_machine.specs.Refusals.{or_refused}
 use Rattle.alt_machine.specs.State.{Texts}
 use Rattle.alt_request.specs.Steps.{Comes}
-use Rattle.alt_request.specs.Words.{given_of, texts_of}
-use Rattle.alt_request.specs.declared.words.Given.{Given}
+use Rattle.alt_said.specs.Words.{given_of, texts_of}
+use Rattle.alt_said.specs.declared.words.Given.{Given}
 use Rattle.alt_request.proofs.Named.{some_found}
 use Rattle.alt_request.proofs.Reaching.{passed_on, no_words, no_table, unsaid, unplaced, fits_so}
 use Rattle.alt_schema.specs.declared.schema.TableSchema.{TableSchema}
 use Rattle.alt_shape.specs.Refusals.{Answer, not_found}
-use Rattle.alt_tables.specs.Stands.{catalog_of}
+use Rattle.alt_said.specs.TablesStands.{catalog_of}
 use Rattle.alt_request.proofs.targets.target_of_item.Goals as goal
 
 -- the description of a table that was found is found under the name that another body gives it

@@ -18,10 +18,10 @@ use Rattle.alt_request.proofs.Named.{table_found}
 use Rattle.alt_request.proofs.Working.{works_unfound, works_told, works_stopped, works_wrote, works_broke}
 use Rattle.alt_schema.specs.declared.schema.TableSchema.{TableSchema}
 use Rattle.alt_shape.specs.Refusals.{answer_of}
-use Rattle.alt_tables.proofs.Left.{ready_on}
-use Rattle.alt_tables.proofs.Standing.{file_stays}
-use Rattle.alt_tables.specs.Faults.{BreakOff}
-use Rattle.alt_tables.specs.Stands.{Stands, catalog_of}
+use Rattle.alt_said.proofs.TablesLeft.{ready_on}
+use Rattle.alt_said.proofs.TablesStanding.{file_stays}
+use Rattle.alt_said.specs.TablesFaults.{BreakOff}
+use Rattle.alt_said.specs.TablesStands.{Stands, catalog_of}
 use Rattle.alt_value.specs.Tree.{Pair}
 use Rattle.alt_request.proofs.writes.write_at.Goals as goal
 

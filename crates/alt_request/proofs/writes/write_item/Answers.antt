@@ -1,9 +1,9 @@
 -- The item isn't reached, its table refuses it, or what is at its place is changed.
 use Rattle.serde_json.specs.View.{members_view}
 use Rattle.alt_request.specs.Steps.{rules_of}
-use Rattle.alt_request.specs.Words.{texts_of}
+use Rattle.alt_said.specs.Words.{texts_of}
 use Rattle.alt_request.proofs.Asking.{at_hand_so, unreached, untaken, done, may_be_stored}
-use Rattle.alt_tables.specs.Stands.{Stands, bounds_of}
+use Rattle.alt_said.specs.TablesStands.{Stands, bounds_of}
 use Rattle.alt_request.proofs.writes.write_item.Goals as goal
 
 pub returns-in-Err-clause-carried : goal.returns-in-Err-clause-carried

@@ -19,24 +19,24 @@ use Rattle.alt_machine.specs.Trimming.{a_day, is_past, kept, trimmed_at}
 use Rattle.alt_machine.specs.Valid.{IsStored, IsValid}
 use Rattle.alt_machine.specs.Writes.{after_item_by, with_write_by}
 use Rattle.alt_machine.proofs.Looks.{insert_elsewhere}
-use Rattle.alt_opening.specs.StateRows.{IsHeldWhole}
-use Rattle.alt_opening.proofs.OneState.{some}
-use Rattle.alt_opening.proofs.Ties.{itself}
-use Rattle.alt_trimming.specs.Fronts.{first_moment}
-use Rattle.alt_trimming.specs.Leftovers.{leftovers}
+use Rattle.alt_rowchanges.specs.OpeningStateRows.{IsHeldWhole}
+use Rattle.alt_rowchanges.proofs.OpeningOneState.{some}
+use Rattle.alt_rowchanges.proofs.OpeningTies.{itself}
+use Rattle.alt_rowchanges.specs.Fronts.{first_moment}
+use Rattle.alt_rowchanges.specs.Leftovers.{leftovers}
 use Rattle.alt_rowchanges.specs.RowChanges.{Turns, changed_rows, write_changes}
 use Rattle.alt_tables.specs.Several.{with_batches}
 use Rattle.alt_tables.specs.declared.several.Noted.{Noted}
-use Rattle.alt_trimming.specs.declared.trimming.Trim.{Trim}
+use Rattle.alt_rowchanges.specs.declared.trimming.Trim.{Trim}
 use Rattle.alt_tables.specs.private.Staging.{IsAgain, IsAhead, IsTableAhead, IsTouched, IsUntouched, note_at, oldest_by}
-use Rattle.alt_trimming.specs.Trims.{IsLowestFrom, IsRest, IsTrim, is_over, leftovers_from, trimmed_by}
+use Rattle.alt_rowchanges.specs.Trims.{IsLowestFrom, IsRest, IsTrim, is_over, leftovers_from, trimmed_by}
 use Rattle.alt_tables.proofs.Batches.{past_behind, turns_more, turns_none, with_batches-append}
 use Rattle.alt_rowchanges.proofs.ChangeLaws.{AreOthers}
 use Rattle.alt_rowchanges.proofs.Elsewhere.{shown_elsewhere, write_others}
-use Rattle.alt_trimming.proofs.FrontLaws.{leftovers_alike}
-use Rattle.alt_trimming.proofs.FrontTrims.{front_then, left_then, leftovers_then, trimmed_then}
-use Rattle.alt_trimming.proofs.KeptFrom.{young}
-use Rattle.alt_trimming.proofs.Rising.{filter_rising, rising_least}
+use Rattle.alt_rowchanges.proofs.FrontLaws.{leftovers_alike}
+use Rattle.alt_rowchanges.proofs.FrontTrims.{front_then, left_then, leftovers_then, trimmed_then}
+use Rattle.alt_rowchanges.proofs.KeptFrom.{young}
+use Rattle.alt_rowchanges.proofs.Rising.{filter_rising, rising_least}
 use Rattle.alt_tables.proofs.Standing.{descriptions-stay}
 use Rattle.alt_rowchanges.proofs.StreamShows.{stream_family}
 use Rattle.alt_rowchanges.proofs.WriteLaws.{item_turns}

@@ -24,19 +24,19 @@ use Rattle.alt_schemabytes.specs.Held.{IsHeld}
 use Rattle.alt_schema.specs.declared.schema.TableSchema.{TableSchema}
 use Rattle.alt_value.specs.Members.{text_order}
 use Rattle.alt_value.proofs.Texts.{text_total}
-use Rattle.alt_opening.specs.Families.{HasOwnFamilies}
-use Rattle.alt_opening.specs.Live.{with_all, without_all}
-use Rattle.alt_opening.specs.Opened.{Holds}
-use Rattle.alt_opening.proofs.LiveLaws.{live_replace}
-use Rattle.alt_opening.proofs.OneState.{some}
-use Rattle.alt_opening.proofs.Ties.{tied}
-use Rattle.alt_opening.proofs.TrimmedLaws.{trimmed-stay}
+use Rattle.alt_rowchanges.specs.OpeningFamilies.{HasOwnFamilies}
+use Rattle.alt_rowchanges.specs.OpeningLive.{with_all, without_all}
+use Rattle.alt_rowchanges.specs.OpeningOpened.{Holds}
+use Rattle.alt_rowchanges.proofs.OpeningLiveLaws.{live_replace}
+use Rattle.alt_rowchanges.proofs.OpeningOneState.{some}
+use Rattle.alt_rowchanges.proofs.OpeningTies.{tied}
+use Rattle.alt_rowchanges.proofs.OpeningTrimmedLaws.{trimmed-stay}
 use Rattle.alt_rowchanges.specs.Altering.{MayAlter, alter_wants, family_left, has_more}
 use Rattle.alt_tables.specs.Foreseen.{Foresees}
-use Rattle.alt_trimming.specs.Fronts.{AreFronts, IsFront}
+use Rattle.alt_rowchanges.specs.Fronts.{AreFronts, IsFront}
 use Rattle.alt_rowchanges.specs.RowChanges.{Turns, alter_changes, changed_rows}
 use Rattle.alt_tables.specs.Stands.{HasRows, Stands, catalog_of, fronts_of, number_of, trimmed_of}
-use Rattle.alt_trimming.specs.declared.fronts.Front.{Front}
+use Rattle.alt_rowchanges.specs.declared.fronts.Front.{Front}
 use Rattle.alt_tables.specs.declared.tables.Tables.{Tables}
 use Rattle.alt_rowchanges.proofs.AlterLaws.{alter_turns, alter_valid, is_longer}
 use Rattle.alt_tables.proofs.Foreseen.{foresees_redescribed}

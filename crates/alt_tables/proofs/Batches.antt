@@ -2,13 +2,13 @@
 use Rattle.std.proofs.Common.{◌≡◌, refl, sym, subst, T, List, [], ◌∷◌, ◌++◌, arith}
 use Rattle.alt_cells.specs.Batches.{is_distinct}
 use Rattle.alt_cells.specs.declared.batch.RowChange.{RowChange}
-use Rattle.alt_opening.specs.HandInHand.{batch_write, batch_writes}
+use Rattle.alt_rowchanges.specs.OpeningHandInHand.{batch_write, batch_writes}
 use Rattle.alt_layout.specs.Layout.{Layout, IsPast}
 use Rattle.alt_layout.specs.Writes.{with_writes}
 use Rattle.alt_layout.proofs.PastLaws.{is_past_after}
 use Rattle.alt_machine.specs.State.{State}
 use Rattle.alt_machine.specs.Valid.{IsValid}
-use Rattle.alt_opening.specs.StateRows.{Shows, IsHeldWhole}
+use Rattle.alt_rowchanges.specs.OpeningStateRows.{Shows, IsHeldWhole}
 use Rattle.alt_rowchanges.specs.RowChanges.{Turns, changed_rows}
 use Rattle.alt_tables.specs.Several.{AreDistinct, TurnsAll, with_batches}
 

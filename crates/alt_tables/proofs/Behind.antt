@@ -10,7 +10,7 @@ use Rattle.alt_machine.proofs.Behind.{after_behind, front_of, taken_behind, take
 use Rattle.std.specs.Prelude.{⊤}
 use Rattle.alt_tables.specs.Faults.{WantsMemory}
 use Rattle.alt_tables.specs.Images.{AfterSome, Lasts, Leaves}
-use Rattle.alt_opening.specs.Images.{StandsFor}
+use Rattle.alt_rowchanges.specs.OpeningImages.{StandsFor}
 use Rattle.alt_tables.specs.Stands.{Stands}
 use Rattle.alt_tables.specs.declared.tables.Tables.{Tables}
 use Rattle.alt_tables.proofs.Left.{leaves_after, leaves_images, leaves_reads}

@@ -18,8 +18,8 @@ use Rattle.alt_machine.specs.Lists.{key_attributes}
 use Rattle.alt_machine.specs.State.{Table}
 use Rattle.alt_machine.specs.Walks.{items_between}
 use Rattle.alt_machine.proofs.BuildParts.{Placed}
-use Rattle.alt_opening.proofs.NextRow.{after_below, below_after}
-use Rattle.alt_opening.proofs.OneIndex.{found_at}
+use Rattle.alt_rowchanges.proofs.OpeningNextRow.{after_below, below_after}
+use Rattle.alt_rowchanges.proofs.OpeningOneIndex.{found_at}
 use Rattle.alt_schema.specs.Bare.{is_whole}
 use Rattle.alt_schema.specs.declared.schema.Built.{Built}
 use Rattle.alt_schema.specs.declared.schema.Built.TheVariants.{Whole, UpTo}

@@ -32,13 +32,13 @@ use Rattle.alt_value.specs.Members.{text_order}
 use Rattle.alt_value.specs.Tree.{Pair}
 use Rattle.alt_value.proofs.Texts.{text_total}
 use Rattle.alt_views.specs.IndexRows.{moves_in}
-use Rattle.alt_opening.specs.Opened.{Holds}
-use Rattle.alt_opening.proofs.OverEngine.{stands_past}
-use Rattle.alt_opening.proofs.LiveLaws.{live_alike}
-use Rattle.alt_opening.proofs.OneState.{some}
-use Rattle.alt_opening.proofs.TrimmedLaws.{trimmed-stay}
+use Rattle.alt_rowchanges.specs.OpeningOpened.{Holds}
+use Rattle.alt_rowchanges.proofs.OpeningOverEngine.{stands_past}
+use Rattle.alt_rowchanges.proofs.OpeningLiveLaws.{live_alike}
+use Rattle.alt_rowchanges.proofs.OpeningOneState.{some}
+use Rattle.alt_rowchanges.proofs.OpeningTrimmedLaws.{trimmed-stay}
 use Rattle.alt_tables.specs.Foreseen.{Foresees}
-use Rattle.alt_trimming.specs.Fronts.{AreFronts}
+use Rattle.alt_rowchanges.specs.Fronts.{AreFronts}
 use Rattle.alt_rowchanges.specs.RowChanges.{Turns, changed_rows, step_changes}
 use Rattle.alt_tables.specs.Stands.{HasRows, Stands, catalog_of, fronts_of, number_of, trimmed_of}
 use Rattle.alt_tables.specs.declared.tables.Tables.{Tables}
@@ -49,7 +49,7 @@ use Rattle.alt_tables.proofs.BuildReads.{item_in, taken_built, taken_items}
 use Rattle.alt_rowchanges.proofs.ChangeLaws.{AreOthers}
 use Rattle.alt_rowchanges.proofs.Elsewhere.{shown_elsewhere}
 use Rattle.alt_tables.proofs.Foreseen.{foresees_redescribed}
-use Rattle.alt_trimming.proofs.FrontLaws.{fronts_alike}
+use Rattle.alt_rowchanges.proofs.FrontLaws.{fronts_alike}
 use Rattle.alt_tables.proofs.Making.{fronts_of_rows}
 use Rattle.alt_tables.proofs.Standing.{descriptions-insert, known, still_live, still_trimmed}
 use Rattle.alt_rowchanges.proofs.WriteLaws.{stream_within}

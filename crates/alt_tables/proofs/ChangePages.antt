@@ -17,7 +17,7 @@ use Rattle.alt_changes.specs.ChangeRows.{change_columns, row_key}
 use Rattle.alt_changes.specs.TrimRows.{trimmed_row}
 use Rattle.alt_disk.specs.Disk.{DiskState}
 use Rattle.alt_disk.proofs.Runs.{tells_of}
-use Rattle.alt_opening.specs.EngineInHand.{Reads as EngineReads}
+use Rattle.alt_rowchanges.specs.OpeningEngineInHand.{Reads as EngineReads}
 use Rattle.alt_keyorder.proofs.Parts.{nat_cmp-greater}
 use Rattle.alt_layout.specs.Layout.{Layout, rows_between, shown, shown_of, shown_rows}
 use Rattle.alt_layout.proofs.ShownLaws.{find-shown, is_sorted-shown}
@@ -26,16 +26,16 @@ use Rattle.alt_machine.specs.State.{Change, State, Table, Texts}
 use Rattle.alt_machine.specs.Valid.{AreChanges}
 use Rattle.alt_schema.specs.declared.schema.TableSchema.{TableSchema}
 use Rattle.alt_rowchanges.specs.Pages.{AreChangesOf}
-use Rattle.alt_opening.specs.StateRows.{keyed_changes}
-use Rattle.alt_opening.specs.Trimmed.{number_at}
+use Rattle.alt_rowchanges.specs.OpeningStateRows.{keyed_changes}
+use Rattle.alt_rowchanges.specs.OpeningTrimmed.{number_at}
 use Rattle.alt_tables.specs.Stands.{Stands, catalog_of, trimmed_of}
 use Rattle.alt_tables.specs.declared.tables.Tables.{Tables}
 use Rattle.alt_tables.proofs.Pages.{as_row, placed_between, row_at, row_of, same_table, shown_of-rows}
-use Rattle.alt_opening.proofs.OverEngine.{finds_shown}
-use Rattle.alt_opening.proofs.OneStream.{ShowsStream}
-use Rattle.alt_opening.proofs.StreamKeys.{Above, IsKept, IsSmall, above, entries_keyed, filter_keyed, key_order, keyed, late_of, low_of, up_to}
-use Rattle.alt_opening.proofs.KeptChanges.{are_kept, are_small}
-use Rattle.alt_opening.proofs.Ties.{tied}
+use Rattle.alt_rowchanges.proofs.OpeningOverEngine.{finds_shown}
+use Rattle.alt_rowchanges.proofs.OpeningOneStream.{ShowsStream}
+use Rattle.alt_rowchanges.proofs.OpeningStreamKeys.{Above, IsKept, IsSmall, above, entries_keyed, filter_keyed, key_order, keyed, late_of, low_of, up_to}
+use Rattle.alt_rowchanges.proofs.OpeningKeptChanges.{are_kept, are_small}
+use Rattle.alt_rowchanges.proofs.OpeningTies.{tied}
 use Rattle.alt_value.specs.Members.{text_order}
 
 -- of none there are no first ones

@@ -8,15 +8,15 @@ use Rattle.std.specs.FinMap.Entries.{find}
 use Rattle.std.specs.Option.{option_map_or}
 use Rattle.std.specs.Prelude.{◌≢◌}
 use Rattle.alt_cells.proofs.Searched.{find_at}
-use Rattle.alt_opening.specs.HandWorking.{AreLive}
+use Rattle.alt_rowchanges.specs.OpeningHandWorking.{AreLive}
 use Rattle.alt_machine.specs.State.{State, Table, descriptions, families_of}
 use Rattle.alt_machine.specs.Valid.{IsMade, IsValid}
 use Rattle.alt_machine.specs.declared.TheConstants.{MOST_FAMILIES, MOST_TABLES}
 use Rattle.alt_machine.proofs.Descriptions.{get-descriptions}
 use Rattle.alt_manifest.specs.Versions.{IsIn, RiseFrom}
-use Rattle.alt_opening.proofs.LiveLists.{contained_in}
-use Rattle.alt_opening.specs.Live.{AreLiveIn, IsOfTable}
-use Rattle.alt_opening.specs.StateRows.{catalog_family}
+use Rattle.alt_rowchanges.proofs.OpeningLiveLists.{contained_in}
+use Rattle.alt_rowchanges.specs.OpeningLive.{AreLiveIn, IsOfTable}
+use Rattle.alt_rowchanges.specs.OpeningStateRows.{catalog_family}
 use Rattle.alt_schema.specs.Indexes.{indexes}
 use Rattle.alt_schema.specs.declared.schema.IndexSchema.{IndexSchema}
 use Rattle.alt_schema.specs.declared.schema.TableSchema.{TableSchema}

@@ -18,8 +18,8 @@ use Rattle.alt_machine.specs.Same.{is_same}
 use Rattle.alt_machine.specs.State.{State, Table, Texts, descriptions, new_table}
 use Rattle.alt_machine.specs.Writes.{after_item_by, item_writes_by, with_item, with_write_by}
 use Rattle.alt_machine.proofs.Descriptions.{get-descriptions}
-use Rattle.alt_opening.proofs.OneState.{some}
-use Rattle.alt_opening.proofs.Ties.{tied}
+use Rattle.alt_rowchanges.proofs.OpeningOneState.{some}
+use Rattle.alt_rowchanges.proofs.OpeningTies.{tied}
 use Rattle.alt_schema.specs.declared.schema.TableSchema.{TableSchema}
 use Rattle.alt_tables.specs.Foreseen.{Foresees, ForeseesItem, ForeseesWritten, IsFrom, IsMetFrom}
 use Rattle.alt_tables.specs.Several.{Every}

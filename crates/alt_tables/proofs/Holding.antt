@@ -7,31 +7,31 @@ use Rattle.alt_disk.specs.Disk.{DiskState, IsImage, Goes}
 use Rattle.alt_disk.specs.Runs.{Spans, Quiet}
 use Rattle.alt_disk.proofs.Runs.{spans_on, spans_weaker, quiet_spans, quiet_then, trusted_on}
 use Rattle.alt_layout.specs.Files.{IsLayout}
-use Rattle.alt_opening.specs.EngineInHand.{Stands as EngineStands}
-use Rattle.alt_opening.specs.HandInHand.{batch_write, batch_writes, last_form_of, next_file_of, next_of, work_file_of, BeforeOrAll, BeforeOrWith, IsSpentBy, WantsFile, WantsNumber}
+use Rattle.alt_rowchanges.specs.OpeningEngineInHand.{Stands as EngineStands}
+use Rattle.alt_rowchanges.specs.OpeningHandInHand.{batch_write, batch_writes, last_form_of, next_file_of, next_of, work_file_of, BeforeOrAll, BeforeOrWith, IsSpentBy, WantsFile, WantsNumber}
 use Rattle.alt_layout.specs.Layout.{Layout}
 use Rattle.alt_layout.specs.Writes.{with_write, with_writes}
-use Rattle.alt_opening.specs.EngineDeclaredEngine.{Engine}
-use Rattle.alt_opening.proofs.HandSegmentFiles.{none-wanting}
-use Rattle.alt_opening.specs.HandDeclaredHand.{Hand}
-use Rattle.alt_opening.specs.HandDeclaredEngineFault.{EngineFault}
-use Rattle.alt_opening.specs.HandDeclaredEngineFault.TheVariants as engine
+use Rattle.alt_rowchanges.specs.OpeningEngineDeclaredEngine.{Engine}
+use Rattle.alt_rowchanges.proofs.OpeningHandSegmentFiles.{none-wanting}
+use Rattle.alt_rowchanges.specs.OpeningHandDeclaredHand.{Hand}
+use Rattle.alt_rowchanges.specs.OpeningHandDeclaredEngineFault.{EngineFault}
+use Rattle.alt_rowchanges.specs.OpeningHandDeclaredEngineFault.TheVariants as engine
 use Rattle.alt_machine.specs.State.{State}
 use Rattle.alt_machine.specs.Valid.{IsValid}
-use Rattle.alt_opening.specs.HandFaults.{told_by_engine}
+use Rattle.alt_rowchanges.specs.OpeningHandFaults.{told_by_engine}
 use Rattle.alt_faults.specs.Faults.{no_memory, IsOutside}
 use Rattle.alt_rowchanges.specs.Faults.{IsFindFault, told_by_tables}
 use Rattle.alt_rowchanges.specs.declared.faults.TableFault.{TableFault}
 use Rattle.alt_rowchanges.specs.declared.faults.TableFault.TheVariants.{NoMemory}
-use Rattle.alt_opening.specs.Images.{StandsFor}
+use Rattle.alt_rowchanges.specs.OpeningImages.{StandsFor}
 use Rattle.alt_tables.specs.Images.{AfterSome, Leaves}
-use Rattle.alt_opening.specs.StateRows.{Shows}
+use Rattle.alt_rowchanges.specs.OpeningStateRows.{Shows}
 use Rattle.alt_rowchanges.specs.RowChanges.{Turns}
 use Rattle.alt_tables.specs.Several.{AreDistinct, TurnsAll, with_batches}
-use Rattle.alt_opening.specs.Opened.{Holds}
+use Rattle.alt_rowchanges.specs.OpeningOpened.{Holds}
 use Rattle.alt_tables.proofs.Batches.{with_batches-writes}
-use Rattle.alt_opening.proofs.OverEngine.{in_each_image, stands_past, stays_quiet, one_layout_in_hand}
-use Rattle.alt_opening.proofs.OneState.{one_state}
+use Rattle.alt_rowchanges.proofs.OpeningOverEngine.{in_each_image, stands_past, stays_quiet, one_layout_in_hand}
+use Rattle.alt_rowchanges.proofs.OpeningOneState.{one_state}
 
 -- whatever a stop now leaves stands for the state
 pub each_holds : (disk : DiskState) (engine : Engine) (s : State) → Holds disk engine s → IsValid s

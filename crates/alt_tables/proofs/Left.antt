@@ -8,10 +8,10 @@ use Rattle.alt_disk.proofs.Calls.{goes_refl, goes_on}
 use Rattle.alt_disk.proofs.Runs.{quiet_start, quiet_then, tells_of, trusted_back}
 use Rattle.alt_layout.specs.Files.{IsLayout}
 use Rattle.alt_layout.specs.Layout.{no_rows}
-use Rattle.alt_opening.proofs.OverEngine.{files_hold, one_layout_in_hand, stays_quiet}
+use Rattle.alt_rowchanges.proofs.OpeningOverEngine.{files_hold, one_layout_in_hand, stays_quiet}
 use Rattle.alt_machine.specs.State.{State, start}
-use Rattle.alt_opening.specs.Images.{StandsFor}
-use Rattle.alt_opening.specs.Recovery.{WasLeft}
+use Rattle.alt_rowchanges.specs.OpeningImages.{StandsFor}
+use Rattle.alt_rowchanges.specs.OpeningRecovery.{WasLeft}
 use Rattle.alt_tables.specs.Images.{AfterSome, IsWhole, Lasts, Leaves}
 use Rattle.alt_tables.specs.Stands.{AreReady, HasRows, Stands, Reads}
 use Rattle.alt_tables.specs.declared.tables.Tables.{Tables}

@@ -25,7 +25,7 @@ pub mod Timed
 pub mod TrimSteps
 pub mod Trimmed
 pub mod Working
-pub use Rattle.alt_opening.proofs.NextRow as OpeningNextRow
-pub use Rattle.alt_opening.proofs.OneColumn as OpeningOneColumn
-pub use Rattle.alt_opening.proofs.OneState as OpeningOneState
-pub use Rattle.alt_opening.proofs.Ties as OpeningTies
+pub use Rattle.alt_rowchanges.proofs.OpeningNextRow as OpeningNextRow
+pub use Rattle.alt_rowchanges.proofs.OpeningOneColumn as OpeningOneColumn
+pub use Rattle.alt_rowchanges.proofs.OpeningOneState as OpeningOneState
+pub use Rattle.alt_rowchanges.proofs.OpeningTies as OpeningTies

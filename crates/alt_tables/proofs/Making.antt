@@ -28,35 +28,35 @@ use Rattle.alt_schemabytes.specs.Held.{IsHeld}
 use Rattle.alt_schema.specs.declared.schema.TableSchema.{TableSchema}
 use Rattle.alt_tables.specs.Faults.{AreMade, AreSome, BreakOff, IsLastFile, Writes}
 use Rattle.alt_rowchanges.specs.Faults.{IsFindFault}
-use Rattle.alt_opening.specs.Live.{with_all, without_all}
-use Rattle.alt_opening.specs.Opened.{Holds}
-use Rattle.alt_opening.proofs.LiveLaws.{live_insert, live_remove}
+use Rattle.alt_rowchanges.specs.OpeningLive.{with_all, without_all}
+use Rattle.alt_rowchanges.specs.OpeningOpened.{Holds}
+use Rattle.alt_rowchanges.proofs.OpeningLiveLaws.{live_insert, live_remove}
 use Rattle.alt_layout.specs.Layout.{Layout, shown}
-use Rattle.alt_opening.specs.StateRows.{catalog_family}
-use Rattle.alt_opening.specs.Trimmed.{AreTrimmedOf, IsRenumbered, number_at, without}
-use Rattle.alt_opening.proofs.OverEngine.{one_layout_in_hand, stands_past}
-use Rattle.alt_opening.proofs.TrimmedLaws.{trimmed-new, trimmed-put, trimmed-remove}
+use Rattle.alt_rowchanges.specs.OpeningStateRows.{catalog_family}
+use Rattle.alt_rowchanges.specs.OpeningTrimmed.{AreTrimmedOf, IsRenumbered, number_at, without}
+use Rattle.alt_rowchanges.proofs.OpeningOverEngine.{one_layout_in_hand, stands_past}
+use Rattle.alt_rowchanges.proofs.OpeningTrimmedLaws.{trimmed-new, trimmed-put, trimmed-remove}
 use Rattle.alt_tables.specs.Built.{NoneBuilds}
 use Rattle.alt_tables.specs.Foreseen.{Foresees, ForeseesWrite}
-use Rattle.alt_trimming.specs.Fronts.{AreFronts, IsFront, front_at, without_front}
-use Rattle.alt_trimming.specs.Leftovers.{leftovers}
+use Rattle.alt_rowchanges.specs.Fronts.{AreFronts, IsFront, front_at, without_front}
+use Rattle.alt_rowchanges.specs.Leftovers.{leftovers}
 use Rattle.alt_tables.specs.Stands.{HasRows, Stands, catalog_of, due_of, fronts_of, largest_of, number_of, trimmed_of}
 use Rattle.alt_rowchanges.specs.RowChanges.{Turns, changed_rows, write_changes, creation_changes, drop_changes}
-use Rattle.alt_trimming.specs.Trims.{IsNoted, IsTrim}
-use Rattle.alt_trimming.specs.declared.fronts.Front.{Front}
-use Rattle.alt_trimming.specs.declared.trimming.Trim.{Trim}
+use Rattle.alt_rowchanges.specs.Trims.{IsNoted, IsTrim}
+use Rattle.alt_rowchanges.specs.declared.fronts.Front.{Front}
+use Rattle.alt_rowchanges.specs.declared.trimming.Trim.{Trim}
 use Rattle.alt_rowchanges.proofs.ChangeLaws.{AreOthers}
 use Rattle.alt_rowchanges.proofs.Elsewhere.{shown_elsewhere, write_others}
 use Rattle.alt_tables.proofs.Foreseen.{foresees_gone, foresees_new, foresees_written}
-use Rattle.alt_trimming.proofs.FrontLaws.{fronts_alike, fronts_gone, fronts_new, fronts_put}
-use Rattle.alt_trimming.proofs.FrontTrims.{front_stays, front_then, left_then, leftovers_then, trimmed_then}
+use Rattle.alt_rowchanges.proofs.FrontLaws.{fronts_alike, fronts_gone, fronts_new, fronts_put}
+use Rattle.alt_rowchanges.proofs.FrontTrims.{front_stays, front_then, left_then, leftovers_then, trimmed_then}
 use Rattle.alt_tables.proofs.NoneBuilt.{none_of_whole, none_on, none_with, none_without}
 use Rattle.alt_rowchanges.proofs.StreamShows.{stream_family}
 use Rattle.alt_rowchanges.specs.declared.faults.TableFault.{TableFault}
 use Rattle.alt_rowchanges.specs.declared.faults.TableFault.TheVariants.{Spent, Damaged, BadRow, Failed, NoMemory}
 use Rattle.alt_tables.specs.declared.tables.Tables.{Tables}
 use Rattle.alt_rowchanges.proofs.CatalogLaws.{creation_turns, drop_turns}
-use Rattle.alt_opening.proofs.OneState.{some}
+use Rattle.alt_rowchanges.proofs.OpeningOneState.{some}
 use Rattle.alt_tables.proofs.Standing.{descriptions-insert, descriptions-stay, descriptions-remove, known, there, absent, still_live, still_trimmed}
 use Rattle.alt_rowchanges.proofs.WriteLaws.{item_turns, stream_within}
 use Rattle.alt_value.specs.Tree.{Pair}

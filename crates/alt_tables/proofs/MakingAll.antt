@@ -3,13 +3,13 @@ use Rattle.std.proofs.Common.{◌≡◌, ◌≤◌, ◌+◌, sym, ap, subst, ◌
 use Rattle.std.specs.FinMap as map
 use Rattle.alt_codec.specs.declared.writer.Writer.{Writer}
 use Rattle.alt_disk.specs.Disk.{DiskState}
-use Rattle.alt_opening.specs.EngineInHand.{Stands as EngineStands, next_of}
-use Rattle.alt_opening.specs.EngineDeclaredEngine.{Engine}
+use Rattle.alt_rowchanges.specs.OpeningEngineInHand.{Stands as EngineStands, next_of}
+use Rattle.alt_rowchanges.specs.OpeningEngineDeclaredEngine.{Engine}
 use Rattle.alt_layout.specs.Layout.{Layout}
 use Rattle.alt_machine.specs.Ops.BatchWriteItem.{Written, writes_of_all_by}
 use Rattle.alt_machine.specs.Outcomes.{last_state, together}
 use Rattle.alt_machine.specs.State.{State, Texts}
-use Rattle.alt_opening.specs.Opened.{Holds}
+use Rattle.alt_rowchanges.specs.OpeningOpened.{Holds}
 use Rattle.alt_schema.specs.declared.schema.TableSchema.{TableSchema}
 use Rattle.alt_tables.specs.Foreseen.{Foresees, ForeseesWritten}
 use Rattle.alt_tables.specs.Images.{Leaves}

@@ -7,8 +7,8 @@ use Rattle.std.specs.Ordering.{eq_by_cmp}
 use Rattle.std.specs.Prelude.{not}
 use Rattle.alt_machine.specs.Building.{building_in, is_building}
 use Rattle.alt_machine.specs.State.{Texts}
-use Rattle.alt_opening.proofs.OneIndex.{at_each, behind_any, found_at}
-use Rattle.alt_opening.proofs.OneState.{some}
+use Rattle.alt_rowchanges.proofs.OpeningOneIndex.{at_each, behind_any, found_at}
+use Rattle.alt_rowchanges.proofs.OpeningOneState.{some}
 use Rattle.alt_schema.specs.Bare.{is_whole}
 use Rattle.alt_schema.specs.Indexes.{indexes}
 use Rattle.alt_schema.specs.declared.schema.IndexSchema.{IndexSchema}

@@ -10,19 +10,19 @@ use Rattle.alt_changes.specs.ChangeRows.{row_key}
 use Rattle.alt_layout.specs.Layout.{Layout, shown}
 use Rattle.alt_machine.specs.State.{Table, Texts}
 use Rattle.alt_machine.specs.Valid.{AreChanges}
-use Rattle.alt_opening.specs.Trimmed.{AreTrimmedOf, IsRenumbered, number_at}
-use Rattle.alt_opening.specs.declared.trimmed.Trimmed.{Trimmed}
-use Rattle.alt_opening.proofs.OneState.{some}
+use Rattle.alt_rowchanges.specs.OpeningTrimmed.{AreTrimmedOf, IsRenumbered, number_at}
+use Rattle.alt_rowchanges.specs.OpeningDeclaredTrimmed.{Trimmed}
+use Rattle.alt_rowchanges.proofs.OpeningOneState.{some}
 use Rattle.alt_schema.specs.declared.schema.TableSchema.{TableSchema}
-use Rattle.alt_trimming.specs.Fronts.{AreFronts, IsFront, first_moment, front_at}
-use Rattle.alt_trimming.specs.Leftovers.{leftovers}
+use Rattle.alt_rowchanges.specs.Fronts.{AreFronts, IsFront, first_moment, front_at}
+use Rattle.alt_rowchanges.specs.Leftovers.{leftovers}
 use Rattle.alt_tables.specs.Several.{Every}
-use Rattle.alt_trimming.specs.declared.fronts.Front.{Front}
+use Rattle.alt_rowchanges.specs.declared.fronts.Front.{Front}
 use Rattle.alt_tables.specs.declared.several.Noted.{Noted}
 use Rattle.alt_tables.specs.private.Staging.{AreKnown, AreNotes, IsFrontKnown, IsTableAhead, IsTouched, note_at, oldest_by}
-use Rattle.alt_trimming.specs.Trims.{IsNoted, leftovers_from}
-use Rattle.alt_trimming.proofs.FrontLaws.{front_alike}
-use Rattle.alt_trimming.proofs.Rising.{filter_rising, rising_least}
+use Rattle.alt_rowchanges.specs.Trims.{IsNoted, leftovers_from}
+use Rattle.alt_rowchanges.proofs.FrontLaws.{front_alike}
+use Rattle.alt_rowchanges.proofs.Rising.{filter_rising, rising_least}
 
 -- ---- the notes
 

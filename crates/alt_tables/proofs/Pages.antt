@@ -16,7 +16,7 @@ use Rattle.alt_cells.proofs.CellLaws.{key_total, key_exact}
 use Rattle.alt_cells.proofs.Entries.{first, second, find_below}
 use Rattle.alt_disk.specs.Disk.{DiskState}
 use Rattle.alt_disk.proofs.Runs.{tells_of}
-use Rattle.alt_opening.specs.EngineInHand.{Reads as EngineReads}
+use Rattle.alt_rowchanges.specs.OpeningEngineInHand.{Reads as EngineReads}
 use Rattle.alt_layout.specs.Layout.{Layout, rows_between, shown, shown_of, shown_rows, end_bound as rows_end}
 use Rattle.alt_layout.proofs.ShownLaws.{find-shown, is_sorted-shown, shown-filter, shown-turned}
 use Rattle.alt_machine.specs.Building.{built_part}
@@ -30,7 +30,7 @@ use Rattle.alt_schema.specs.Bare.{is_whole}
 use Rattle.alt_schema.proofs.BareLaws.{whole_is}
 use Rattle.alt_schema.specs.declared.schema.IndexSchema.{IndexSchema}
 use Rattle.alt_schema.specs.declared.schema.TableSchema.{TableSchema}
-use Rattle.alt_opening.specs.HandFaults.{told_by_engine}
+use Rattle.alt_rowchanges.specs.OpeningHandFaults.{told_by_engine}
 use Rattle.alt_faults.specs.Faults.{IsOutside}
 use Rattle.alt_faults.proofs.Telling.{memory-outside, outside-neither}
 use Rattle.alt_rowchanges.specs.Faults.{IsFindFault, IsReadFault, told_by_tables}
@@ -39,18 +39,18 @@ use Rattle.alt_rowchanges.specs.Pages.{AreItemsOf, AreKept, ArePut}
 use Rattle.alt_tables.specs.Stands.{Stands, catalog_of}
 use Rattle.alt_rowchanges.specs.declared.faults.TableFault.{TableFault}
 use Rattle.alt_tables.specs.declared.tables.Tables.{Tables}
-use Rattle.alt_opening.proofs.Ties.{tied, itself}
-use Rattle.alt_opening.proofs.OverEngine.{finds_shown}
-use Rattle.alt_opening.specs.StateRows.{index_rows}
+use Rattle.alt_rowchanges.proofs.OpeningTies.{tied, itself}
+use Rattle.alt_rowchanges.proofs.OpeningOverEngine.{finds_shown}
+use Rattle.alt_rowchanges.specs.OpeningStateRows.{index_rows}
 use Rattle.alt_views.specs.IndexRows.{index_columns}
 use Rattle.alt_views.specs.Read.{IsKeptAt}
 use Rattle.alt_views.proofs.Keeping.{kept_at}
-use Rattle.alt_opening.proofs.OneState.{some, has_whole}
+use Rattle.alt_rowchanges.proofs.OpeningOneState.{some, has_whole}
 use Rattle.alt_rowchanges.proofs.PageRows.{same_items}
 use Rattle.alt_tables.proofs.Standing.{known}
 use Rattle.alt_value.specs.Members.{text_order}
-use Rattle.alt_opening.specs.HandOpened.{IsUndamaged, IsUnspent}
-use Rattle.alt_opening.specs.HandDeclaredEngineFault.{EngineFault}
+use Rattle.alt_rowchanges.specs.OpeningHandOpened.{IsUndamaged, IsUnspent}
+use Rattle.alt_rowchanges.specs.OpeningHandDeclaredEngineFault.{EngineFault}
 use Rattle.alt_value.specs.Tree.{Pair}
 
 -- ---- entries of items as those of rows

@@ -13,11 +13,11 @@ use Rattle.alt_cells.specs.Changes.{Columns}
 use Rattle.alt_cells.specs.Keys.{key_cmp}
 use Rattle.alt_cells.specs.Walks.{RowMap, walk_cmp}
 use Rattle.alt_disk.specs.Disk.{DiskState}
-use Rattle.alt_opening.specs.EngineInHand.{Reads as EngineReads, hand_of}
-use Rattle.alt_opening.specs.EngineDeclaredEngine.{Engine}
+use Rattle.alt_rowchanges.specs.OpeningEngineInHand.{Reads as EngineReads, hand_of}
+use Rattle.alt_rowchanges.specs.OpeningEngineDeclaredEngine.{Engine}
 use Rattle.alt_families.specs.Reads as engine
 use Rattle.alt_families.specs.Reads.{most_reads, versions_of}
-use Rattle.alt_opening.specs.HandInHand.{file_rows}
+use Rattle.alt_rowchanges.specs.OpeningHandInHand.{file_rows}
 use Rattle.alt_layout.specs.Families.{Held, files_of}
 use Rattle.alt_layout.specs.Files.{AreRowFiles}
 use Rattle.alt_layout.specs.Fresh.{versions_file}

@@ -13,8 +13,8 @@ use Rattle.alt_machine.specs.State.{State, Table, Texts, new_table}
 use Rattle.alt_machine.specs.Valid.{IsValid}
 use Rattle.alt_machine.specs.declared.TheConstants.{LARGEST_ITEM}
 use Rattle.alt_machine.specs.Writes.{after_item_by, item_writes_by, with_item, with_write_by}
-use Rattle.alt_opening.specs.Sized.{AreSized}
-use Rattle.alt_opening.proofs.OneState.{some}
+use Rattle.alt_rowchanges.specs.OpeningSized.{AreSized}
+use Rattle.alt_rowchanges.proofs.OpeningOneState.{some}
 use Rattle.alt_schema.specs.declared.schema.TableSchema.{TableSchema}
 use Rattle.alt_tables.specs.Several.{Every}
 use Rattle.alt_tables.specs.private.Foretold.{Fits, FitsWrite}

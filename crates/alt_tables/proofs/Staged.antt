@@ -16,13 +16,13 @@ use Rattle.alt_machine.specs.State.{State, Table, Texts}
 use Rattle.alt_machine.specs.Valid.{AreChanges, IsStored, IsValid}
 use Rattle.alt_machine.specs.Writes.{after_item_by, with_write_by}
 use Rattle.alt_machine.proofs.Descriptions.{get-descriptions, table_of_description}
-use Rattle.alt_opening.specs.Opened.{Holds}
-use Rattle.alt_opening.proofs.OverEngine.{one_layout_in_hand, stands_past}
-use Rattle.alt_opening.proofs.OneState.{some}
+use Rattle.alt_rowchanges.specs.OpeningOpened.{Holds}
+use Rattle.alt_rowchanges.proofs.OpeningOverEngine.{one_layout_in_hand, stands_past}
+use Rattle.alt_rowchanges.proofs.OpeningOneState.{some}
 use Rattle.alt_schema.specs.declared.schema.TableSchema.{TableSchema}
 use Rattle.alt_tables.specs.Foreseen.{Foresees, ForeseesWritten}
-use Rattle.alt_trimming.specs.Fronts.{AreFronts}
-use Rattle.alt_trimming.specs.Leftovers.{lowest_left}
+use Rattle.alt_rowchanges.specs.Fronts.{AreFronts}
+use Rattle.alt_rowchanges.specs.Leftovers.{lowest_left}
 use Rattle.alt_rowchanges.specs.RowChanges.{write_changes}
 use Rattle.alt_tables.specs.Several.{AreAllApart, AreDistinct, Every, IsFound, MayWrite, batch_of, batches_of, with_batches, written_at}
 use Rattle.alt_tables.specs.Stands.{HasRows, Keeps, Stands, catalog_of, due_of, fronts_of, number_of, trimmed_of, largest_of}
@@ -30,14 +30,14 @@ use Rattle.alt_tables.specs.declared.several.ItemChange.{ItemChange}
 use Rattle.alt_tables.specs.declared.several.Noted.{Noted}
 use Rattle.alt_tables.specs.declared.several.Staged.{Staged}
 use Rattle.alt_tables.specs.declared.tables.Tables.{Tables}
-use Rattle.alt_trimming.specs.declared.trimming.Trim.{Trim}
+use Rattle.alt_rowchanges.specs.declared.trimming.Trim.{Trim}
 use Rattle.alt_tables.specs.private.Staging.{AreKnown, AreNotes, Differs, IsAhead, IsBehind, IsStaged, IsStagedOn}
-use Rattle.alt_trimming.specs.Trims.{IsWithin}
+use Rattle.alt_rowchanges.specs.Trims.{IsWithin}
 use Rattle.alt_tables.proofs.Ahead.{none_ahead, one_ahead}
 use Rattle.alt_tables.proofs.Batches.{with_batches-append}
 use Rattle.alt_tables.proofs.Differing.{differ_one, differ_rows, stay_found}
 use Rattle.alt_tables.proofs.Foreseen.{written_on}
-use Rattle.alt_trimming.proofs.FrontTrims.{trimmed_then}
+use Rattle.alt_rowchanges.proofs.FrontTrims.{trimmed_then}
 use Rattle.alt_tables.proofs.Noting.{fronts_all, trimmed_all}
 use Rattle.alt_tables.proofs.NoneBuilt.{none_on}
 use Rattle.alt_tables.proofs.Standing.{keeps_nothing, keeps_then, known, rows_kept, stands_kept, still_live}

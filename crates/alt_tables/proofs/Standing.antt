@@ -9,25 +9,25 @@ use Rattle.alt_disk.specs.Disk.{DiskState, Goes, IsTrusted}
 use Rattle.alt_disk.proofs.Calls.{goes_refl, goes_on}
 use Rattle.alt_due.specs.Due.{KeepsKnown}
 use Rattle.alt_disk.proofs.Runs.{quiet_start, quiet_then, trusted_on, trusted_back, tells_of}
-use Rattle.alt_opening.specs.EngineInHand.{Bounds, Reads as EngineReads, Stands as EngineStands}
-use Rattle.alt_opening.specs.EngineOpened.{StaysOn}
+use Rattle.alt_rowchanges.specs.OpeningEngineInHand.{Bounds, Reads as EngineReads, Stands as EngineStands}
+use Rattle.alt_rowchanges.specs.OpeningEngineOpened.{StaysOn}
 use Rattle.alt_layout.specs.Layout.{Layout, shown}
 use Rattle.alt_machine.specs.State.{State, Table, Texts, descriptions}
 use Rattle.alt_machine.proofs.Descriptions.{get-descriptions, no_description, table_of_description}
 use Rattle.alt_schema.specs.declared.schema.TableSchema.{TableSchema}
 use Rattle.alt_views.specs.ItemRows.{IsReadItem, item_columns}
-use Rattle.alt_opening.proofs.OverEngine.{one_layout_in_hand}
-use Rattle.alt_trimming.specs.Fronts.{AreFronts}
+use Rattle.alt_rowchanges.proofs.OpeningOverEngine.{one_layout_in_hand}
+use Rattle.alt_rowchanges.specs.Fronts.{AreFronts}
 use Rattle.alt_tables.specs.Stands.{AreReady, HasRows, Keeps, Stands, bounds_of, catalog_of, trimmed_of}
 use Rattle.alt_tables.specs.declared.tables.Tables.{Tables}
-use Rattle.alt_opening.specs.Live.{AreLiveIn}
-use Rattle.alt_opening.specs.Trimmed.{AreTrimmedOf, number_at}
-use Rattle.alt_opening.proofs.Ties.{tied}
+use Rattle.alt_rowchanges.specs.OpeningLive.{AreLiveIn}
+use Rattle.alt_rowchanges.specs.OpeningTrimmed.{AreTrimmedOf, number_at}
+use Rattle.alt_rowchanges.proofs.OpeningTies.{tied}
 use Rattle.alt_tables.proofs.Holding.{one_held}
 use Rattle.alt_tables.proofs.NoneBuilt.{none_on}
 use Rattle.alt_views.proofs.ItemRowLaws.{item_columns-one}
-use Rattle.alt_opening.proofs.OneState.{some, has_whole}
-use Rattle.alt_opening.proofs.Maps.{same_texts}
+use Rattle.alt_rowchanges.proofs.OpeningOneState.{some, has_whole}
+use Rattle.alt_rowchanges.proofs.OpeningMaps.{same_texts}
 use Rattle.alt_value.specs.Tree.{Pair}
 use Rattle.alt_value.specs.Values.{IsWholeItem}
 use Rattle.alt_value.specs.Members.{text_order}

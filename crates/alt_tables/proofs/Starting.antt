@@ -9,8 +9,8 @@ use Rattle.alt_layout.specs.Files.{IsLayout}
 use Rattle.alt_layout.specs.Layout.{no_rows, shown}
 use Rattle.alt_machine.specs.State.{Table, start}
 use Rattle.alt_machine.proofs.States.{start_valid}
-use Rattle.alt_opening.specs.Images.{StandsFor}
-use Rattle.alt_opening.specs.StateRows.{Shows, IsHeldWhole, catalog_rows, next_row, table_row}
+use Rattle.alt_rowchanges.specs.OpeningImages.{StandsFor}
+use Rattle.alt_rowchanges.specs.OpeningStateRows.{Shows, IsHeldWhole, catalog_rows, next_row, table_row}
 use Rattle.alt_value.specs.Members.{text_order}
 
 -- no row is shown

@@ -16,17 +16,17 @@ use Rattle.alt_schemabytes.specs.Held.{IsHeldText, Where}
 use Rattle.alt_schema.specs.declared.schema.TableSchema.{TableSchema}
 use Rattle.alt_value.specs.Members.{text_order}
 use Rattle.alt_value.proofs.Texts.{text_total}
-use Rattle.alt_opening.specs.Opened.{Holds}
-use Rattle.alt_opening.proofs.LiveLaws.{live_alike}
-use Rattle.alt_opening.proofs.OneState.{some}
-use Rattle.alt_opening.proofs.Ties.{tied}
-use Rattle.alt_opening.proofs.TrimmedLaws.{trimmed-stay}
+use Rattle.alt_rowchanges.specs.OpeningOpened.{Holds}
+use Rattle.alt_rowchanges.proofs.OpeningLiveLaws.{live_alike}
+use Rattle.alt_rowchanges.proofs.OpeningOneState.{some}
+use Rattle.alt_rowchanges.proofs.OpeningTies.{tied}
+use Rattle.alt_rowchanges.proofs.OpeningTrimmedLaws.{trimmed-stay}
 use Rattle.alt_tables.specs.Built.{NoneBuilds}
 use Rattle.alt_tables.specs.Foreseen.{Foresees}
-use Rattle.alt_trimming.specs.Fronts.{AreFronts, IsFront}
+use Rattle.alt_rowchanges.specs.Fronts.{AreFronts, IsFront}
 use Rattle.alt_rowchanges.specs.RowChanges.{Turns, changed_rows, time_changes}
 use Rattle.alt_tables.specs.Stands.{HasRows, Stands, catalog_of, fronts_of, number_of, trimmed_of}
-use Rattle.alt_trimming.specs.declared.fronts.Front.{Front}
+use Rattle.alt_rowchanges.specs.declared.fronts.Front.{Front}
 use Rattle.alt_tables.specs.declared.tables.Tables.{Tables}
 use Rattle.alt_tables.specs.private.Foretold.{IsTold}
 use Rattle.alt_tables.proofs.Foreseen.{foresees_nothing, foresees_untimed}

@@ -10,27 +10,27 @@ use Rattle.alt_cells.specs.Changes.{Columns}
 use Rattle.alt_changes.specs.ChangeRows.{row_key}
 use Rattle.alt_disk.specs.Disk.{DiskState}
 use Rattle.alt_disk.proofs.Runs.{tells_of}
-use Rattle.alt_opening.specs.EngineInHand.{Reads as EngineReads}
+use Rattle.alt_rowchanges.specs.OpeningEngineInHand.{Reads as EngineReads}
 use Rattle.alt_layout.specs.Layout.{Layout, rows_between, shown}
 use Rattle.alt_machine.specs.Ops.GetRecords.{changes_from}
 use Rattle.alt_machine.specs.State.{Change, State, Table}
 use Rattle.alt_machine.specs.Trimming.{kept, trimmed_at}
 use Rattle.alt_machine.specs.Valid.{AreChanges}
-use Rattle.alt_opening.proofs.StreamKeys.{IsSmall}
+use Rattle.alt_rowchanges.proofs.OpeningStreamKeys.{IsSmall}
 use Rattle.alt_machine.proofs.Trimming.{trimmed_least, trimmed_most}
-use Rattle.alt_opening.proofs.OverEngine.{one_layout_in_hand}
-use Rattle.alt_opening.proofs.KeptChanges.{are_small, trimmed_small}
-use Rattle.alt_opening.proofs.OneState.{some}
-use Rattle.alt_opening.specs.Trimmed.{number_at}
-use Rattle.alt_trimming.specs.Fronts.{IsFront, first_moment, front_at}
-use Rattle.alt_trimming.specs.Leftovers.{leftovers}
+use Rattle.alt_rowchanges.proofs.OpeningOverEngine.{one_layout_in_hand}
+use Rattle.alt_rowchanges.proofs.OpeningKeptChanges.{are_small, trimmed_small}
+use Rattle.alt_rowchanges.proofs.OpeningOneState.{some}
+use Rattle.alt_rowchanges.specs.OpeningTrimmed.{number_at}
+use Rattle.alt_rowchanges.specs.Fronts.{IsFront, first_moment, front_at}
+use Rattle.alt_rowchanges.specs.Leftovers.{leftovers}
 use Rattle.alt_tables.specs.Stands.{HasRows, Stands, fronts_of, number_of, trimmed_of}
-use Rattle.alt_trimming.specs.declared.fronts.Front.{Front}
+use Rattle.alt_rowchanges.specs.declared.fronts.Front.{Front}
 use Rattle.alt_tables.specs.declared.tables.Tables.{Tables}
-use Rattle.alt_trimming.specs.Trims.{AreNumbersOf, AreTwo, IsKeptFrom, IsLowest, IsLowestFrom, IsRest, IsTrim, behind, is_over, left_from, leftovers_from}
-use Rattle.alt_trimming.proofs.KeptFrom.{KeptPage, all_from, kept_page, page_done, young}
-use Rattle.alt_trimming.proofs.LeftoverRows.{left_from_there, lowest_read, range_read, read_numbers, read_two}
-use Rattle.alt_trimming.proofs.Rising.{all_further, filter_rising, rising_least}
+use Rattle.alt_rowchanges.specs.Trims.{AreNumbersOf, AreTwo, IsKeptFrom, IsLowest, IsLowestFrom, IsRest, IsTrim, behind, is_over, left_from, leftovers_from}
+use Rattle.alt_rowchanges.proofs.KeptFrom.{KeptPage, all_from, kept_page, page_done, young}
+use Rattle.alt_rowchanges.proofs.LeftoverRows.{left_from_there, lowest_read, range_read, read_numbers, read_two}
+use Rattle.alt_rowchanges.proofs.Rising.{all_further, filter_rising, rising_least}
 
 -- The walk over the changes of a table has come to a number: those behind it tell the rest.
 pub record WalkedTo (s : State) (t : Table) (moment number : ℕ) : Type 0 where

@@ -8,16 +8,16 @@ use Rattle.alt_layout.specs.Layout.{Layout}
 use Rattle.alt_codec.specs.declared.writer.Writer.{Writer}
 use Rattle.alt_machine.specs.Same.{is_same}
 use Rattle.alt_machine.specs.State.{State, Table}
-use Rattle.alt_opening.specs.Trimmed.{number_at}
-use Rattle.alt_opening.proofs.OverEngine.{one_layout_in_hand}
-use Rattle.alt_opening.proofs.OneState.{some}
+use Rattle.alt_rowchanges.specs.OpeningTrimmed.{number_at}
+use Rattle.alt_rowchanges.proofs.OpeningOverEngine.{one_layout_in_hand}
+use Rattle.alt_rowchanges.proofs.OpeningOneState.{some}
 use Rattle.alt_schema.specs.declared.schema.TableSchema.{TableSchema}
-use Rattle.alt_trimming.specs.Leftovers.{leftovers, lowest_left}
+use Rattle.alt_rowchanges.specs.Leftovers.{leftovers, lowest_left}
 use Rattle.alt_rowchanges.specs.RowChanges.{changed_rows, write_changes}
 use Rattle.alt_tables.specs.Stands.{HasRows, Keeps, Stands, catalog_of, number_of, trimmed_of}
 use Rattle.alt_tables.specs.declared.tables.Tables.{Tables}
-use Rattle.alt_trimming.specs.declared.trimming.Trim.{Trim}
-use Rattle.alt_trimming.specs.Trims.{IsTrim}
+use Rattle.alt_rowchanges.specs.declared.trimming.Trim.{Trim}
+use Rattle.alt_rowchanges.specs.Trims.{IsTrim}
 use Rattle.alt_tables.proofs.Making.{item_leftovers}
 use Rattle.alt_tables.proofs.Standing.{known, rows_kept}
 use Rattle.alt_value.specs.Tree.{Pair}

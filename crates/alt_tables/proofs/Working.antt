@@ -8,26 +8,26 @@ use Rattle.std.specs.FinMap as map
 use Rattle.alt_disk.specs.Disk.{DiskState, Goes}
 use Rattle.alt_disk.specs.Runs.{Spans}
 use Rattle.alt_disk.proofs.Runs.{spans_weaker, trusted_on}
-use Rattle.alt_opening.specs.EngineInHand.{Stands as EngineStands, next_file_of}
-use Rattle.alt_opening.specs.EngineDeclaredEngine.{Engine}
-use Rattle.alt_opening.specs.EngineDeclaredTask.{Task}
-use Rattle.alt_opening.specs.EngineDeclaredTask.TheVariants.{Step, FlushAll, MergeAll}
-use Rattle.alt_opening.proofs.EngineTaking.{files_for-most, needed-most}
+use Rattle.alt_rowchanges.specs.OpeningEngineInHand.{Stands as EngineStands, next_file_of}
+use Rattle.alt_rowchanges.specs.OpeningEngineDeclaredEngine.{Engine}
+use Rattle.alt_rowchanges.specs.OpeningEngineDeclaredTask.{Task}
+use Rattle.alt_rowchanges.specs.OpeningEngineDeclaredTask.TheVariants.{Step, FlushAll, MergeAll}
+use Rattle.alt_rowchanges.proofs.OpeningEngineTaking.{files_for-most, needed-most}
 use Rattle.alt_families.specs.Families.{rows_in}
-use Rattle.alt_opening.specs.HandDrafting.{IsSpentFor, files_for, files_needed}
-use Rattle.alt_opening.specs.HandInHand.{work_file_of}
-use Rattle.alt_opening.specs.HandWorking.{AreLive, Works, WorksIn}
-use Rattle.alt_opening.proofs.HandNeedLaws.{spent_more}
-use Rattle.alt_opening.specs.HandDeclaredEngineFault.{EngineFault}
+use Rattle.alt_rowchanges.specs.OpeningHandDrafting.{IsSpentFor, files_for, files_needed}
+use Rattle.alt_rowchanges.specs.OpeningHandInHand.{work_file_of}
+use Rattle.alt_rowchanges.specs.OpeningHandWorking.{AreLive, Works, WorksIn}
+use Rattle.alt_rowchanges.proofs.OpeningHandNeedLaws.{spent_more}
+use Rattle.alt_rowchanges.specs.OpeningHandDeclaredEngineFault.{EngineFault}
 use Rattle.alt_layout.specs.Layout.{Layout, shown}
 use Rattle.alt_machine.specs.State.{State, Table, descriptions, families_of}
 use Rattle.alt_machine.proofs.Descriptions.{get-descriptions}
 use Rattle.alt_manifest.specs.Versions.{IsIn}
-use Rattle.alt_opening.specs.EngineWorking.{IsMerged, IsNeeded, most_files as most_for}
-use Rattle.alt_opening.specs.Live.{AreLiveIn, IsOfTable}
-use Rattle.alt_opening.specs.StateRows.{Shows, catalog_family}
-use Rattle.alt_opening.proofs.Families.{own_family}
-use Rattle.alt_opening.specs.HandFaults.{told_by_engine}
+use Rattle.alt_rowchanges.specs.OpeningEngineWorking.{IsMerged, IsNeeded, most_files as most_for}
+use Rattle.alt_rowchanges.specs.OpeningLive.{AreLiveIn, IsOfTable}
+use Rattle.alt_rowchanges.specs.OpeningStateRows.{Shows, catalog_family}
+use Rattle.alt_rowchanges.proofs.OpeningFamilies.{own_family}
+use Rattle.alt_rowchanges.specs.OpeningHandFaults.{told_by_engine}
 use Rattle.alt_faults.specs.Faults.{OnlySpent}
 use Rattle.alt_faults.proofs.Telling.{outside-tells}
 use Rattle.alt_tables.specs.Faults.{IsLastFile, IsWorkFault}
@@ -36,13 +36,13 @@ use Rattle.alt_tables.specs.FilesLeft.{most_files}
 use Rattle.alt_rowchanges.specs.declared.faults.TableFault.{TableFault}
 use Rattle.alt_tables.specs.Images.{StandAt}
 use Rattle.alt_tables.specs.Merged.{IsMergedFor}
-use Rattle.alt_opening.proofs.OverEngine.{one_layout_in_hand}
+use Rattle.alt_rowchanges.proofs.OpeningOverEngine.{one_layout_in_hand}
 use Rattle.alt_tables.specs.Foreseen.{Foresees}
-use Rattle.alt_trimming.specs.Fronts.{AreFronts}
+use Rattle.alt_rowchanges.specs.Fronts.{AreFronts}
 use Rattle.alt_tables.specs.Stands.{Stands, fronts_of, live_of, number_of}
 use Rattle.alt_tables.specs.declared.tables.Tables.{Tables}
 use Rattle.alt_tables.proofs.FilesLaws.{live_few}
-use Rattle.alt_trimming.proofs.FrontLaws.{fronts_alike}
+use Rattle.alt_rowchanges.proofs.FrontLaws.{fronts_alike}
 use Rattle.alt_rowchanges.proofs.IndexFamilies.{index_family}
 use Rattle.alt_tables.proofs.NoneBuilt.{none_on}
 use Rattle.alt_tables.proofs.Standing.{still_live, still_trimmed}

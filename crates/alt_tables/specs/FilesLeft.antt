@@ -1,14 +1,14 @@
 -- How many numbers of files work takes, and that none is left for it.
 use Rattle.std.specs.Prelude.{◌≡◌, ◌+◌, ◌*◌, ℕ, List, Option}
-use Rattle.alt_opening.specs.EngineWorking.{IsNeeded}
-use Rattle.alt_opening.specs.EngineDeclaredTask.{Task}
-use Rattle.alt_opening.specs.HandFaults.{told_by_engine}
-use Rattle.alt_opening.specs.HandDeclaredEngineFault.{EngineFault}
+use Rattle.alt_rowchanges.specs.OpeningEngineWorking.{IsNeeded}
+use Rattle.alt_rowchanges.specs.OpeningEngineDeclaredTask.{Task}
+use Rattle.alt_rowchanges.specs.OpeningHandFaults.{told_by_engine}
+use Rattle.alt_rowchanges.specs.OpeningHandDeclaredEngineFault.{EngineFault}
 use Rattle.alt_layout.specs.Fresh.{versions_file}
 use Rattle.alt_machine.specs.declared.TheConstants.{MOST_FAMILIES, MOST_TABLES}
 use Rattle.alt_manifest.specs.Versions.{HasVersion}
 use Rattle.alt_manifest.specs.declared.version.Version.{Version}
-use Rattle.alt_opening.specs.FirstFiles.{IsFirstFile}
+use Rattle.alt_rowchanges.specs.OpeningFirstFiles.{IsFirstFile}
 use Rattle.alt_rowchanges.specs.Faults.{told_by_tables}
 use Rattle.alt_tables.specs.Stands.{live_of}
 use Rattle.alt_rowchanges.specs.declared.faults.TableFault.{TableFault}

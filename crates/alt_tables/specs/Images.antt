@@ -4,7 +4,7 @@ use Rattle.alt_disk.specs.Disk.{DiskState, IsImage}
 use Rattle.alt_disk.specs.Runs.{Quiet, Spans}
 use Rattle.alt_machine.specs.Outcomes.{state_after}
 use Rattle.alt_machine.specs.State.{State}
-pub use Rattle.alt_opening.specs.Images.{StandsFor}
+pub use Rattle.alt_rowchanges.specs.OpeningImages.{StandsFor}
 
 -- What a disk holds stands for the state: its files as they read, and whatever a stop now leaves.
 pub record Lasts (disk : DiskState) (s : State) : Type 0 where

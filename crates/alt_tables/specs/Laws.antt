@@ -12,11 +12,11 @@ use Rattle.alt_machine.specs.Same.{is_same}
 use Rattle.alt_machine.specs.State.{State, Table, start}
 use Rattle.alt_machine.specs.Valid.{IsStored, IsValid}
 use Rattle.alt_machine.specs.Writes.{after_item_by, with_write_by}
-use Rattle.alt_opening.specs.StateRows.{IsHeldWhole}
+use Rattle.alt_rowchanges.specs.OpeningStateRows.{IsHeldWhole}
 use Rattle.alt_rowchanges.specs.RowChanges.{Turns, write_changes}
 use Rattle.alt_value.specs.Tree.{Pair}
 use Rattle.alt_value.specs.Values.{IsItemOfValues}
-use Rattle.alt_opening.specs.Images.{StandsFor}
+use Rattle.alt_rowchanges.specs.OpeningImages.{StandsFor}
 use Rattle.alt_tables.specs.Stands.{Stands}
 use Rattle.alt_tables.specs.declared.tables.Tables.{Tables}
 

@@ -12,15 +12,15 @@ pub mod Stands
 pub mod private
 pub use Rattle.alt_rowchanges.specs.Altering as Altering
 pub use Rattle.alt_rowchanges.specs.declared.faults.TableFault as DeclaredTableFault
-pub use Rattle.alt_opening.specs.EngineInHand as EngineInHand
-pub use Rattle.alt_opening.specs.EngineDeclaredTask as EngineDeclaredTask
-pub use Rattle.alt_opening.specs.HandMaking as HandMaking
-pub use Rattle.alt_opening.specs.HandWorking as HandWorking
-pub use Rattle.alt_opening.specs.HandDeclaredLimits as HandDeclaredLimits
-pub use Rattle.alt_opening.specs.HandDeclaredMakeFault as HandDeclaredMakeFault
-pub use Rattle.alt_opening.specs.Faults as OpeningFaults
-pub use Rattle.alt_opening.specs.Order as OpeningOrder
-pub use Rattle.alt_opening.specs.Recovery as OpeningRecovery
-pub use Rattle.alt_opening.specs.Trimmed as OpeningTrimmed
-pub use Rattle.alt_opening.specs.declared.faults.OpenFault as OpeningDeclaredOpenFault
-pub use Rattle.alt_opening.specs.declared.trimmed.Trimmed as OpeningDeclaredTrimmed
+pub use Rattle.alt_rowchanges.specs.OpeningEngineInHand as EngineInHand
+pub use Rattle.alt_rowchanges.specs.OpeningEngineDeclaredTask as EngineDeclaredTask
+pub use Rattle.alt_rowchanges.specs.OpeningHandMaking as HandMaking
+pub use Rattle.alt_rowchanges.specs.OpeningHandWorking as HandWorking
+pub use Rattle.alt_rowchanges.specs.OpeningHandDeclaredLimits as HandDeclaredLimits
+pub use Rattle.alt_rowchanges.specs.OpeningHandDeclaredMakeFault as HandDeclaredMakeFault
+pub use Rattle.alt_rowchanges.specs.OpeningFaults as OpeningFaults
+pub use Rattle.alt_rowchanges.specs.OpeningOrder as OpeningOrder
+pub use Rattle.alt_rowchanges.specs.OpeningRecovery as OpeningRecovery
+pub use Rattle.alt_rowchanges.specs.OpeningTrimmed as OpeningTrimmed
+pub use Rattle.alt_rowchanges.specs.OpeningDeclaredOpenFault as OpeningDeclaredOpenFault
+pub use Rattle.alt_rowchanges.specs.OpeningDeclaredTrimmed as OpeningDeclaredTrimmed

@@ -1,8 +1,8 @@
 -- Files of which nothing is left to merge.
 use Rattle.std.specs.Prelude.{ℕ, List, Option}
-use Rattle.alt_opening.specs.EngineWorking.{IsMerged}
+use Rattle.alt_rowchanges.specs.OpeningEngineWorking.{IsMerged}
 use Rattle.alt_machine.specs.State.{State, descriptions}
-use Rattle.alt_opening.specs.Live.{AreLiveIn}
+use Rattle.alt_rowchanges.specs.OpeningLive.{AreLiveIn}
 
 -- Each live family of the state has one row file at most, without tombstones, and so without hidden cells.
 abbrev pub IsMergedFor : State → (ℕ → Option (List ℕ)) → Type 0

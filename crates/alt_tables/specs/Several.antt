@@ -13,10 +13,10 @@ use Rattle.alt_machine.specs.Same.{is_same}
 use Rattle.alt_machine.specs.State.{State, Table, Texts}
 use Rattle.alt_machine.specs.Valid.{IsStored, IsValid}
 use Rattle.alt_machine.specs.Writes.{with_write_by}
-use Rattle.alt_opening.specs.StateRows.{Shows, IsHeldWhole}
+use Rattle.alt_rowchanges.specs.OpeningStateRows.{Shows, IsHeldWhole}
 use Rattle.alt_schema.specs.declared.schema.TableSchema.{TableSchema}
 use Rattle.alt_tables.specs.Found.{IsFoundIn}
-use Rattle.alt_trimming.specs.Leftovers.{lowest_left}
+use Rattle.alt_rowchanges.specs.Leftovers.{lowest_left}
 use Rattle.alt_rowchanges.specs.RowChanges.{changed_rows, write_changes}
 use Rattle.alt_tables.specs.declared.by_keys.ItemWrite.{ItemWrite}
 use Rattle.alt_tables.specs.declared.several.ItemChange.{ItemChange}

@@ -5,22 +5,22 @@ use Rattle.alt_disk.specs.Runs.{Quiet}
 use Rattle.alt_due.specs.Due.{KeepsKnown}
 use Rattle.alt_due.specs.declared.due.Due.{Due}
 use Rattle.std.specs.Prelude.{IsTrue}
-use Rattle.alt_opening.specs.EngineOpened.{StaysOn}
-use Rattle.alt_opening.specs.EngineInHand.{Bounds, Stands as EngineStands, next_of, bounds_of as engine_bounds, limits_of as engine_limits}
+use Rattle.alt_rowchanges.specs.OpeningEngineOpened.{StaysOn}
+use Rattle.alt_rowchanges.specs.OpeningEngineInHand.{Bounds, Stands as EngineStands, next_of, bounds_of as engine_bounds, limits_of as engine_limits}
 use Rattle.alt_layout.specs.Layout.{Layout}
-use Rattle.alt_opening.specs.HandDeclaredLimits.{Limits}
+use Rattle.alt_rowchanges.specs.OpeningHandDeclaredLimits.{Limits}
 use Rattle.alt_machine.specs.State.{State, Texts, descriptions}
 use Rattle.alt_machine.specs.Valid.{IsValid}
 use Rattle.alt_schema.specs.declared.schema.TableSchema.{TableSchema}
-use Rattle.alt_opening.specs.Live.{AreLiveIn}
-use Rattle.alt_opening.specs.Opened.{Holds}
-use Rattle.alt_opening.specs.Sized.{AreSized}
-use Rattle.alt_opening.specs.Trimmed.{AreTrimmedOf}
-use Rattle.alt_opening.specs.declared.trimmed.Trimmed.{Trimmed}
+use Rattle.alt_rowchanges.specs.OpeningLive.{AreLiveIn}
+use Rattle.alt_rowchanges.specs.OpeningOpened.{Holds}
+use Rattle.alt_rowchanges.specs.OpeningSized.{AreSized}
+use Rattle.alt_rowchanges.specs.OpeningTrimmed.{AreTrimmedOf}
+use Rattle.alt_rowchanges.specs.OpeningDeclaredTrimmed.{Trimmed}
 use Rattle.alt_tables.specs.Built.{NoneBuilds}
 use Rattle.alt_tables.specs.Foreseen.{Foresees}
-use Rattle.alt_trimming.specs.Fronts.{AreFronts}
-use Rattle.alt_trimming.specs.declared.fronts.Front.{Front}
+use Rattle.alt_rowchanges.specs.Fronts.{AreFronts}
+use Rattle.alt_rowchanges.specs.declared.fronts.Front.{Front}
 use Rattle.alt_tables.specs.declared.tables.Tables.{Tables}
 
 -- ---- what is known of the tables without the disk

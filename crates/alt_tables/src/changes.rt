@@ -13,8 +13,7 @@ use crate::tables::Tables;
 use alt_base::NoMemory;
 use alt_changes::Change;
 use alt_disk::Disk;
-use alt_rowchanges::{TableFault, read_changes};
-use alt_trimming::{from_kept, range_from};
+use alt_rowchanges::{TableFault, from_kept, range_from, read_changes};
 
 impl Tables {
     /// The changes of a table that is there, from a number on: the first `most` of them, or all where there are fewer. A table without a

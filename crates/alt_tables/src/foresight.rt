@@ -5,7 +5,7 @@ ghost use Rattle.std.specs.FinMap as map;
 ghost use Rattle.alt_disk.specs.Disk.{DiskState};
 ghost use Rattle.alt_machine.specs.State.{State};
 ghost use Rattle.alt_machine.specs.declared.TheConstants.{LARGEST_ITEM};
-ghost use Rattle.alt_opening.specs.Sized.{AreSized};
+ghost use Rattle.alt_rowchanges.specs.OpeningSized.{AreSized};
 ghost use Rattle.alt_tables.specs.Foreseen.{Foresees, ForeseesWrite};
 ghost use Rattle.alt_tables.specs.private.Foretold.{FitsWrite, IsTold};
 ghost use Rattle.alt_tables.specs.Stands.{Keeps, KeepsCatalog, Stands, catalog_of, due_of, largest_of};

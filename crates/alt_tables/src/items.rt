@@ -10,13 +10,13 @@ ghost use Rattle.alt_machine.specs.Outcomes.{a_number};
 ghost use Rattle.alt_machine.specs.State.{State, Table};
 ghost use Rattle.alt_machine.specs.Valid.{IsStored};
 ghost use Rattle.alt_machine.specs.Writes.{item_writes};
-ghost use Rattle.alt_opening.specs.Trimmed.{number_at};
+ghost use Rattle.alt_rowchanges.specs.OpeningTrimmed.{number_at};
 ghost use Rattle.alt_schema.specs.declared.schema.TableSchema.{TableSchema};
 ghost use Rattle.alt_rowchanges.specs.Faults.{IsFindFault, IsUnspent};
 ghost use Rattle.alt_tables.specs.Faults.{Writes};
 ghost use Rattle.alt_tables.specs.Found.{number_taken};
 ghost use Rattle.alt_tables.specs.Images.{Leaves};
-ghost use Rattle.alt_trimming.specs.Leftovers.{leftovers, lowest_left};
+ghost use Rattle.alt_rowchanges.specs.Leftovers.{leftovers, lowest_left};
 ghost use Rattle.alt_rowchanges.specs.RowChanges.{changed_rows, write_changes};
 ghost use Rattle.alt_tables.specs.Stands.{AreReady, HasRows, Reads, Stands, KeepsCatalog, catalog_of, bounds_of, number_of, trimmed_of};
 

@@ -17,8 +17,9 @@ mod trimming;
 mod walk;
 mod work;
 
-pub use alt_opening::{Limits, MakeFault, OpenFault, Task, Worked, make_store};
-pub use alt_rowchanges::{TableFault, expires_from};
+pub use alt_rowchanges::{
+    Limits, MakeFault, OpenFault, TableFault, Task, Worked, expires_from, make_store,
+};
 pub use by_keys::ItemWrite;
 pub use finding::Found;
 pub use laws::tables_laws;

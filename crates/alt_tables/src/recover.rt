@@ -5,8 +5,8 @@ ghost use Rattle.alt_base.specs.Counts.{Rose};
 ghost use Rattle.alt_disk.specs.Disk.{IsTrusted, Goes};
 ghost use Rattle.alt_disk.specs.Runs.{Spans};
 ghost use Rattle.alt_machine.specs.State.{State};
-ghost use Rattle.alt_opening.specs.Images.{StandsFor};
-ghost use Rattle.alt_opening.specs.Recovery.{IsExplained, HasNoState, WasLeft};
+ghost use Rattle.alt_rowchanges.specs.OpeningImages.{StandsFor};
+ghost use Rattle.alt_rowchanges.specs.OpeningRecovery.{IsExplained, HasNoState, WasLeft};
 ghost use Rattle.alt_tables.specs.FilesLeft.{IsFirstGiven};
 ghost use Rattle.alt_tables.specs.Images.{IsWhole};
 ghost use Rattle.alt_tables.specs.Stands.{Stands, bounds_of, limits_of};
@@ -14,7 +14,7 @@ ghost use Rattle.alt_tables.specs.Stands.{Stands, bounds_of, limits_of};
 use crate::tables::Tables;
 use alt_disk::Disk;
 use alt_due::Due;
-use alt_opening::{Limits, OpenFault, Store, open_store};
+use alt_rowchanges::{Limits, OpenFault, Store, open_store};
 use std::alloc::Global;
 
 impl Tables {

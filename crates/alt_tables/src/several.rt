@@ -19,7 +19,7 @@ ghost use Rattle.alt_tables.specs.Several.{AreAllApart, AreDistinct, Every, IsFo
 ghost use Rattle.alt_tables.specs.Stands.{AreReady, HasRows, Keeps, Reads, Stands, catalog_of, due_of, fronts_of, bounds_of, largest_of, number_of, trimmed_of};
 ghost use Rattle.alt_tables.specs.private.Foretold.{FitsWrite, FitsWrites};
 ghost use Rattle.alt_tables.specs.private.Staging.{AreKnown, AreNotes, Differs, IsAgain, IsAhead, IsBehind, IsStaged, IsStagedOn, IsTouched, differing_of, note_at};
-ghost use Rattle.alt_trimming.specs.Trims.{IsWithin};
+ghost use Rattle.alt_rowchanges.specs.Trims.{IsWithin};
 ghost use Rattle.alt_value.specs.Values.{IsItemOfValues};
 
 use crate::finding::Found;
@@ -29,9 +29,7 @@ use alt_cells::Batch;
 use alt_codec::Writer;
 use alt_disk::Disk;
 use alt_machine::NUMBERS_END;
-use alt_opening::same;
-use alt_rowchanges::{TableFault, item_batch};
-use alt_trimming::{Trim, put_trim};
+use alt_rowchanges::{TableFault, Trim, item_batch, put_trim, same};
 use alt_value::{Item, Text};
 
 /// What is to stand at a place of a table, with what was found there.

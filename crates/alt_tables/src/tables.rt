@@ -18,12 +18,12 @@ ghost use Rattle.alt_schema.specs.Described.{IsNew};
 ghost use Rattle.alt_rowchanges.specs.Faults.{IsFindFault};
 ghost use Rattle.alt_tables.specs.Faults.{Writes};
 ghost use Rattle.alt_tables.specs.Images.{Leaves};
-ghost use Rattle.alt_opening.specs.Order.{first_after};
+ghost use Rattle.alt_rowchanges.specs.OpeningOrder.{first_after};
 ghost use Rattle.alt_rowchanges.specs.RowChanges.{Turns, changed_rows};
 ghost use Rattle.alt_tables.specs.Several.{AreDistinct, TurnsAll, with_batches};
 ghost use Rattle.alt_tables.specs.Stands.{AreReady, HasRows, Stands, catalog_of, number_of, family_of, bounds_of, trimmed_of};
-ghost use Rattle.alt_opening.specs.Opened.{Holds};
-ghost use Rattle.alt_opening.specs.Trimmed.{number_at};
+ghost use Rattle.alt_rowchanges.specs.OpeningOpened.{Holds};
+ghost use Rattle.alt_rowchanges.specs.OpeningTrimmed.{number_at};
 
 use crate::foresight::forget_for;
 use alt_base::NoMemory;
@@ -31,11 +31,12 @@ use alt_cells::Batch;
 use alt_disk::Disk;
 use alt_due::Due;
 use alt_machine::{FAMILIES_END, MOST_FAMILIES, MOST_TABLES, NUMBERS_END};
-use alt_opening::{Catalog, Engine, Live, Trimmed, forget, trimmed_number};
-use alt_rowchanges::{TableFault, creation, family_count, named, removal, timing};
+use alt_rowchanges::{
+    Catalog, Engine, Front, Live, TableFault, Trimmed, creation, family_count, forget,
+    forget_front, named, removal, timing, trimmed_number,
+};
 use alt_schema::TableSchema;
 use alt_schemabytes::held;
-use alt_trimming::{Front, forget_front};
 use std::alloc::Global;
 
 /// All tables with their items, over an engine. With the disk beneath it they stand for a state of the machine (docs/ARCHITECTURE.md).

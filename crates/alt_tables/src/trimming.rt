@@ -5,11 +5,11 @@ ghost use Rattle.std.specs.FinMap as map;
 ghost use Rattle.alt_base.specs.Counts.{Rose};
 ghost use Rattle.alt_layout.specs.Layout.{Layout};
 ghost use Rattle.alt_machine.specs.State.{State, Table};
-ghost use Rattle.alt_opening.specs.Trimmed.{number_at};
+ghost use Rattle.alt_rowchanges.specs.OpeningTrimmed.{number_at};
 ghost use Rattle.alt_schema.specs.declared.schema.TableSchema.{TableSchema};
 ghost use Rattle.alt_rowchanges.specs.Faults.{IsFindFault, IsUnspent};
-ghost use Rattle.alt_trimming.specs.Leftovers.{leftovers};
-ghost use Rattle.alt_trimming.specs.Trims.{AreTwo, IsKeptFrom, IsLowest, IsLowestFrom, IsRest, IsTrim, IsWithin, IsYoung, left_from};
+ghost use Rattle.alt_rowchanges.specs.Leftovers.{leftovers};
+ghost use Rattle.alt_rowchanges.specs.Trims.{AreTwo, IsKeptFrom, IsLowest, IsLowestFrom, IsRest, IsTrim, IsWithin, IsYoung, left_from};
 ghost use Rattle.alt_tables.specs.Stands.{AreReady, HasRows, Keeps, Stands, catalog_of, fronts_of, number_of as next_of, trimmed_of};
 
 use crate::tables::Tables;
@@ -17,9 +17,9 @@ use alt_base::NoMemory;
 use alt_disk::Disk;
 use alt_fields::Bytes;
 use alt_machine::NUMBERS_END;
-use alt_rowchanges::TableFault;
-use alt_trimming::{
-    Trim, ahead, behind, front_of, is_over, is_within, kept_in, next, numbers_of, range_of,
+use alt_rowchanges::{
+    TableFault, Trim, ahead, behind, front_of, is_over, is_within, kept_in, next, numbers_of,
+    range_of,
 };
 
 /// How many rows that are left over go with a write.

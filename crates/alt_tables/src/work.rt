@@ -4,8 +4,8 @@ ghost use Rattle.std.specs.Prelude.{◌≡◌, ◌≤◌, ◌<◌, ◌+◌, ◌*
 ghost use Rattle.alt_base.specs.Counts.{Rose};
 ghost use Rattle.alt_disk.specs.Disk.{IsTrusted, Goes};
 ghost use Rattle.alt_disk.specs.Runs.{Spans};
-ghost use Rattle.alt_opening.specs.EngineWorking.{Did, IsIdle, Went};
-ghost use Rattle.alt_opening.specs.HandWorking.{HasEntries};
+ghost use Rattle.alt_rowchanges.specs.OpeningEngineWorking.{Did, IsIdle, Went};
+ghost use Rattle.alt_rowchanges.specs.OpeningHandWorking.{HasEntries};
 ghost use Rattle.alt_machine.specs.State.{State};
 ghost use Rattle.alt_tables.specs.Faults.{IsWorkFault};
 ghost use Rattle.alt_tables.specs.FilesLeft.{LacksFile, most_files};
@@ -15,8 +15,7 @@ ghost use Rattle.alt_tables.specs.Stands.{AreReady, KeepsLimits, Stands, bounds_
 
 use crate::tables::Tables;
 use alt_disk::Disk;
-use alt_opening::{Task, Worked};
-use alt_rowchanges::TableFault;
+use alt_rowchanges::{TableFault, Task, Worked};
 
 impl Tables {
     /// Does a task of the engine, in which the families of tables are live. After an Err the tables are spent.

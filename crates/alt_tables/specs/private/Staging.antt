@@ -12,18 +12,18 @@ use Rattle.alt_machine.specs.Outcomes.{last_state}
 use Rattle.alt_machine.specs.Same.{is_same}
 use Rattle.alt_machine.specs.State.{State, Table, Texts, descriptions}
 use Rattle.alt_machine.specs.Writes.{after_item_by}
-use Rattle.alt_opening.specs.Trimmed.{number_at}
-use Rattle.alt_opening.specs.declared.trimmed.Trimmed.{Trimmed}
+use Rattle.alt_rowchanges.specs.OpeningTrimmed.{number_at}
+use Rattle.alt_rowchanges.specs.OpeningDeclaredTrimmed.{Trimmed}
 use Rattle.alt_schema.specs.declared.schema.TableSchema.{TableSchema}
-use Rattle.alt_trimming.specs.Fronts.{first_moment, front_at}
-use Rattle.alt_trimming.specs.Leftovers.{leftovers}
+use Rattle.alt_rowchanges.specs.Fronts.{first_moment, front_at}
+use Rattle.alt_rowchanges.specs.Leftovers.{leftovers}
 use Rattle.alt_tables.specs.Several.{Every, TurnsAll, batch_of, batches_of, with_batches, written_at}
-use Rattle.alt_trimming.specs.Trims.{IsRest, IsTrim, is_over, leftovers_from}
-use Rattle.alt_trimming.specs.declared.fronts.Front.{Front}
+use Rattle.alt_rowchanges.specs.Trims.{IsRest, IsTrim, is_over, leftovers_from}
+use Rattle.alt_rowchanges.specs.declared.fronts.Front.{Front}
 use Rattle.alt_tables.specs.declared.several.ItemChange.{ItemChange}
 use Rattle.alt_tables.specs.declared.several.Noted.{Noted}
 use Rattle.alt_tables.specs.declared.several.Staged.{Staged}
-use Rattle.alt_trimming.specs.declared.trimming.Trim.{Trim}
+use Rattle.alt_rowchanges.specs.declared.trimming.Trim.{Trim}
 
 -- ---- changes
 

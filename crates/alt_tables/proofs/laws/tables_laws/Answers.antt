@@ -1,6 +1,6 @@
 -- The laws, from their lemmas.
 use Rattle.alt_tables.proofs.Left.{stands_left, stands_made, stands_quiet, stands_read}
-use Rattle.alt_opening.proofs.OneState.{one_state_of_image}
+use Rattle.alt_rowchanges.proofs.OpeningOneState.{one_state_of_image}
 use Rattle.alt_tables.proofs.Standing.{one_stands}
 use Rattle.alt_rowchanges.proofs.WriteLaws.{item_turns}
 use Rattle.alt_tables.proofs.laws.tables_laws.Goals as goal

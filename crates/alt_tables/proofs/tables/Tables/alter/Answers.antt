@@ -7,7 +7,7 @@ use Rattle.alt_disk.proofs.Runs.{quiet_start}
 use Rattle.alt_machine.specs.Ops.UpdateTable.{with_description}
 use Rattle.alt_machine.specs.State.{Texts, families_of}
 use Rattle.alt_machine.specs.declared.TheConstants.{FAMILIES_END}
-use Rattle.alt_opening.specs.Live.{with_all}
+use Rattle.alt_rowchanges.specs.OpeningLive.{with_all}
 use Rattle.alt_schema.specs.declared.schema.TableSchema.{TableSchema}
 use Rattle.alt_rowchanges.specs.Altering.{alter_wants, family_left, has_more}
 use Rattle.alt_tables.specs.Faults.{BreakOff}

@@ -1,7 +1,7 @@
 -- What goes with the write isn't changed yet.
 use Rattle.std.proofs.Common.{◌+◌, refl, sym, subst, IsSome, arith}
-use Rattle.alt_trimming.specs.Trims.{IsWithin}
-use Rattle.alt_trimming.proofs.CanTrim.{can_trim}
+use Rattle.alt_rowchanges.specs.Trims.{IsWithin}
+use Rattle.alt_rowchanges.proofs.CanTrim.{can_trim}
 use Rattle.alt_tables.proofs.tables.Tables.batch.Goals as goal
 
 pub put_trim-requires : goal.put_trim-requires

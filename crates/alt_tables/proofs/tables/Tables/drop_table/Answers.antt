@@ -8,8 +8,8 @@ use Rattle.alt_machine.specs.State.{Texts}
 use Rattle.alt_machine.specs.Wanted.{number_lack}
 use Rattle.alt_schema.specs.declared.schema.TableSchema.{TableSchema}
 use Rattle.std.specs.FinMap as map
-use Rattle.alt_opening.specs.Trimmed.{without}
-use Rattle.alt_trimming.specs.Fronts.{without_front}
+use Rattle.alt_rowchanges.specs.OpeningTrimmed.{without}
+use Rattle.alt_rowchanges.specs.Fronts.{without_front}
 use Rattle.alt_tables.specs.Stands.{Stands, bounds_of}
 use Rattle.alt_tables.proofs.Holding.{leaves_quiet}
 use Rattle.alt_tables.proofs.Making.{broke, drop_stands, drop_turned, one_made, spent, spent_file}

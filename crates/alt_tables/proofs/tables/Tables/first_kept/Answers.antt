@@ -5,7 +5,7 @@ use Rattle.std.proofs.lemmas.List.{length-map}
 use Rattle.std.specs.Prelude.{◌==◌, ◌-◌}
 use Rattle.alt_changes.specs.ChangeRows.{change_in}
 use Rattle.alt_machine.specs.Ops.GetRecords.{changes_from}
-use Rattle.alt_trimming.specs.Trims.{IsKeptFrom}
+use Rattle.alt_rowchanges.specs.Trims.{IsKeptFrom}
 use Rattle.alt_tables.proofs.Standing.{keeps_nothing, keeps_then, ready_kept, stands_kept}
 use Rattle.alt_tables.proofs.TrimSteps.{walk_begins, walk_ends, walk_further}
 use Rattle.alt_tables.proofs.tables.Tables.first_kept.Goals as goal

@@ -1,6 +1,6 @@
 -- Its size is noted. From the first moment on at which the item has expired it is known of, and where there is none it never has.
 use Rattle.std.proofs.Common.{◌∙◌}
-use Rattle.alt_opening.proofs.OneState.{some}
+use Rattle.alt_rowchanges.proofs.OpeningOneState.{some}
 use Rattle.alt_tables.proofs.Foreseen.{told_none, told_some}
 use Rattle.alt_tables.proofs.Sizing.{fits_larger}
 use Rattle.alt_tables.proofs.tables.Tables.foretell.Goals as goal

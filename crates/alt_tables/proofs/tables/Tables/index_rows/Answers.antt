@@ -2,9 +2,9 @@
 use Rattle.std.proofs.Common.{◌≡◌, ◌++◌, ◌≤◌, ◌+◌, ℕ, true, List, Some, option_map, refl, sym, ap, subst, ◌∙◌, take, OnOk, IfOk}
 use Rattle.std.proofs.Math.Nat.{le_refl}
 use Rattle.std.specs.FinMap as map
-use Rattle.alt_opening.specs.EngineInHand.{hand_of}
+use Rattle.alt_rowchanges.specs.OpeningEngineInHand.{hand_of}
 use Rattle.alt_families.specs.Reads.{most_reads}
-use Rattle.alt_opening.specs.HandInHand.{file_rows}
+use Rattle.alt_rowchanges.specs.OpeningHandInHand.{file_rows}
 use Rattle.alt_layout.specs.Layout.{rows_between, shown}
 use Rattle.alt_machine.specs.Indexed.{index_items}
 use Rattle.alt_views.specs.IndexRows.{index_columns}
@@ -14,7 +14,7 @@ use Rattle.alt_machine.specs.Walks.{items_between}
 use Rattle.alt_schema.specs.Bare.{is_whole}
 use Rattle.alt_schema.specs.declared.schema.IndexSchema.{IndexSchema}
 use Rattle.alt_schema.specs.declared.schema.TableSchema.{TableSchema}
-use Rattle.alt_opening.proofs.OneState.{some}
+use Rattle.alt_rowchanges.proofs.OpeningOneState.{some}
 use Rattle.alt_tables.proofs.Pages.{find_fault, page_kept, page_rows, same_table, engine_fault, whole_rows}
 use Rattle.alt_tables.proofs.Standing.{stays, there}
 use Rattle.alt_disk.proofs.Runs.{tells_of}

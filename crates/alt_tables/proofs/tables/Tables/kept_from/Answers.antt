@@ -1,6 +1,6 @@
 -- Where the oldest change is known not to be too old, none is trimmed.
 use Rattle.std.proofs.Common.{sym, ap, subst, ◌∙◌}
-use Rattle.alt_trimming.specs.Trims.{IsKeptFrom, is_over}
+use Rattle.alt_rowchanges.specs.Trims.{IsKeptFrom, is_over}
 use Rattle.alt_tables.proofs.TrimSteps.{kept_young}
 use Rattle.alt_tables.proofs.tables.Tables.kept_from.Goals as goal
 

@@ -2,12 +2,12 @@
 use Rattle.std.proofs.Common.{ℕ, ◌≡◌, refl, sym, ap, subst, ◌∙◌, List, [], ◌∷◌, ◌++◌, length, true, length-append, arith}
 use Rattle.std.specs.FinMap as map
 use Rattle.alt_machine.specs.State.{Texts}
-use Rattle.alt_opening.specs.Trimmed.{IsRenumbered}
+use Rattle.alt_rowchanges.specs.OpeningTrimmed.{IsRenumbered}
 use Rattle.alt_schema.specs.declared.schema.TableSchema.{TableSchema}
 use Rattle.alt_tables.specs.Stands.{catalog_of, fronts_of, number_of, trimmed_of}
 use Rattle.alt_tables.specs.declared.several.Noted.{Noted}
 use Rattle.alt_tables.specs.private.Staging.{AreNotes}
-use Rattle.alt_trimming.specs.Trims.{IsNoted}
+use Rattle.alt_rowchanges.specs.Trims.{IsNoted}
 use Rattle.alt_tables.proofs.Noting.{every_back, every_front, last_all, last_more, last_none}
 use Rattle.alt_tables.proofs.Staged.{described_by}
 use Rattle.alt_tables.proofs.tables.Tables.know_all.Goals as goal

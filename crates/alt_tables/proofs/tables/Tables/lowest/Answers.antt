@@ -3,8 +3,8 @@ use Rattle.std.proofs.Common.{ap, ◌∙◌, arith}
 use Rattle.alt_disk.proofs.Runs.{tells_of}
 use Rattle.alt_faults.proofs.Telling.{memory-outside}
 use Rattle.alt_rowchanges.specs.Faults.{told_by_tables}
-use Rattle.alt_trimming.specs.Trims.{behind}
-use Rattle.alt_trimming.proofs.LeftoverRows.{lowest_none, range_none}
+use Rattle.alt_rowchanges.specs.Trims.{behind}
+use Rattle.alt_rowchanges.proofs.LeftoverRows.{lowest_none, range_none}
 use Rattle.alt_tables.proofs.Pages.{engine_fault}
 use Rattle.alt_tables.proofs.TrimSteps.{page_lowest, page_numbers, page_range}
 use Rattle.alt_tables.proofs.tables.Tables.lowest.Goals as goal

@@ -1,7 +1,7 @@
 -- The store that was opened stands for the state, and so do the tables that are made of it.
 use Rattle.std.proofs.Common.{◌≡◌, ◌∙◌, sym, ap, Some, None}
 use Rattle.std.proofs.lemmas.Bool.{false≢true}
-use Rattle.alt_trimming.specs.Fronts.{front_at}
+use Rattle.alt_rowchanges.specs.Fronts.{front_at}
 use Rattle.alt_tables.proofs.Foreseen.{foresees_nothing}
 use Rattle.alt_tables.proofs.Left.{whole_on}
 use Rattle.alt_tables.proofs.tables.Tables.recover.Goals as goal

@@ -2,9 +2,9 @@
 use Rattle.std.proofs.Common.{◌≡◌, ◌∙◌, refl, sym, ap, subst, IfOk}
 use Rattle.std.proofs.Math.Nat.{le_refl}
 use Rattle.std.specs.Prelude.{◌≤◌, ◌+◌}
-use Rattle.alt_opening.specs.EngineInHand.{hand_of}
+use Rattle.alt_rowchanges.specs.OpeningEngineInHand.{hand_of}
 use Rattle.alt_families.specs.Reads.{most_reads}
-use Rattle.alt_opening.specs.HandInHand.{file_rows}
+use Rattle.alt_rowchanges.specs.OpeningHandInHand.{file_rows}
 use Rattle.alt_layout.specs.Layout.{rows_between, shown}
 use Rattle.alt_schema.specs.declared.schema.TableSchema.{TableSchema}
 use Rattle.alt_views.specs.ItemRows.{item_columns}

@@ -1,7 +1,7 @@
 -- The next rows that are left over are read, and nothing is trimmed.
 use Rattle.std.proofs.Common.{◌≡◌, refl, sym, ap, subst, ◌∙◌, ℕ, Some, IsSome}
 use Rattle.alt_disk.specs.Disk.{DiskState}
-use Rattle.alt_opening.proofs.OneState.{some}
+use Rattle.alt_rowchanges.proofs.OpeningOneState.{some}
 use Rattle.alt_schema.specs.declared.schema.TableSchema.{TableSchema}
 use Rattle.alt_tables.specs.declared.tables.Tables.{Tables}
 use Rattle.alt_tables.proofs.Ahead.{again_with}

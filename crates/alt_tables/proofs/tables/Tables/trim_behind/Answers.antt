@@ -4,7 +4,7 @@ use Rattle.std.specs.FinMap as map
 use Rattle.alt_disk.specs.Disk.{DiskState}
 use Rattle.alt_layout.specs.Layout.{Layout}
 use Rattle.alt_machine.specs.State.{Table}
-use Rattle.alt_opening.proofs.OneState.{some}
+use Rattle.alt_rowchanges.proofs.OpeningOneState.{some}
 use Rattle.alt_tables.specs.Several.{with_batches}
 use Rattle.alt_tables.specs.Stands.{catalog_of, number_of}
 use Rattle.alt_tables.specs.declared.several.Noted.{Noted}

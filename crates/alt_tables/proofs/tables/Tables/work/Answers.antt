@@ -1,8 +1,8 @@
 -- The families of all tables are live, so the rows of the state stay.
 use Rattle.std.proofs.Common.{refl, sym, subst, arith}
-use Rattle.alt_opening.specs.EngineWorking.{Did, IsIdle, IsNeeded, Went}
-use Rattle.alt_opening.specs.HandInHand.{last_form_of}
-use Rattle.alt_opening.proofs.HandSegmentFiles.{files_made-few}
+use Rattle.alt_rowchanges.specs.OpeningEngineWorking.{Did, IsIdle, IsNeeded, Went}
+use Rattle.alt_rowchanges.specs.OpeningHandInHand.{last_form_of}
+use Rattle.alt_rowchanges.proofs.OpeningHandSegmentFiles.{files_made-few}
 use Rattle.alt_tables.proofs.Working.{few_live, merged_for, work_fault, worked_left, worked_stands}
 use Rattle.alt_tables.proofs.tables.Tables.work.Goals as goal
 

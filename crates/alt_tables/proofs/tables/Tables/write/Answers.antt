@@ -6,26 +6,26 @@ use Rattle.alt_cells.specs.declared.batch.RowChange.{RowChange}
 use Rattle.alt_codec.specs.declared.writer.Writer.TheVariants.{User}
 use Rattle.alt_disk.specs.Disk.{DiskState, IsTrusted}
 use Rattle.alt_disk.proofs.Runs.{quiet_start, trusted_on}
-use Rattle.alt_opening.specs.EngineInHand.{Bounds}
+use Rattle.alt_rowchanges.specs.OpeningEngineInHand.{Bounds}
 use Rattle.alt_layout.specs.Layout.{Layout}
 use Rattle.alt_machine.specs.Outcomes.{a_number}
 use Rattle.alt_machine.specs.State.{State}
 use Rattle.alt_machine.specs.Wanted.{number_lack}
 use Rattle.alt_machine.specs.Writes.{after_item, item_writes}
 use Rattle.alt_machine.proofs.Lacks.{has_number, lacks_number}
-use Rattle.alt_opening.specs.Trimmed.{number_at}
+use Rattle.alt_rowchanges.specs.OpeningTrimmed.{number_at}
 use Rattle.alt_schema.specs.declared.schema.TableSchema.{TableSchema}
 use Rattle.alt_tables.specs.Faults.{BreakOff, Writes}
 use Rattle.alt_tables.specs.Foreseen.{ForeseesItem}
 use Rattle.alt_tables.specs.Found.{number_taken}
 use Rattle.alt_tables.specs.Images.{Leaves}
-use Rattle.alt_trimming.specs.Leftovers.{leftovers, lowest_left}
+use Rattle.alt_rowchanges.specs.Leftovers.{leftovers, lowest_left}
 use Rattle.alt_rowchanges.specs.RowChanges.{changed_rows, write_changes}
 use Rattle.alt_tables.specs.Stands.{HasRows, Reads, Stands, bounds_of, catalog_of, due_of, number_of, trimmed_of}
 use Rattle.alt_rowchanges.specs.declared.faults.TableFault.TheVariants.{Spent}
 use Rattle.alt_tables.specs.declared.tables.Tables.{Tables}
-use Rattle.alt_trimming.specs.declared.trimming.Trim.{Trim}
-use Rattle.alt_trimming.specs.Trims.{IsWithin}
+use Rattle.alt_rowchanges.specs.declared.trimming.Trim.{Trim}
+use Rattle.alt_rowchanges.specs.Trims.{IsWithin}
 use Rattle.alt_tables.specs.private.Written.{IsWrittenAs}
 use Rattle.alt_tables.proofs.Holding.{leaves_quiet}
 use Rattle.alt_tables.proofs.Left.{leaves_after, leaves_reads}

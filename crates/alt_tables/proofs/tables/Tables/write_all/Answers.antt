@@ -5,7 +5,7 @@ use Rattle.std.specs.Prelude.{not}
 use Rattle.alt_cells.specs.declared.batch.RowChange.{RowChange}
 use Rattle.alt_disk.specs.Disk.{DiskState}
 use Rattle.alt_disk.proofs.Runs.{quiet_start, trusted_back, trusted_on}
-use Rattle.alt_opening.specs.EngineInHand.{Bounds, bounds_of as engine_bounds}
+use Rattle.alt_rowchanges.specs.OpeningEngineInHand.{Bounds, bounds_of as engine_bounds}
 use Rattle.alt_layout.specs.Layout.{Layout}
 use Rattle.alt_machine.specs.declared.TheConstants.{NUMBERS_END}
 use Rattle.alt_machine.specs.Ops.BatchWriteItem.{writes_of_all_by}

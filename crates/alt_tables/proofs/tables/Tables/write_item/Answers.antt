@@ -16,9 +16,9 @@ use Rattle.alt_machine.specs.State.{State}
 use Rattle.alt_machine.specs.Writes.{item_writes}
 use Rattle.alt_tables.specs.Faults.{Writes}
 use Rattle.alt_tables.specs.Found.{number_taken}
-use Rattle.alt_opening.specs.Trimmed.{number_at}
+use Rattle.alt_rowchanges.specs.OpeningTrimmed.{number_at}
 use Rattle.alt_tables.specs.Images.{Leaves}
-use Rattle.alt_trimming.specs.Leftovers.{lowest_left}
+use Rattle.alt_rowchanges.specs.Leftovers.{lowest_left}
 use Rattle.alt_tables.specs.Stands.{HasRows, Stands, bounds_of, catalog_of, number_of, trimmed_of}
 use Rattle.alt_tables.proofs.Holding.{leaves_quiet}
 use Rattle.alt_tables.proofs.Standing.{known, one_place}

@@ -5,20 +5,20 @@ use Rattle.std.proofs.lemmas.Slice.Eq.{bytes_eq-Decides}
 use Rattle.alt_changes.specs.TrimRows.{trim_changes}
 use Rattle.alt_codec.specs.declared.writer.Writer.TheVariants.{User}
 use Rattle.alt_disk.proofs.Runs.{quiet_start}
-use Rattle.alt_opening.specs.EngineInHand.{Stands as EngineStands, bounds_of as engine_bounds, next_of}
-use Rattle.alt_opening.specs.EngineDeclaredEngine.{Engine}
+use Rattle.alt_rowchanges.specs.OpeningEngineInHand.{Stands as EngineStands, bounds_of as engine_bounds, next_of}
+use Rattle.alt_rowchanges.specs.OpeningEngineDeclaredEngine.{Engine}
 use Rattle.alt_machine.specs.Outcomes.{a_number}
 use Rattle.alt_machine.specs.Writes.{after_item}
 use Rattle.alt_machine.proofs.Lacks.{has_number}
-use Rattle.alt_opening.specs.Opened.{Holds}
-use Rattle.alt_opening.specs.Trimmed.{IsRenumbered, number_at}
+use Rattle.alt_rowchanges.specs.OpeningOpened.{Holds}
+use Rattle.alt_rowchanges.specs.OpeningTrimmed.{IsRenumbered, number_at}
 use Rattle.alt_rowchanges.specs.RowChanges.{write_changes}
 use Rattle.alt_tables.specs.Stands.{Stands, bounds_of, fronts_of, trimmed_of}
-use Rattle.alt_trimming.specs.Trims.{IsNoted, IsWithin}
+use Rattle.alt_rowchanges.specs.Trims.{IsNoted, IsWithin}
 use Rattle.alt_tables.specs.private.Written.{IsWrittenAs}
 use Rattle.alt_tables.proofs.Holding.{leaves_quiet}
 use Rattle.alt_tables.proofs.Making.{broke, item_stands, item_turned, one_made, want_told}
-use Rattle.alt_trimming.proofs.CanTrim.{can_trim}
+use Rattle.alt_rowchanges.proofs.CanTrim.{can_trim}
 use Rattle.alt_tables.proofs.tables.Tables.write_trimmed.Goals as goal
 
 same_Some : {A : Type 0} (x y : A) → Some x ≡ Some y → x ≡ y

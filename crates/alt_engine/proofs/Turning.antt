@@ -14,7 +14,6 @@ use Rattle.alt_rowfile.specs.Format.{IsRowFile}
 use Rattle.alt_rowfile.specs.Summaries.{any_tombstone}
 use Rattle.alt_rowfile.specs.declared.rowfile.RowFile.{RowFile}
 use Rattle.alt_rowfile.proofs.OneFile.{one_list}
-use Rattle.alt_merging.specs.HandAdding.{MakesNone}
 use Rattle.alt_merging.specs.HandCarrying.{AreStill}
 use Rattle.alt_merging.specs.HandInHand.{AreOpen, Stands as HandStands, length_of, next_file_of}
 use Rattle.alt_merging.specs.HandMerging.{IsFirstMany, files_at, version_in}
@@ -28,7 +27,7 @@ use Rattle.alt_merging.specs.Mergings.{family_of as merged_family, file_of}
 use Rattle.alt_merging.specs.declared.merging.Merging.{Merging}
 use Rattle.alt_merging.proofs.EachLaws.{merged_on, still_back}
 use Rattle.alt_engine.specs.InHand.{IsGoing, Stands, hand_of, merge_of}
-use Rattle.alt_engine.specs.Working.{AllMerged, Begins, DidStep, Ended, Ends, Furthered, GoesOn, IsFlushed, IsFree, IsIdle, IsMerged, IsMergedFile, IsUnderWay, KeepsMerge, WasGivenUp, WasKept}
+use Rattle.alt_engine.specs.Working.{AllMerged, Begins, DidStep, Ended, Ends, Furthered, GoesOn, IsFlushed, IsFree, IsIdle, IsMerged, IsMergedFile, IsUnderWay, KeepsMerge, MakesNoOther, WasGivenUp, WasKept}
 use Rattle.alt_engine.specs.declared.engine.Engine.{Engine}
 use Rattle.alt_engine.specs.declared.work.Task.TheVariants.{FlushAll}
 use Rattle.alt_engine.specs.declared.work.Worked.{Worked}
@@ -126,15 +125,13 @@ module _ (a b : DiskState) (live : List ℕ) (e f : Engine)
 
   -- ---- the files that it made
 
-  -- Where none was under way, no file below the next one is made.
-  pub makes_back : (d : DiskState) → (merge_of f ≡ None → MakesNone b d (next_file_of (hand_of f)))
-      → merge_of e ≡ None → MakesNone a d (next_file_of (hand_of e))
-  makes_back d makes none = ⊎_elim
+  -- Where none is given up no other is made.
+  pub makes_back : (d : DiskState) → KeepsMerge live e → MakesNoOther b d f → MakesNoOther a d e
+  makes_back d keeps makes = ⊎_elim
       (λ (kept : WasKept a b live e f).
-      subst (λ (s : DiskState). MakesNone s d (next_file_of (hand_of e))) kept.disk
-      (subst (λ (x : Engine). (merge_of x ≡ None → MakesNone b d (next_file_of (hand_of x)))) kept.engine
-      makes none))
-      (λ (gone : WasGivenUp live e f). absurd (no_job (merge_of e) gone.job none gone.was)) turned
+      subst (λ (s : DiskState). MakesNoOther s d e) kept.disk
+      (subst (λ (x : Engine). MakesNoOther b d x) kept.engine makes))
+      (λ (gone : WasGivenUp live e f). absurd (gone.dead (keeps gone.job gone.was))) turned
 
 -- Where one of a family that isn't live was under way, none is behind.
 pub none_after : (a b : DiskState) (live : List ℕ) (e f : Engine)

@@ -1,5 +1,5 @@
 -- What work between requests does: flushes, and merges.
-use Rattle.std.specs.Prelude.{◌≡◌, ◌⊎◌, ◌<◌, ◌≤◌, ◌+◌, ℕ, List, [], ◌∷◌, drop, length, Some, None, false}
+use Rattle.std.specs.Prelude.{◌≡◌, ◌≢◌, ◌⊎◌, ◌<◌, ◌≤◌, ◌+◌, ℕ, List, [], ◌∷◌, drop, length, Some, None, false}
 use Rattle.std.specs.FinMap.{empty, entries}
 use Rattle.alt_cells.specs.Walks.{RowList, RowMap}
 use Rattle.alt_disk.specs.Disk.{DiskState}
@@ -18,7 +18,7 @@ use Rattle.alt_merging.specs.HandWorking.{AreAllFlushed, HasEntries, IsAllFor, I
 use Rattle.alt_merging.specs.HandDeclaredEngineFault.{EngineFault}
 use Rattle.alt_merging.specs.HandDeclaredHand.{Hand}
 use Rattle.alt_merging.specs.Merged.{AreMerged}
-use Rattle.alt_merging.specs.Mergings.{GivesWay, MergingStands, family_of as merged_family, taken_of}
+use Rattle.alt_merging.specs.Mergings.{GivesWay, MergingStands, family_of as merged_family, file_of, taken_of}
 use Rattle.alt_merging.specs.declared.merging.Merging.{Merging}
 use Rattle.alt_engine.specs.InHand.{hand_of, limits_of, merge_of, next_file_of}
 use Rattle.alt_engine.specs.declared.engine.Engine.{Engine}
@@ -51,6 +51,11 @@ pub record WasGivenUp (live : List ℕ) (old new : Engine) : Type 0 where
   pub dead : IsIn live (merged_family job) → ⊥
   pub none : merge_of new ≡ None
   pub few : old.many ≡ new.many
+
+-- No file below the next one is there that wasn't, but for that of the merge under way.
+abbrev pub MakesNoOther : DiskState → DiskState → Engine → Type 0
+MakesNoOther a b old = (f : ℕ) → ((j : Merging) → merge_of old ≡ Some j → f ≢ file_of j)
+    → f < next_file_of old → a.file f ≡ None → b.file f ≡ None
 
 -- ---- What applies.
 

@@ -17,7 +17,7 @@ ghost use Rattle.alt_merging.specs.HandInHand.{Stands as HandStands, length_of};
 ghost use Rattle.alt_merging.specs.HandOpened.{IsUnspent};
 ghost use Rattle.alt_merging.specs.HandWorking.{AreAllFlushed, AreLive, IsAllFor, IsFileSpent, IsNoDamage, Works, WorksIn};
 ghost use Rattle.alt_engine.specs.InHand.{Stands, hand_of, limits_of, merge_of, next_file_of, next_of};
-ghost use Rattle.alt_engine.specs.Working.{AllMerged, IsNeeded, KeepsMerge, most_files};
+ghost use Rattle.alt_engine.specs.Working.{AllMerged, IsNeeded, KeepsMerge, MakesNoOther, most_files};
 
 use crate::engine::Engine;
 use crate::work::{Task, Worked};
@@ -113,8 +113,8 @@ impl Engine {
             → (l : Layout) → Stands (D.state disk.old) self.old l
             → Adds (D.state disk.new) (hand_of self.old) (hand_of self.new)) }
         ensures missing { OnOk result (IsTrusted (D.state disk.old) → (l : Layout)
-            → Stands (D.state disk.old) self.old l → merge_of self.old ≡ None
-            → MakesNone (D.state disk.old) (D.state disk.new) (next_file_of self.old)) }
+            → Stands (D.state disk.old) self.old l
+            → MakesNoOther (D.state disk.old) (D.state disk.new) self.old) }
         ensures memory { OnOk result ((family : ℕ) → IsIn live.now family
             → memory_at (hand_of self.new) family ≡ memory_at (hand_of self.old) family) }
         ensures kept { OnOk result (IsTrusted (D.state disk.old) → (l : Layout)
@@ -161,6 +161,9 @@ impl Engine {
             → LeavesOut live.now (hand_of self.old) (hand_of self.new)) }
         ensures adds { IfOk result (λ ended. ended ≡ true → IsTrusted (D.state disk.old)
             → Adds (D.state disk.new) (hand_of self.old) (hand_of self.new)) }
+        ensures missing { OnOk result (IsTrusted (D.state disk.old) → (l : Layout)
+            → Stands (D.state disk.old) self.old l
+            → MakesNoOther (D.state disk.old) (D.state disk.new) self.old) }
         ensures memory { OnOk result ((family : ℕ) → IsIn live.now family
             → memory_at (hand_of self.new) family ≡ memory_at (hand_of self.old) family) }
         ensures others { OnOk result ((family : ℕ) → IsIn live.now family

@@ -1,6 +1,6 @@
 //! A step: the first flush that applies, and else the merge that is under way or the beginning of one.
 
-ghost use Rattle.std.specs.Prelude.{◌≡◌, ◌⊎◌, ◌≤◌, ◌+◌, ⊤, ℕ, None, IfErr, IfOk, OnOk, IsErrOf};
+ghost use Rattle.std.specs.Prelude.{◌≡◌, ◌≢◌, ◌⊎◌, ◌<◌, ◌≤◌, ◌+◌, ⊤, ℕ, None, IfErr, IfOk, OnOk, IsErrOf};
 ghost use Rattle.alt_base.specs.Counts.{Rose};
 ghost use Rattle.alt_cells.specs.Walks.{RowList};
 ghost use Rattle.alt_disk.specs.Disk.{IsTrusted, Goes};
@@ -15,9 +15,9 @@ ghost use Rattle.alt_merging.specs.HandInHand.{Stands as HandStands, length_of};
 ghost use Rattle.alt_merging.specs.HandMerging.{IsFirstMany, version_in};
 ghost use Rattle.alt_merging.specs.HandOpened.{IsUnspent};
 ghost use Rattle.alt_merging.specs.HandWorking.{AreAllFlushed, AreLive, IsCalm, IsFileSpent, IsFlushDone, IsLong, IsNoDamage, IsShort, Works, WorksIn};
-ghost use Rattle.alt_merging.specs.Mergings.{MergingStands, family_of as merged_family};
+ghost use Rattle.alt_merging.specs.Mergings.{MergingStands, family_of as merged_family, file_of};
 ghost use Rattle.alt_engine.specs.InHand.{IsFew, Stands, hand_of, limits_of, merge_of, next_file_of, next_of};
-ghost use Rattle.alt_engine.specs.Working.{Begins, Ended, Ends, Furthered, GoesOn, IsNeeded, KeepsMerge, NoneMany, most_files};
+ghost use Rattle.alt_engine.specs.Working.{Begins, Ended, Ends, Furthered, GoesOn, IsNeeded, KeepsMerge, MakesNoOther, NoneMany, most_files};
 
 use crate::engine::Engine;
 use crate::work::{Task, Worked};
@@ -69,8 +69,8 @@ impl Engine {
         ensures adds { IfOk result (λ w. w ≡ Worked.Done → IsTrusted (D.state disk.old)
             → Adds (D.state disk.new) (hand_of self.old) (hand_of self.new)) }
         ensures missing { OnOk result (IsTrusted (D.state disk.old) → (l : Layout)
-            → Stands (D.state disk.old) self.old l → merge_of self.old ≡ None
-            → MakesNone (D.state disk.old) (D.state disk.new) (next_file_of self.old)) }
+            → Stands (D.state disk.old) self.old l
+            → MakesNoOther (D.state disk.old) (D.state disk.new) self.old) }
         ensures one_version { IsTrusted (D.state disk.old) → (l : Layout)
             → Stands (D.state disk.old) self.old l → (w : Version)
             × Spans (D.state disk.old) (D.state disk.new) (λ _. ⊤)
@@ -132,6 +132,10 @@ impl Engine {
             → LeavesOut live.now (hand_of self.old) (hand_of self.new)) }
         ensures adds { IfOk result (λ w. w ≡ Worked.Done → IsTrusted (D.state disk.old)
             → Adds (D.state disk.new) (hand_of self.old) (hand_of self.new)) }
+        ensures missing { OnOk result (IsTrusted (D.state disk.old) → (l : Layout)
+            → HandStands (D.state disk.old) (hand_of self.old) l → (f : ℕ)
+            → f ≢ file_of merging → f < next_file_of self.old → (D.state disk.old).file f ≡ None
+            → (D.state disk.new).file f ≡ None) }
         ensures one_version { IsTrusted (D.state disk.old) → (l : Layout)
             → HandStands (D.state disk.old) (hand_of self.old) l → (w : Version)
             × Spans (D.state disk.old) (D.state disk.new) (λ _. ⊤)

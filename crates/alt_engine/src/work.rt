@@ -10,7 +10,7 @@ ghost use Rattle.alt_layout.specs.Layout.{Layout};
 ghost use Rattle.alt_layout.specs.Moments.{Has};
 ghost use Rattle.alt_manifest.specs.Versions.{HasVersion, IsIn};
 ghost use Rattle.alt_manifest.specs.declared.version.Version.{Version};
-ghost use Rattle.alt_merging.specs.HandAdding.{HasLast, HasOneOf, MakesNone};
+ghost use Rattle.alt_merging.specs.HandAdding.{HasLast, HasOneOf};
 ghost use Rattle.alt_merging.specs.HandCarrying.{AreStill};
 ghost use Rattle.alt_merging.specs.HandMerging.{files_at, memory_at, version_in};
 ghost use Rattle.alt_merging.specs.Merged.{AreMerged};
@@ -19,7 +19,7 @@ ghost use Rattle.alt_merging.specs.declared.merging.Merging.{Merging};
 ghost use Rattle.alt_merging.specs.HandWorking.{AreLive, HasEntries, IsFileSpent, IsNoDamage, Works, WorksIn};
 ghost use Rattle.alt_engine.specs.InHand.{Stands, hand_of, limits_of, merge_of, next_file_of, next_of};
 ghost use Rattle.alt_engine.specs.Versions.{IsAfter};
-ghost use Rattle.alt_engine.specs.Working.{Did, IsIdle, IsMerged, IsNeeded, KeepsMerge, WasGivenUp, WasKept, Went, most_files};
+ghost use Rattle.alt_engine.specs.Working.{Did, IsIdle, IsMerged, IsNeeded, KeepsMerge, MakesNoOther, WasGivenUp, WasKept, Went, most_files};
 
 use crate::engine::Engine;
 use alt_disk::Disk;
@@ -65,13 +65,13 @@ impl Engine {
             → (m : Layout) × Stands (D.state disk.new) self.new m × Works live.now l m) }
         ensures next { next_of self.new ≡ next_of self.old }
         ensures limits { limits_of self.new ≡ limits_of self.old }
-        // It takes one number of a file for each live family at most, and one more. Where no merge is under way it makes no file below
-        // them.
+        // It takes one number of a file for each live family at most, and one more. But for that of a merge under way it makes no file
+        // below them, where none is given up.
         ensures taken { OnOk result (next_file_of self.new
             ≤ next_file_of self.old + most_files live.now) }
         ensures missing { OnOk result (IsTrusted (D.state disk.old) → (l : Layout)
-            → Stands (D.state disk.old) self.old l → merge_of self.old ≡ None
-            → MakesNone (D.state disk.old) (D.state disk.new) (next_file_of self.old)) }
+            → Stands (D.state disk.old) self.old l → KeepsMerge live.now self.old
+            → MakesNoOther (D.state disk.old) (D.state disk.new) self.old) }
 
         // It is idle exactly where nothing applies, and then leaves all as it was, but for a merge that was given up.
         ensures idle { IfOk result (λ w. w ≡ Worked.Idle → IsTrusted (D.state disk.old) → (l : Layout)

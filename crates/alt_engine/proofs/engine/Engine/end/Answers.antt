@@ -53,3 +53,12 @@ returns-in_ok-complete-in-Some-clause-still g c trusted l stands family lives ap
 pub returns-in-None-clause-still : goal.returns-in-None-clause-still
 returns-in-None-clause-still g c trusted l stands family lives apart =
     all_still (g.D.Disk.state c.args.disk.now) (files_at c.args.self.now.hand family)
+
+pub returns-in_ok-complete-in-Some-clause-missing :
+    goal.returns-in_ok-complete-in-Some-clause-missing
+returns-in_ok-complete-in-Some-clause-missing g c trusted l stands f other low none =
+    let is : merge_of c.args.self.now ≡ Some c.in-Some.merging = search rules in
+    c.in_ok-complete-in-Some.ensures.missing trusted l stands.hand f (other c.in-Some.merging is) low none
+
+pub returns-in-None-clause-missing : goal.returns-in-None-clause-missing
+returns-in-None-clause-missing g c trusted l stands f other low none = none

@@ -1,5 +1,5 @@
 -- A step of the merge, and its end.
-use Rattle.std.proofs.Common.{drop, refl, sym, subst, rules}
+use Rattle.std.proofs.Common.{drop, refl, sym, subst, rules, ◌∙◌}
 use Rattle.alt_disk.specs.Disk.{DiskState}
 use Rattle.alt_disk.proofs.Runs.{trusted_back, trusted_on}
 use Rattle.alt_compact.specs.Jobs.{Says}
@@ -194,3 +194,17 @@ pub returns-in_ok-end-in-Done-clause-adds : goal.returns-in_ok-end-in-Done-claus
 returns-in_ok-end-in-Done-clause-adds g c done trusted = c.in_ok-end-in-Done.ensures.adds
     (trusted_on (g.D.Disk.state c.args.disk.now) (g.D.Disk.state c.step.new.disk) c.step.ensures.goes
     trusted)
+
+pub returns-in-More-clause-missing : goal.returns-in-More-clause-missing
+returns-in-More-clause-missing g c trusted l stands f other low none =
+    let given = c.requires.ready trusted in
+    c.step.ensures.only trusted given.1 given.3 f other ∙ none
+
+pub returns-in_ok-end-in-Done-clause-missing : goal.returns-in_ok-end-in-Done-clause-missing
+returns-in_ok-end-in-Done-clause-missing g c trusted l stands f other low none =
+    let given = c.requires.ready trusted in
+    let a : DiskState = g.D.Disk.state c.args.disk.now in
+    let b : DiskState = g.D.Disk.state c.step.new.disk in
+    c.in_ok-end-in-Done.ensures.missing (trusted_on a b c.step.ensures.goes trusted) l
+    (c.step.ensures.ok trusted l stands given.1 given.3) f (λ same. other (same ∙ c.step.ensures.file)) low
+    (c.step.ensures.only trusted given.1 given.3 f other ∙ none)

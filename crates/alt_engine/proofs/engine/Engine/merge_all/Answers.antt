@@ -1,14 +1,12 @@
 -- The merge under way, and then the others.
-use Rattle.std.proofs.Common.{rules, ◌≡◌, ◌∙◌, sym, ap, subst, arith}
+use Rattle.std.proofs.Common.{rules, ◌≡◌, ◌<◌, ◌∙◌, sym, ap, subst, arith}
 use Rattle.alt_disk.specs.Disk.{DiskState}
 use Rattle.alt_disk.proofs.Runs.{trusted_back, trusted_on}
-use Rattle.alt_merging.specs.HandAdding.{Adds, LeavesOut, MakesNone}
-use Rattle.alt_merging.specs.HandInHand.{next_file_of}
+use Rattle.alt_merging.specs.HandAdding.{Adds, LeavesOut}
 use Rattle.alt_merging.specs.HandMerging.{HasMany, files_at}
 use Rattle.alt_merging.specs.Merged.{AreMerged}
 use Rattle.alt_merging.specs.HandDeclaredHand.{Hand}
 use Rattle.alt_merging.proofs.EachLaws.{adds_then, leaves_then, merged_on, works_on, works_then}
-use Rattle.alt_engine.proofs.Stepping.{back_both}
 use Rattle.alt_engine.proofs.Versioning.{by_flag}
 use Rattle.alt_engine.specs.InHand.{IsGoing}
 use Rattle.alt_engine.specs.declared.engine.Engine.{Engine}
@@ -116,20 +114,14 @@ returns-then-not-merged-clause-kept g c trusted l stands family lives merged apa
     merged)) ∙ same
 
 pub returns-then-not-merged-clause-missing : goal.returns-then-not-merged-clause-missing
-returns-then-not-merged-clause-missing g c trusted l stands none =
+returns-then-not-merged-clause-missing g c trusted l stands n other low none =
     let a : DiskState = g.D.Disk.state c.args.disk.now in
     let b : DiskState = g.D.Disk.state c.end.new.disk in
-    let d : DiskState = g.D.Disk.state c.merge_each.new.disk in
-    let live = c.args.live.now in
-    let e = c.args.self.now.hand in
-    let k = c.end.new.self.hand in
-    let f = c.merge_each.new.hand in
     let told = trusted_on a b c.end.ensures.goes trusted in
     let first = c.in_ok-ended.ensures.ok trusted l stands in
-    by_flag c.in_ok-ended.ended (λ on. absurd (c.in_ok-ended.ensures.some on none))
-    (λ off. let same = c.in_ok-ended.ensures.same off in
-    back_both (λ s h. MakesNone s d (next_file_of h)) a b e k same.1.0
-    (ap (λ (x : Engine). x.hand) same.1.1) (c.in_ok-merged.ensures.missing told first.0 first.1))
+    c.in_ok-merged.ensures.missing told first.0 first.1 n
+    (subst (λ k. n < k) (sym c.in_ok-ended.ensures.next_file) low)
+    (c.in_ok-ended.ensures.missing trusted l stands n other low none)
 
 pub returns-clause-memory : goal.returns-clause-memory
 returns-clause-memory g c family lives =
@@ -152,20 +144,14 @@ returns-clause-kept g c trusted l stands family lives merged apart =
     merged)) ∙ same
 
 pub returns-clause-missing : goal.returns-clause-missing
-returns-clause-missing g c trusted l stands none =
+returns-clause-missing g c trusted l stands n other low none =
     let a : DiskState = g.D.Disk.state c.args.disk.now in
     let b : DiskState = g.D.Disk.state c.end.new.disk in
-    let d : DiskState = g.D.Disk.state c.merge_each.new.disk in
-    let live = c.args.live.now in
-    let e = c.args.self.now.hand in
-    let k = c.end.new.self.hand in
-    let f = c.merge_each.new.hand in
     let told = trusted_on a b c.end.ensures.goes trusted in
     let first = c.in_ok-ended.ensures.ok trusted l stands in
-    by_flag c.in_ok-ended.ended (λ on. absurd (c.in_ok-ended.ensures.some on none))
-    (λ off. let same = c.in_ok-ended.ensures.same off in
-    back_both (λ s h. MakesNone s d (next_file_of h)) a b e k same.1.0
-    (ap (λ (x : Engine). x.hand) same.1.1) (c.in_ok-merged.ensures.missing told first.0 first.1))
+    c.in_ok-merged.ensures.missing told first.0 first.1 n
+    (subst (λ k. n < k) (sym c.in_ok-ended.ensures.next_file) low)
+    (c.in_ok-ended.ensures.missing trusted l stands n other low none)
 
 pub returns-clause-leaves_out : goal.returns-clause-leaves_out
 returns-clause-leaves_out g c done =

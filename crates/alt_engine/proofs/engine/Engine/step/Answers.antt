@@ -1,5 +1,5 @@
 -- A flush, or else what becomes of merges.
-use Rattle.std.proofs.Common.{◌≡◌, Some, None, inl, inr, sym, ap, subst, arith, rules}
+use Rattle.std.proofs.Common.{◌≡◌, ◌<◌, Some, None, inl, inr, sym, ap, subst, arith, rules}
 use Rattle.std.proofs.lemmas.Result.{IfOk-weaker, on_ok_weaker}
 use Rattle.alt_disk.specs.Disk.{DiskState}
 use Rattle.alt_disk.specs.Runs.{Spans}
@@ -288,8 +288,8 @@ returns-then-flushed-clause-adds g c done trusted =
     c.in_ok-flushed.ensures.adds c.if-flushed.true trusted
 
 pub returns-then-flushed-clause-missing : goal.returns-then-flushed-clause-missing
-returns-then-flushed-clause-missing g c trusted l stands none =
-    c.in_ok-flushed.ensures.missing trusted l stands.hand
+returns-then-flushed-clause-missing g c trusted l stands f other low none =
+    c.in_ok-flushed.ensures.missing trusted l stands.hand f low none
 
 pub returns-in-Some-clause-version : goal.returns-in-Some-clause-version
 returns-in-Some-clause-version g c = IfOk-weaker c.go_on.result _ _ (λ w h it trusted l stands.
@@ -318,9 +318,19 @@ returns-in-Some-clause-adds g c = IfOk-weaker c.go_on.result _ _ (λ w h it trus
     c.go_on.ensures.adds
 
 pub returns-in-Some-clause-missing : goal.returns-in-Some-clause-missing
-returns-in-Some-clause-missing g c = on_ok_weaker c.go_on.result (λ well trusted l stands none.
+returns-in-Some-clause-missing g c = on_ok_weaker c.go_on.result (λ missing trusted l stands n other low none.
     let is : merge_of c.args.self.now ≡ Some c.in-Some.merging = search rules in
-    absurd (no_job (merge_of c.args.self.now) c.in-Some.merging none is)) c.go_on.ensures.well
+    let a : DiskState = g.D.Disk.state c.args.disk.now in
+    let b : DiskState = g.D.Disk.state c.flush_due.new.disk in
+    let e : Engine = c.args.self.now in
+    let f : Hand = c.flush_due.new.self in
+    let p : b ≡ a = c.in_ok-flushed.ensures.idle_disk c.if-flushed.false in
+    let q : f ≡ e.hand = c.in_ok-flushed.ensures.idle_hand c.if-flushed.false in
+    let told = trusted_on a b c.flush_due.ensures.goes trusted in
+    let at = at_both (λ s h. HandStands s h l) a b e.hand f p q stands.hand in
+    missing told l at n (other c.in-Some.merging is)
+    (subst (λ (h : Hand). n < next_file_of h) (sym q) low)
+    (subst (λ (s : DiskState). s.file n ≡ None) (sym p) none)) c.go_on.ensures.missing
 
 pub returns-in-Some-clause-one_version : goal.returns-in-Some-clause-one_version
 returns-in-Some-clause-one_version g c trusted l stands =
@@ -345,7 +355,7 @@ returns-in-None-clause-adds g c = IfOk-weaker c.begin.result _ _ (λ w h it. abs
     c.begin.ensures.undone
 
 pub returns-in-None-clause-missing : goal.returns-in-None-clause-missing
-returns-in-None-clause-missing g c = on_ok_weaker c.begin.result (λ well trusted l stands none.
+returns-in-None-clause-missing g c = on_ok_weaker c.begin.result (λ well trusted l stands n other low none.
     let a : DiskState = g.D.Disk.state c.args.disk.now in
     let b : DiskState = g.D.Disk.state c.flush_due.new.disk in
     let e : Engine = c.args.self.now in
@@ -355,7 +365,7 @@ returns-in-None-clause-missing g c = on_ok_weaker c.begin.result (λ well truste
     let q : f ≡ e.hand = c.in_ok-flushed.ensures.idle_hand c.if-flushed.false in
     let told = trusted_on a b c.flush_due.ensures.goes trusted in
     back_both (λ s h. MakesNone s (g.D.Disk.state c.begin.new.disk) (next_file_of h)) a b e.hand f p q
-    (c.begin.ensures.missing told)) c.begin.ensures.well
+    (c.begin.ensures.missing told) n low none) c.begin.ensures.well
 
 pub returns-in-None-clause-one_version : goal.returns-in-None-clause-one_version
 returns-in-None-clause-one_version g c trusted l stands =

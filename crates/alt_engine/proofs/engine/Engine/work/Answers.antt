@@ -18,12 +18,12 @@ use Rattle.alt_merging.specs.Merged.{AreMerged}
 use Rattle.alt_merging.specs.Mergings.{file_of}
 use Rattle.alt_merging.proofs.EachLaws.{merged_on}
 use Rattle.alt_merging.proofs.StepLaws.{has_works, then_works}
-use Rattle.alt_engine.specs.InHand.{Stands, hand_of}
+use Rattle.alt_engine.specs.InHand.{Stands, hand_of, merge_of}
 use Rattle.alt_engine.specs.Versions.{IsAfter}
 use Rattle.alt_engine.specs.Working.{AllMerged, Begins, Did, Ends, GoesOn, IsIdle}
 use Rattle.alt_engine.specs.declared.engine.Engine.{Engine}
 use Rattle.alt_engine.specs.declared.work.Task.{Task}
-use Rattle.alt_engine.proofs.Turning.{all_merged, begins_back, busy_all, busy_by, did_flush, ends_back, first_lives, flush_busy, flushed, free_back, free_none, free_on, goes_back, idle_all, job_back, job_below, keeps_after, makes_back, merged_back, merged_forth, none_after, none_free}
+use Rattle.alt_engine.proofs.Turning.{all_merged, begins_back, busy_all, busy_by, did_flush, ends_back, first_lives, flush_busy, flushed, free_back, free_none, free_on, goes_back, idle_all, job_back, job_below, keeps_after, makes_back, merged_back, merged_forth, no_job, none_after, none_free}
 use Rattle.alt_engine.proofs.Versioning.{after_step, new_log_read, next_read, once_done, once_done_with, one_behind, removed_read, version_read, without_read}
 use Rattle.alt_engine.proofs.engine.Engine.work.Goals as goal
 
@@ -376,7 +376,7 @@ returns-in-Step-clause-given_up g c = on_ok_weaker c.step.result (λ missing tru
     let told = trusted_on a b c.give_up.ensures.goes trusted in
     let at : Stands b f l = c.in_ok-give_up.ensures.ok trusted l stands in
     let none = none_after a b live e f turned j is dead in
-    missing told l at none (file_of j)
+    missing told l at (file_of j) (λ k there. absurd (no_job (merge_of f) k none there))
     (subst (λ (h : Hand). file_of j < next_file_of h) (sym same) (job_below a e j l stands is))
     (c.in_ok-give_up.ensures.gone trusted j is dead)) c.step.ensures.missing
 
@@ -478,7 +478,7 @@ returns-in-MergeAll-clause-given_up g c = on_ok_weaker c.merge_all.result (λ mi
     let told = trusted_on a b c.give_up.ensures.goes trusted in
     let at : Stands b f l = c.in_ok-give_up.ensures.ok trusted l stands in
     let none = none_after a b live e f turned j is dead in
-    missing told l at none (file_of j)
+    missing told l at (file_of j) (λ k there. absurd (no_job (merge_of f) k none there))
     (subst (λ (h : Hand). file_of j < next_file_of h) (sym same) (job_below a e j l stands is))
     (c.in_ok-give_up.ensures.gone trusted j is dead)) c.merge_all.ensures.missing
 
@@ -680,7 +680,7 @@ returns-in-MergeAll-clause-taken g c = on_ok_weaker c.merge_all.result (λ it.
     omega (arith, it, same)) c.merge_all.ensures.next_file
 
 pub returns-in-Step-clause-missing : goal.returns-in-Step-clause-missing
-returns-in-Step-clause-missing g c = on_ok_weaker c.step.result (λ missing trusted l stands.
+returns-in-Step-clause-missing g c = on_ok_weaker c.step.result (λ missing trusted l stands keeps.
     let a : DiskState = g.D.Disk.state c.args.disk.now in
     let b : DiskState = g.D.Disk.state c.give_up.new.disk in
     let e : Engine = c.args.self.now in
@@ -690,11 +690,11 @@ returns-in-Step-clause-missing g c = on_ok_weaker c.step.result (λ missing trus
     let same : hand_of f ≡ hand_of e = c.give_up.ensures.hand in
     let told = trusted_on a b c.give_up.ensures.goes trusted in
     let at : Stands b f l = c.in_ok-give_up.ensures.ok trusted l stands in
-    makes_back a b live e f turned same (g.D.Disk.state c.step.new.disk) (λ none. missing told l at none))
+    makes_back a b live e f turned same (g.D.Disk.state c.step.new.disk) keeps (missing told l at))
     c.step.ensures.missing
 
 pub returns-in-FlushAll-clause-missing : goal.returns-in-FlushAll-clause-missing
-returns-in-FlushAll-clause-missing g c = on_ok_weaker c.flush_all.result (λ missing trusted l stands.
+returns-in-FlushAll-clause-missing g c = on_ok_weaker c.flush_all.result (λ missing trusted l stands keeps.
     let a : DiskState = g.D.Disk.state c.args.disk.now in
     let b : DiskState = g.D.Disk.state c.give_up.new.disk in
     let e : Engine = c.args.self.now in
@@ -704,11 +704,11 @@ returns-in-FlushAll-clause-missing g c = on_ok_weaker c.flush_all.result (λ mis
     let same : hand_of f ≡ hand_of e = c.give_up.ensures.hand in
     let told = trusted_on a b c.give_up.ensures.goes trusted in
     let at : Stands b f l = c.in_ok-give_up.ensures.ok trusted l stands in
-    makes_back a b live e f turned same (g.D.Disk.state c.flush_all.new.disk) (λ none. missing told l at))
+    makes_back a b live e f turned same (g.D.Disk.state c.flush_all.new.disk) keeps (λ k other. missing told l at k))
     c.flush_all.ensures.missing
 
 pub returns-in-MergeAll-clause-missing : goal.returns-in-MergeAll-clause-missing
-returns-in-MergeAll-clause-missing g c = on_ok_weaker c.merge_all.result (λ missing trusted l stands.
+returns-in-MergeAll-clause-missing g c = on_ok_weaker c.merge_all.result (λ missing trusted l stands keeps.
     let a : DiskState = g.D.Disk.state c.args.disk.now in
     let b : DiskState = g.D.Disk.state c.give_up.new.disk in
     let e : Engine = c.args.self.now in
@@ -718,5 +718,5 @@ returns-in-MergeAll-clause-missing g c = on_ok_weaker c.merge_all.result (λ mis
     let same : hand_of f ≡ hand_of e = c.give_up.ensures.hand in
     let told = trusted_on a b c.give_up.ensures.goes trusted in
     let at : Stands b f l = c.in_ok-give_up.ensures.ok trusted l stands in
-    makes_back a b live e f turned same (g.D.Disk.state c.merge_all.new.disk) (λ none. missing told l at none))
+    makes_back a b live e f turned same (g.D.Disk.state c.merge_all.new.disk) keeps (missing told l at))
     c.merge_all.ensures.missing

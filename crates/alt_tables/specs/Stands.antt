@@ -5,6 +5,7 @@ use Rattle.alt_disk.specs.Runs.{Quiet}
 use Rattle.alt_due.specs.Due.{KeepsKnown}
 use Rattle.alt_due.specs.declared.due.Due.{Due}
 use Rattle.std.specs.Prelude.{IsTrue}
+use Rattle.alt_rowchanges.specs.OpeningEngineDeclaredEngine.{Engine}
 use Rattle.alt_rowchanges.specs.OpeningEngineOpened.{StaysOn}
 use Rattle.alt_rowchanges.specs.OpeningEngineInHand.{Bounds, Stands as EngineStands, next_of, bounds_of as engine_bounds, limits_of as engine_limits}
 use Rattle.alt_layout.specs.Layout.{Layout}
@@ -24,6 +25,10 @@ use Rattle.alt_rowchanges.specs.declared.fronts.Front.{Front}
 use Rattle.alt_tables.specs.declared.tables.Tables.{Tables}
 
 -- ---- what is known of the tables without the disk
+
+-- the engine beneath them
+abbrev pub engine_of : Tables → Engine
+engine_of t = t.engine
 
 -- the descriptions by the names of their tables
 abbrev pub catalog_of : Tables → Texts TableSchema

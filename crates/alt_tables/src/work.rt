@@ -11,7 +11,7 @@ ghost use Rattle.alt_tables.specs.Faults.{IsWorkFault};
 ghost use Rattle.alt_tables.specs.FilesLeft.{LacksFile, most_files};
 ghost use Rattle.alt_tables.specs.Images.{StandAt};
 ghost use Rattle.alt_tables.specs.Merged.{IsMergedFor};
-ghost use Rattle.alt_tables.specs.Stands.{AreReady, KeepsLimits, Stands, bounds_of, limits_of, live_of};
+ghost use Rattle.alt_tables.specs.Stands.{AreReady, KeepsLimits, Stands, bounds_of, engine_of, limits_of, live_of};
 
 use crate::tables::Tables;
 use alt_disk::Disk;
@@ -28,18 +28,18 @@ impl Tables {
         // What is answered is what the engine did with the families of tables: Idle comes exactly where nothing applies to these.
         ensures idle { IfOk result (λ w. w ≡ Worked.Idle → (s : State)
             → Stands (D.state disk.old) self.old s
-            → IsIdle task (D.state disk.old) (live_of self.old) self.old.engine) }
+            → IsIdle task (D.state disk.old) (live_of self.old) (engine_of self.old)) }
         ensures busy { IfOk result (λ w. (w ≡ Worked.Idle → ⊥) → (s : State)
             → Stands (D.state disk.old) self.old s
-            → IsIdle task (D.state disk.old) (live_of self.old) self.old.engine → ⊥) }
+            → IsIdle task (D.state disk.old) (live_of self.old) (engine_of self.old) → ⊥) }
         ensures went { IfOk result (λ w. w ≡ Worked.Went → (s : State)
             → Stands (D.state disk.old) self.old s → (task ≡ Task.Step)
             × Went (D.state disk.old) (D.state disk.new) (live_of self.old)
-            self.old.engine self.new.engine) }
+            (engine_of self.old) (engine_of self.new)) }
         ensures done { IfOk result (λ w. w ≡ Worked.Done → (s : State)
             → Stands (D.state disk.old) self.old s
             → Did task (D.state disk.old) (D.state disk.new) (live_of self.old)
-            self.old.engine self.new.engine) }
+            (engine_of self.old) (engine_of self.new)) }
 
         // A stop at any moment of the call, also one that fails, leaves files that stand for the state.
         ensures disk { (s : State) → Stands (D.state disk.old) self.old s

@@ -1,9 +1,8 @@
--- The table that is walked: its items stand at their places and aren't too large, and its description is the one at hand.
+-- The table that is walked: its items stand at their places, what is walked is no larger than they are, and its description is the one at hand.
 use Rattle.std.proofs.Common.{◌≡◌, ◌<◌, ◌≤◌, refl, sym, ap, subst, ◌∙◌, ℕ, Bool, true, false, List, length, slice_get, Option, Some, None, option_map, IfSome, arith}
 use Rattle.std.specs.Prelude.{if◌then◌else◌}
 use Rattle.std.specs.FinMap as finite
 use Rattle.alt_disk.specs.Disk.{DiskState}
-use Rattle.alt_machine.specs.declared.TheConstants.{LARGEST_ITEM}
 use Rattle.alt_machine.specs.Sources.{index_at, items_of}
 use Rattle.alt_machine.specs.State.{State, Table}
 use Rattle.alt_machine.proofs.Descriptions.{get-descriptions}
@@ -39,6 +38,13 @@ cut_size d i item row e = by (is_in_index i item) e
 
 module _ (disk : DiskState) (tables : Tables) (s : State) (stands : Stands disk tables s)
     (name : List ℕ) (t : Table) (at : finite.get s.tables name ≡ Some t) where
+  -- an index that can be read is one of the table's
+  index_there : (number : ℕ) → ((d : TableSchema) → finite.get (catalog_of tables) name ≡ Some d
+      → CanRead d number) → number < length (indexes t.description)
+  index_there number within = (within t.description (ap (λ m. finite.get m name) stands.catalog
+      ∙ get-descriptions s.tables name
+      ∙ ap (option_map (λ (x : Table). x.description)) at)).0
+
   -- what stands at a place of the table, or of its index of that number, may stand there
   pub may_stand : (index : Option ℕ)
       → ((d : TableSchema) → finite.get (catalog_of tables) name ≡ Some d
@@ -53,14 +59,10 @@ module _ (disk : DiskState) (tables : Tables) (s : State) (stands : Stands disk 
   may_stand (Some number) within place item found =
       by (slice_get (indexes t.description) number) refl found
     where
-      there : number < length (indexes t.description)
-      there = (within t.description (ap (λ m. finite.get m name) stands.catalog
-          ∙ get-descriptions s.tables name
-          ∙ ap (option_map (λ (x : Table). x.description)) at)).0
-
       by : (o : Option IndexSchema) → slice_get (indexes t.description) number ≡ o
           → finite.get (items_of t o) place ≡ Some item → MayStand t.description o place item
-      by None past found = absurd (none_past (indexes t.description) number there past)
+      by None past found = absurd (none_past (indexes t.description) number
+          (index_there number within) past)
       by (Some i) is found =
           let has = all_index s name t number i stands.valid stands.rows.held.items at is in
           let (p, x, here, entry) = has.alone place item found in (
@@ -86,25 +88,29 @@ module _ (disk : DiskState) (tables : Tables) (s : State) (stands : Stands disk 
       by None may = may.0.stands
       by (Some i) may = entry_place t.description i may.1 place item may.4
 
-  -- and isn't too large
-  pub sized_at : (index : Option ℕ)
+  -- and is no larger than the items of the table
+  pub sized_at : (largest : ℕ) → ((place : List ℕ) (item : List Pair)
+      → finite.get t.items place ≡ Some item → item_size item ≤ largest) → (index : Option ℕ)
       → ((d : TableSchema) → finite.get (catalog_of tables) name ≡ Some d
       → IfSome index (λ n. CanRead d n))
       → (place : List ℕ) (item : List Pair)
       → finite.get (items_of t (index_at t.description index)) place ≡ Some item
-      → item_size item ≤ LARGEST_ITEM
-  sized_at index within place item found =
-      by (index_at t.description index) (may_stand index within place item found)
+      → item_size item ≤ largest
+  sized_at largest small None within place item found = small place item found
+  sized_at largest small (Some number) within place item found =
+      by (slice_get (indexes t.description) number) refl found
     where
-      by : (i : Option IndexSchema) → MayStand t.description i place item
-          → item_size item ≤ LARGEST_ITEM
-      by None may = may.0.size
-      by (Some i) may = omega (
-        arith,
-        may.2.size,
-        cut_size t.description i may.1 item
-            (is_entry t.description i may.1 place item may.4).kept,
-      )
+      by : (o : Option IndexSchema) → slice_get (indexes t.description) number ≡ o
+          → finite.get (items_of t o) place ≡ Some item → item_size item ≤ largest
+      by None past found = absurd (none_past (indexes t.description) number
+          (index_there number within) past)
+      by (Some i) is found =
+          let has = all_index s name t number i stands.valid stands.rows.held.items at is in
+          let (p, x, here, entry) = has.alone place item found in
+          let own = small p x here in
+          let less = cut_size t.description i x item
+          (is_entry t.description i x place item entry).kept in
+          omega (arith, own, less)
 
   -- the description at hand is that of the table that is walked
   pub described : (now : Tables) (d : TableSchema) → KeepsCatalog tables now

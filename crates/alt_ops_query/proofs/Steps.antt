@@ -14,7 +14,6 @@ use Rattle.alt_disk.specs.Disk.{DiskState}
 use Rattle.alt_expr.specs.Pages as pages
 use Rattle.alt_expr.specs.Pages.{ends_early}
 use Rattle.alt_families.specs.Reads.{versions_of}
-use Rattle.alt_machine.specs.declared.TheConstants.{LARGEST_ITEM}
 use Rattle.alt_machine.specs.Sources.{items_of}
 use Rattle.alt_machine.specs.State.{Table}
 use Rattle.alt_machine.specs.Walks.{end_bound, is_beyond, items_between, placed_items, turned}
@@ -295,15 +294,16 @@ module _ (a b : DiskState) (t : Table) (i : Option IndexSchema) (stored : (place
     }
 
   -- Fewer items than the step asked for never end the page, so where one does it is the last of them.
-  pub step_ended : Examines pager ask seen items false → All (λ x. item_size x ≤ LARGEST_ITEM) items
-      → ((more : List (List Pair)) → All (λ x. item_size x ≤ LARGEST_ITEM) more
+  pub step_ended : (largest : ℕ) → Examines pager ask seen items false
+      → All (λ x. item_size x ≤ largest) items
+      → ((more : List (List Pair)) → All (λ x. item_size x ≤ largest) more
       → length more < most → ends_early ask.limit (seen ++ more) ≡ false)
       → EndsPage a b t i forward ask seen list pager range
-  step_ended (front, rest, is, h, ends) sized sure =
+  step_ended largest (front, rest, is, h, ends) sized sure =
       let long : most < length front + 1 = lt_of_not-le (λ short.
       let unended : ends_early ask.limit (seen ++ front) ≡ false = sure front
-      (All-front (λ x. item_size x ≤ LARGEST_ITEM) front rest
-      (subst (All (λ x. item_size x ≤ LARGEST_ITEM)) is sized)) (omega (arith, short)) in
+      (All-front (λ x. item_size x ≤ largest) front rest
+      (subst (All (λ x. item_size x ≤ largest)) is sized)) (omega (arith, short)) in
       let no : true ≡ false = sym ends ∙ unended in cc no) in
       let taken : length items ≤ most =
       omega (arith, ap length given, length-take most list) in

@@ -24,11 +24,13 @@ ghost use Rattle.alt_views.specs.Readable.{CanRead};
 use crate::places::beyond;
 use alt_disk::Disk;
 use alt_keyorder::KeyRange;
-use alt_machine::LARGEST_ITEM;
 use alt_paging::Pager;
 use alt_request::{Stop, TableFault, Tables};
 use alt_value::Item;
 use std::alloc::Global;
+
+/// How many items a step asks for at most, however small they are, since those in hand are in memory.
+const ITEMS_AT_ONCE: u32 = 4096;
 
 /// Examines the items of a table, or of its index of that number, in a range, from its front on or from its end down, until the page ends
 /// or the range does.
@@ -113,7 +115,8 @@ fn step<D: Disk>(
     ensures disk { Reads (D.state disk.old) (D.state disk.new) }
     ensures failed { IfErrFailed result (Rose (D.state disk.old).faults (D.state disk.new).faults) }
 {
-    let most = pager.certain(LARGEST_ITEM);
+    let largest = tables.largest();
+    let most = pager.certain(largest).min(ITEMS_AT_ONCE);
     let mut items = Vec::new(alloc);
     let last = tables.rows(disk, table, index, &range, forward, most, &mut items)?;
     let got = items.len();

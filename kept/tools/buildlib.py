@@ -30,6 +30,7 @@ def init(self, *a, **k):
     made(self, *a, **k)
     m.read_files(self)
 rtlib.Crate.__init__ = init
+m.share_work(True)
 folder = f'{tree}/crates/{name}'
 os.chdir(folder)
 crate = rtlib.Crate(folder, rtlib.root_above(folder), {})

@@ -7,7 +7,7 @@ set -eu
 # shellcheck source=bench/rounds.sh
 . "$(dirname "$0")/rounds.sh"
 begin HEAD "alt_blocks alt_cells alt_disk alt_fields alt_host alt_rowfile" \
-  alt_base alt_fields alt_disk alt_shell alt_host alt_blocks alt_cells alt_rowfile
+  alt_base alt_fields alt_disk alt_shell alt_host alt_blocks alt_cells alt_filter alt_rowblocks alt_rowfile
 git show HEAD:HANDLES >"$copy/HANDLES"
 cat >"$main" <<'RATTLE'
 //! By its words: a file of 100,000 rows of 200 bytes written in the folder `rows`, opened, and read, with a cache before the folder or without.

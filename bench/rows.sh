@@ -7,7 +7,7 @@ set -eu
 # shellcheck source=bench/rounds.sh
 . "$(dirname "$0")/rounds.sh"
 begin HEAD "alt_cells alt_disk alt_fields alt_host alt_merge alt_rowfile" \
-  alt_base alt_fields alt_disk alt_shell alt_host alt_cells alt_merge alt_rowfile
+  alt_base alt_fields alt_disk alt_shell alt_host alt_cells alt_merge alt_filter alt_rowblocks alt_rowfile
 git show HEAD:HANDLES >"$copy/HANDLES"
 cat >"$main" <<'RATTLE'
 //! By its first word: files of 100,000 rows of 200 bytes written in the folder `rows`, opened, read by key or by place, walked and merged.

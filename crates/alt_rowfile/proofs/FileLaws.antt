@@ -1,18 +1,17 @@
 -- A file is its body and the digest of it.
 use Rattle.std.proofs.Common.{◌≡◌, ◌<◌, Option, Some, None, Result, Ok, Err, IfOk, refl, sym, ap, ◌∙◌, ℕ, ◌+◌, ◌-◌, List, ◌++◌, length, take, drop, arith, length-append}
-use Rattle.std.specs.Prelude.{IfSome, IfNone}
 use Rattle.std.proofs.lemmas.List.{take_at, take_all, length-drop, take-append-drop}
 use Rattle.sha2.specs.Sha256.{sha256}
 use Rattle.sha2.proofs.Facts256.{length-sha256}
-use Rattle.alt_rowfile.specs.Filtering.{AreFilters}
-use Rattle.alt_rowfile.specs.Format.{Entry, Mark, body, front, rows_of, marks_from, IsFileOf}
-use Rattle.alt_rowfile.specs.Blocks.{IsBody}
+use Rattle.alt_rowblocks.specs.Filtering.{AreFilters}
+use Rattle.alt_rowblocks.specs.Format.{Entry, Mark, body, front, rows_of, marks_from, IsFileOf}
+use Rattle.alt_rowblocks.specs.Blocks.{IsBody}
 use Rattle.alt_rowfile.specs.InHand.{FileAs, ReadsAs}
 use Rattle.alt_disk.specs.Disk.{DiskState, contents, bytes_or_none}
 use Rattle.alt_rowfile.specs.Recovery.{HasDigest, NoRowFile}
-use Rattle.alt_rowfile.specs.Summaries.{summary_of}
+use Rattle.alt_rowblocks.specs.Summaries.{summary_of}
 use Rattle.alt_filter.specs.declared.filter.Filter.{Filter}
-use Rattle.alt_rowfile.specs.declared.summary.Summary.{Summary}
+use Rattle.alt_rowblocks.specs.declared.summary.Summary.{Summary}
 
 -- a file without its digest is the body of its blocks
 pub body_of_file : (bytes : List ℕ) (blocks : List (List Entry)) → IsFileOf blocks bytes
@@ -112,14 +111,3 @@ pub if_ok_both : {X E : Type 0} (r : Result X E) (P Q R : X → Type 0) → IfOk
     → ((x : X) → P x → Q x → R x) → IfOk r R
 if_ok_both (Ok x) P Q R p q leads = leads x p q
 if_ok_both (Err e) P Q R p q leads = tt
-
--- what one leads to holds of an option's value
-pub if_some_weaker : {X : Type 0} (o : Option X) (P Q : X → Type 0) → ((x : X) → P x → Q x)
-    → IfSome o P → IfSome o Q
-if_some_weaker (Some x) P Q leads p = leads x p
-if_some_weaker None P Q leads p = tt
-
--- what one leads to holds where an option has none
-pub if_none_weaker : {X : Type 0} (o : Option X) (P Q : Type 0) → (P → Q) → IfNone o P → IfNone o Q
-if_none_weaker (Some x) P Q leads p = tt
-if_none_weaker None P Q leads p = leads p

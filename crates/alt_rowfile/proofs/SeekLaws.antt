@@ -14,18 +14,19 @@ use Rattle.alt_fields.proofs.Apart.{all_append}
 use Rattle.alt_disk.specs.Disk.{DiskState}
 use Rattle.alt_cells.specs.Keys.{key_cmp}
 use Rattle.alt_cells.proofs.CellLaws.{key_total}
-use Rattle.alt_rowfile.specs.Format.{Entry, rows_of, first_key, AreBlocks, IsHeldEntry}
+use Rattle.alt_rowblocks.specs.Format.{Entry, rows_of, first_key, AreBlocks, IsHeldEntry}
 use Rattle.alt_rowfile.specs.InHand.{Reads}
-use Rattle.alt_rowfile.specs.Cut.{IsBelow, IsFrom}
-use Rattle.alt_rowfile.specs.Searching.{EndsAt}
-use Rattle.alt_rowfile.specs.Holding.{IsCutBlock, IsInHand}
+use Rattle.alt_rowblocks.specs.Cut.{IsBelow, IsFrom}
+use Rattle.alt_rowblocks.specs.Searching.{EndsAt}
+use Rattle.alt_rowblocks.specs.Holding.{IsCutBlock, IsInHand}
 use Rattle.alt_rowfile.specs.Walking.{list_from, LeftAs, IsLeft}
-use Rattle.alt_rowfile.specs.declared.hand.Hand.{Hand}
+use Rattle.alt_rowblocks.specs.declared.hand.Hand.{Hand}
 use Rattle.alt_rowfile.specs.declared.rowfile.RowFile.{RowFile}
-use Rattle.alt_rowfile.proofs.BlockLaws.{rows_of-append}
-use Rattle.alt_rowfile.proofs.SearchLaws.{above_first, open_block, sorted_behind, AtBlock, at_block}
-use Rattle.alt_rowfile.proofs.CutLaws.{below_front, from_first}
-use Rattle.alt_rowfile.proofs.HandLaws.{from_cut, cut_in_hand}
+use Rattle.alt_rowblocks.proofs.BlockLaws.{rows_of-append}
+use Rattle.alt_rowfile.proofs.SearchLaws.{above_first, AtBlock, at_block}
+use Rattle.alt_rowblocks.proofs.SearchLaws.{open_block, sorted_behind}
+use Rattle.alt_rowblocks.proofs.CutLaws.{below_front, from_first}
+use Rattle.alt_rowblocks.proofs.HandLaws.{from_cut, cut_in_hand}
 use Rattle.alt_rowfile.proofs.WalkLaws.{reads_at, count_blocks}
 
 -- ---- what passes a test
@@ -137,7 +138,7 @@ module _ (key : List ℕ) where
       → AllByRecursion (IsFrom key) (rows_of ys)
   from_blocks [] cut h up = tt
   from_blocks (y ∷ ys) cut h up =
-      let k = open_block y (Rattle.alt_rowfile.proofs.BlockLaws.block_within [] y ys cut) in
+      let k = open_block y (Rattle.alt_rowblocks.proofs.BlockLaws.block_within [] y ys cut) in
       let same : rows_of (y ∷ ys) ≡ k.0 ∷ (k.1 ++ rows_of ys) =
       ap (λ (l : List Entry). l ++ rows_of ys) k.2 in
       let above : is_gt (key_cmp k.0.0 key) ≡ true =

@@ -10,7 +10,7 @@ use Rattle.alt_disk.specs.Runs.{Quiet}
 use Rattle.alt_cells.specs.Walks.{Keeps, Fails, HasCause, IsDamaged, answered_by}
 use Rattle.alt_cells.specs.declared.source.SourceFault.{SourceFault}
 use Rattle.alt_cells.specs.declared.source.SourceFault.TheVariants.{Damaged, Failed, NoMemory}
-use Rattle.alt_rowfile.specs.Format.{Entry}
+use Rattle.alt_rowblocks.specs.Format.{Entry}
 use Rattle.alt_rowfile.specs.InHand.{Reads}
 use Rattle.alt_rowfile.specs.Damage.{IsDamageIn}
 use Rattle.alt_rowfile.specs.Walking.{walk_reads, walk_holds, reads_on, itself}

@@ -7,20 +7,20 @@ use Rattle.alt_cells.specs.Walks.{Gives, IsDamaged, RowList, turned}
 use Rattle.alt_cells.specs.declared.source.SourceFault.{SourceFault}
 use Rattle.alt_cells.specs.declared.source.SourceFault.TheVariants.{Damaged, Failed, NoMemory}
 use Rattle.alt_rowfile.specs.Damage.{IsDamageIn}
-use Rattle.alt_rowfile.specs.Format.{Entry, Mark, rows_of, AreBlocks}
-use Rattle.alt_rowfile.specs.Holding.{IsCutBlock, IsInHand}
+use Rattle.alt_rowblocks.specs.Format.{Entry, Mark, rows_of, AreBlocks}
+use Rattle.alt_rowblocks.specs.Holding.{IsCutBlock, IsInHand}
 use Rattle.alt_rowfile.specs.InHand.{ReadsAs, count_of, file_of}
-use Rattle.alt_rowfile.specs.Loading.{LoadedAt}
+use Rattle.alt_rowblocks.specs.Loading.{LoadedAt}
 use Rattle.alt_rowfile.specs.Walking.{rows_ahead, walk_left, LeftAs, IsLeft, IsNext, IsEnd, IsUnreadIn, passed}
-use Rattle.alt_rowfile.specs.declared.hand.Hand.{Hand}
+use Rattle.alt_rowblocks.specs.declared.hand.Hand.{Hand}
 use Rattle.alt_rowfile.specs.declared.rowfile.RowFile.{RowFile}
 use Rattle.alt_filter.specs.declared.filter.Filter.{Filter}
-use Rattle.alt_rowfile.specs.declared.summary.Summary.{Summary}
+use Rattle.alt_rowblocks.specs.declared.summary.Summary.{Summary}
 use Rattle.alt_rowfile.specs.declared.walk.RowFileWalk.{RowFileWalk}
-use Rattle.alt_rowfile.proofs.HandLaws.{all_in_hand}
-use Rattle.alt_rowfile.proofs.LoadLaws.{length-marks, split_at}
-use Rattle.alt_rowfile.proofs.BlockLaws.{no_block, block_within}
-use Rattle.alt_rowfile.proofs.WriterLaws.{rows_of-push}
+use Rattle.alt_rowblocks.proofs.HandLaws.{all_in_hand}
+use Rattle.alt_rowblocks.proofs.PlaceLaws.{length-marks, split_at}
+use Rattle.alt_rowblocks.proofs.BlockLaws.{no_block, block_within}
+use Rattle.alt_rowblocks.proofs.PushLaws.{rows_of-push}
 
 -- ---- the next block, and none
 

@@ -1,9 +1,8 @@
 -- What one row more and one block more make of a row file that is being written.
-use Rattle.std.proofs.Common.{◌≡◌, ℕ, ◌+◌, ◌<◌, ◌≤◌, ◌^◌, List, [], ◌∷◌, ◌++◌, length, refl, sym, ap, true, false, ◌==◌, subst, ◌∙◌, arith, append_assoc, length-append, T}
-use Rattle.std.specs.List.{AllByRecursion, flat_map}
+use Rattle.std.proofs.Common.{◌≡◌, ℕ, ◌+◌, ◌<◌, ◌≤◌, ◌^◌, List, [], ◌∷◌, ◌++◌, length, refl, sym, ap, subst, ◌∙◌, arith, append_assoc, length-append, T}
+use Rattle.std.specs.List.{AllByRecursion}
 use Rattle.std.specs.FinMap.Entries.{is_sorted}
 use Rattle.std.proofs.lemmas.List.{append-nil}
-use Rattle.std.proofs.lemmas.Grind.{flat_map-append}
 use Rattle.alt_fields.specs.Field.{field}
 use Rattle.alt_disk.specs.Disk.{DiskState}
 use Rattle.alt_cells.specs.declared.row.RowCells.{RowCells}
@@ -12,62 +11,20 @@ use Rattle.alt_cells.specs.Keys.{key_cmp}
 use Rattle.alt_fields.proofs.Apart.{all_append}
 use Rattle.alt_filter.specs.Filters.{Holds}
 use Rattle.alt_filter.specs.declared.filter.Filter.{Filter}
-use Rattle.alt_rowfile.specs.Format.{Entry, Mark, entry_bytes, rows_bytes, block_bytes, header, front, rows_of, first_key, marks_from, tail_bytes, body, file_bytes, IsBlock, IsFull, AreBlocks, IsHeldEntry, IsHeldBlock}
-use Rattle.alt_rowfile.specs.Filtering.{AreFilters}
+use Rattle.alt_rowblocks.specs.Format.{Entry, Mark, entry_bytes, rows_bytes, block_bytes, front, rows_of, first_key, marks_from, tail_bytes, body, file_bytes, IsBlock, IsFull, AreBlocks, IsHeldEntry, IsHeldBlock}
+use Rattle.alt_rowblocks.specs.Filtering.{AreFilters}
 use Rattle.alt_rowfile.specs.Sinks.{IsPut, Lasts}
 use Rattle.alt_rowfile.specs.InHand.{StandsAs}
 use Rattle.sha2.specs.Sha256.{sha256}
 use Rattle.alt_disk.proofs.Settled.{synced_settled}
 use Rattle.alt_rowfile.specs.Writing.{piece, IsOpen, WritesAs}
-use Rattle.alt_rowfile.specs.Summaries.{joined, summary_of}
+use Rattle.alt_rowblocks.specs.Summaries.{joined, summary_of}
 use Rattle.alt_rowfile.specs.declared.sink.Sink.{Sink}
-use Rattle.alt_rowfile.specs.declared.summary.Summary.{Summary}
-use Rattle.alt_rowfile.proofs.OneFile.{length-entry}
-use Rattle.alt_rowfile.proofs.FilterLaws.{filters-push, holds_more}
-use Rattle.alt_rowfile.proofs.SummaryLaws.{summary-append}
-
--- the bytes of rows with one more are theirs, and its own behind them
-pub rows_bytes-push : (rows : List Entry) (e : Entry)
-    → rows_bytes (rows ++ e ∷ []) ≡ rows_bytes rows ++ entry_bytes e
-rows_bytes-push rows e = flat_map-append entry_bytes rows (e ∷ [])
-    ∙ ap (λ (l : List ℕ). rows_bytes rows ++ l) (append-nil (entry_bytes e))
-
--- the rows of blocks with one more are theirs, and its own behind them
-pub rows_of-push : (blocks : List (List Entry)) (b : List Entry)
-    → rows_of (blocks ++ b ∷ []) ≡ rows_of blocks ++ b
-rows_of-push blocks b = flat_map-append (λ (x : List Entry). x) blocks (b ∷ [])
-    ∙ ap (λ (l : List Entry). rows_of blocks ++ l) (append-nil b)
-
--- the bytes of blocks with one more are theirs, and its own behind them
-pub blocks_bytes-push : (blocks : List (List Entry)) (b : List Entry)
-    → flat_map block_bytes (blocks ++ b ∷ []) ≡ flat_map block_bytes blocks ++ block_bytes b
-blocks_bytes-push blocks b = flat_map-append block_bytes blocks (b ∷ [])
-    ∙ ap (λ (l : List ℕ). flat_map block_bytes blocks ++ l) (append-nil (block_bytes b))
-
--- a file before its index, with one block more, has that block behind what it had
-pub front-push : (blocks : List (List Entry)) (b : List Entry)
-    → front (blocks ++ b ∷ []) ≡ front blocks ++ block_bytes b
-front-push blocks b = ap (λ (l : List ℕ). header ++ l) (blocks_bytes-push blocks b)
-    ∙ sym (append_assoc header (flat_map block_bytes blocks) (block_bytes b))
-
--- the header has eight bytes, and the blocks stand behind it
-pub length-front : (blocks : List (List Entry))
-    → length (front blocks) ≡ 8 + length (flat_map block_bytes blocks)
-unfolding header
-length-front blocks = omega arith
-
--- the mark of one block more
-pub marks-push : (at : ℕ) (blocks : List (List Entry)) (b : List Entry)
-    → marks_from at (blocks ++ b ∷ []) ≡ marks_from at blocks
-    ++ (at + length (flat_map block_bytes blocks), first_key b) ∷ []
-marks-push at [] b = ap (λ (n : ℕ). (n, first_key b) ∷ []) (let e : at ≡ at + 0 = omega arith in e)
-marks-push at (c ∷ blocks) b =
-    let size : at + length (block_bytes c) + length (flat_map block_bytes blocks)
-    ≡ at + length (block_bytes c ++ flat_map block_bytes blocks) =
-    omega (arith, length-append (block_bytes c) (flat_map block_bytes blocks)) in
-    ap (λ (l : List Mark). (at, first_key c) ∷ l) (marks-push (at + length (block_bytes c)) blocks b
-    ∙ ap (λ (n : ℕ). marks_from (at + length (block_bytes c)) blocks ++ (n, first_key b) ∷ [])
-    size)
+use Rattle.alt_rowblocks.specs.declared.summary.Summary.{Summary}
+use Rattle.alt_rowblocks.proofs.OneFile.{length-entry}
+use Rattle.alt_rowblocks.proofs.FilterLaws.{filters-push, holds_more}
+use Rattle.alt_rowblocks.proofs.SummaryLaws.{summary-append}
+use Rattle.alt_rowblocks.proofs.PushLaws.{rows_bytes-push, rows_of-push, front-push, length-front, marks-push}
 
 -- the open block has one row at least once a row was added
 pub piece-push : (waiting : List Entry) (e : Entry)
@@ -295,19 +252,3 @@ two_put block one two key row_bytes row is first then =
     then ∙ ap (λ (l : List ℕ). l ++ field row_bytes) first
     ∙ append_assoc block (field key) (field row_bytes)
     ∙ ap (λ (r : List ℕ). block ++ (field key ++ field r)) is
-
--- a number that is 0 is told to be
-pub is_zero : (n : ℕ) → n ≡ 0 → (n == 0) ≡ true
-is_zero n e = grind arith
-
--- a number above 0 isn't
-pub is_some : (n : ℕ) → 0 < n → (n == 0) ≡ false
-is_some n e = grind arith
-
--- a number that is told to be 0 is
-pub zero_from : (n : ℕ) → true ≡ (n == 0) → n ≡ 0
-zero_from n e = grind arith
-
--- a number that isn't told so is above 0
-pub some_from : (n : ℕ) → false ≡ (n == 0) → 0 < n
-some_from n e = grind arith

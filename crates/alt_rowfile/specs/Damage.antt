@@ -3,9 +3,9 @@ use Rattle.std.specs.Prelude.{◌≡◌, ◌<◌, ℕ, List, IsTrue}
 use Rattle.alt_disk.specs.Disk.{DiskState, contents}
 use Rattle.alt_cells.specs.declared.source.SourceFault.{SourceFault}
 use Rattle.alt_cells.specs.declared.source.SourceFault.TheVariants.{Damaged, Failed, NoMemory}
-use Rattle.alt_rowfile.specs.Format.{Entry}
+use Rattle.alt_rowblocks.specs.Format.{Entry}
 use Rattle.alt_rowfile.specs.InHand.{count_of, file_of}
-use Rattle.alt_rowfile.specs.Loading.{LoadedAt}
+use Rattle.alt_rowblocks.specs.Loading.{LoadedAt}
 use Rattle.alt_rowfile.specs.Reading.{place_of}
 use Rattle.alt_rowfile.specs.declared.rowfile.RowFile.{RowFile}
 

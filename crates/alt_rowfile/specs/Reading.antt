@@ -1,17 +1,10 @@
 -- What a call on a row file in hand asks of the disk: one block at most, by one read of its length.
-use Rattle.std.specs.Prelude.{◌≡◌, ◌⊎◌, ◌<◌, ◌-◌, ℕ, Bool}
-use Rattle.alt_disk.specs.Disk.{DiskState, ReadCall}
+use Rattle.std.specs.Prelude.{◌≡◌, ◌⊎◌, ◌<◌, ◌-◌, ℕ}
+use Rattle.alt_disk.specs.Disk.{DiskState}
 use Rattle.alt_rowfile.specs.InHand.{count_of, file_of}
-use Rattle.alt_rowfile.specs.Loading.{place_at, next_place}
+use Rattle.alt_rowblocks.specs.Loading.{place_at, next_place}
 use Rattle.alt_rowfile.specs.declared.rowfile.RowFile.{RowFile}
-
--- one read of a file from a place on, of so many bytes at most, that answered or failed
-abbrev pub ReadIs : DiskState → DiskState → ℕ → ℕ → ℕ → Type 0
-ReadIs old new f at most = (answered : Bool) × ReadCall old new f at most answered
-
--- no call was made, or such a read
-abbrev pub ReadsOnce : DiskState → DiskState → ℕ → ℕ → ℕ → Type 0
-ReadsOnce old new f at most = (new ≡ old) ⊎ ReadIs old new f at most
+use Rattle.alt_rowblocks.specs.Pieces.{ReadIs}
 
 -- the place of a block of a file in hand, and its length
 abbrev pub place_of : RowFile → ℕ → ℕ

@@ -7,12 +7,12 @@ use Rattle.alt_disk.specs.Disk.{DiskState, bytes_or_none}
 use Rattle.alt_cells.specs.Walks.{SameFiles}
 use Rattle.alt_cells.specs.Keys.{key_cmp}
 use Rattle.alt_filter.specs.declared.filter.Filter.{Filter}
-use Rattle.alt_rowfile.specs.Filtering.{AreFilters, HoldsRows}
-use Rattle.alt_rowfile.specs.Format.{Entry, Mark, rows_bytes, front, rows_of, marks_from, IsBlock, IsFull, IsHeldEntry, IsHeldBlock}
+use Rattle.alt_rowblocks.specs.Filtering.{AreFilters, HoldsRows}
+use Rattle.alt_rowblocks.specs.Format.{Entry, Mark, rows_bytes, front, rows_of, marks_from, IsBlock, IsFull, IsHeldEntry, IsHeldBlock}
 use Rattle.alt_rowfile.specs.Sinks.{IsPut}
-use Rattle.alt_rowfile.specs.Summaries.{summary_of}
+use Rattle.alt_rowblocks.specs.Summaries.{summary_of}
 use Rattle.alt_rowfile.specs.declared.sink.Sink.{Sink}
-use Rattle.alt_rowfile.specs.declared.summary.Summary.{Summary}
+use Rattle.alt_rowblocks.specs.declared.summary.Summary.{Summary}
 use Rattle.alt_rowfile.specs.declared.writer.RowFileWriter.{RowFileWriter}
 
 -- the number of its file

@@ -1,7 +1,7 @@
 //! One block of a row file, read from the disk: in hand for its rows, or for the one of a key.
 
-ghost use Rattle.std.specs.Prelude.{◌≡◌, ◌≤◌, ◌<◌, ◌+◌, ◌==◌, if◌then◌else◌, true, ℕ, List, [], length, get_or, IfOk, IfErr, IfSome, IfNone, IsErrOf, IsTrue, T};
-ghost use Rattle.std.specs.FinMap.Entries.{find, is_sorted};
+ghost use Rattle.std.specs.Prelude.{◌≡◌, ◌≤◌, ◌<◌, ◌+◌, ◌==◌, if◌then◌else◌, ℕ, List, [], length, get_or, IfOk, IfErr, IsErrOf, IsTrue};
+ghost use Rattle.std.specs.FinMap.Entries.{find};
 ghost use Rattle.std.specs.Option.{option_copied};
 ghost use Rattle.alt_base.specs.Counts.{Rose};
 ghost use Rattle.alt_cells.specs.declared.source.SourceFault.TheVariants.{Damaged};
@@ -9,23 +9,19 @@ ghost use Rattle.alt_disk.specs.Disk.{Goes, contents};
 ghost use Rattle.alt_disk.specs.Runs.{Quiet};
 ghost use Rattle.alt_cells.specs.Keys.{key_cmp};
 ghost use Rattle.alt_cells.specs.Walks.{IsDamaged};
-ghost use Rattle.alt_rowfile.specs.Format.{Entry, block_bytes, IsHeldBlock};
+ghost use Rattle.alt_rowblocks.specs.Format.{Entry, block_bytes};
 ghost use Rattle.alt_rowfile.specs.Damage.{IsDamageIn};
-ghost use Rattle.alt_rowfile.specs.Given.{AreRead, IsBegun, IsFoundIn, IsRowRead};
-ghost use Rattle.alt_rowfile.specs.Holding.{IsCutBlock};
+ghost use Rattle.alt_rowfile.specs.Given.{AreRead, IsRowRead};
+ghost use Rattle.alt_rowblocks.specs.Taken.{IsBegun};
+ghost use Rattle.alt_rowblocks.specs.Holding.{IsCutBlock};
 ghost use Rattle.alt_rowfile.specs.InHand.{Reads, count_of, file_of};
-ghost use Rattle.alt_rowfile.specs.Loading.{next_place, LoadedAt};
+ghost use Rattle.alt_rowblocks.specs.Loading.{next_place, LoadedAt};
 ghost use Rattle.alt_rowfile.specs.Reading.{ReadsAtMostABlock, place_of};
 
-use crate::decode::{decode, whole_field};
-use crate::hand::Hand;
-use crate::pick::pick;
-use crate::pieces::bytes_at;
 use crate::rowfile::RowFile;
-use alt_base::NoMemory;
 use alt_cells::{RowCells, SourceFault};
 use alt_disk::{Disk, DiskFault};
-use std::alloc::Global;
+use alt_rowblocks::{Hand, are_rows, bytes_at, row_at};
 
 /// A block in hand, at the place where a walk begins in it, by one read of its bytes.
 pub(crate) fn load<D: Disk>(
@@ -169,35 +165,6 @@ pub(crate) fn damaged(file: &RowFile, i: usize) -> SourceFault
     SourceFault::Damaged {
         file: file.file,
         at: file.marks[i].0,
-    }
-}
-
-// Whether these are the bytes of a block.
-fn are_rows(alloc: Global, bytes: &[u8]) -> Result<bool, NoMemory>
-    ensures { (b : List Entry) → IsHeldBlock b → T (is_sorted key_cmp b)
-        → bytes.now ≡ block_bytes b → IfOk result (λ are. are ≡ true) }
-{
-    match whole_field(bytes) {
-        Some(block) => {
-            let decoded = decode(alloc, block)?;
-            Ok(decoded.is_some())
-        }
-        None => Ok(false),
-    }
-}
-
-// What the block whose bytes these are has at a key; none where they are no block's.
-fn row_at(alloc: Global, bytes: &[u8], key: &[u8]) -> Result<Option<Option<RowCells>>, NoMemory>
-    ensures some { (b : List Entry) → IsHeldBlock b → T (is_sorted key_cmp b)
-        → bytes.now ≡ block_bytes b
-        → IfOk result (λ o. IfSome o (λ row. row ≡ find key_cmp key.now b)) }
-    ensures none { (b : List Entry) → IsHeldBlock b → T (is_sorted key_cmp b)
-        → bytes.now ≡ block_bytes b → IfOk result (λ o. IfNone o ⊥) }
-    ensures found { IfOk result (λ o. IfSome o (IsFoundIn bytes.now key.now)) }
-{
-    match whole_field(bytes) {
-        Some(block) => pick(alloc, block, key),
-        None => Ok(None),
     }
 }
 

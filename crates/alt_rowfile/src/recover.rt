@@ -5,15 +5,14 @@ ghost use Rattle.alt_base.specs.Counts.{Rose};
 ghost use Rattle.alt_disk.specs.Disk.{Goes, contents};
 ghost use Rattle.alt_disk.specs.Runs.{Quiet};
 ghost use Rattle.sha2.specs.Sha256.{sha256};
-ghost use Rattle.alt_rowfile.specs.Format.{Entry};
+ghost use Rattle.alt_rowblocks.specs.Format.{Entry};
 ghost use Rattle.alt_rowfile.specs.InHand.{FileAs, file_of};
 ghost use Rattle.alt_rowfile.specs.Recovery.{ExplainsFile, HasDigest};
 
-use crate::body::{body_of, is_same};
-use crate::digest::{digest_at, digest_up_to};
 use crate::fault::RowFileFault;
 use crate::rowfile::RowFile;
 use alt_disk::{Disk, DiskFault};
+use alt_rowblocks::{body_of, digest_at, digest_up_to, is_same};
 use std::alloc::Global;
 
 /// The row file of a file of the disk.

@@ -1,17 +1,14 @@
 //! A finished row file in hand.
 
 use crate::fault::RowFileFault;
-use crate::filters::is_denied;
-use crate::hand::Hand;
 use crate::load::load_row;
 use crate::recover::recover_file;
-use crate::search::{blocks_up_to, ends_below};
-use crate::summary::Summary;
 use crate::walk::RowFileWalk;
 use alt_cells::{RowCells, SourceFault};
 use alt_disk::Disk;
 use alt_fields::Bytes;
 use alt_filter::Filter;
+use alt_rowblocks::{Hand, Summary, blocks_up_to, ends_below, is_denied};
 use std::alloc::Global;
 
 /// A row file: the places and first keys of its blocks, the place of its index, a summary of its rows, and a filter for each block. The
@@ -31,12 +28,12 @@ impl RowFile {
     ghost use Rattle.alt_base.specs.Counts.{Rose};
     ghost use Rattle.alt_disk.specs.Disk.{DiskState, Goes, contents};
     ghost use Rattle.alt_disk.specs.Runs.{Quiet};
-    ghost use Rattle.alt_rowfile.specs.Format.{Entry};
+    ghost use Rattle.alt_rowblocks.specs.Format.{Entry};
     ghost use Rattle.alt_rowfile.specs.Damage.{IsDamageIn};
     ghost use Rattle.alt_rowfile.specs.Given.{IsRowGiven};
     ghost use Rattle.alt_rowfile.specs.InHand.{Reads, file_of};
     ghost use Rattle.alt_rowfile.specs.Reading.{ReadsAtMostABlock};
-    ghost use Rattle.alt_rowfile.specs.Summaries.{any_tombstone, latest_of};
+    ghost use Rattle.alt_rowblocks.specs.Summaries.{any_tombstone, latest_of};
     ghost use Rattle.alt_rowfile.specs.Walking.{walk_holds, walk_reads};
     ghost use Rattle.std.specs.FinMap.{entries};
     ghost use Rattle.alt_rowfile.specs.Recovery.{ExplainsFile};

@@ -6,19 +6,18 @@ ghost use Rattle.alt_base.specs.Counts.{Rose};
 ghost use Rattle.alt_disk.specs.Disk.{Goes};
 ghost use Rattle.alt_disk.specs.Runs.{Quiet};
 ghost use Rattle.alt_cells.specs.Walks.{IsDamaged};
-ghost use Rattle.alt_rowfile.specs.Format.{Entry};
+ghost use Rattle.alt_rowblocks.specs.Format.{Entry};
 ghost use Rattle.alt_rowfile.specs.Damage.{IsDamageIn};
 ghost use Rattle.alt_rowfile.specs.Given.{IsSought};
 ghost use Rattle.alt_rowfile.specs.InHand.{Reads};
 ghost use Rattle.alt_rowfile.specs.Reading.{ReadsAtMostABlock};
 ghost use Rattle.alt_rowfile.specs.Walking.{IsLeft, list_from};
 
-use crate::hand::Hand;
 use crate::load::load;
 use crate::rowfile::RowFile;
-use crate::search::blocks_up_to;
 use alt_cells::SourceFault;
 use alt_disk::Disk;
+use alt_rowblocks::{Hand, blocks_up_to};
 
 /// Where a walk in a direction begins: the blocks that are still to be read, as a walk counts them, and what is in hand. It reads one block
 /// at most.

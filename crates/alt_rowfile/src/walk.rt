@@ -6,20 +6,21 @@ ghost use Rattle.alt_disk.specs.Disk.{Goes};
 ghost use Rattle.alt_disk.specs.Runs.{Quiet};
 ghost use Rattle.alt_cells.specs.Walks.{Gives, IsDamaged, RowList, answered_by};
 ghost use Rattle.alt_rowfile.specs.Damage.{IsDamageIn};
-ghost use Rattle.alt_rowfile.specs.Format.{Entry};
-ghost use Rattle.alt_rowfile.specs.Given.{HandGives, IsBeyond};
-ghost use Rattle.alt_rowfile.specs.Holding.{IsInHand};
+ghost use Rattle.alt_rowblocks.specs.Format.{Entry};
+ghost use Rattle.alt_rowblocks.specs.Taken.{HandGives};
+ghost use Rattle.alt_rowfile.specs.Given.{IsBeyond};
+ghost use Rattle.alt_rowblocks.specs.Holding.{IsInHand};
 ghost use Rattle.alt_rowfile.specs.InHand.{Reads, count_of};
 ghost use Rattle.alt_rowfile.specs.Reading.{ReadsAtMostABlock};
 ghost use Rattle.alt_rowfile.specs.Walking.{IsEnd, IsNext, IsUnreadIn, LeftAs, passed, walk_file, walk_left};
 
-use crate::hand::Hand;
 use crate::load::{damaged, load, test};
 use crate::rowfile::RowFile;
 use crate::seek::start;
 use alt_cells::{RowCells, RowSource, SourceFault};
 use alt_disk::Disk;
 use alt_fields::{Bytes, BytesFault};
+use alt_rowblocks::Hand;
 
 /// A walk. Forward, `next` is the first block that is still to be read; backward, it is how many blocks are.
 #[derive(Drop)]

@@ -4,13 +4,12 @@ ghost use Rattle.std.specs.Prelude.{◌≡◌, ◌≤◌, ◌+◌, ◌++◌, ◌
 
 use crate::rowfile::RowFile;
 use crate::sink::Sink;
-use crate::summary::Summary;
-use crate::tail::tail_of;
 use alt_base::NoMemory;
 use alt_cells::{RowCells, RowWriter, row_bytes};
 use alt_disk::{Disk, DiskFault};
 use alt_fields::{Bytes, put_bytes};
 use alt_filter::Filter;
+use alt_rowblocks::{Summary, tail_of};
 use std::alloc::Global;
 
 /// A row file that is being written: the file so far, the rows of the block that is open and their filter, the marks of all blocks, with the
@@ -35,7 +34,7 @@ impl RowFileWriter {
     ghost use Rattle.alt_disk.specs.Disk.{DiskState, IsTrusted, Goes};
     ghost use Rattle.alt_disk.specs.Runs.{Run};
     ghost use Rattle.alt_cells.specs.Keys.{key_cmp};
-    ghost use Rattle.alt_rowfile.specs.Format.{Entry, rows_bytes, rows_of, IsBlock, AreBlocks};
+    ghost use Rattle.alt_rowblocks.specs.Format.{Entry, rows_bytes, rows_of, IsBlock, AreBlocks};
     ghost use Rattle.alt_rowfile.specs.Sinks.{Anything};
     ghost use Rattle.alt_rowfile.specs.Writing.{piece, WritesTo, Writes, writer_file};
     ghost use Rattle.alt_rowfile.specs.InHand.{Stands, file_of};

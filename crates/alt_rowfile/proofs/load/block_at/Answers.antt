@@ -3,9 +3,10 @@ use Rattle.std.proofs.Common.{◌≡◌, ◌∙◌, ◌-◌, [], ap, refl, sym, 
 use Rattle.std.proofs.lemmas.List.{get_or_read}
 use Rattle.alt_disk.specs.Disk.{DiskState, contents}
 use Rattle.alt_rowfile.specs.Damage.{IsDamageIn}
-use Rattle.alt_rowfile.specs.Format.{Mark}
-use Rattle.alt_rowfile.specs.Loading.{place_at, next_place}
-use Rattle.alt_rowfile.proofs.LoadLaws.{here, at_place, has_bytes}
+use Rattle.alt_rowblocks.specs.Format.{Mark}
+use Rattle.alt_rowblocks.specs.Loading.{place_at, next_place}
+use Rattle.alt_rowfile.proofs.LoadLaws.{here, at_place}
+use Rattle.alt_rowblocks.proofs.PlaceLaws.{has_bytes}
 use Rattle.alt_rowfile.proofs.load.block_at.Goals as goal
 
 pub returns-in-Ok-None-clause-damage : goal.returns-in-Ok-None-clause-damage

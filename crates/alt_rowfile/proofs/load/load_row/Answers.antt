@@ -1,7 +1,7 @@
 -- The bytes of the block are those of its rows, or damaged.
 use Rattle.std.proofs.Common.{List, ℕ, ◌∙◌, subst}
 use Rattle.alt_disk.specs.Disk.{DiskState}
-use Rattle.alt_rowfile.specs.Given.{IsFoundIn}
+use Rattle.alt_rowblocks.specs.Taken.{IsFoundIn}
 use Rattle.alt_rowfile.proofs.LoadLaws.{here, at_place}
 use Rattle.alt_rowfile.proofs.load.load_row.Goals as goal
 

@@ -1,10 +1,10 @@
 -- The digest is right, and then the body decides.
 use Rattle.std.proofs.Common.{◌≡◌, ◌∙◌, ◌-◌, ◌≤◌, ap, sym, subst, refl, inr, arith, length, List, ℕ, take}
 use Rattle.alt_disk.specs.Disk.{DiskState, contents, bytes_or_none}
-use Rattle.alt_rowfile.specs.Blocks.{IsBody}
+use Rattle.alt_rowblocks.specs.Blocks.{IsBody}
 use Rattle.alt_rowfile.specs.Recovery.{HasDigest, ExplainsFile}
 use Rattle.alt_rowfile.proofs.FileLaws.{file_of_body, no_file}
-use Rattle.alt_rowfile.proofs.StreamLaws.{same_bytes, told_on}
+use Rattle.alt_rowblocks.proofs.StreamLaws.{same_bytes, told_on}
 use Rattle.alt_rowfile.proofs.recover.recover_file.Goals as goal
 
 pub returns-in-Ok-Some-clause-reads : goal.returns-in-Ok-Some-clause-reads

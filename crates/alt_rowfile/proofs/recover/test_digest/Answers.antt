@@ -4,7 +4,7 @@ use Rattle.std.specs.Prelude.{OnOk, IfErr}
 use Rattle.sha2.specs.Sha256.{sha256}
 use Rattle.alt_disk.specs.Disk.{DiskState}
 use Rattle.alt_rowfile.specs.Recovery.{HasDigest, ExplainsFile}
-use Rattle.alt_rowfile.proofs.StreamLaws.{same_bytes, told_on}
+use Rattle.alt_rowblocks.proofs.StreamLaws.{same_bytes, told_on}
 use Rattle.alt_rowfile.proofs.recover.test_digest.Goals as goal
 
 pub returns-in-Ok-Some-clause-agrees : goal.returns-in-Ok-Some-clause-agrees

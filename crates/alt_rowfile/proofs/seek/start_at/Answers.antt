@@ -2,8 +2,8 @@
 use Rattle.std.proofs.Common.{inl, inr, ◌≡◌, ◌+◌, ◌-◌, ◌<◌, ◌∙◌, sym, subst, arith, refl, length, List, Some}
 use Rattle.std.proofs.lemmas.Bool.{false≢true}
 use Rattle.alt_disk.specs.Disk.{DiskState}
-use Rattle.alt_rowfile.specs.Format.{Mark}
-use Rattle.alt_rowfile.specs.Searching.{EndsAt}
+use Rattle.alt_rowblocks.specs.Format.{Mark}
+use Rattle.alt_rowblocks.specs.Searching.{EndsAt}
 use Rattle.alt_rowfile.specs.Walking.{list_from}
 use Rattle.alt_rowfile.proofs.LoadLaws.{at_place, here}
 use Rattle.alt_rowfile.proofs.SeekLaws.{nothing_held, sought_first, sought_in}

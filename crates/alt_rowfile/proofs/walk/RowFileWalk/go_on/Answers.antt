@@ -4,7 +4,7 @@ use Rattle.alt_cells.specs.Walks.{turned}
 use Rattle.alt_disk.specs.Disk.{DiskState}
 use Rattle.alt_rowfile.specs.Walking.{IsEnd, IsNext}
 use Rattle.alt_rowfile.proofs.GivenLaws.{block_gives}
-use Rattle.alt_rowfile.proofs.HandLaws.{all_in_hand}
+use Rattle.alt_rowblocks.proofs.HandLaws.{all_in_hand}
 use Rattle.alt_rowfile.proofs.LoadLaws.{at_place, here}
 use Rattle.alt_rowfile.proofs.WalkLaws.{left_end, next_within, unread_damage, unread_sound, walk_gives}
 use Rattle.alt_rowfile.proofs.walk.RowFileWalk.go_on.Goals as goal

@@ -6,12 +6,13 @@ use Rattle.std.proofs.lemmas.List.{append-nil}
 use Rattle.alt_disk.specs.Disk.{DiskState}
 use Rattle.alt_cells.specs.Keys.{key_cmp}
 use Rattle.alt_fields.proofs.Apart.{all_append}
-use Rattle.alt_rowfile.specs.Format.{Entry, rows_of, IsFull}
+use Rattle.alt_rowblocks.specs.Format.{Entry, rows_of, IsFull}
 use Rattle.alt_disk.specs.Runs.{Spans}
 use Rattle.alt_cells.specs.Walks.{Anything}
 use Rattle.alt_rowfile.specs.declared.sink.Sink.{Sink}
 use Rattle.alt_rowfile.proofs.SinkLaws.{writer_spans, none_spans, well_answered}
-use Rattle.alt_rowfile.proofs.WriterLaws.{block_push, rows_of-push}
+use Rattle.alt_rowfile.proofs.WriterLaws.{block_push}
+use Rattle.alt_rowblocks.proofs.PushLaws.{rows_of-push}
 use Rattle.alt_rowfile.proofs.writer.RowFileWriterRowWriter.add.Goals as goal
 
 pub returns-clause-added : goal.returns-clause-added

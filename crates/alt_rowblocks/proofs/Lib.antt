@@ -1,0 +1,17 @@
+pub mod OneFile
+pub mod SummaryLaws
+pub mod FilterLaws
+pub mod LatestLaws
+pub mod Loops
+pub mod TailLaws
+pub mod DecodeLaws
+pub mod BlockLaws
+pub mod BodyLaws
+pub mod SearchLaws
+pub mod HandLaws
+pub mod CutLaws
+pub mod StreamLaws
+pub mod PickLaws
+pub mod PlaceLaws
+pub mod PushLaws
+pub mod TakenLaws

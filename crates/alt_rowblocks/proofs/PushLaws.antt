@@ -1,0 +1,65 @@
+-- What one row more and one block more make of the bytes of a row file.
+use Rattle.std.proofs.Common.{◌≡◌, ℕ, ◌+◌, ◌<◌, List, [], ◌∷◌, ◌++◌, length, sym, ap, true, false, ◌==◌, ◌∙◌, arith, append_assoc, length-append}
+use Rattle.std.specs.List.{flat_map}
+use Rattle.std.proofs.lemmas.List.{append-nil}
+use Rattle.std.proofs.lemmas.Grind.{flat_map-append}
+use Rattle.alt_rowblocks.specs.Format.{Entry, Mark, entry_bytes, rows_bytes, block_bytes, header, front, rows_of, first_key, marks_from}
+
+-- the bytes of rows with one more are theirs, and its own behind them
+pub rows_bytes-push : (rows : List Entry) (e : Entry)
+    → rows_bytes (rows ++ e ∷ []) ≡ rows_bytes rows ++ entry_bytes e
+rows_bytes-push rows e = flat_map-append entry_bytes rows (e ∷ [])
+    ∙ ap (λ (l : List ℕ). rows_bytes rows ++ l) (append-nil (entry_bytes e))
+
+-- the rows of blocks with one more are theirs, and its own behind them
+pub rows_of-push : (blocks : List (List Entry)) (b : List Entry)
+    → rows_of (blocks ++ b ∷ []) ≡ rows_of blocks ++ b
+rows_of-push blocks b = flat_map-append (λ (x : List Entry). x) blocks (b ∷ [])
+    ∙ ap (λ (l : List Entry). rows_of blocks ++ l) (append-nil b)
+
+-- the bytes of blocks with one more are theirs, and its own behind them
+pub blocks_bytes-push : (blocks : List (List Entry)) (b : List Entry)
+    → flat_map block_bytes (blocks ++ b ∷ []) ≡ flat_map block_bytes blocks ++ block_bytes b
+blocks_bytes-push blocks b = flat_map-append block_bytes blocks (b ∷ [])
+    ∙ ap (λ (l : List ℕ). flat_map block_bytes blocks ++ l) (append-nil (block_bytes b))
+
+-- a file before its index, with one block more, has that block behind what it had
+pub front-push : (blocks : List (List Entry)) (b : List Entry)
+    → front (blocks ++ b ∷ []) ≡ front blocks ++ block_bytes b
+front-push blocks b = ap (λ (l : List ℕ). header ++ l) (blocks_bytes-push blocks b)
+    ∙ sym (append_assoc header (flat_map block_bytes blocks) (block_bytes b))
+
+-- the header has eight bytes, and the blocks stand behind it
+pub length-front : (blocks : List (List Entry))
+    → length (front blocks) ≡ 8 + length (flat_map block_bytes blocks)
+unfolding header
+length-front blocks = omega arith
+
+-- the mark of one block more
+pub marks-push : (at : ℕ) (blocks : List (List Entry)) (b : List Entry)
+    → marks_from at (blocks ++ b ∷ []) ≡ marks_from at blocks
+    ++ (at + length (flat_map block_bytes blocks), first_key b) ∷ []
+marks-push at [] b = ap (λ (n : ℕ). (n, first_key b) ∷ []) (let e : at ≡ at + 0 = omega arith in e)
+marks-push at (c ∷ blocks) b =
+    let size : at + length (block_bytes c) + length (flat_map block_bytes blocks)
+    ≡ at + length (block_bytes c ++ flat_map block_bytes blocks) =
+    omega (arith, length-append (block_bytes c) (flat_map block_bytes blocks)) in
+    ap (λ (l : List Mark). (at, first_key c) ∷ l) (marks-push (at + length (block_bytes c)) blocks b
+    ∙ ap (λ (n : ℕ). marks_from (at + length (block_bytes c)) blocks ++ (n, first_key b) ∷ [])
+    size)
+
+-- a number that is 0 is told to be
+pub is_zero : (n : ℕ) → n ≡ 0 → (n == 0) ≡ true
+is_zero n e = grind arith
+
+-- a number above 0 isn't
+pub is_some : (n : ℕ) → 0 < n → (n == 0) ≡ false
+is_some n e = grind arith
+
+-- a number that is told to be 0 is
+pub zero_from : (n : ℕ) → true ≡ (n == 0) → n ≡ 0
+zero_from n e = grind arith
+
+-- a number that isn't told so is above 0
+pub some_from : (n : ℕ) → false ≡ (n == 0) → 0 < n
+some_from n e = grind arith

@@ -1,0 +1,12 @@
+pub mod Blocks
+pub mod Format
+pub mod Filtering
+pub mod Summaries
+pub mod Decoding
+pub mod Loading
+pub mod Holding
+pub mod Searching
+pub mod Cut
+pub mod Picking
+pub mod Pieces
+pub mod Taken

@@ -1,7 +1,0 @@
--- The keys so far.
-use Rattle.std.proofs.Common.{take}
-use Rattle.alt_rowfile.specs.Filtering.{HoldsRows}
-use Rattle.alt_rowfile.proofs.filters.filter_of.Given as goal
-
-abbrev pub invariant-loop-entry : goal.invariant-loop-entry
-invariant-loop-entry l = HoldsRows l.filter (take l.entry-index l.rows)

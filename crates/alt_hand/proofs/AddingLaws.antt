@@ -27,15 +27,6 @@ use Rattle.alt_hand.proofs.HandLaws.{lies_of}
 
 -- ---- files
 
--- what one step behind another drops
-pub drops_then : (u v w : Version) (left more : List ℕ) → DropsOnly u v left → DropsOnly v w more
-    → ((g : ℕ) → IsIn more g → IsIn left g) → DropsOnly u w left
-drops_then u v w left more first later among f there = ⊎_elim
-    (λ (on : IsIn (files_named v) f). ⊎_elim
-    (λ (still : IsIn (files_named w) f). inl still)
-    (λ (gone : IsIn more f). inr (among f gone)) (later f on))
-    (λ (gone : IsIn left f). inr gone) (first f there)
-
 -- from the last version on
 pub drops_first : (e : Hand) (first u : Version) (left listed : List ℕ)
     → first ≡ renumbered (version_in e) e.next_file e.next → DropsOnly first u left

@@ -1,6 +1,5 @@
 -- An engine and a merge under way beside calls on a file that isn't the store's; and where a merge begins.
-use Rattle.std.proofs.Common.{◌≡◌, ◌≤◌, ◌<◌, ◌+◌, inl, inr, ℕ, Bool, true, false, List, [], ◌∷◌, ◌++◌, length, take, drop, suc, Option, refl, sym, ap, subst, ◌∙◌, arith}
-use Rattle.std.proofs.lemmas.List.{take-append-drop}
+use Rattle.std.proofs.Common.{◌≡◌, ◌≤◌, ◌<◌, ◌+◌, inl, inr, ℕ, Bool, true, false, List, [], ◌∷◌, length, take, drop, suc, Option, refl, sym, ap, subst, ◌∙◌, arith}
 use Rattle.std.specs.Prelude.{◌==◌, if◌then◌else◌}
 use Rattle.std.specs.FinMap.{entries}
 use Rattle.std.specs.List.{AllByRecursion}
@@ -8,7 +7,7 @@ use Rattle.alt_cells.specs.Walks.{Anything}
 use Rattle.alt_disk.specs.Disk.{DiskState}
 use Rattle.alt_disk.specs.Runs.{Spans}
 use Rattle.alt_disk.proofs.Runs.{spans_weaker}
-use Rattle.alt_fields.proofs.Apart.{all_front, all_back}
+use Rattle.alt_fields.proofs.Apart.{all_back}
 use Rattle.alt_flush.proofs.DraftLaws.{layout_still, next_above, settled_beside}
 use Rattle.alt_gatelog.specs.InHand.{file_of as log_file}
 use Rattle.alt_gatelog.proofs.Elsewhere.{reads_stays}
@@ -19,7 +18,7 @@ use Rattle.alt_layout.specs.Moments.{Has, IsIt}
 use Rattle.alt_layout.proofs.FileLaws.{in_back, in_front, last_named, stored_on}
 use Rattle.alt_layout.proofs.FlushLaws.{all_later, of_family, unnamed}
 use Rattle.alt_manifest.specs.InHand.{file_of as manifest_file, version_of}
-use Rattle.alt_manifest.specs.Versions.{IsIn, files_named, row_files}
+use Rattle.alt_manifest.specs.Versions.{files_named, row_files}
 use Rattle.alt_manifest.specs.declared.version.FamilyVersion.{FamilyVersion}
 use Rattle.alt_manifest.specs.declared.version.Version.{Version}
 use Rattle.alt_merge.specs.Merges.{Each2}
@@ -28,24 +27,13 @@ use Rattle.alt_rowfile.specs.declared.rowfile.RowFile.{RowFile}
 use Rattle.alt_families.specs.Families.{files_in}
 use Rattle.alt_hand.specs.Beside.{FilesBeside, FilesRead, MergingStays, StandsBeside}
 use Rattle.alt_hand.specs.InHand.{AreOpen, Stands, family_of}
-use Rattle.alt_hand.specs.Merging.{IsLater, IsMerging, IsOlder, MayEnd, files_at}
+use Rattle.alt_hand.specs.Merging.{IsLater, IsMerging, IsOlder, files_at}
 use Rattle.alt_hand.specs.declared.hand.Hand.{Hand}
-use Rattle.alt_hand.proofs.HandLaws.{in_row_files, lies_of}
+use Rattle.alt_drafts.proofs.MakesLaws.{in_row_files, open_still}
+use Rattle.alt_drafts.proofs.StillLaws.{each_on, may_end_on}
+use Rattle.alt_hand.proofs.HandLaws.{lies_of}
 use Rattle.alt_hand.proofs.LogLaws.{holds_on, length_on}
-use Rattle.alt_hand.proofs.MakesLaws.{open_still}
-use Rattle.alt_hand.proofs.MergingLaws.{one_map}
-
--- files in hand read as they read where those files do
-pub each_on : (a b : DiskState) (held : Held) (gs : List ℕ) (fs : List RowFile)
-    → ((g : ℕ) → IsIn gs g → b.file g ≡ a.file g) → AreOpen a held gs fs
-    → AllByRecursion (λ f. b.file (row_file f) ≡ a.file (row_file f)) fs
-each_on a b held [] [] same are = tt
-each_on a b held [] (f ∷ fs) same are = absurd are
-each_on a b held (g ∷ gs) [] same are = absurd are
-each_on a b held (g ∷ gs) (f ∷ fs) same are = (
-  subst (λ k. b.file k ≡ a.file k) (sym are.0) (same g (inl refl)),
-  each_on a b held gs fs (λ h there. same h (inr there)) are.2,
-)
+use Rattle.alt_drafts.proofs.MergingLaws.{one_map}
 
 -- ---- an engine
 
@@ -141,62 +129,6 @@ files_read s e l family reads = open_maps s reads.held
     (files_of (version_of e.manifest).families family) (files_at e family) (reads.opened family)
 
 -- ---- a merge
-
--- a file that reads as it read
-pub still_reads : (a b : DiskState) (f : RowFile) (m : RowMap) → b.file (row_file f) ≡ a.file (row_file f)
-    → RowReads b f (entries m) → RowReads a f (entries m)
-still_reads a b f m same reads = record {
-  bytes = reads.bytes;
-  there = sym same ∙ reads.there;
-  as_file = reads.as_file;
-}
-
-older_on : (a b : DiskState) (number file : ℕ) (fs : List RowFile)
-    → AllByRecursion (λ f. b.file (row_file f) ≡ a.file (row_file f)) fs
-    → AllByRecursion (IsOlder a number file) fs → AllByRecursion (IsOlder b number file) fs
-older_on a b number file [] same older = tt
-older_on a b number file (f ∷ fs) same older = (
-  record {
-    before = older.0.before;
-    rows = λ m reads. older.0.rows m (still_reads a b f m same.0 reads);
-  },
-  older_on a b number file fs same.1 older.1,
-)
-
-later_on : (a b : DiskState) (number file : ℕ) (fs : List RowFile)
-    → AllByRecursion (λ f. b.file (row_file f) ≡ a.file (row_file f)) fs
-    → AllByRecursion (IsLater a number file) fs → AllByRecursion (IsLater b number file) fs
-later_on a b number file [] same later = tt
-later_on a b number file (f ∷ fs) same later = (
-  record {
-    behind = later.0.behind;
-    rows = λ m reads. later.0.rows m (still_reads a b f m same.0 reads);
-  },
-  later_on a b number file fs same.1 later.1,
-)
-
--- It stays one where the family's files read as they read.
-pub may_end_on : (a b : DiskState) (u : Version) (fs : List RowFile) (family taken number file : ℕ)
-    → AllByRecursion (λ f. b.file (row_file f) ≡ a.file (row_file f)) fs
-    → MayEnd a u fs family taken number file → MayEnd b u fs family taken number file
-may_end_on a b u fs family taken number file same may =
-    let parts : AllByRecursion (λ f. b.file (row_file f) ≡ a.file (row_file f))
-    (take taken fs ++ drop taken fs) =
-    subst (AllByRecursion (λ f. b.file (row_file f) ≡ a.file (row_file f)))
-    (sym (take-append-drop taken fs)) same in record {
-      some = may.some;
-      enough = may.enough;
-      two = may.two;
-      below = may.below;
-      new = may.new;
-      older = older_on a b (number + 1) file (take taken fs)
-          (all_front (λ f. b.file (row_file f) ≡ a.file (row_file f)) (take taken fs) (drop taken fs)
-          parts) may.older;
-      later = later_on a b (number + 1) file (drop taken fs)
-          (all_back (λ f. b.file (row_file f) ≡ a.file (row_file f)) (take taken fs) (drop taken fs)
-          parts) may.later;
-      reached = may.reached;
-    }
 
 pub merging_stays : MergingStays
 merging_stays a b e family taken number file same merging =

@@ -28,10 +28,9 @@ use Rattle.alt_hand.specs.Drafting.{IsSameHand, Makes}
 use Rattle.alt_hand.specs.InHand.{Stands, family_of}
 use Rattle.alt_hand.specs.Merging.{MayEnd, files_at, version_in}
 use Rattle.alt_hand.specs.declared.hand.Hand.{Hand}
-use Rattle.alt_hand.proofs.BesideLaws.{each_on, may_end_on}
-use Rattle.alt_hand.proofs.CarryDrafts.{all_still, still_then}
-use Rattle.alt_hand.proofs.HandLaws.{in_row_files}
-use Rattle.alt_hand.proofs.MakesLaws.{named_of}
+use Rattle.alt_drafts.proofs.StillLaws.{each_on, may_end_on}
+use Rattle.alt_drafts.proofs.CarryDrafts.{all_still, still_then}
+use Rattle.alt_drafts.proofs.MakesLaws.{in_row_files, named_of}
 
 -- ---- a write
 

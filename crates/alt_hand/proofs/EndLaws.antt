@@ -28,10 +28,10 @@ use Rattle.alt_hand.specs.InHand.{IsLength, Stands}
 use Rattle.alt_hand.specs.Merging.{IsMadeOf, MayEnd}
 use Rattle.alt_hand.specs.Working.{Works, WorksIn}
 use Rattle.alt_hand.specs.declared.hand.Hand.{Hand}
-use Rattle.alt_hand.proofs.DeadLaws.{without_all-file}
+use Rattle.alt_drafts.proofs.DeadLaws.{without_all-file}
 use Rattle.alt_hand.proofs.FlushesLaws.{begun}
 use Rattle.alt_hand.proofs.HandLaws.{each_image, lies_of}
-use Rattle.alt_hand.proofs.LeftOutLaws.{flushed_others}
+use Rattle.alt_drafts.proofs.LeftOutLaws.{flushed_others}
 
 -- ---- families that aren't live
 

@@ -29,8 +29,9 @@ use Rattle.alt_hand.specs.InHand.{IsLength, Stands}
 use Rattle.alt_hand.specs.declared.hand.Hand.{Hand}
 use Rattle.alt_hand.proofs.HandLaws.{lies_of}
 use Rattle.alt_hand.proofs.LogLaws.{holds_empty, holds_on, length_on}
-use Rattle.alt_hand.proofs.MakesLaws.{empties_same, makes_first, makes_new_log}
-use Rattle.alt_hand.proofs.PublishLaws.{in_or_not}
+use Rattle.alt_drafts.proofs.MakesLaws.{empties_same, makes_new_log}
+use Rattle.alt_hand.proofs.EngineDrafts.{makes_first}
+use Rattle.alt_drafts.proofs.LeftOutLaws.{in_or_not}
 
 -- The families that aren't live are left out of the first draft.
 pub begun : (a : DiskState) (e : Hand) (l : Layout) (live : List ℕ) (stands : Stands a e l)

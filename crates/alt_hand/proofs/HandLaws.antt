@@ -1,6 +1,6 @@
 -- An engine in hand, by the store that lies on the disk.
-use Rattle.std.proofs.Common.{◌≡◌, ◌≢◌, ◌+◌, ◌==◌, ℕ, Bool, true, false, List, [], ◌∷◌, ◌++◌, length, min, Option, refl, sym, ap, subst, ◌∙◌, arith, inl, inr}
-use Rattle.std.specs.Prelude.{◌⊎◌, if◌then◌else◌}
+use Rattle.std.proofs.Common.{◌≡◌, ◌≢◌, ◌+◌, ℕ, Bool, false, List, [], ◌∷◌, ◌++◌, length, min, Option, refl, sym, ap, subst, ◌∙◌, arith, inl, inr}
+use Rattle.std.specs.Prelude.{◌⊎◌}
 use Rattle.std.specs.BTreeMap.{get}
 use Rattle.std.specs.FinMap.{empty}
 use Rattle.std.specs.Ordering.{nat_cmp}
@@ -25,13 +25,12 @@ use Rattle.alt_layout.proofs.SizeLaws.{bytes_in-push, one_size, sized_last, size
 use Rattle.alt_layout.specs.Fresh.{versions_file}
 use Rattle.alt_manifest.specs.InHand.{version_of}
 use Rattle.alt_manifest.specs.Versions.{AreDistinct, HasVersion, IsIn, files_named, row_files, version_bytes}
-use Rattle.alt_manifest.specs.declared.version.FamilyVersion.{FamilyVersion}
 use Rattle.alt_manifest.specs.declared.version.Version.{Version}
 use Rattle.alt_manifest.proofs.AppendLaws.{has_version}
 use Rattle.alt_layout.specs.Families.{Held, files_of, flushed_of, layout_of, next_after, with_later}
 use Rattle.alt_layout.specs.Files.{IsLayout, all_of}
 use Rattle.alt_layout.specs.Moments.{Lies, HasEither, IsIt}
-use Rattle.alt_layout.proofs.FileLaws.{all_of-join, apart, distinct_front, in_back, in_front, last_named, layout_join, named_later, stored_on}
+use Rattle.alt_layout.proofs.FileLaws.{all_of-join, apart, distinct_front, in_back, last_named, layout_join, named_later, stored_on}
 use Rattle.alt_layout.proofs.FamilyLaws.{flushed_below}
 use Rattle.alt_layout.proofs.FlushLaws.{unnamed}
 use Rattle.alt_layout.proofs.RowLaws.{next_after-least, next_number-numbered, with_later-above, with_later-append}
@@ -42,6 +41,7 @@ use Rattle.alt_hand.specs.InHand.{Reads, Stands, AreBelow, AreOpen, batch_writes
 use Rattle.alt_families.specs.Families.{Families, files_in, rows_in}
 use Rattle.alt_families.specs.Memory.{AreWrittenTo}
 use Rattle.alt_hand.specs.declared.hand.Hand.{Hand}
+use Rattle.alt_drafts.proofs.MakesLaws.{in_row_files}
 use Rattle.alt_hand.proofs.LogLaws.{holds_on, length_on}
 
 -- the last version, as the disk reads
@@ -185,17 +185,6 @@ open_elsewhere a b held (g ∷ gs) (f ∷ fs) same are = (
   },
   open_elsewhere a b held gs fs (λ h there. same h (inr there)) are.2,
 )
-
--- a file of one family is one of the row files
-pub in_row_files : (fs : List FamilyVersion) (family g : ℕ) → IsIn (files_of fs family) g
-    → IsIn (row_files fs) g
-in_row_files [] family g there = absurd there
-in_row_files (f ∷ fs) family g there = by_test (f.family == family) (in_row_files fs family g) there
-  where
-    by_test : (t : Bool) → (IsIn (files_of fs family) g → IsIn (row_files fs) g)
-        → IsIn (if t then f.files else files_of fs family) g → IsIn (f.files ++ row_files fs) g
-    by_test true rest there = in_front f.files (row_files fs) g there
-    by_test false rest there = in_back f.files (row_files fs) g (rest there)
 
 module _ (a b : DiskState) (e : Hand) (l : Layout) (batches : List (List RowChange))
     (bytes : List ℕ) (stands : Stands a e l)

@@ -26,7 +26,8 @@ use Rattle.alt_hand.specs.InHand.{AreBelow, Reads, Stands, family_of}
 use Rattle.alt_hand.specs.Syncing.{AllSynced}
 use Rattle.alt_hand.specs.declared.hand.Hand.{Hand}
 use Rattle.alt_hand.proofs.FoundLaws.{version_there}
-use Rattle.alt_hand.proofs.HandLaws.{in_row_files, open_elsewhere}
+use Rattle.alt_drafts.proofs.MakesLaws.{in_row_files}
+use Rattle.alt_hand.proofs.HandLaws.{open_elsewhere}
 use Rattle.alt_hand.proofs.LogLaws.{holds_on, length_on}
 
 -- ---- numbers of files

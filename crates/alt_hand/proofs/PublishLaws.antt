@@ -1,6 +1,5 @@
 -- An engine by its new version, and what calls on the way leave.
-use Rattle.std.proofs.Common.{◌≡◌, ◌≤◌, ⊎_elim, inl, inr, ℕ, List, [], ◌∷◌, Option, refl, sym, subst, ◌∙◌, arith, Bool, false}
-use Rattle.std.specs.Prelude.{◌⊎◌}
+use Rattle.std.proofs.Common.{◌≡◌, ◌≤◌, ⊎_elim, inl, inr, ℕ, List, Option, refl, sym, subst, ◌∙◌, arith, Bool, false}
 use Rattle.alt_disk.specs.Disk.{DiskState}
 use Rattle.alt_disk.specs.Runs.{Run, Spans}
 use Rattle.alt_disk.proofs.Runs.{spans_on, spans_weaker}
@@ -15,7 +14,6 @@ use Rattle.alt_layout.specs.Layout.{Layout}
 use Rattle.alt_layout.specs.Moments.{Has, HasEither, IsIt}
 use Rattle.alt_layout.proofs.FileLaws.{in_back, in_front, last_named, stored_on}
 use Rattle.alt_layout.proofs.FlushLaws.{unnamed}
-use Rattle.alt_layout.proofs.MomentLaws.{same_or_not}
 use Rattle.alt_manifest.specs.InHand.{file_of as manifest_file, version_of, OldOrNew, Stands as ManifestStands}
 use Rattle.alt_manifest.specs.Versions.{IsIn, files_named, row_files}
 use Rattle.alt_manifest.specs.declared.manifest.Manifest.{Manifest}
@@ -24,17 +22,11 @@ use Rattle.alt_families.specs.Families.{files_in}
 use Rattle.alt_hand.specs.Drafting.{IsLying, IsReady}
 use Rattle.alt_hand.specs.InHand.{AreBelow, Stands, family_of}
 use Rattle.alt_hand.specs.declared.hand.Hand.{Hand}
-use Rattle.alt_hand.proofs.HandLaws.{in_row_files, lies_of}
+use Rattle.alt_drafts.proofs.MakesLaws.{in_row_files, open_still}
+use Rattle.alt_drafts.proofs.LeftOutLaws.{in_or_not}
+use Rattle.alt_hand.proofs.HandLaws.{lies_of}
 use Rattle.alt_hand.proofs.LogLaws.{holds_on, length_on}
-use Rattle.alt_hand.proofs.MakesLaws.{open_still, stands_by}
-
--- a number is among others, or not
-pub in_or_not : (xs : List ℕ) (n : ℕ) → IsIn xs n ⊎ (IsIn xs n → ⊥)
-in_or_not [] n = inr (λ there. there)
-in_or_not (x ∷ xs) n = ⊎_elim (λ (e : n ≡ x). inl (inl e)) (λ (apart : n ≡ x → ⊥).
-    ⊎_elim (λ (later : IsIn xs n). inl (inr later))
-    (λ (out : IsIn xs n → ⊥). inr (λ there. ⊎_elim apart out there)) (in_or_not xs n))
-    (same_or_not n x)
+use Rattle.alt_hand.proofs.EngineDrafts.{stands_by}
 
 -- ---- files that are left over
 

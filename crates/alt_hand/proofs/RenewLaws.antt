@@ -31,12 +31,13 @@ use Rattle.alt_hand.specs.Carrying.{AreStill, Carries, CarriesDraft}
 use Rattle.alt_hand.specs.Drafting.{IsReady, Makes}
 use Rattle.alt_hand.specs.InHand.{Stands, family_of}
 use Rattle.alt_hand.specs.declared.hand.Hand.{Hand}
-use Rattle.alt_hand.proofs.BesideLaws.{each_on, may_end_on}
+use Rattle.alt_drafts.proofs.StillLaws.{each_on, may_end_on}
 use Rattle.alt_hand.proofs.CarryLaws.{carries_published}
 use Rattle.alt_hand.proofs.FlushesLaws.{lying, versions_still}
 use Rattle.alt_hand.proofs.HandLaws.{lies_of}
 use Rattle.alt_hand.proofs.LogLaws.{holds_empty}
-use Rattle.alt_hand.proofs.MakesLaws.{makes_first, named_of, open_still}
+use Rattle.alt_hand.proofs.EngineDrafts.{makes_first}
+use Rattle.alt_drafts.proofs.MakesLaws.{named_of, open_still}
 use Rattle.alt_hand.proofs.PublishLaws.{published, publishing}
 
 -- The draft over it holds what the one before holds.

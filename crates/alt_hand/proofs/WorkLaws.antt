@@ -1,5 +1,5 @@
 -- What work leaves, and how long the log in hand is.
-use Rattle.std.proofs.Common.{◌≡◌, ◌<◌, ◌≤◌, ◌+◌, ◌*◌, ⊎_elim, inl, inr, min, ℕ, List, [], sym, ap, subst, ◌∙◌, arith}
+use Rattle.std.proofs.Common.{◌≡◌, ◌<◌, ◌≤◌, ◌*◌, ⊎_elim, inl, inr, min, ℕ, List, [], ap, subst, ◌∙◌, arith}
 use Rattle.std.specs.Prelude.{◌⊎◌, option_and_then}
 use Rattle.std.specs.FinMap.{empty, get as row_of, get-empty}
 use Rattle.alt_cells.specs.Keys.{key_cmp}

@@ -1,13 +1,10 @@
 -- What an engine's new version says, and what becomes of the files of the one before.
-use Rattle.std.specs.Prelude.{◌≡◌, ◌≢◌, ◌⊎◌, ◌<◌, ◌+◌, ◌-◌, ◌++◌, ℕ, List, [], ◌∷◌, Option, None}
+use Rattle.std.specs.Prelude.{◌≡◌, ◌⊎◌, ◌<◌, ◌+◌, ◌-◌, ◌++◌, ℕ, List, [], ◌∷◌, None}
 use Rattle.std.specs.FinMap.{empty}
 use Rattle.alt_disk.specs.Disk.{DiskState}
-use Rattle.alt_families.specs.Families.{rows_in}
-use Rattle.alt_families.specs.declared.family.Family.{Family}
 use Rattle.alt_gatelog.specs.InHand.{file_of as log_file, form_of}
 use Rattle.alt_gatelog.specs.declared.form.Form.{Form}
 use Rattle.alt_gatelog.specs.declared.form.Form.TheVariants.{One, Two}
-use Rattle.alt_layout.specs.Families.{files_of, flushed_of}
 use Rattle.alt_layout.specs.Files.{Image, IsOf}
 use Rattle.alt_layout.specs.Fresh.{versions_file}
 use Rattle.alt_manifest.specs.Versions.{HasVersion, IsIn, numbers_of}
@@ -15,6 +12,7 @@ use Rattle.alt_manifest.specs.declared.version.Version.{Version}
 use Rattle.alt_hand.specs.InHand.{family_of, next_file_of, next_of}
 use Rattle.alt_hand.specs.Merging.{memory_at, version_in}
 use Rattle.alt_hand.specs.declared.hand.Hand.{Hand}
+pub use Rattle.alt_drafts.specs.Drafting.{IsLeftOut, IsThere}
 
 -- ---- Files.
 
@@ -40,16 +38,6 @@ HasOneOf v w t image =
     HasVersion v (image versions_file) ⊎ HasVersion w (image versions_file)
 
 -- ---- Families that aren't live.
-
--- The version names the family, or it has rows in memory.
-abbrev pub IsThere : Version → Option Family → ℕ → Type 0
-IsThere v o family = IsIn (numbers_of v.families) family ⊎ (rows_in o ≢ empty)
-
--- It names the family without files, flushed up to this number.
-pub record IsLeftOut (v : Version) (family last : ℕ) : Type 0 where
-  pub named : IsIn (numbers_of v.families) family
-  pub files : files_of v.families family ≡ []
-  pub flushed : flushed_of v.families family ≡ last
 
 -- The new version names the segments of the last one, and those families that were there without files, flushed up to the last write; and no family that
 -- isn't live has rows in memory.

@@ -1,7 +1,7 @@
 -- An engine in hand over files, and the disk on which they lie.
-use Rattle.std.specs.Prelude.{◌≡◌, ◌⊎◌, ◌≤◌, ◌+◌, ◌-◌, ◌^◌, ℕ, List, [], ◌∷◌, map, max, min, Option, None, ◌<◌, false, Some}
+use Rattle.std.specs.Prelude.{◌≡◌, ◌⊎◌, ◌≤◌, ◌+◌, ◌-◌, ◌^◌, ℕ, List, map, max, min, Option, None, ◌<◌, false}
 use Rattle.std.specs.BTreeMap.{get}
-use Rattle.std.specs.FinMap.{empty, entries}
+use Rattle.std.specs.FinMap.{empty}
 use Rattle.std.specs.Ordering.{nat_cmp}
 use Rattle.alt_cells.specs.declared.batch.RowChange.{RowChange}
 use Rattle.alt_disk.specs.Disk.{DiskState, IsSettled}
@@ -9,8 +9,6 @@ use Rattle.alt_gatelog.specs.InHand.{file_of as log_file, form_of, Reads as LogR
 use Rattle.alt_gatelog.specs.declared.form.Form.{Form}
 use Rattle.alt_gatelog.specs.declared.form.Form.TheVariants.{One, Two}
 use Rattle.alt_gatelog.specs.declared.gatelog.GateLog.{GateLog}
-use Rattle.alt_rowfile.specs.InHand.{file_of as row_file, Reads as RowReads}
-use Rattle.alt_rowfile.specs.declared.rowfile.RowFile.{RowFile}
 use Rattle.alt_layout.specs.Layout.{Layout, RowMap}
 use Rattle.alt_writes.specs.Writes.{Write, numbered}
 use Rattle.alt_layout.specs.Entries.{HoldWrites}
@@ -22,24 +20,17 @@ use Rattle.alt_layout.specs.Families.{Held, flushed_of, files_of, layout_of, wit
 use Rattle.alt_layout.specs.Files.{EndsWith, Image, IsLayout, IsOf, Stored, all_of}
 use Rattle.alt_layout.specs.Writes.{with_write, with_writes}
 use Rattle.alt_hand.specs.declared.hand.Hand.{Hand}
-use Rattle.alt_hand.specs.declared.hand.EngineFault.{EngineFault}
+use Rattle.alt_drafts.specs.declared.fault.EngineFault.{EngineFault}
 use Rattle.alt_hand.specs.Faults.{told_by_engine}
 use Rattle.alt_faults.specs.Faults.{OnlySpent}
-use Rattle.alt_families.specs.Families.{Families, rows_in, files_in}
+use Rattle.alt_families.specs.Families.{rows_in, files_in}
 use Rattle.alt_families.specs.declared.family.Family.{Family}
 use Rattle.alt_hand.specs.declared.hand.Limits.{Limits}
+pub use Rattle.alt_drafts.specs.InHand.{AreBelow, AreOpen, bytes_in}
 
 -- The family of this number, if the engine has one.
 abbrev pub family_of : Hand → ℕ → Option Family
 family_of e family = get nat_cmp e.families family
-
--- The files in hand are those of these numbers, in order, and each reads as the rows that it is said to hold.
-abbrev pub AreOpen : DiskState → Held → List ℕ → List RowFile → Type 0
-AreOpen s held [] [] = Unit {0}
-AreOpen s held [] (f ∷ fs) = ⊥
-AreOpen s held (g ∷ gs) [] = ⊥
-AreOpen s held (g ∷ gs) (f ∷ fs) =
-    (row_file f ≡ g) × RowReads s f (entries (held g)) × AreOpen s held gs fs
 
 -- What the row files hold that the engine's version names for a family.
 abbrev pub file_rows : Hand → Held → ℕ → List RowMap
@@ -85,15 +76,6 @@ pub record LogHolds (s : DiskState) (log : GateLog) (ws : List Write) : Type 0 w
   pub entries : List (List ℕ)
   pub reads : LogReads s log entries
   pub holds : HoldWrites (form_of log) entries ws
-
--- How many bytes were put into the rows that a family has in memory, counted up to 2^62.
-abbrev pub bytes_in : Option Family → ℕ
-bytes_in None = 0
-bytes_in (Some f) = f.table.1
-
--- Each family has fewer bytes than this in memory.
-abbrev pub AreBelow : ℕ → Families → Type 0
-AreBelow flush families = (family : ℕ) → bytes_in (get nat_cmp families family) < flush
 
 -- The engine is that of this layout as the disk reads: the files that the version in hand names hold it, each is the one in hand, and memory has what
 -- the log has and no row file. No file is there from the next one on. Where it says that no family is full, none is.

@@ -1,21 +1,13 @@
 -- Faults of families as those of the engine, and what a call that only reads leaves.
 use Rattle.std.specs.Prelude.{◌≡◌}
-use Rattle.alt_cells.specs.declared.source.SourceFault.{SourceFault}
-use Rattle.alt_cells.specs.declared.source.SourceFault.TheVariants.{Damaged, Failed, NoMemory}
 use Rattle.alt_disk.specs.Disk.{DiskState}
 use Rattle.alt_faults.specs.Faults as view
 use Rattle.alt_layout.specs.Layout.{Layout}
 use Rattle.alt_hand.specs.Faults.{told_by_engine}
 use Rattle.alt_hand.specs.InHand.{Reads, Stands, next_of}
 use Rattle.alt_hand.specs.declared.hand.Hand.{Hand}
-use Rattle.alt_hand.specs.declared.hand.EngineFault.{EngineFault}
-use Rattle.alt_hand.specs.declared.hand.EngineFault.TheVariants as fault
-
--- The fault of a source of rows, as one of the engine.
-abbrev pub of_source : SourceFault → EngineFault
-of_source (Damaged file at) = fault.Damaged file at
-of_source Failed = fault.Failed
-of_source NoMemory = fault.NoMemory
+use Rattle.alt_drafts.specs.declared.fault.EngineFault.{EngineFault}
+pub use Rattle.alt_drafts.specs.Faults.{of_source}
 
 -- The fault tells of no damage.
 abbrev pub IsUndamaged : EngineFault → Type 0

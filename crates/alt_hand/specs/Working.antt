@@ -13,7 +13,7 @@ use Rattle.alt_hand.specs.Drafting.{IsFlushed, IsSpentFor, files_for, files_need
 use Rattle.alt_hand.specs.Faults.{told_by_engine}
 use Rattle.alt_hand.specs.InHand.{bytes_in, family_of, length_of, limits_of, next_file_of}
 use Rattle.alt_hand.specs.declared.hand.Hand.{Hand}
-use Rattle.alt_hand.specs.declared.hand.EngineFault.{EngineFault}
+use Rattle.alt_drafts.specs.declared.fault.EngineFault.{EngineFault}
 
 -- The families that are live, in the order of their numbers; that of the catalog is the first.
 pub record AreLive (live : List ℕ) : Type 0 where

@@ -13,10 +13,10 @@ ghost use Rattle.alt_hand.specs.Drafting.{IsUnspent};
 ghost use Rattle.alt_hand.specs.Merging.{files_at};
 ghost use Rattle.alt_hand.specs.InHand.{BeforeOrAll, BeforeOrWith, IsSpentBy, Stands, WantsFile, WantsNumber, batch_write, batch_writes, files_made, last_form_of, limits_of, next_file_of, next_of, work_file_of};
 
-use crate::full::full_after;
-use crate::hand::{EngineFault, Hand};
+use crate::hand::Hand;
 use alt_cells::Batch;
 use alt_disk::{Disk, Failed};
+use alt_drafts::{EngineFault, full_after};
 use alt_families::{put_batches, with_more};
 use alt_gatelog::{Form, frame_of};
 use alt_writes::group_of;

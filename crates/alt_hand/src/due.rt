@@ -14,9 +14,9 @@ ghost use Rattle.alt_hand.specs.InHand.{Stands, length_of, limits_of, next_file_
 ghost use Rattle.alt_hand.specs.Merging.{version_in};
 ghost use Rattle.alt_hand.specs.Working.{AreAllFlushed, IsCalm, IsDueFor, IsFlushDone, IsLong, IsShort, most_entries};
 
-use crate::full::first_full;
-use crate::hand::{EngineFault, Hand};
+use crate::hand::Hand;
 use alt_disk::Disk;
+use alt_drafts::{EngineFault, first_full};
 
 impl Hand {
     /// Whether the log has entries.

@@ -8,8 +8,9 @@ ghost use Rattle.alt_layout.specs.Layout.{Layout, ShowsFirst};
 ghost use Rattle.alt_hand.specs.InHand.{Reads};
 ghost use Rattle.alt_hand.specs.Opened.{IsUndamaged, IsUnspent, StaysOn};
 
-use crate::hand::{EngineFault, Hand};
+use crate::hand::Hand;
 use alt_disk::Disk;
+use alt_drafts::EngineFault;
 use alt_families::first_shown;
 use alt_fields::Bytes;
 

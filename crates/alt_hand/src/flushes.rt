@@ -1,36 +1,27 @@
 //! Flushes: of all families, over a new segment, or of one.
 
-ghost use Rattle.std.specs.Prelude.{◌≡◌, ◌⊎◌, ◌+◌, ◌++◌, ◌-◌, [], ℕ, List, OnOk, IfErr, IfOk, IsErrOf, ⊤};
-ghost use Rattle.std.specs.BTreeMap.{get};
-ghost use Rattle.std.specs.FinMap.{empty, entries};
-ghost use Rattle.std.specs.Ordering.{nat_cmp};
+ghost use Rattle.std.specs.Prelude.{◌≡◌, ◌+◌, ◌++◌, ℕ, OnOk, IfErr, IsErrOf, ⊤};
+ghost use Rattle.std.specs.FinMap.{entries};
 ghost use Rattle.alt_base.specs.Counts.{Rose};
-ghost use Rattle.alt_disk.specs.Disk.{DiskState, IsTrusted, Goes};
+ghost use Rattle.alt_disk.specs.Disk.{IsTrusted, Goes};
 ghost use Rattle.alt_disk.specs.Runs.{Spans};
-ghost use Rattle.alt_flush.specs.Laws.{DropsOnly};
-ghost use Rattle.alt_layout.specs.Families.{files_of};
 ghost use Rattle.alt_layout.specs.Layout.{Layout};
-ghost use Rattle.alt_manifest.specs.Versions.{IsIn, RiseFrom, row_files};
-ghost use Rattle.alt_writes.specs.Writes.{Write};
+ghost use Rattle.alt_manifest.specs.Versions.{IsIn, RiseFrom};
 ghost use Rattle.alt_families.specs.Families.{rows_in};
-ghost use Rattle.alt_hand.specs.Adding.{Adds, HasOneOf, IsLeftOut, IsOverNewLog, IsThere, LeavesOut, MakesNone};
-ghost use Rattle.alt_hand.specs.Carrying.{Carries, CarriesDraft};
-ghost use Rattle.alt_hand.specs.Drafting.{AreDead, Empties, EmptiedIn, IsSpentFor, Makes, files_for, without_all};
+ghost use Rattle.alt_hand.specs.Adding.{Adds, HasOneOf, IsOverNewLog, LeavesOut, MakesNone};
+ghost use Rattle.alt_hand.specs.Carrying.{Carries};
+ghost use Rattle.alt_hand.specs.Drafting.{Empties, EmptiedIn, IsSpentFor, files_for};
 ghost use Rattle.alt_hand.specs.InHand.{Stands, family_of, length_of, limits_of, next_file_of, next_of};
 ghost use Rattle.alt_hand.specs.Merging.{version_in};
 ghost use Rattle.alt_hand.specs.Working.{AreAllFlushed, IsAllFor, IsOneFlushed};
 
-use crate::dead::{dead_of, drop_all};
-use crate::flushing::{flush_each, flush_rows};
-use crate::hand::{EngineFault, Hand};
+use crate::hand::Hand;
 use alt_base::NoMemory;
 use alt_disk::Disk;
-use alt_families::Family;
+use alt_drafts::{EngineFault, flush_each, flush_rows, leave_dead};
 use alt_flush::{over_new_log, renumbered};
 use alt_gatelog::{Form, GateLog};
 use alt_manifest::Version;
-use std::alloc::Global;
-use std::collections::BTreeMap;
 
 impl Hand {
     /// Puts the rows in memory of each live family into a file of its own, under a new and empty log. After an Err the engine is spent.
@@ -143,44 +134,6 @@ impl Hand {
         let draft = flush_rows(self.alloc, disk, &mut self.families, family, alive)?;
         self.publish(disk, draft, left.as_slice())
     }
-}
-
-/// Leaves the families out of a draft that aren't live. Their files are put at the end of the list.
-pub(crate) fn leave_dead(
-    alloc: Global,
-    families: &mut BTreeMap<u32, Family>,
-    draft: Version,
-    live: &[u32],
-    left: &mut Vec<u32>,
-) -> Result<Version, NoMemory>
-    ensures makes { IfOk result (λ u. (s : DiskState) (parts : List (List Write)) (l : Layout)
-        → Makes s draft families.old parts l
-        → (m : Layout) × Makes s u families.new parts m × Empties live.now l m) }
-    ensures version { IfOk result (λ u. (dead : List ℕ) × AreDead live.now dead
-        × (u ≡ without_all draft dead)) }
-    ensures file { IfOk result (λ u. u.next_file ≡ draft.next_file) }
-    ensures segments { IfOk result (λ u. u.segments ≡ draft.segments) }
-    ensures lives { OnOk result ((family : ℕ) → IsIn live.now family
-        → get nat_cmp families.new family ≡ get nat_cmp families.old family) }
-    ensures rest { OnOk result ((family : ℕ) → IsIn live.now family
-        ⊎ (rows_in (get nat_cmp families.new family) ≡ empty)) }
-    ensures carries { IfOk result (λ u. (s : DiskState) (family : ℕ) → IsIn live.now family
-        → CarriesDraft s s draft u (get nat_cmp families.old family)
-        (get nat_cmp families.new family) family) }
-    ensures left { OnOk result ((f : ℕ) → IsIn left.new.items f
-        → IsIn left.old.items f ⊎ IsIn (row_files draft.families) f) }
-    ensures kept { OnOk result ((f : ℕ) → IsIn left.old.items f → IsIn left.new.items f) }
-    ensures drops { IfOk result (λ u. DropsOnly draft u left.new.items) }
-    ensures bare { IfOk result (λ u. (family : ℕ) → (IsIn live.now family → ⊥)
-        → files_of u.families family ≡ []) }
-    ensures past { IfOk result (λ u. (family : ℕ) → (IsIn live.now family → ⊥)
-        → IsThere draft (get nat_cmp families.old family) family
-        → IsLeftOut u family (draft.next_number - 1)) }
-    ensures same { IfOk result (λ u. (family : ℕ) → IsIn live.now family
-        → files_of u.families family ≡ files_of draft.families family) }
-{
-    let dead = dead_of(alloc, &draft, families, live, left)?;
-    drop_all(alloc, families, draft, dead.as_slice())
 }
 
 /// Puts the segments of a version at the end of the list.

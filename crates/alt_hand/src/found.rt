@@ -12,9 +12,9 @@ ghost use Rattle.alt_hand.specs.InHand.{limits_of};
 ghost use Rattle.alt_hand.specs.Recovery.{ExplainsStore};
 
 use crate::hand::{Hand, Limits};
-use crate::make::VERSIONS;
 use crate::recover::RecoverFault;
 use alt_disk::Disk;
+use alt_drafts::VERSIONS;
 use alt_gatelog::GateLog;
 use alt_manifest::Manifest;
 use alt_recovery::{Replay, flushed_numbers, open_families, replay_segments};

@@ -13,9 +13,9 @@ ghost use Rattle.alt_hand.specs.Drafting.{IsLying, IsReady, IsUnspent};
 ghost use Rattle.alt_hand.specs.InHand.{Stands, limits_of, next_of};
 ghost use Rattle.alt_hand.specs.Merging.{version_in};
 
-use crate::full::has_full;
-use crate::hand::{EngineFault, Hand};
+use crate::hand::Hand;
 use alt_disk::{Disk, Failed};
+use alt_drafts::{EngineFault, has_full};
 use alt_flush::remove_left_over;
 use alt_manifest::Version;
 

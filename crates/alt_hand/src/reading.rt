@@ -11,9 +11,10 @@ ghost use Rattle.alt_families.specs.Reads.{most_reads};
 ghost use Rattle.alt_hand.specs.InHand.{Reads, family_of, file_rows};
 ghost use Rattle.alt_hand.specs.Opened.{IsUndamaged, IsUnspent, StaysOn};
 
-use crate::hand::{EngineFault, Hand};
+use crate::hand::Hand;
 use alt_cells::ShownRow;
 use alt_disk::Disk;
+use alt_drafts::EngineFault;
 use alt_families::{shown_row, shown_rows};
 use alt_fields::Bytes;
 use alt_keyorder::KeyRange;

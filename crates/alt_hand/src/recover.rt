@@ -16,11 +16,11 @@ ghost use Rattle.alt_hand.specs.Recovery.{ExplainsStore, HasNoLayout, IsNextFile
 ghost use Rattle.alt_hand.specs.Syncing.{AllSynced};
 
 use crate::found::read_store;
-use crate::full::has_full;
 use crate::hand::{Hand, Limits};
 use crate::sync::sync_all;
 use alt_base::NoMemory;
 use alt_disk::{Disk, DiskFault};
+use alt_drafts::has_full;
 use alt_flush::remove_left_over;
 use alt_gatelog::LogFault;
 use alt_recovery::next_file;

@@ -17,9 +17,10 @@ ghost use Rattle.alt_hand.specs.Drafting.{IsPrepared, IsSameHand, IsUnspent, wit
 ghost use Rattle.alt_hand.specs.InHand.{Stands, files_made, last_form_of, next_file_of, work_file_of};
 ghost use Rattle.alt_hand.specs.Merging.{version_in};
 
-use crate::hand::{EngineFault, Hand};
+use crate::hand::Hand;
 use alt_base::NoMemory;
 use alt_disk::{Disk, Failed};
+use alt_drafts::EngineFault;
 use alt_flush::{renumbered, with_segment};
 use alt_gatelog::{Form, GateLog};
 use alt_manifest::Version;

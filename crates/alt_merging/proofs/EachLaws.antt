@@ -25,11 +25,11 @@ use Rattle.alt_hand.specs.Adding.{Adds, IsLeftOut, LeavesOut, MakesNone}
 use Rattle.alt_hand.specs.InHand.{Stands, next_file_of, next_of}
 use Rattle.alt_hand.specs.Merging.{memory_at, version_in}
 use Rattle.alt_hand.specs.Working.{IsFileSpent, IsNoDamage, Works, WorksIn}
-use Rattle.alt_hand.specs.declared.hand.EngineFault.{EngineFault}
-use Rattle.alt_hand.specs.declared.hand.EngineFault.TheVariants.{Spent, Damaged, Failed, NoMemory}
+use Rattle.alt_hand.specs.DeclaredEngineFault.{EngineFault}
+use Rattle.alt_hand.specs.DeclaredEngineFault.TheVariants.{Spent, Damaged, Failed, NoMemory}
 use Rattle.alt_hand.specs.declared.hand.Hand.{Hand}
-use Rattle.alt_hand.proofs.BesideLaws.{still_reads}
-use Rattle.alt_hand.proofs.PublishLaws.{in_or_not}
+use Rattle.alt_hand.proofs.StillLaws.{still_reads}
+use Rattle.alt_hand.proofs.LeftOutLaws.{in_or_not}
 use Rattle.alt_merging.specs.Merged.{AreMerged}
 
 -- ---- files

@@ -33,8 +33,8 @@ use Rattle.alt_hand.specs.Merging.{IsMadeOf, IsMerging, IsOlder, files_at, versi
 use Rattle.alt_hand.specs.Working.{IsNoDamage, WorksIn}
 use Rattle.alt_hand.specs.Opened.{IsUnspent, of_source}
 use Rattle.alt_hand.specs.declared.hand.Hand.{Hand}
-use Rattle.alt_hand.specs.declared.hand.EngineFault.{EngineFault}
-use Rattle.alt_hand.specs.declared.hand.EngineFault.TheVariants as fault
+use Rattle.alt_hand.specs.DeclaredEngineFault.{EngineFault}
+use Rattle.alt_hand.specs.DeclaredEngineFault.TheVariants as fault
 use Rattle.alt_hand.proofs.BesideLaws.{files_by_side, files_read, merging_stays, stands_by_side}
 use Rattle.alt_hand.proofs.EndLaws.{works_same}
 use Rattle.alt_hand.specs.Adding.{HasLast}

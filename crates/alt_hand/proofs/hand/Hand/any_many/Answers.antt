@@ -4,7 +4,7 @@ use Rattle.std.specs.List.{AllByRecursion}
 use Rattle.std.specs.Ordering.{is_eq, nat_cmp}
 use Rattle.alt_families.specs.declared.family.Family.{Family}
 use Rattle.alt_hand.specs.Merging.{AreMany}
-use Rattle.alt_hand.proofs.FullLaws.{found_few}
+use Rattle.alt_hand.proofs.ManyLaws.{found_few}
 use Rattle.alt_hand.proofs.hand.Hand.any_many.Goals as goal
 
 pub returns : goal.returns

@@ -6,7 +6,7 @@ use Rattle.alt_disk.specs.Runs.{Spans}
 use Rattle.alt_layout.specs.Layout.{Layout}
 use Rattle.alt_layout.specs.Writes.{with_writes}
 use Rattle.alt_hand.specs.InHand.{BeforeOrAll, IsSpentBy, Stands, batch_writes, next_of}
-use Rattle.alt_hand.specs.declared.hand.EngineFault.TheVariants.{Spent}
+use Rattle.alt_drafts.specs.declared.fault.EngineFault.TheVariants.{Spent}
 use Rattle.alt_hand.proofs.hand.Hand.apply.Goals as goal
 
 pub apply_all-requires-clause-some : goal.apply_all-requires-clause-some

@@ -7,8 +7,8 @@ use Rattle.alt_gatelog.specs.declared.form.Form.TheVariants.{One, Two}
 use Rattle.alt_hand.specs.Drafting.{IsUnspent}
 use Rattle.alt_hand.specs.Faults.{told_by_engine}
 use Rattle.alt_hand.specs.InHand.{IsSpentBy, WantsFile, WantsNumber, last_form_of, next_file_of, next_of}
-use Rattle.alt_hand.specs.declared.hand.EngineFault.{EngineFault}
-use Rattle.alt_hand.specs.declared.hand.EngineFault.TheVariants.{Spent}
+use Rattle.alt_drafts.specs.declared.fault.EngineFault.{EngineFault}
+use Rattle.alt_drafts.specs.declared.fault.EngineFault.TheVariants.{Spent}
 use Rattle.alt_hand.specs.declared.hand.Hand.{Hand}
 use Rattle.alt_hand.proofs.ApplyLaws.{at_rest}
 use Rattle.alt_hand.proofs.hand.Hand.apply_all.Goals as goal

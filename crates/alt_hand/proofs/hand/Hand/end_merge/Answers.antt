@@ -12,7 +12,7 @@ use Rattle.alt_families.specs.Families.{files_in}
 use Rattle.alt_hand.proofs.EndLaws.{lying_at, merge_ended, works_either, works_still}
 use Rattle.alt_hand.specs.Carrying.{AreStill}
 use Rattle.alt_hand.proofs.CarryLaws.{on_ok_both, still_published}
-use Rattle.alt_hand.proofs.MergingLaws.{some_family}
+use Rattle.alt_drafts.proofs.MergingLaws.{some_family}
 use Rattle.std.specs.FinMap.{empty}
 use Rattle.alt_families.specs.Families.{Families, rows_in}
 use Rattle.alt_flush.specs.Drafts.{From}
@@ -22,7 +22,8 @@ use Rattle.alt_layout.proofs.MomentLaws.{same_or_not}
 use Rattle.alt_manifest.specs.Versions.{IsIn}
 use Rattle.alt_hand.specs.Adding.{IsLeftOut, IsThere}
 use Rattle.alt_hand.specs.Merging.{version_in}
-use Rattle.alt_hand.proofs.AddingLaws.{adds_draft, drops_first, drops_then, makes_none, no_version, one_version}
+use Rattle.alt_hand.proofs.AddingLaws.{adds_draft, drops_first, makes_none, no_version, one_version}
+use Rattle.alt_drafts.proofs.LeftOutLaws.{drops_then}
 use Rattle.alt_hand.proofs.FlushesLaws.{one_empty}
 use Rattle.alt_hand.proofs.hand.Hand.end_merge.Goals as goal
 

@@ -18,10 +18,10 @@ use Rattle.alt_families.specs.Families.{Families, rows_in}
 use Rattle.alt_manifest.specs.Versions.{IsIn}
 use Rattle.alt_hand.specs.Carrying.{CarriesDraft}
 use Rattle.alt_hand.specs.Merging.{version_in}
-use Rattle.alt_hand.proofs.CarryDrafts.{carries_new_log, carries_then}
+use Rattle.alt_drafts.proofs.CarryDrafts.{carries_new_log, carries_then}
 use Rattle.alt_hand.proofs.CarryLaws.{carries_published, left_named, on_ok_both}
 use Rattle.alt_hand.proofs.FlushesLaws.{all_empty, begun, lying, made, making, ready_new, run_later}
-use Rattle.alt_hand.proofs.NeedLaws.{needed_same, spent_more}
+use Rattle.alt_drafts.proofs.NeedLaws.{needed_same, spent_more}
 use Rattle.alt_flush.specs.Laws.{DropsOnly}
 use Rattle.alt_flush.proofs.NamedLaws.{log_drops, log_names}
 use Rattle.alt_flush.proofs.NewLogLaws.{named_new_log}
@@ -29,8 +29,8 @@ use Rattle.alt_layout.specs.Fresh.{versions_file}
 use Rattle.alt_layout.proofs.FileLaws.{apart, in_back, in_front, named_later}
 use Rattle.alt_layout.proofs.FlushLaws.{above_all}
 use Rattle.alt_manifest.specs.Versions.{files_named, numbers_of, row_files}
-use Rattle.alt_hand.proofs.AddingLaws.{adds_draft, drops_first, drops_then, makes_none, no_version, one_version}
-use Rattle.alt_hand.proofs.PublishLaws.{in_or_not}
+use Rattle.alt_hand.proofs.AddingLaws.{adds_draft, drops_first, makes_none, no_version, one_version}
+use Rattle.alt_drafts.proofs.LeftOutLaws.{drops_then, in_or_not}
 use Rattle.alt_hand.proofs.hand.Hand.flush_all.Goals as goal
 
 pub returns-in_err-first-clause-any_moment : goal.returns-in_err-first-clause-any_moment

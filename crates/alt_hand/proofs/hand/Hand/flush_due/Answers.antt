@@ -4,7 +4,7 @@ use Rattle.alt_disk.specs.Disk.{DiskState}
 use Rattle.alt_flush.specs.Drafts.{From}
 use Rattle.alt_flush.proofs.RemoveLaws.{none_removed}
 use Rattle.alt_hand.proofs.FlushesLaws.{making}
-use Rattle.alt_hand.proofs.MakesLaws.{empties_same}
+use Rattle.alt_drafts.proofs.MakesLaws.{empties_same}
 use Rattle.alt_hand.proofs.CarryLaws.{carries_none}
 use Rattle.alt_hand.specs.Working.{IsLong}
 use Rattle.alt_hand.proofs.AddingLaws.{no_version}

@@ -17,11 +17,12 @@ use Rattle.std.specs.Ordering.{nat_cmp}
 use Rattle.alt_families.specs.Families.{Families, rows_in}
 use Rattle.alt_hand.proofs.FlushesLaws.{begun, one_empty, lying, made, making, ready_same}
 use Rattle.alt_hand.specs.Carrying.{CarriesDraft}
-use Rattle.alt_hand.proofs.CarryDrafts.{carries_then}
+use Rattle.alt_drafts.proofs.CarryDrafts.{carries_then}
 use Rattle.alt_hand.proofs.CarryLaws.{carries_published, left_named, on_ok_both}
 use Rattle.std.specs.FinMap.{empty}
 use Rattle.alt_hand.specs.Adding.{IsLeftOut, IsThere}
-use Rattle.alt_hand.proofs.AddingLaws.{adds_draft, drops_first, drops_then, makes_none, no_version, one_version}
+use Rattle.alt_hand.proofs.AddingLaws.{adds_draft, drops_first, makes_none, no_version, one_version}
+use Rattle.alt_drafts.proofs.LeftOutLaws.{drops_then}
 use Rattle.alt_hand.proofs.hand.Hand.flush_one.Goals as goal
 
 pub returns-in_err-first-clause-any_moment : goal.returns-in_err-first-clause-any_moment

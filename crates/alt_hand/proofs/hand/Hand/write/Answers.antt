@@ -10,7 +10,7 @@ use Rattle.alt_hand.specs.Merging.{files_at}
 use Rattle.alt_hand.specs.declared.hand.Hand.{Hand}
 use Rattle.alt_hand.proofs.ApplyLaws.{applied, applied_carries, at_rest, behind_on, behind_two, entry_is, kept, log_stands, stands_prepared, write_moments}
 use Rattle.alt_hand.proofs.CarryLaws.{carries_on, carries_prepared}
-use Rattle.alt_hand.proofs.FullLaws.{still_below}
+use Rattle.alt_drafts.proofs.FullLaws.{still_below}
 use Rattle.alt_hand.proofs.hand.Hand.write.Goals as goal
 
 pub returns-in_err-group-clause-any_moment : goal.returns-in_err-group-clause-any_moment

@@ -1,0 +1,9 @@
+pub mod CarryDrafts
+pub mod DeadLaws
+pub mod Fresh
+pub mod FullLaws
+pub mod LeftOutLaws
+pub mod MakesLaws
+pub mod MergingLaws
+pub mod NeedLaws
+pub mod StillLaws

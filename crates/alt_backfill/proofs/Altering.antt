@@ -1,12 +1,14 @@
 -- The description that a table gets: it may take the place of its own, and it is as a description has to be.
-use Rattle.std.proofs.Common.{◌≡◌, ◌<◌, ◌≤◌, ◌++◌, refl, sym, ap, subst, ◌∙◌, ◌+◌, ℕ, Bool, true, false, not, cond, List, [], ◌∷◌, map, length, nat_lt, Option, Some, None, is_some, inl, inr, arith}
+use Rattle.std.proofs.Common.{◌≡◌, refl, sym, ap, subst, ◌∙◌, ◌+◌, ℕ, true, false, not, List, [], ◌∷◌, map, length, Option, Some, None, is_some, inl, inr}
 use Rattle.std.specs.Prelude.{◌&&◌, ◌⊎◌, codes, if◌then◌else◌}
 use Rattle.std.specs.List.{filter, list_all, list_any}
-use Rattle.std.proofs.lemmas.Bool.Decides.{nat_tests}
+use Rattle.std.proofs.lemmas.Bool.{le-ltb}
+use Rattle.std.specs.Cmp.{first_so, second_so}
 use Rattle.serde_json.specs.Data.{Members}
 use Rattle.alt_backfill.specs.private.Asked.{first_asked, first_of}
 use Rattle.alt_backfill.proofs.Shapes.{none_acts}
 use Rattle.alt_backfill.proofs.Tests.{shape_kept}
+use Rattle.alt_base.proofs.Lists.{length-filter}
 use Rattle.alt_machine.specs.Body.{of_shape}
 use Rattle.alt_machine.specs.Building.{building_in}
 use Rattle.alt_machine.specs.Members.{may_name}
@@ -17,50 +19,23 @@ use Rattle.alt_machine.specs.Valid.{IsMade}
 use Rattle.alt_machine.proofs.Added.{made_added}
 use Rattle.alt_machine.proofs.Removed.{made_removed}
 use Rattle.alt_machine.proofs.Tests.{if_fails, rest_none, unless_holds}
-use Rattle.alt_schema.specs.Altered.{definitions_fit, index_added, indexes_fit_with, is_none_of, keys_fit_with, with_index, without_index}
+use Rattle.alt_schema.specs.Altered.{definitions_fit, indexes_fit_with, is_none_of, keys_fit_with, without_index}
 use Rattle.alt_schema.specs.Indexes.{is_named}
 use Rattle.alt_schema.specs.Rules.{is_name}
 use Rattle.alt_schema.specs.Stated.{definitions_of, index_in, text_of}
 use Rattle.alt_schema.specs.declared.schema.KeyAttr.{KeyAttr}
 use Rattle.alt_schema.specs.declared.schema.TableSchema.{TableSchema}
 use Rattle.alt_schema.specs.declared.stated.StatedIndex.{StatedIndex}
-use Rattle.alt_schema.proofs.NewDescriptions.{left, right}
 use Rattle.alt_shape.specs.Bodies as bodies
 use Rattle.alt_shape.specs.Refusals.{bad_index, bad_index_update, bad_key_schema, bad_name, no_such_index}
 use Rattle.alt_request.specs.TablesAltering.{MayAlter, alter_wants, family_left, has_more}
-
--- a list isn't longer where only some of it stay
-filter_few : {A : Type 0} (p : A → Bool) (xs : List A) → length (filter p xs) ≤ length xs
-filter_few p [] = omega arith
-filter_few p (x ∷ xs) = by (p x) (filter_few p xs)
-  where
-    by : (b : Bool) → length (filter p xs) ≤ length xs
-        → length (cond b (x ∷ filter p xs) (filter p xs)) ≤ length (x ∷ xs)
-    by true few = omega (arith, few)
-    by false few = omega (arith, few)
-
-lt_not : (a b : ℕ) → b ≤ a → nat_lt a b ≡ false
-lt_not a b h = grind (arith, nat_tests)
-
-lt_so : (a b : ℕ) → a < b → nat_lt a b ≡ true
-lt_so a b h = grind (arith, nat_tests)
-
--- a list with one more is longer
-more_counted : {A : Type 0} (xs : List A) (x : A) → length xs < length (xs ++ x ∷ [])
-more_counted [] x = omega arith
-more_counted (y ∷ ys) x = omega (arith, more_counted ys x)
-
--- a description with an index more has more of them
-is_longer : (d : TableSchema) (more : List KeyAttr) (family : ℕ) (i : StatedIndex)
-    → has_more d (with_index d more family i) ≡ true
-is_longer d more family i = lt_so (length d.globals)
-    (length (d.globals ++ index_added d more family i ∷ []))
-    (more_counted d.globals (index_added d more family i))
+use Rattle.alt_request.proofs.TablesAlterLaws.{is_longer}
 
 -- a description with an index less has no more of them
 isnt_longer : (d : TableSchema) (name : List ℕ) → has_more d (without_index d name) ≡ false
-isnt_longer d name = lt_not (length d.globals) (length (filter (λ i. not (is_named name i)) d.globals))
-    (filter_few (λ i. not (is_named name i)) d.globals)
+isnt_longer d name =
+    le-ltb (length d.globals) (length (filter (λ i. not (is_named name i)) d.globals))
+    (length-filter (λ i. not (is_named name i)) d.globals)
 
 -- what comes or goes
 data Alters (cs : List StatedIndex) (ns : List (List ℕ)) : Type 0 where
@@ -120,8 +95,8 @@ module _ (d : TableSchema) (more : List KeyAttr) (family : ℕ) where
       → list_all (indexes_fit_with d more) cs ≡ true → comes_early d cs ≡ false
       → IsMade (altered_by d more family cs ns)
   made_alike made (i ∷ is) ns named good fit early = made_added d more family i made
-      (left (keys_fit_with d more i) _ good) (left (indexes_fit_with d more i) _ fit)
-      (left (is_name i.name) _ named) (none_is (building_in d) early)
+      (first_so (keys_fit_with d more i) _ good) (first_so (indexes_fit_with d more i) _ fit)
+      (first_so (is_name i.name) _ named) (none_is (building_in d) early)
   made_alike made [] (gone ∷ ns) named good fit early = made_removed d gone made
   made_alike made [] [] named good fit early = made
 
@@ -136,8 +111,8 @@ module _ (d : TableSchema) (ms : Members) (family : ℕ) where
     named =
         let shaped = rest_none (of_shape (bodies.update_table ms)) _ body in
         let single = unless_holds (are_single ms) bad_index_update _ shaped.1 in
-        left (list_all (λ (i : StatedIndex). is_name i.name) (coming ms)) _
-        (right (may_name ms (codes "TableName")) _
+        first_so (list_all (λ (i : StatedIndex). is_name i.name) (coming ms)) _
+        (second_so (may_name ms (codes "TableName")) _
         (unless_holds (may_name ms (codes "TableName") && names_fit ms) bad_name [] single.1).0)
 
     -- it is made as a description has to be, where the table's is
@@ -149,7 +124,7 @@ module _ (d : TableSchema) (ms : Members) (family : ℕ) where
         keys.1 in
         let early = if_fails (comes_early d (coming ms)) bad_index_update [] fit.1 in
         made_alike d (definitions_of ms) family made (coming ms) (going ms) named
-        (right (definitions_fit d (altered d ms 0) (definitions_of ms)) _ keys.0) fit.0 early.0
+        (second_so (definitions_fit d (altered d ms 0) (definitions_of ms)) _ keys.0) fit.0 early.0
 
     module _ (some : list_any acts (changes ms) ≡ true) where
       does : Alters (coming ms) (going ms)

@@ -1,5 +1,6 @@
 -- The walk over the tables by name: the first behind a name that passes a test.
 use Rattle.std.proofs.Common.{◌≡◌, ◌<◌, refl, sym, ap, subst, ◌∙◌, ℕ, Bool, true, false, cond, T, List, [], ◌∷◌, map, length, Option, Some, None, option_map, slice_get, is_some, arith}
+use Rattle.std.specs.Bool.{passes as holds}
 use Rattle.std.specs.Prelude.{◌&&◌}
 use Rattle.std.specs.FinMap as finite
 use Rattle.std.specs.FinMap.{entries_sorted, get-entries}
@@ -7,10 +8,11 @@ use Rattle.std.specs.FinMap.Entries.{below_all, find as at_key, is_sorted}
 use Rattle.std.specs.List.{AllByRecursion, filter, find}
 use Rattle.std.specs.Option.{option_map_or}
 use Rattle.std.specs.Ordering.{eq_by_cmp, is_lt}
-use Rattle.std.specs.declared.cmp.Ordering.{Ordering}
-use Rattle.std.specs.declared.cmp.Ordering.TheVariants.{Less, Equal, Greater}
+use Rattle.std.specs.declared.cmp.Ordering.TheVariants.{Less}
 use Rattle.std.specs.Cmp.{tied_itself}
 use Rattle.alt_backfill.specs.private.Asked.{IsBuilding, builds}
+use Rattle.alt_base.proofs.Bools.{first_holds as first, holds_true, second_holds}
+use Rattle.alt_base.proofs.Orderings.{less-holds, is_lt-holds, not_lt_either}
 use Rattle.alt_machine.specs.Building.{build, building_in, first_building, with_built}
 use Rattle.alt_machine.specs.Ops.ListTables.{names_after}
 use Rattle.alt_machine.specs.State.{State, Table, Texts, descriptions}
@@ -23,21 +25,7 @@ use Rattle.alt_schema.specs.Rules.{is_name}
 use Rattle.alt_schema.specs.declared.schema.IndexSchema.{IndexSchema}
 use Rattle.alt_schema.specs.declared.schema.TableSchema.{TableSchema}
 use Rattle.alt_value.specs.Members.{text_order}
-use Rattle.alt_value.proofs.Places.{first, second, is_less, less}
 use Rattle.alt_value.proofs.Texts.{text_total}
-
-holds : (b : Bool) → b ≡ true → T b
-holds true e = tt
-holds false e = absurd (let f : ⊥ = cc in f)
-
-is_true : (b : Bool) → T b → b ≡ true
-is_true true h = refl
-is_true false h = absurd h
-
-not_less : (r s : Ordering) → (r ≡ Less → s ≡ Less) → is_lt s ≡ false → is_lt r ≡ false
-not_less Less s h e = sym (ap is_lt (h refl)) ∙ e
-not_less Equal s h e = refl
-not_less Greater s h e = refl
 
 module _ {X : Type 0} where
   -- its key is behind a name
@@ -54,17 +42,17 @@ module _ {X : Type 0} where
         → first_of_those p last es ≡ find (λ e. p e.1) es
     all_behind last [] h = refl
     all_behind last (e ∷ es) h =
-        let here = is_true (is_behind last e) (first _ _ h) in
-        let rest = all_behind last es (second _ _ h) in
+        let here = holds_true (is_behind last e) (first _ _ h) in
+        let rest = all_behind last es (second_holds _ _ h) in
         (λ i. cond (here i && p e.1) (Some e) (rest i))
 
     below_less : (last k : List ℕ) (es : List (List ℕ × X)) → text_order last k ≡ Less
         → T (below_all text_order k es) → find (λ e. p e.1) es ≡ first_of_those p last es
     below_less last k [] l h = refl
     below_less last k (e ∷ es) l h =
-        let here : is_behind last e ≡ true = is_true _ (is_less _
-        (text_total.trans last k e.0 l (less _ (first _ _ h)))) in
-        let rest = below_less last k es l (second _ _ h) in
+        let here : is_behind last e ≡ true = holds_true _ (less-holds _
+        (text_total.trans last k e.0 l (is_lt-holds _ (first _ _ h)))) in
+        let rest = below_less last k es l (second_holds _ _ h) in
         (λ i. cond (sym here i && p e.1) (Some e) (rest i))
 
     -- what is found behind a name is behind it
@@ -78,7 +66,7 @@ module _ {X : Type 0} where
             → (find (is_behind last) xs ≡ Some e → text_order last e.0 ≡ Less)
             → text_order last e.0 ≡ Less
         by true so is rest = ap (text_order last) (ap (λ (y : List ℕ × X). y.0)
-            (let f : e ≡ x = cc in f)) ∙ less _ (holds _ so)
+            (let f : e ≡ x = cc in f)) ∙ is_lt-holds _ (holds _ so)
         by false so is rest = rest is
 
     -- the next one that passes is the first that does
@@ -102,7 +90,7 @@ module _ {X : Type 0} where
         → first_of_those p last es ≡ first_of_those p e.0 es
     walk_next last e [] sorted found fails = absurd (let f : ⊥ = cc in f)
     walk_next last e (x ∷ xs) sorted found fails = by (is_behind last x) refl found
-        (walk_next last e xs (second _ _ sorted))
+        (walk_next last e xs (second_holds _ _ sorted))
       where
         l : text_order last e.0 ≡ Less
         l = behind_so last e (x ∷ xs) found
@@ -126,7 +114,7 @@ module _ {X : Type 0} where
             ∙ sym (all_behind e.0 xs below)
             ∙ sym (ap (λ b. cond (b && p x.1) (Some x) (first_of_those p e.0 xs)) itself)
         by false so is rest =
-            let over : is_behind e.0 x ≡ false = not_less _ _
+            let over : is_behind e.0 x ≡ false = not_lt_either _ _
             (λ m. text_total.trans last e.0 x.0 l m) so in
             rest is fails
             ∙ sym (ap (λ b. cond (b && p x.1) (Some x) (first_of_those p e.0 xs)) over)

@@ -1,5 +1,6 @@
 -- What is asked of a body whose shape is good: an index comes or goes exactly where it is asked.
 use Rattle.std.proofs.Common.{◌≡◌, refl, sym, ap, ◌∙◌, ℕ, Bool, true, false, cond, List, [], ◌∷◌, ◌++◌, Option, Some, None, is_some}
+use Rattle.std.proofs.lemmas.Bool.{or_left, or_right}
 use Rattle.std.specs.Prelude.{◌||◌, codes, option_and_then, if◌then◌else◌}
 use Rattle.std.specs.List.{flat_map, list_any}
 use Rattle.std.specs.Option.{option_map_or}
@@ -37,15 +38,6 @@ module _ (name : List ℕ) (does : (u : Members) → is_given name u ≡ true �
           by_or true h = refl
           by_or false h = h
       by (Some d) at e rest = ap (λ b. b || list_any acts us) (does u (ap is_some at))
-
--- a test that holds and another
-or_left : (a b : Bool) → a ≡ true → (a || b) ≡ true
-or_left true b h = refl
-or_left false b h = absurd (let f : ⊥ = cc in f)
-
-or_right : (a b : Bool) → b ≡ true → (a || b) ≡ true
-or_right true b h = refl
-or_right false b h = h
 
 -- where one comes
 pub acts_coming : (ms m : Members) → first_asked (codes "Create") ms ≡ Some m

@@ -4,6 +4,8 @@ use Rattle.std.specs.Prelude.{◌&&◌, ◌||◌, ◌==◌, nat_le, codes, optio
 use Rattle.std.specs.List.{filter, flat_map, list_all, list_any}
 use Rattle.std.specs.Option.{option_map_or}
 use Rattle.std.proofs.lemmas.List.{length-append}
+use Rattle.std.proofs.lemmas.Bool.{leb-true}
+use Rattle.std.specs.Cmp.{first_so, second_so}
 use Rattle.serde_json.specs.Data.{Data, Members}
 use Rattle.serde_json.specs.Find.{as_object}
 use Rattle.alt_backfill.specs.private.Asked.{first_of, names_index}
@@ -11,7 +13,6 @@ use Rattle.alt_machine.specs.Lists.{is_given}
 use Rattle.alt_machine.specs.Ops.UpdateTable.{acts, are_single, asked_at, asked_in, changes, coming, going, is_one, names_fit}
 use Rattle.alt_schema.specs.Rules.{is_name}
 use Rattle.alt_schema.specs.Stated.{at_most_one, index_in, text_of}
-use Rattle.alt_schema.proofs.NewDescriptions.{at_most, left, right}
 use Rattle.alt_shape.specs.Shape.{given}
 
 -- at most one is at most one
@@ -38,8 +39,8 @@ pub asks_few : (us : List Members) → list_all is_one us ≡ true
 asks_few [] e = omega arith
 asks_few (u ∷ us) e =
     let here = asks_once u (given (codes "Create") u) (given (codes "Update") u) (given (codes "Delete") u)
-    (left (is_one u) (list_all is_one us) e) in
-    let rest = asks_few us (right (is_one u) (list_all is_one us) e) in
+    (first_so (is_one u) (list_all is_one us) e) in
+    let rest = asks_few us (second_so (is_one u) (list_all is_one us) e) in
     let one : length (filter acts (u ∷ us)) ≡ length (filter acts (u ∷ [])) + length (filter acts us) =
     by (acts u) in
     omega (
@@ -61,8 +62,9 @@ module _ (ms : Members) (single : are_single ms ≡ true) where
   pub asks_one : length (asked_at (codes "Create") ms) + length (asked_at (codes "Delete") ms) ≤ 1
   asks_one = omega (
     arith,
-    asks_few (changes ms) (left (list_all is_one (changes ms)) _ single),
-    at_most (length (filter acts (changes ms))) 1 (right (list_all is_one (changes ms)) _ single),
+    asks_few (changes ms) (first_so (list_all is_one (changes ms)) _ single),
+    leb-true (length (filter acts (changes ms))) 1
+        (second_so (list_all is_one (changes ms)) _ single),
   )
 
   -- what holds of all of one at most holds of the first

@@ -1,5 +1,8 @@
 -- The write of an UpdateTable: its description may be given to the table, and then the request has come to what it is to.
 use Rattle.std.proofs.Common.{◌≡◌, ◌<◌, ◌≤◌, sym, ap, subst, ◌∙◌, ℕ, Bool, true, false, cond, List, [], ◌∷◌, length, nat_le, Option, Some, None, is_some, arith}
+use Rattle.std.proofs.lemmas.Bool.{leb-true}
+use Rattle.std.proofs.lemmas.Option.{same_Some}
+use Rattle.std.specs.Cmp.{first_so}
 use Rattle.std.specs.Prelude.{◌&&◌, codes, option_and_then, unwrap_or}
 use Rattle.std.specs.FinMap as map
 use Rattle.std.specs.List.{list_all}
@@ -21,7 +24,6 @@ use Rattle.alt_machine.specs.Valid.{IsMade}
 use Rattle.alt_machine.proofs.Tests.{rest_none, unless_holds}
 use Rattle.alt_schema.specs.Rules.{is_name, is_name_byte}
 use Rattle.alt_schema.specs.declared.schema.TableSchema.{TableSchema}
-use Rattle.alt_schema.proofs.NewDescriptions.{at_most, left}
 use Rattle.alt_shape.specs.Bodies as bodies
 use Rattle.alt_shape.specs.Refusals.{bad_index_update, bad_name}
 use Rattle.alt_shape.specs.Shape.{a_text, fault_of, given}
@@ -35,7 +37,7 @@ use Rattle.alt_request.specs.TablesDeclaredTables.{Tables}
 name_has : (name : List ℕ) → is_name name ≡ true → 0 < length name
 name_has name e = omega (
   arith,
-  at_most 3 (length name) (left (nat_le 3 (length name))
+  leb-true 3 (length name) (first_so (nat_le 3 (length name))
       (nat_le (length name) 255 && list_all is_name_byte name) e),
 )
 
@@ -57,13 +59,10 @@ unfolding bodies.update_table
 table_has ms free =
     let shaped = rest_none (of_shape (bodies.update_table ms)) _ free in
     let single = unless_holds (are_single ms) bad_index_update _ shaped.1 in
-    let named = left (may_name ms (codes "TableName")) (names_fit ms)
+    let named = first_so (may_name ms (codes "TableName")) (names_fit ms)
     (unless_holds (may_name ms (codes "TableName") && names_fit ms) bad_name [] single.1).0 in
     text_has (given (codes "TableName") ms)
     (or_next_first _ _ (or_next_first _ _ (shape_kept ms free))) named
-
-some_same : {A : Type 0} (a b : A) → Some a ≡ Some b → a ≡ b
-some_same a b h = cc
 
 module _ (tables : Tables) (ms : Members) (later : Later) (may : MayBeAltered tables ms later) where
   abbrev d : TableSchema
@@ -95,7 +94,7 @@ module _ (tables : Tables) (ms : Members) (later : Later) (may : MayBeAltered ta
     pub alter_may : (e : TableSchema) → map.get (catalog_of tables) later.schema.name ≡ Some e
         → MayAlter (family_of tables) e later.schema
     alter_may e at =
-        let same : d ≡ e = some_same d e (sym there_is ∙ at) in
+        let same : d ≡ e = same_Some d e (sym there_is ∙ at) in
         subst (λ (x : TableSchema). MayAlter (family_of tables) x later.schema) same
         (subst (MayAlter (family_of tables) d) (sym may.is)
         (altered_may d ms (family_of tables) may.body (sym may.alters ∙ some)))

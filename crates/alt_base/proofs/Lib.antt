@@ -1,2 +1,6 @@
+pub mod Bools
 pub mod Lists
+pub mod Numbers
+pub mod Options
+pub mod Orderings
 pub mod Prefixes

@@ -1,7 +1,7 @@
 -- What a cache holds stays right while the disk reads the same.
-use Rattle.std.proofs.Common.{◌≡◌, ◌⊎◌, ◌==◌, ◌&&◌, ◌-◌, inl, inr, ⊎_elim, min, ℕ, Bool, true, false, List, Some, IsTrue, refl, sym, ap, subst, ◌∙◌, take, drop, length, Contains, arith}
+use Rattle.std.proofs.Common.{◌≡◌, ◌⊎◌, ◌==◌, ◌&&◌, ◌-◌, inl, inr, ⊎_elim, min, ℕ, Bool, true, List, Some, IsTrue, sym, ap, subst, ◌∙◌, take, drop, length, Contains, arith}
 use Rattle.std.specs.Map.{lookup}
-use Rattle.std.proofs.lemmas.Bool.{false≢true}
+use Rattle.std.proofs.lemmas.Bool.{and_parts}
 use Rattle.std.proofs.lemmas.List.{take-take, take-append-drop, take_at, length-take, length-drop}
 use Rattle.lru.specs.LruCache.{LruCache, promoted, put_entries}
 use Rattle.lru.proofs.CallerLemmas.{Contains-put_entries, Contains-promoted, Contains-lookup}
@@ -29,19 +29,14 @@ pub agrees_kept : (a b : DiskState) (cache : BlockCache) → (IsTrue a.tells →
     → KeepsFiles a b → IsTrue b.tells → Agrees b cache
 agrees_kept a b cache h keeps = agrees_on a b cache h keeps.tells (λ told. keeps.file)
 
--- places that test the same are the same
-and_true : (a b : Bool) → (a && b) ≡ true → (a ≡ true) × (b ≡ true)
-and_true true b e = (refl, e)
-and_true false b e = absurd (false≢true e)
-
 same_number : (m n : ℕ) → (m == n) ≡ true → m ≡ n
 same_number m n e = grind arith
 
 -- places that are told to be the same are the same
 pub same_is : (p q : Place) → same_place p q ≡ true → p ≡ q
 same_is p q e =
-    let two = and_true ((p.0 == q.0) && (p.1 == q.1)) (p.2 == q.2) e in
-    let one = and_true (p.0 == q.0) (p.1 == q.1) two.0 in
+    let two = and_parts ((p.0 == q.0) && (p.1 == q.1)) (p.2 == q.2) e in
+    let one = and_parts (p.0 == q.0) (p.1 == q.1) two.0 in
     let a = same_number p.0 q.0 one.0 in
     let b = same_number p.1 q.1 one.1 in
     let c = same_number p.2 q.2 two.1 in

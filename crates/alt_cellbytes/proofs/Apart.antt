@@ -3,6 +3,7 @@ use Rattle.std.proofs.Common.{◌≡◌, refl, sym, ap, subst, ◌∙◌, ℕ, �
 use Rattle.std.specs.Prelude.{ℤ, Bool, true, false}
 use Rattle.std.specs.List.{AllByRecursion, flat_map}
 use Rattle.std.specs.Ordering.{int_cmp}
+use Rattle.alt_base.proofs.Lists.{cons_rest, cons_first}
 use Rattle.alt_decimal.specs.Number.{Fits}
 use Rattle.alt_decimal.specs.Spelled.{spelled}
 use Rattle.alt_fields.specs.Field.{field}
@@ -14,9 +15,9 @@ use Rattle.alt_fields.specs.Bytes.{IsShort}
 use Rattle.alt_value.specs.Values.{IsText}
 use Rattle.alt_cellbytes.specs.Values.{IsWholeSet, HasBytes, HaveBytes, FieldsHaveBytes}
 use Rattle.alt_decimal.proofs.Normals.{spelled_apart}
-use Rattle.alt_value.proofs.Trees.{elements-trees_of, pairs-fields_of}
-use Rattle.alt_cellbytes.proofs.Shapes.{kind_of, behind_count, list_bytes, map_bytes, texts_bytes, numbers_bytes-set, binaries_bytes, trees_of-elements, fields_of-pairs, all_values, all_entries}
-use Rattle.alt_fields.proofs.Apart.{front, back, IsApart, same_many, number-apart, field-apart, all_map}
+use Rattle.alt_value.proofs.Trees.{elements-trees_of, pairs-fields_of, fields_of-pairs, trees_of-elements}
+use Rattle.alt_cellbytes.proofs.Shapes.{kind_of, behind_count, list_bytes, map_bytes, texts_bytes, numbers_bytes-set, binaries_bytes, all_values, all_entries}
+use Rattle.alt_fields.proofs.Apart.{IsApart, same_many, number-apart, field-apart, all_map}
 
 -- fields of texts and byte strings, and spelled numbers, are apart
 pub text_apart : (s : List ℕ) → IsText s → IsApart field IsText s
@@ -42,10 +43,10 @@ counted_many spell P ks ls x y m n a b e =
 
 -- so are truth bytes
 truths_apart : (a b : Bool) (x y : List ℕ) → truth_byte a ∷ x ≡ truth_byte b ∷ y → (a ≡ b) × (x ≡ y)
-truths_apart true true x y e = (refl, back 1 1 x y e)
-truths_apart false false x y e = (refl, back 0 0 x y e)
-truths_apart true false x y e = absurd (omega (arith, front 1 0 x y e))
-truths_apart false true x y e = absurd (omega (arith, front 0 1 x y e))
+truths_apart true true x y e = (refl, cons_rest 1 1 x y e)
+truths_apart false false x y e = (refl, cons_rest 0 0 x y e)
+truths_apart true false x y e = absurd (omega (arith, cons_first 1 0 x y e))
+truths_apart false true x y e = absurd (omega (arith, cons_first 0 1 x y e))
 
 -- a list's or a map's own bytes, with its members as a list
 pub list_front : (ts : Trees) (x : List ℕ) → cell_bytes (L_tree ts) ++ x

@@ -1,27 +1,22 @@
 -- A member or a name that is tested against the last one.
-use Rattle.std.proofs.Common.{◌≡◌, ◌≢◌, refl, sym, subst, ℕ, zero, suc, ◌-◌, ◌≤◌, List, [], ◌∷◌, ◌++◌, length, Some, None, T, arith}
+use Rattle.std.proofs.Common.{◌≡◌, ◌≢◌, refl, sym, subst, ℕ, zero, suc, ◌-◌, List, [], ◌∷◌, ◌++◌, length, Some, None, T, arith}
 use Rattle.std.specs.Prelude.{Bool, true, false, IsTrue, slice_get}
 use Rattle.std.specs.Cmp.{IsTotalOrder}
 use Rattle.std.specs.Ordering.{is_lt}
 use Rattle.std.specs.declared.cmp.Ordering.{Ordering}
 use native.Mathlib.Numerals.{unary_clauses}
+use Rattle.alt_base.proofs.Lists.{get-past}
+use Rattle.alt_base.proofs.Orderings.{less-holds, is_lt-holds}
 use Rattle.alt_value.specs.Item.{IsItem}
 use Rattle.alt_value.specs.Members.{IsSet, text_order}
 use Rattle.alt_value.specs.Tree.{Tree, Pair}
-use Rattle.alt_value.proofs.Places.{less, is_less}
 use Rattle.alt_cellbytes.proofs.Rising.{rising_more, above_last, item_more, name_above}
-
--- where no member stands, and what a test of an order tells
-past_at : {A : Type 0} (xs : List A) (i : ℕ) → None ≡ slice_get xs i → length xs ≤ i
-past_at [] i e = omega arith
-past_at (x ∷ xs) zero e = absurd (let f : ⊥ = cc in f)
-past_at (x ∷ xs) (suc i) e = omega (arith, past_at xs i e)
 
 -- the last member is there
 pub past : {A : Type 0} (xs : List A) (count : ℕ) → count ≡ length xs → count ≢ 0
     → None ≡ slice_get xs (count - 1) → ⊥
 past xs zero n some e = some refl
-past xs (suc i) n some e = omega (arith, n, past_at xs (suc i - 1) e)
+past xs (suc i) n some e = omega (arith, n, get-past xs (suc i - 1) e)
 
 -- a test as a truth, and back
 is_T : (b : Bool) → IsTrue b → T b
@@ -34,7 +29,7 @@ is_True false t = absurd t
 
 truth : (b : Bool) (r : Ordering) → b ≡ is_lt r → IsTrue b
     → r ≡ Rattle.std.specs.declared.cmp.Ordering.TheVariants.Less
-truth b r e t = less r (is_T (is_lt r) (subst IsTrue e t))
+truth b r e t = is_lt-holds r (is_T (is_lt r) (subst IsTrue e t))
 
 module _ {K : Type 0} (R : K → K → Ordering) (o : IsTotalOrder R) where
   -- a test against the last member
@@ -47,7 +42,7 @@ module _ {K : Type 0} (R : K → K → Ordering) (o : IsTotalOrder R) where
       let here : Some l ≡ slice_get xs i = simp unary_clauses at e in (
         (λ t. rising_more R o xs i l y h (omega (arith, n)) here (truth b (R l y) is t)),
         (λ s. subst IsTrue (sym is) (is_True (is_lt (R l y))
-            (is_less (R l y) (above_last R o xs i l y s here)))),
+            (less-holds (R l y) (above_last R o xs i l y s here)))),
       )
 
 -- a test of a name against the last one
@@ -60,7 +55,7 @@ name_tested ps (suc i) l name t b h n some e is =
     let here : Some l ≡ slice_get ps i = simp unary_clauses at e in (
       (λ p. item_more ps i l name t h (omega (arith, n)) here (truth b (text_order l.0 name) is p)),
       (λ s. subst IsTrue (sym is) (is_True (is_lt (text_order l.0 name))
-          (is_less (text_order l.0 name) (name_above ps i l name t s here)))),
+          (less-holds (text_order l.0 name) (name_above ps i l name t s here)))),
     )
 
 -- no test is both

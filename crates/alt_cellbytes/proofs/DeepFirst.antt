@@ -2,9 +2,10 @@
 use Rattle.std.proofs.Common.{◌≡◌, ◌≢◌, refl, sym, ap, subst, ◌∙◌, ℕ, ◌<◌, ◌≤◌, ◌^◌, ◌-◌, ◌⊎◌, List, [], ◌∷◌, ◌++◌, length, inl, inr, arith, append_assoc, length-append}
 use Rattle.std.specs.List.{AllByRecursion, flat_map}
 use Rattle.std.proofs.lemmas.Bool.{cases_order}
+use Rattle.alt_base.proofs.Lists.{cons_rest, cons_first, all_among}
 use Rattle.alt_fields.specs.Bytes.{IsShort}
 use Rattle.alt_fields.specs.Field.{field}
-use Rattle.alt_fields.proofs.Apart.{front, back, nothing, IsApart, further, same_many, all_map, number-apart, field-apart}
+use Rattle.alt_fields.proofs.Apart.{nothing, IsApart, further, same_many, all_map, number-apart, field-apart}
 use Rattle.alt_value.specs.CellBytes.{cell_bytes, counted}
 use Rattle.alt_value.specs.Size.{depth}
 use Rattle.alt_value.specs.Tree.{Tree, Pair}
@@ -14,7 +15,7 @@ use Rattle.alt_cellbytes.specs.declared.fault.Stop.{Stop}
 use Rattle.alt_cellbytes.specs.declared.fault.Stop.TheVariants.{Left, Deep, NoMemory}
 use Rattle.alt_cellbytes.proofs.Apart.{value_apart, pair_apart}
 use Rattle.alt_cellbytes.proofs.Fields.{field-refuted, length-counted}
-use Rattle.alt_cellbytes.proofs.Stopped.{stops-refuted, deep-refuted, deep-inside, deep-left, here, next_name_of}
+use Rattle.alt_cellbytes.proofs.Stopped.{stops-refuted, deep-refuted, deep-inside, deep-left, next_name_of}
 
 -- ---- where something is nested too deep
 
@@ -23,9 +24,9 @@ first_byte : (b : ℕ) (bytes : List ℕ) (around : List Around) (rest : List �
     → b ∷ bytes ≡ all_around around ++ rest → (b ≡ 9) ⊎ (b ≡ 10)
 first_byte b bytes [] [] n e = absurd n
 first_byte b bytes [] (c ∷ rest) n e = subst (λ k. (k ≡ 9) ⊎ (k ≡ 10))
-    (sym (front b c bytes rest e)) n
-first_byte b bytes (in_list count ts ∷ around) rest n e = inl (front b 9 bytes _ e)
-first_byte b bytes (in_map count ps name ∷ around) rest n e = inr (front b 10 bytes _ e)
+    (sym (cons_first b c bytes rest e)) n
+first_byte b bytes (in_list count ts ∷ around) rest n e = inl (cons_first b 9 bytes _ e)
+first_byte b bytes (in_map count ps name ∷ around) rest n e = inr (cons_first b 10 bytes _ e)
 
 -- so no other value has it within
 pub deep_kind : (most : ℕ) (b : ℕ) (bytes : List ℕ) (left : ℕ) → TooDeep most (b ∷ bytes) left
@@ -64,7 +65,7 @@ list_open most bytes left (in_list count ts ∷ around) rest opened is n nested 
   count,
   flat_map cell_bytes ts ++ (all_around around ++ rest),
   opened.0.0,
-  back 9 9 bytes _ is
+  cons_rest 9 9 bytes _ is
       ∙ append_assoc (counted count ++ flat_map cell_bytes ts) (all_around around) rest
       ∙ append_assoc (counted count) (flat_map cell_bytes ts) (all_around around ++ rest),
   record {
@@ -75,7 +76,7 @@ list_open most bytes left (in_list count ts ∷ around) rest opened is n nested 
     is = refl;
     stops = record {
       around = around;
-      here = rest;
+      all_among = rest;
       open_there = opened.1;
       is = refl;
       stops = (omega (arith, n, some), nested, l);
@@ -83,7 +84,7 @@ list_open most bytes left (in_list count ts ∷ around) rest opened is n nested 
   },
 )
 list_open most bytes left (in_map count ps name ∷ around) rest opened is n nested l some =
-    absurd (omega (arith, front 9 10 bytes _ is))
+    absurd (omega (arith, cons_first 9 10 bytes _ is))
 
 map_open : (most : ℕ) (bytes : List ℕ) (left : ℕ) (around : List Around) (rest : List ℕ)
     → AllByRecursion IsAround around → 10 ∷ bytes ≡ all_around around ++ rest
@@ -92,12 +93,12 @@ map_open : (most : ℕ) (bytes : List ℕ) (left : ℕ) (around : List Around) (
     × NoEntryOf (TooDeep (most - 1)) count more left
 map_open most bytes left [] rest opened is n nested l some = absurd (omega (arith, n, some))
 map_open most bytes left (in_list count ts ∷ around) rest opened is n nested l some =
-    absurd (omega (arith, front 10 9 bytes _ is))
+    absurd (omega (arith, cons_first 10 9 bytes _ is))
 map_open most bytes left (in_map count ps name ∷ around) rest opened is n nested l some = (
   count,
   flat_map entry_bytes ps ++ (field name ++ (all_around around ++ rest)),
   opened.0.0,
-  back 10 10 bytes _ is
+  cons_rest 10 10 bytes _ is
       ∙ append_assoc (counted count ++ (flat_map entry_bytes ps ++ field name))
       (all_around around) rest
       ∙ append_assoc (counted count) (flat_map entry_bytes ps ++ field name)
@@ -118,7 +119,7 @@ map_open most bytes left (in_map count ps name ∷ around) rest opened is n nest
       refl,
       record {
         around = around;
-        here = rest;
+        all_among = rest;
         open_there = opened.1;
         is = refl;
         stops = (omega (arith, n, some), nested, l);
@@ -214,7 +215,8 @@ elements_ahead most ts count bytes rest left are shallow is non =
               inr (
                 g.next,
                 flat_map cell_bytes g.others ++ non.more,
-                here HasBytes ts g.next g.others (subst (AllByRecursion HasBytes) g.is non.are),
+                all_among HasBytes ts g.next g.others
+                    (subst (AllByRecursion HasBytes) g.is non.are),
                 g.there,
                 omega (
                   arith,
@@ -227,8 +229,8 @@ elements_ahead most ts count bytes rest left are shallow is non =
             let g = further cell_bytes HasBytes non.done ts non.more rest
             (apart non.done non.are) are further_on (sym non.is ∙ is) in
             absurd (deep-refuted most non.more left non.stops g.next _
-            (here HasBytes non.done g.next g.others (subst (AllByRecursion HasBytes) g.is are))
-            (here (λ t. depth t ≤ most) non.done g.next g.others
+            (all_among HasBytes non.done g.next g.others (subst (AllByRecursion HasBytes) g.is are))
+            (all_among (λ t. depth t ≤ most) non.done g.next g.others
             (subst (AllByRecursion (λ t. depth t ≤ most)) g.is shallow)) g.there)
       ]
     ]
@@ -295,12 +297,12 @@ entries_ahead most ps count bytes rest left are shallow is non =
         | inr further_on ↦
             let g = further entry_bytes IsEntry non.done ps non.more rest
             (apart non.done non.are.0) are.0 further_on (sym non.is ∙ is) in
-            let e : IsEntry g.next = here IsEntry non.done g.next g.others
+            let e : IsEntry g.next = all_among IsEntry non.done g.next g.others
             (subst (AllByRecursion IsEntry) g.is are.0) in
             let h = field-apart name g.next.0 more _ non.stops.2 e.0.1
             (sym non.stops.4 ∙ g.there ∙ append_assoc (field g.next.0) (cell_bytes g.next.1) _) in
             absurd (deep-refuted most more left non.stops.5 g.next.1 _ e.1
-            (here (λ (p : Pair). depth p.1 ≤ most) non.done g.next g.others
+            (all_among (λ (p : Pair). depth p.1 ≤ most) non.done g.next g.others
             (subst (AllByRecursion (λ (p : Pair). depth p.1 ≤ most)) g.is shallow)) h.1)
       ]
     ]

@@ -1,5 +1,5 @@
 -- A stop of a piece is a stop of the value that it is a piece of.
-use Rattle.std.proofs.Common.{◌≡◌, ap, ◌∙◌, ℕ, ◌+◌, List, ◌∷◌, ◌++◌, length}
+use Rattle.std.proofs.Common.{◌≡◌, ap, ◌∙◌, ℕ, ◌+◌, List, ◌++◌, length}
 use Rattle.alt_value.specs.CellBytes.{counted}
 use Rattle.alt_cellbytes.specs.Places.{IsStop, IsStopAt}
 use Rattle.alt_cellbytes.specs.declared.fault.Stop.{Stop}
@@ -25,10 +25,6 @@ pub both_map : (P Q C D : ℕ → Type 0) (s : Stop) → ((n : ℕ) → P n → 
 both_map P Q C D (Left n) f g h = f n h
 both_map P Q C D (Deep n) f g h = g n h
 both_map P Q C D NoMemory f g h = tt
-
--- a kind with what is behind it, and a count
-pub kind_is : (k n : ℕ) (bytes tail : List ℕ) → k ≡ n → bytes ≡ tail → k ∷ bytes ≡ n ∷ tail
-kind_is k n bytes tail e f = cc
 
 -- how long bytes are that tell a count
 pub length-told : (n : ℕ) (bytes more : List ℕ) → bytes ≡ counted n ++ more

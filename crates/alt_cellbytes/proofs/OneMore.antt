@@ -5,6 +5,7 @@ use Rattle.std.specs.Cmp.{IsTotalOrder}
 use Rattle.std.specs.List.{flat_map, AllByRecursion}
 use Rattle.std.specs.declared.cmp.Ordering.{Ordering}
 use Rattle.alt_base.specs.Prefix.{IsPrefix}
+use Rattle.alt_base.proofs.Lists.{take_next}
 use Rattle.alt_fields.specs.Field.{field}
 use Rattle.alt_value.specs.CellBytes.{cell_bytes}
 use Rattle.alt_value.specs.Item.{with_pair}
@@ -48,13 +49,6 @@ module _ {K : Type 0} (R : K → K → Ordering) (o : IsTotalOrder R) (spell : K
 
 -- ---- written
 
--- one element more, and all of them
-take_suc : {A : Type 0} (xs : List A) (i : ℕ) (x : A) → Some x ≡ slice_get xs i
-    → take (suc i) xs ≡ take i xs ++ x ∷ []
-take_suc [] i x e = absurd (let f : ⊥ = cc in f)
-take_suc (y ∷ xs) zero x e = let f : x ≡ y = cc in rw f refl
-take_suc (y ∷ xs) (suc i) x e = ap (λ zs. y ∷ zs) (take_suc xs i x e)
-
 take_whole : {A : Type 0} (xs : List A) (i : ℕ) → None ≡ slice_get xs i → take i xs ≡ xs
 take_whole [] zero e = refl
 take_whole [] (suc i) e = refl
@@ -69,7 +63,7 @@ pub wrote_more : {K : Type 0} (spell : K → List ℕ) (xs : List K) (i : ℕ) (
 wrote_more {K} spell xs i x first out new so_far here e =
     let P : K → Type 0 = λ k. Unit {0} in
     let more : take (i + 1) xs ≡ take i xs ++ x ∷ [] =
-    ap (λ j. take j xs) (add-one i) ∙ take_suc xs i x here in
+    ap (λ j. take j xs) (add-one i) ∙ take_next xs i x here in
     e ∙ ap (λ s. s ++ spell x) so_far ∙ append_assoc first (flat_map spell (take i xs)) (spell x)
     ∙ ap (λ s. first ++ s) (ap (λ s. flat_map spell (take i xs) ++ s) (sym (append_nil (spell x)))
     ∙ flat_map_snoc spell P (take i xs) x []

@@ -6,59 +6,63 @@ use Rattle.std.specs.FinMap.Entries.{below_all, is_sorted, put}
 use Rattle.std.specs.Ordering.{is_lt, ordering_reverse}
 use Rattle.std.specs.declared.cmp.Ordering.{Ordering}
 use Rattle.std.specs.declared.cmp.Ordering.TheVariants.{Less, Greater}
+use Rattle.alt_base.proofs.Bools.{both_hold, first_holds, second_holds}
+use Rattle.alt_base.proofs.Orderings.{less-holds, is_lt-holds}
 use Rattle.alt_value.specs.Item.{IsItem, with_pair}
 use Rattle.alt_value.specs.Members.{is_below_each, is_rising, IsSet, text_order, with_member}
 use Rattle.alt_value.specs.Tree.{Tree, Pair}
-use Rattle.alt_value.proofs.Places.{first, second, both, less, is_less}
 use Rattle.alt_value.proofs.Texts.{text_total}
 
 module _ {K : Type 0} (R : K → K → Ordering) (o : IsTotalOrder R) where
   below_front : (x : K) (xs ys : List K) → T (is_below_each R x (xs ++ ys))
       → T (is_below_each R x xs)
   below_front x [] ys h = tt
-  below_front x (z ∷ xs) ys h = both _ _ (first _ _ h) (below_front x xs ys (second _ _ h))
+  below_front x (z ∷ xs) ys h =
+      both_hold _ _ (first_holds _ _ h) (below_front x xs ys (second_holds _ _ h))
 
   below_last : (x : K) (xs : List K) (y : K) → T (is_below_each R x (xs ++ y ∷ [])) → R x y ≡ Less
-  below_last x [] y h = less _ (first _ _ h)
-  below_last x (z ∷ xs) y h = below_last x xs y (second _ _ h)
+  below_last x [] y h = is_lt-holds _ (first_holds _ _ h)
+  below_last x (z ∷ xs) y h = below_last x xs y (second_holds _ _ h)
 
   below_more : (x : K) (xs : List K) (y : K) → T (is_below_each R x xs) → R x y ≡ Less
       → T (is_below_each R x (xs ++ y ∷ []))
-  below_more x [] y h l = both _ _ (is_less _ l) tt
-  below_more x (z ∷ xs) y h l = both _ _ (first _ _ h) (below_more x xs y (second _ _ h) l)
+  below_more x [] y h l = both_hold _ _ (less-holds _ l) tt
+  below_more x (z ∷ xs) y h l =
+      both_hold _ _ (first_holds _ _ h) (below_more x xs y (second_holds _ _ h) l)
 
   below_at : (x : K) (xs : List K) (i : ℕ) (l : K) → T (is_below_each R x xs)
       → Some l ≡ slice_get xs i → R x l ≡ Less
   below_at x [] i l h e = absurd (let f : ⊥ = cc in f)
-  below_at x (z ∷ xs) zero l h e = let f : l ≡ z = cc in rw f (less _ (first _ _ h))
-  below_at x (z ∷ xs) (suc i) l h e = below_at x xs i l (second _ _ h) e
+  below_at x (z ∷ xs) zero l h e = let f : l ≡ z = cc in rw f (is_lt-holds _ (first_holds _ _ h))
+  below_at x (z ∷ xs) (suc i) l h e = below_at x xs i l (second_holds _ _ h) e
 
   -- the first members of a set are a set
   pub rising_front : (xs ys : List K) → IsSet R (xs ++ ys) → IsSet R xs
   rising_front [] ys h = tt
-  rising_front (x ∷ xs) ys h = both _ _ (below_front x xs ys (first _ _ h))
-      (rising_front xs ys (second _ _ h))
+  rising_front (x ∷ xs) ys h = both_hold _ _ (below_front x xs ys (first_holds _ _ h))
+      (rising_front xs ys (second_holds _ _ h))
 
   -- one more that is above the last one
   pub rising_more : (xs : List K) (i : ℕ) (l y : K) → IsSet R xs → i + 1 ≡ length xs
       → Some l ≡ slice_get xs i → R l y ≡ Less → IsSet R (xs ++ y ∷ [])
   rising_more [] i l y h n e lt = absurd (omega (arith, n))
   rising_more (x ∷ []) zero l y h n e lt = let f : l ≡ x = cc in
-      both _ _ (below_more x [] y tt (ap (λ k. R k y) (sym f) ∙ lt)) tt
+      both_hold _ _ (below_more x [] y tt (ap (λ k. R k y) (sym f) ∙ lt)) tt
   rising_more (x ∷ []) (suc i) l y h n e lt = absurd (omega (arith, n))
   rising_more (x ∷ z ∷ xs) zero l y h n e lt = absurd (omega (arith, n))
   rising_more (x ∷ z ∷ xs) (suc i) l y h n e lt =
-      both _ _
-      (below_more x (z ∷ xs) y (first _ _ h) (o.trans x l y
-      (below_at x (z ∷ xs) i l (first _ _ h) e) lt))
-      (rising_more (z ∷ xs) i l y (second _ _ h) (omega (arith, n)) e lt)
+      both_hold _ _
+      (below_more x (z ∷ xs) y (first_holds _ _ h) (o.trans x l y
+      (below_at x (z ∷ xs) i l (first_holds _ _ h) e) lt))
+      (rising_more (z ∷ xs) i l y (second_holds _ _ h) (omega (arith, n)) e lt)
 
   -- what goes on a rising list is above its last one
   pub above_last : (xs : List K) (i : ℕ) (l y : K) → IsSet R (xs ++ y ∷ [])
       → Some l ≡ slice_get xs i → R l y ≡ Less
   above_last [] i l y h e = absurd (let f : ⊥ = cc in f)
-  above_last (x ∷ xs) zero l y h e = let f : l ≡ x = cc in rw f (below_last x xs y (first _ _ h))
-  above_last (x ∷ xs) (suc i) l y h e = above_last xs i l y (second _ _ h) e
+  above_last (x ∷ xs) zero l y h e =
+      let f : l ≡ x = cc in rw f (below_last x xs y (first_holds _ _ h))
+  above_last (x ∷ xs) (suc i) l y h e = above_last xs i l y (second_holds _ _ h) e
 
   -- a member above all others stands at the end
   pub with_member-last : (xs : List K) (y : K) → IsSet R (xs ++ y ∷ [])
@@ -66,8 +70,8 @@ module _ {K : Type 0} (R : K → K → Ordering) (o : IsTotalOrder R) where
   with_member-last [] y h = refl
   with_member-last (x ∷ xs) y h =
       let above : R y x ≡ Greater = o.antisymm y x
-      ∙ ap ordering_reverse (below_last x xs y (first _ _ h)) in
-      rw above (ap (λ zs. x ∷ zs) (with_member-last xs y (second _ _ h)))
+      ∙ ap ordering_reverse (below_last x xs y (first_holds _ _ h)) in
+      rw above (ap (λ zs. x ∷ zs) (with_member-last xs y (second_holds _ _ h)))
 
 -- ---- maps
 
@@ -92,13 +96,13 @@ names_more (p ∷ ps) name t = ap (λ ns. p.0 ∷ ns) (names_more ps name t)
 -- the pairs of a map are those whose names rise from above the empty one
 item_from : (ps : List Pair) → IsSet text_order ([] ∷ names ps) → IsItem ps
 item_from ps h = (
-  subst T (names_rising ps) (second _ _ h),
-  subst T (names_below [] ps) (first _ _ h),
+  subst T (names_rising ps) (second_holds _ _ h),
+  subst T (names_below [] ps) (first_holds _ _ h),
 )
 
 -- items by the names of their pairs
 item_to : (ps : List Pair) → IsItem ps → IsSet text_order ([] ∷ names ps)
-item_to ps h = both _ _ (subst T (sym (names_below [] ps)) h.1)
+item_to ps h = both_hold _ _ (subst T (sym (names_below [] ps)) h.1)
     (subst T (sym (names_rising ps)) h.0)
 
 more_from : (ps : List Pair) (name : List ℕ) (t : Tree)
@@ -171,10 +175,10 @@ put_last [] name t h = refl
 put_last (p ∷ ps) name t h =
     let above : text_order name p.0 ≡ Greater =
     text_total.antisymm name p.0 ∙ ap ordering_reverse
-    (below_last text_order text_total p.0 (names ps) name (first _ _ h)) in
-    rw above (ap (λ qs. p ∷ qs) (put_last ps name t (second _ _ h)))
+    (below_last text_order text_total p.0 (names ps) name (first_holds _ _ h)) in
+    rw above (ap (λ qs. p ∷ qs) (put_last ps name t (second_holds _ _ h)))
 
 -- so a next name is put behind the others
 pub with_pair-last : (ps : List Pair) (name : List ℕ) (t u : Tree) → IsItem (ps ++ (name, u) ∷ [])
     → with_pair name t ps ≡ ps ++ (name, t) ∷ []
-with_pair-last ps name t u h = put_last ps name t (second _ _ (more_to ps name u h))
+with_pair-last ps name t u h = put_last ps name t (second_holds _ _ (more_to ps name u h))

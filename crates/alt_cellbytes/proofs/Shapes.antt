@@ -2,26 +2,16 @@
 use Rattle.std.proofs.Common.{◌≡◌, refl, sym, ap, subst, ◌∙◌, ℕ, zero, suc, List, [], ◌∷◌, ◌++◌, length, drop, append_assoc}
 use Rattle.std.specs.Prelude.{ℤ, Bool}
 use Rattle.std.specs.List.{AllByRecursion, flat_map}
+use Rattle.alt_base.proofs.Lists.{cons_rest, cons_first}
 use Rattle.alt_decimal.specs.Spelled.{spelled}
 use Rattle.alt_fields.specs.Field.{field}
 use Rattle.alt_value.specs.CellBytes.{cell_bytes, counted, truth_byte, fields_bytes, numbers_bytes}
-use Rattle.alt_value.specs.Tree.{Tree, S_tree, N_tree, B_tree, BOOL_tree, NULL_tree, SS_tree, NS_tree, BS_tree, L_tree, M_tree, Trees, no_trees, tree_then, Fields, no_fields, field_then, Pair, trees_of, fields_of, elements, pairs}
-use Rattle.alt_value.proofs.Trees.{elements-trees_of, pairs-fields_of}
+use Rattle.alt_value.specs.Tree.{Tree, S_tree, N_tree, B_tree, BOOL_tree, NULL_tree, SS_tree, NS_tree, BS_tree, L_tree, M_tree, Pair, trees_of, fields_of, elements, pairs}
+use Rattle.alt_value.proofs.Trees.{elements-trees_of, pairs-fields_of, fields_of-pairs, trees_of-elements}
 use Rattle.alt_cellbytes.specs.Places.{entry_bytes, IsEntry}
 use Rattle.alt_cellbytes.specs.Values.{HasBytes, HaveBytes, FieldsHaveBytes}
-use Rattle.alt_fields.proofs.Apart.{front, back}
 
 -- ---- lists and maps, seen as lists
-
--- trees are a list of trees
-pub trees_of-elements : (ts : Trees) → trees_of (elements ts) ≡ ts
-trees_of-elements no_trees = refl
-trees_of-elements (tree_then t ts) = ap (λ us. tree_then t us) (trees_of-elements ts)
-
--- and fields are a list of pairs
-pub fields_of-pairs : (fs : Fields) → fields_of (pairs fs) ≡ fs
-fields_of-pairs no_fields = refl
-fields_of-pairs (field_then name t fs) = ap (λ gs. field_then name t gs) (fields_of-pairs fs)
 
 -- the elements of a list that has bytes have bytes
 pub all_values : (ts : List Tree) → HaveBytes (trees_of ts) → AllByRecursion HasBytes ts
@@ -126,7 +116,7 @@ KindIs (suc (suc (suc (suc (suc (suc (suc (suc (suc (suc (suc n))))))))))) t mor
 -- the kind that a first byte tells
 at_kind : (k n : ℕ) (t : Tree) (more tail x : List ℕ) → k ∷ more ≡ n ∷ tail → KindIs n t more x
     → KindIs k t more x
-at_kind k n t more tail x e h = subst (λ j. KindIs j t more x) (sym (front k n more tail e)) h
+at_kind k n t more tail x e h = subst (λ j. KindIs j t more x) (sym (cons_first k n more tail e)) h
 
 counted_tail : (n : ℕ) (members bytes x : List ℕ) → members ≡ bytes
     → (counted n ++ members) ++ x ≡ counted n ++ (bytes ++ x)
@@ -136,30 +126,31 @@ counted_tail n members bytes x e = ap (λ s. (counted n ++ s) ++ x) e
 -- by its first byte a value is of one kind
 pub kind_of : (t : Tree) (k : ℕ) (more x : List ℕ) → k ∷ more ≡ cell_bytes t ++ x
     → KindIs k t more x
-kind_of (S_tree s) k more x e = at_kind k 1 (S_tree s) more _ x e (s, refl, back k 1 more _ e)
-kind_of (N_tree z) k more x e = at_kind k 2 (N_tree z) more _ x e (z, refl, back k 2 more _ e)
-kind_of (B_tree b) k more x e = at_kind k 3 (B_tree b) more _ x e (b, refl, back k 3 more _ e)
-kind_of (BOOL_tree b) k more x e = at_kind k 4 (BOOL_tree b) more _ x e (b, refl, back k 4 more _ e)
-kind_of NULL_tree k more x e = at_kind k 5 NULL_tree more _ x e (refl, back k 5 more _ e)
+kind_of (S_tree s) k more x e = at_kind k 1 (S_tree s) more _ x e (s, refl, cons_rest k 1 more _ e)
+kind_of (N_tree z) k more x e = at_kind k 2 (N_tree z) more _ x e (z, refl, cons_rest k 2 more _ e)
+kind_of (B_tree b) k more x e = at_kind k 3 (B_tree b) more _ x e (b, refl, cons_rest k 3 more _ e)
+kind_of (BOOL_tree b) k more x e =
+    at_kind k 4 (BOOL_tree b) more _ x e (b, refl, cons_rest k 4 more _ e)
+kind_of NULL_tree k more x e = at_kind k 5 NULL_tree more _ x e (refl, cons_rest k 5 more _ e)
 kind_of (SS_tree ss) k more x e =
     at_kind k 6 (SS_tree ss) more _ x e (
       ss,
       refl,
-      back k 6 more _ e
+      cons_rest k 6 more _ e
           ∙ counted_tail (length ss) _ _ x (fields_shape ss),
     )
 kind_of (NS_tree zs) k more x e =
     at_kind k 7 (NS_tree zs) more _ x e (
       zs,
       refl,
-      back k 7 more _ e
+      cons_rest k 7 more _ e
           ∙ counted_tail (length zs) _ _ x (numbers_shape zs),
     )
 kind_of (BS_tree bs) k more x e =
     at_kind k 8 (BS_tree bs) more _ x e (
       bs,
       refl,
-      back k 8 more _ e
+      cons_rest k 8 more _ e
           ∙ counted_tail (length bs) _ _ x (fields_shape bs),
     )
 kind_of (L_tree ts) k more x e =
@@ -170,7 +161,7 @@ kind_of (L_tree ts) k more x e =
     at_kind k 9 (L_tree ts) more _ x f (
       us,
       ap L_tree (sym (trees_of-elements ts)),
-      back k 9 more _ f
+      cons_rest k 9 more _ f
           ∙ append_assoc (counted (length us)) (flat_map cell_bytes us) x,
     )
 kind_of (M_tree fs) k more x e =
@@ -181,7 +172,7 @@ kind_of (M_tree fs) k more x e =
     at_kind k 10 (M_tree fs) more _ x f (
       ps,
       ap M_tree (sym (fields_of-pairs fs)),
-      back k 10 more _ f
+      cons_rest k 10 more _ f
           ∙ append_assoc (counted (length ps)) (flat_map entry_bytes ps) x,
     )
 

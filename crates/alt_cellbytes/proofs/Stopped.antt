@@ -13,11 +13,12 @@ use Rattle.alt_value.specs.Members.{IsSet, text_order}
 use Rattle.alt_value.specs.Tree.{Tree, NULL_tree, L_tree, M_tree, Pair, trees_of, fields_of}
 use Rattle.alt_value.proofs.Texts.{text_total}
 use Rattle.std.proofs.lemmas.Cmp.{int_cmp_total}
+use Rattle.alt_base.proofs.Lists.{cons_first, all_among as here}
 use Rattle.alt_cellbytes.specs.Places.{NoField, NoNumber, NoTruth, NoKind, NoMember, IsNextText, IsNextName, NoName, NoElementOf, NoEntry, NoEntryOf, Within, IsNested, TooDeep, IsEntry, AreEntries, entry_bytes, StopsHere, no_kind, no_text, no_number, no_binary, no_truth, no_count, empty_set, no_text_member, no_number_member, no_binary_member, no_name, Around, in_list, in_map, around_bytes, IsAround, all_around, Stops}
 use Rattle.alt_fields.specs.Bytes.{IsShort}
 use Rattle.alt_value.specs.Values.{IsText}
 use Rattle.alt_cellbytes.specs.Values.{AreRising, IsWholeSet, HasBytes}
-use Rattle.alt_fields.proofs.Apart.{front, nothing, IsApart, further, all_back, all_map, number-apart, field-apart}
+use Rattle.alt_fields.proofs.Apart.{nothing, IsApart, further, all_map, number-apart, field-apart}
 use Rattle.alt_cellbytes.proofs.Fields.{field-refuted, field-left, number-refuted, number-left, length-counted}
 use Rattle.alt_cellbytes.proofs.Rising.{rising_front, item_front, item_other}
 use Rattle.alt_value.proofs.Trees.{elements-trees_of, pairs-fields_of}
@@ -45,11 +46,6 @@ member-refuted spell P Are NoNext apart each next ls count bytes x left n are is
 -- a member with those before it
 snoc_is : {A : Type 0} (ks : List A) (l : A) (ms : List A) → ks ++ l ∷ ms ≡ (ks ++ l ∷ []) ++ ms
 snoc_is ks l ms = sym (append_assoc ks (l ∷ []) ms)
-
--- what holds of each holds of it
-pub here : {A : Type 0} (P : A → Type 0) (ks : List A) (l : A) (ms : List A)
-    → AllByRecursion P (ks ++ l ∷ ms) → P l
-here P ks l ms h = (all_back P ks (l ∷ ms) h).0
 
 -- the next member of a set can be the next
 next_text : (ks : List (List ℕ)) (l : List ℕ) (ms : List (List ℕ)) (more x : List ℕ) (left : ℕ)
@@ -167,8 +163,8 @@ kindless (b ∷ bytes) t x non e = elim non [
 
 truthless : (more x : List ℕ) (b : Bool) → NoTruth more → more ≡ truth_byte b ∷ x → ⊥
 truthless [] x b non e = nothing (truth_byte b) x e
-truthless (c ∷ more) x true non e = omega (arith, non, front c 1 more x e)
-truthless (c ∷ more) x false non e = omega (arith, non, front c 0 more x e)
+truthless (c ∷ more) x true non e = omega (arith, non, cons_first c 1 more x e)
+truthless (c ∷ more) x false non e = omega (arith, non, cons_first c 0 more x e)
 
 -- the count that was told is that of the value
 told_count : {K : Type 0} (spell : K → List ℕ) (ks : List K) (count : ℕ) (more x : List ℕ)

@@ -1,13 +1,13 @@
 -- A value that is stored or sent has cell bytes, and no set is empty in one that has them.
 use Rattle.std.proofs.Common.{ap, ◌<◌, ◌≤◌, T, List, [], ◌∷◌, ◌++◌, length, length-append, arith}
 use Rattle.std.specs.List.{flat_map}
+use Rattle.alt_base.proofs.Bools.{both_hold, first_holds, second_holds}
 use Rattle.alt_fields.specs.Bytes.{IsShort, IsBytes}
 use Rattle.alt_fields.specs.Field.{field}
 use Rattle.alt_fields.proofs.Apart.{all_map}
 use Rattle.alt_value.specs.CellBytes.{cell_bytes, counted}
 use Rattle.alt_value.specs.Size.{depth, elements_depth, fields_depth}
 use Rattle.alt_value.specs.Tree.{Tree, S_tree, N_tree, B_tree, BOOL_tree, NULL_tree, SS_tree, NS_tree, BS_tree, L_tree, M_tree, Trees, no_trees, tree_then, Fields, no_fields, field_then, elements, pairs}
-use Rattle.alt_value.proofs.Places.{both, first, second}
 use Rattle.alt_value.specs.Values.{IsValue, AreValues, AreFields, is_full, sets_full, elements_full, fields_full, IsWhole}
 use Rattle.alt_cellbytes.specs.Places.{entry_bytes}
 use Rattle.alt_cellbytes.specs.Values.{HasBytes, HaveBytes, FieldsHaveBytes}
@@ -42,16 +42,16 @@ mutual
   have_bytes : (ts : Trees) → AreValues ts → T (elements_full ts) → HaveBytes ts
   have_bytes no_trees v full = tt
   have_bytes (tree_then t ts) v full = (
-    has_bytes t v.0 (first (sets_full t) (elements_full ts) full),
-    have_bytes ts v.1 (second (sets_full t) (elements_full ts) full),
+    has_bytes t v.0 (first_holds (sets_full t) (elements_full ts) full),
+    have_bytes ts v.1 (second_holds (sets_full t) (elements_full ts) full),
   )
 
   fields_have : (fs : Fields) → AreFields fs → T (fields_full fs) → FieldsHaveBytes fs
   fields_have no_fields v full = tt
   fields_have (field_then name t fs) v full = (
     v.0,
-    has_bytes t v.1 (first (sets_full t) (fields_full fs) full),
-    fields_have fs v.2 (second (sets_full t) (fields_full fs) full),
+    has_bytes t v.1 (first_holds (sets_full t) (fields_full fs) full),
+    fields_have fs v.2 (second_holds (sets_full t) (fields_full fs) full),
   )
 
 -- a value that is stored or sent has cell bytes
@@ -75,12 +75,12 @@ mutual
   -- nor in its elements or the values of its names
   full_elements : (ts : Trees) → HaveBytes ts → T (elements_full ts)
   full_elements no_trees h = tt
-  full_elements (tree_then t ts) h = both (sets_full t) (elements_full ts) (full_of t h.0)
+  full_elements (tree_then t ts) h = both_hold (sets_full t) (elements_full ts) (full_of t h.0)
       (full_elements ts h.1)
 
   full_fields : (fs : Fields) → FieldsHaveBytes fs → T (fields_full fs)
   full_fields no_fields h = tt
-  full_fields (field_then name t fs) h = both (sets_full t) (fields_full fs) (full_of t h.1)
+  full_fields (field_then name t fs) h = both_hold (sets_full t) (fields_full fs) (full_of t h.1)
       (full_fields fs h.2)
 
 -- each level of a value takes a byte at least

@@ -1,10 +1,8 @@
 -- Lists and maps that are whole, and the places that `attr_of` names.
-use Rattle.std.proofs.Common.{◌≡◌, refl, sym, ap, subst, ◌∙◌, ℕ, ◌-◌, ◌<◌, ◌≤◌, ◌^◌, List, [], ◌∷◌, ◌++◌, length, take, drop, get_or, inl, inr, arith, append_assoc, length-append, Result, Err, OnOk, true, false, ◌==◌}
+use Rattle.std.proofs.Common.{◌≡◌, sym, ap, subst, ◌∙◌, ℕ, ◌-◌, ◌<◌, ◌≤◌, ◌^◌, List, [], ◌∷◌, ◌++◌, length, inl, inr, arith, append_assoc, length-append, Result, OnOk}
 use Rattle.std.specs.List.{AllByRecursion, flat_map}
 use Rattle.std.proofs.lemmas.Result.{on_ok_weaker}
 use Rattle.std.proofs.lemmas.List.{append-nil}
-use Rattle.alt_fields.specs.declared.bytes.BytesFault.{BytesFault}
-use Rattle.alt_fields.specs.declared.bytes.BytesFault.TheVariants.{Bad}
 use Rattle.alt_value.specs.CellBytes.{cell_bytes, counted}
 use Rattle.alt_value.specs.Item.{IsItem}
 use Rattle.alt_value.specs.Tree.{Tree, L_tree, M_tree, Pair, trees_of, fields_of}
@@ -68,16 +66,6 @@ map_whole ps count bytes rest behind small is n are there = (
       ∙ ap (λ s. s ++ behind) (sym (map_bytes ps)),
 )
 
--- the first byte and what follows it
-pub head_tail : (bytes : List ℕ) → 1 ≤ length bytes
-    → get_or bytes 0 0 ∷ take (length bytes - 1) (drop 1 bytes) ≡ bytes
-head_tail [] h = absurd (omega (arith, h))
-head_tail (b ∷ bytes) h = ap (λ s. b ∷ s) (ap (λ n. take n bytes) (omega arith) ∙ take_all bytes)
-  where
-    take_all : (xs : List ℕ) → take (length xs) xs ≡ xs
-    take_all [] = refl
-    take_all (x ∷ xs) = ap (λ ys. x ∷ ys) (take_all xs)
-
 -- ---- places
 
 -- the bytes are those of no value that has cell bytes
@@ -121,11 +109,6 @@ first_place most bytes left at s told e = (
   (λ n d. omega (arith, e, told d.0 d.1, d.2)),
 )
 
--- a fault names one place
-pub one_place : {T : Type 0} (x at : ℕ) → (let r : Result T BytesFault = Err (Bad x) in
-    r ≡ Err (Bad at)) → x ≡ at
-one_place x at e = cc
-
 -- the value that was read is the only one
 pub same_read : (bytes : List ℕ) (t u : Tree) → HasBytes t → HasBytes u → bytes ≡ cell_bytes t
     → bytes ≡ cell_bytes u → t ≡ u
@@ -136,11 +119,3 @@ pub nothing_left : (bytes rest : List ℕ) (t : Tree) → bytes ≡ cell_bytes t
     → bytes ≡ cell_bytes t
 nothing_left bytes [] t e n = e ∙ append-nil (cell_bytes t)
 nothing_left bytes (b ∷ rest) t e n = absurd (omega (arith, n))
-
--- by the test of a length nothing is left
-pub zero_from : (n : ℕ) → true ≡ (n == 0) → n ≡ 0
-zero_from n e = grind arith
-
--- or something is
-pub some_from : (n : ℕ) → false ≡ (n == 0) → 0 < n
-some_from n e = grind arith

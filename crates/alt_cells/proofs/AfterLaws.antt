@@ -18,14 +18,14 @@ abbrev bare : RowCells
 bare = record { gone = None; cells = empty }
 
 -- which no write made
-bare_below : (number : ℕ) → IsBelow number bare
+pub bare_below : (number : ℕ) → IsBelow number bare
 bare_below number = record {
   gone = λ g e. let no : None ≡ Some g = e in cc no;
   cells = λ q c e. let no : None ≡ Some c = sym (get-empty key_cmp q) ∙ e in cc no;
 }
 
 -- it isn't shown
-bare_shown : row_shown bare ≡ None
+pub bare_shown : row_shown bare ≡ None
 bare_shown = row_shown_as bare ∙ ap as_shown (same_map key_total key_exact
     (columns_shown bare) empty (λ q.
     get-columns_shown bare q ∙ ap (option_and_then (value_shown None)) (get-empty key_cmp q)

@@ -10,17 +10,16 @@ use Rattle.std.specs.declared.cmp.Ordering.TheVariants.{Less, Equal, Greater}
 use Rattle.std.specs.Ordering.{eq_by_cmp, ordering_then}
 use Rattle.std.specs.FinMap.{get, get-from_sorted, get-insert, get-remove, get-empty, get-entries, entries, entries_sorted, empty}
 use Rattle.std.specs.FinMap.Entries.{find, find-where_key, is_sorted, is_sorted-where_key, where_key, by_order, below_all}
+use Rattle.alt_base.proofs.Bools.{both_hold, first_holds, second_holds}
+use Rattle.alt_base.proofs.Orderings.{is_eq-holds}
 use Rattle.alt_cells.specs.Keys.{key_cmp}
 use Rattle.alt_cells.specs.Cells.{cell_cmp, value_cmp, greater}
 use Rattle.alt_cells.specs.Joined.{either}
 use Rattle.alt_cells.specs.Changes.{Columns, Given, cell_at, one_cell, cells_given, tied, given_to, with_column, with_columns, differs, is_changed, with_value, changed_cells, gone_cells}
-use Rattle.alt_cells.proofs.Entries.{equal, both, first, second, below_tied, find_below}
+use Rattle.alt_cells.proofs.Entries.{below_tied, find_below}
 use Rattle.alt_cells.proofs.CellLaws.{key_total, key_exact}
 use Rattle.alt_cells.proofs.RowLaws.{get-joined_map}
-
--- names that tie are equal
-same_name : (q name : List ℕ) → eq_by_cmp key_cmp q name ≡ true → q ≡ name
-same_name q name t = key_exact q name (equal (key_cmp q name) (subst T (sym t) tt))
+use Rattle.alt_cells.proofs.SameKeys.{one_key}
 
 -- the winner of two cells of one write is of that write, and has the value that wins
 greater_tied : (number : ℕ) (v w : Option (List ℕ))
@@ -78,7 +77,7 @@ get-with_columns (e ∷ es) m q =
         → get (with_columns es m) q ≡ unwrap_or (given_to q es) (get m q)
         → cond b (tied e.1 (given_to e.0 es)) (get (with_columns es m) q)
         ≡ unwrap_or (cond b (Some (tied e.1 (given_to q es))) (given_to q es)) (get m q)
-    at_name true t behind = ap (λ k. tied e.1 (given_to k es)) (sym (same_name q e.0 t))
+    at_name true t behind = ap (λ k. tied e.1 (given_to k es)) (sym (one_key q e.0 t))
     at_name false t behind = behind
 
 -- of names that rise each stands once
@@ -86,16 +85,16 @@ pub given_to-rising : (q : List ℕ) (es : Given) → T (is_sorted key_cmp es)
     → given_to q es ≡ find key_cmp q es
 given_to-rising q [] h = refl
 given_to-rising q (e ∷ es) h =
-    at_name (eq_by_cmp key_cmp q e.0) refl (given_to-rising q es (second _ _ h))
+    at_name (eq_by_cmp key_cmp q e.0) refl (given_to-rising q es (second_holds _ _ h))
   where
     at_name : (b : Bool) → eq_by_cmp key_cmp q e.0 ≡ b → given_to q es ≡ find key_cmp q es
         → cond b (Some (tied e.1 (given_to q es))) (given_to q es)
         ≡ cond b (Some e.1) (find key_cmp q es)
     at_name true t behind =
-        let ties = equal (key_cmp q e.0) (subst T (sym t) tt) in
+        let ties = is_eq-holds (key_cmp q e.0) (subst T (sym t) tt) in
         let none =
         find_below key_cmp key_total q es
-        (below_tied key_cmp key_total q e.0 es ties (first _ _ h)) in
+        (below_tied key_cmp key_total q e.0 es ties (first_holds _ _ h)) in
         ap (λ o. Some (tied e.1 o)) (behind ∙ none)
     at_name false t behind = behind
 
@@ -103,14 +102,15 @@ given_to-rising q (e ∷ es) h =
 below-map : {A B : Type 0} (g : A → B) (name : List ℕ) (es : List (List ℕ × A))
     → T (below_all key_cmp name es) → T (below_all key_cmp name (map (λ e. (e.0, g e.1)) es))
 below-map g name [] h = tt
-below-map g name (e ∷ es) h = both _ _ (first _ _ h) (below-map g name es (second _ _ h))
+below-map g name (e ∷ es) h =
+    both_hold _ _ (first_holds _ _ h) (below-map g name es (second_holds _ _ h))
 
 -- names that rise do so with other values
 pub sorted-map : {A B : Type 0} (g : A → B) (es : List (List ℕ × A))
     → T (is_sorted key_cmp es) → T (is_sorted key_cmp (map (λ e. (e.0, g e.1)) es))
 sorted-map g [] h = tt
 sorted-map g (e ∷ es) h =
-    both _ _ (below-map g e.0 es (first _ _ h)) (sorted-map g es (second _ _ h))
+    both_hold _ _ (below-map g e.0 es (first_holds _ _ h)) (sorted-map g es (second_holds _ _ h))
 
 -- the value of a name, where each value is changed alike
 pub find-map : {A B : Type 0} (g : A → B) (q : List ℕ) (es : List (List ℕ × A))

@@ -1,5 +1,5 @@
 -- Calls on sources, one after another.
-use Rattle.std.proofs.Common.{◌≤◌, ℕ, Bool, IsTrue, refl, sym, subst, ◌∙◌, arith}
+use Rattle.std.proofs.Common.{◌≤◌, ℕ, Bool, refl, subst, ◌∙◌, arith}
 use Rattle.alt_base.specs.Counts.{Rose}
 use Rattle.alt_disk.specs.Disk.{DiskState, Goes}
 use Rattle.alt_disk.proofs.Calls.{goes_refl, goes_on}
@@ -7,10 +7,7 @@ use Rattle.alt_disk.proofs.Runs.{quiet_start, quiet_then}
 use Rattle.alt_cells.specs.declared.source.SourceFault.{SourceFault}
 use Rattle.alt_cells.specs.declared.source.SourceFault.TheVariants.{Damaged, Failed, NoMemory}
 use Rattle.alt_cells.specs.Walks.{Keeps, Fails, HasCause}
-
--- a disk that tells its contents goes on to do so
-pub tells_on : (a b : DiskState) → Goes a b → IsTrue a.tells → IsTrue b.tells
-tells_on a b goes tells = subst (λ (v : Bool). IsTrue v) (sym goes.tells) tells
+use Rattle.alt_disk.proofs.Staying.{tells_on}
 
 -- what rose in a later call rose in both
 rose_then : (a b c : ℕ) → a ≤ b → Rose b c → Rose a c

@@ -10,15 +10,11 @@ use Rattle.std.specs.declared.cmp.Ordering.{Ordering}
 use Rattle.std.specs.declared.cmp.Ordering.TheVariants.{Less, Equal, Greater}
 use Rattle.std.specs.Ordering.{ordering_index, is_eq}
 use Rattle.std.specs.FinMap.Entries.{find, is_sorted, below_all}
+use Rattle.alt_base.proofs.Bools.{both_hold, first_holds as first, second_holds}
+use Rattle.alt_base.proofs.Orderings.{ordering_index-top, less-holds, is_lt-holds as less}
 use Rattle.alt_cells.specs.Keys.{key_cmp}
 use Rattle.alt_cells.proofs.CellLaws.{key_total}
-use Rattle.alt_cells.proofs.Entries.{both, first, second, less, is_less, below_less}
-
--- the largest of the three indexes
-index_top : (r : Ordering) → ordering_index r ≤ 2
-index_top Less = omega arith
-index_top Equal = omega arith
-index_top Greater = omega arith
+use Rattle.alt_cells.proofs.Entries.{below_less}
 
 -- a test that fails at a key that doesn't tie
 apart : (r : Ordering) → (r ≡ Equal → ⊥) → is_eq r ≡ false
@@ -31,7 +27,7 @@ index_rises : {K : Type 0} (R : K → K → Ordering) (o : IsTotalOrder R) (e y 
     → R e y ≡ Less → R y x ≡ r → ordering_index (R e x) ≤ ordering_index r
 index_rises R o e y x Less p q = omega (arith, ap ordering_index (o.trans e y x p q))
 index_rises R o e y x Equal p q = omega (arith, ap ordering_index (sym (alike_right o y x e q) ∙ p))
-index_rises R o e y x Greater p q = index_top (R e x)
+index_rises R o e y x Greater p q = ordering_index-top (R e x)
 
 -- the least index is that of a lower key, and the greatest that of a higher one
 index_less : (r : Ordering) → ordering_index r ≤ 0 → r ≡ Less
@@ -56,7 +52,8 @@ module _ {K X : Type 0} (R : K → K → Ordering) (o : IsTotalOrder R) where
       → R x (get_or es k d).0 ≡ Less
   below_place x [] k d h within = absurd (omega arith)
   below_place x (e ∷ es) zero d h within = less _ (first _ _ h)
-  below_place x (e ∷ es) (suc k) d h within = below_place x es k d (second _ _ h) (omega arith)
+  below_place x (e ∷ es) (suc k) d h within =
+      below_place x es k d (second_holds _ _ h) (omega arith)
 
   -- so a search by halves may look for a key
   pub searchable : (x : K) (es : List (K × X)) → T (is_sorted R es)
@@ -68,7 +65,7 @@ module _ {K X : Type 0} (R : K → K → Ordering) (o : IsTotalOrder R) where
       (below_place e.0 es j d (first _ _ h) (omega arith)) refl
   searchable x (e ∷ es) h (suc i) zero d at_most within = absurd (omega arith)
   searchable x (e ∷ es) h (suc i) (suc j) d at_most within =
-      searchable x es (second _ _ h) i j d (omega arith) (omega arith)
+      searchable x es (second_holds _ _ h) i j d (omega arith) (omega arith)
 
   -- where a key is below x, so are those before it
   pub before_more : (x : K) (es : List (K × X)) (i : ℕ) (e : K × X) → T (is_sorted R es)
@@ -111,7 +108,7 @@ module _ {K X : Type 0} (R : K → K → Ordering) (o : IsTotalOrder R) where
       let below : R e.0 x ≡ Less = sym (alike_right o (get_or es i d).0 x e.0 tied) ∙ before in
       ap (λ b. cond b (Some e.1) (find R x es))
       (apart (R x e.0) (λ t. not_both (R e.0 x) below (tied_back o x e.0 t)))
-      ∙ find_at x es i d (second _ _ h) (omega arith) tied
+      ∙ find_at x es i d (second_holds _ _ h) (omega arith) tied
     where
       not_both : (r : Ordering) → r ≡ Less → r ≡ Equal → ⊥
       not_both r p q = cc
@@ -147,7 +144,8 @@ module _ {K X : Type 0} (R : K → K → Ordering) (o : IsTotalOrder R) where
   sorted_adjacent (e ∷ f ∷ es) h =
       let rest = sorted_adjacent (f ∷ es) (λ k d within. h (suc k) d (omega arith)) in
       let here = h 0 e (omega arith) in
-      both _ _ (both _ _ (is_less _ here) (below_less R o e.0 f.0 es here (first _ _ rest))) rest
+      both_hold _ _
+      (both_hold _ _ (less-holds _ here) (below_less R o e.0 f.0 es here (first _ _ rest))) rest
 
 -- ---- what a search of a map's entries answers
 

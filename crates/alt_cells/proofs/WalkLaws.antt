@@ -8,12 +8,13 @@ use Rattle.std.specs.BTreeMap.Range.{entries_between, range_contains}
 use Rattle.std.specs.FinMap.{entries, entries_sorted, get, get-entries, empty, get-empty, IsAntisymmetric}
 use Rattle.std.specs.FinMap.Entries.{find, is_sorted, below_all, is_sorted-where_key, find-where_key, find-append, same_entries}
 use Rattle.std.proofs.lemmas.Grind.{reverse_onto}
+use Rattle.alt_base.proofs.Bools.{both_hold, first_holds, second_holds}
 use Rattle.alt_cells.specs.declared.row.RowCells.{RowCells}
 use Rattle.alt_cells.specs.Keys.{key_cmp}
 use Rattle.alt_cells.specs.Joined.{either, joined, joined_map}
 use Rattle.alt_cells.specs.Rows.{join_row}
 use Rattle.alt_cells.specs.Walks.{RowMap, walk_cmp, first_bound, last_bound, rows_from}
-use Rattle.alt_cells.proofs.Entries.{both, first, second, find_below, is_sorted-joined, find-joined}
+use Rattle.alt_cells.proofs.Entries.{find_below, is_sorted-joined, find-joined}
 use Rattle.alt_cells.proofs.CellLaws.{key_total, key_exact}
 use Rattle.alt_cells.proofs.RowLaws.{get-joined_map}
 
@@ -32,34 +33,38 @@ module _ {K X : Type 0} (R : K → K → Ordering) (o : IsTotalOrder R) where
   sorted_push : (es : List (K × X)) (e : K × X) → T (is_sorted (flip_args R) es)
       → T (below_all R e.0 es) → T (is_sorted (flip_args R) (es ++ e ∷ []))
   sorted_push [] e g h = tt
-  sorted_push (x ∷ es) e g h = both _ _ (below_push x es (first _ _ g) (first _ _ h))
-      (sorted_push es e (second _ _ g) (second _ _ h))
+  sorted_push (x ∷ es) e g h =
+      both_hold _ _ (below_push x es (first_holds _ _ g) (first_holds _ _ h))
+      (sorted_push es e (second_holds _ _ g) (second_holds _ _ h))
     where
       below_push : (x : K × X) (es : List (K × X)) → T (below_all (flip_args R) x.0 es)
           → T (is_lt (R e.0 x.0)) → T (below_all (flip_args R) x.0 (es ++ e ∷ []))
-      below_push x [] g h = both _ _ h tt
-      below_push x (y ∷ es) g h = both _ _ (first _ _ g) (below_push x es (second _ _ g) h)
+      below_push x [] g h = both_hold _ _ h tt
+      below_push x (y ∷ es) g h =
+          both_hold _ _ (first_holds _ _ g) (below_push x es (second_holds _ _ g) h)
 
   -- keys below two lists, and below a list turned round
   below-append : (k : K) (es fs : List (K × X)) → T (below_all R k es) → T (below_all R k fs)
       → T (below_all R k (es ++ fs))
   below-append k [] fs g h = h
-  below-append k (e ∷ es) fs g h = both _ _ (first _ _ g) (below-append k es fs (second _ _ g) h)
+  below-append k (e ∷ es) fs g h =
+      both_hold _ _ (first_holds _ _ g) (below-append k es fs (second_holds _ _ g) h)
 
   below-reverse : (k : K) (es : List (K × X)) → T (below_all R k es)
       → T (below_all R k (reverse es))
   below-reverse k [] h = tt
   below-reverse k (e ∷ es) h = subst (λ l. T (below_all R k l)) (sym (reverse_onto es e []))
-      (below-append k (reverse es) (e ∷ []) (below-reverse k es (second _ _ h))
-      (both (is_lt (R k e.0)) true (first (is_lt (R k e.0)) (below_all R k es) h) tt))
+      (below-append k (reverse es) (e ∷ []) (below-reverse k es (second_holds _ _ h))
+      (both_hold (is_lt (R k e.0)) true (first_holds (is_lt (R k e.0)) (below_all R k es) h) tt))
 
   -- a list turned round is in order, and has what it had
   is_sorted-reverse : (es : List (K × X)) → T (is_sorted R es)
       → T (is_sorted (flip_args R) (reverse es))
   is_sorted-reverse [] h = tt
   is_sorted-reverse (e ∷ es) h = subst (λ l. T (is_sorted (flip_args R) l))
-      (sym (reverse_onto es e [])) (sorted_push (reverse es) e (is_sorted-reverse es (second _ _ h))
-      (below-reverse e.0 es (first _ _ h)))
+      (sym (reverse_onto es e []))
+      (sorted_push (reverse es) e (is_sorted-reverse es (second_holds _ _ h))
+      (below-reverse e.0 es (first_holds _ _ h)))
 
   find-reverse : (q : K) (es : List (K × X)) → T (is_sorted R es)
       → find (flip_args R) q (reverse es) ≡ find R q es
@@ -67,9 +72,9 @@ module _ {K X : Type 0} (R : K → K → Ordering) (o : IsTotalOrder R) where
   find-reverse q (e ∷ es) h =
       ap (find (flip_args R) q) (reverse_onto es e [])
       ∙ find-append (flip_args R) (back_total o) (reverse es) e.0 e.1 q
-      (find-reverse e.0 es (second _ _ h) ∙ find_below R o e.0 es (first _ _ h))
+      (find-reverse e.0 es (second_holds _ _ h) ∙ find_below R o e.0 es (first_holds _ _ h))
       ∙ (λ i. cond ((eq_by_cmp_equiv o).symm e.0 q i) (Some e.1)
-      (find-reverse q es (second _ _ h) i))
+      (find-reverse q es (second_holds _ _ h) i))
 
 -- the keys that a walk reaches from a place
 abbrev in_reach : Bool → Option (List ℕ) → List ℕ → Bool

@@ -1,11 +1,10 @@
 -- What is read of a row's cells, and what a row isn't where one of them is bad.
-use Rattle.std.proofs.Common.{◌≡◌, ◌<◌, ◌≤◌, refl, sym, ap, subst, ◌∙◌, ℕ, ◌+◌, ◌^◌, true, false, List, [], ◌∷◌, length, take, Option, Some, None, option_map, inl, inr, ◌⊎◌, arith, codes, Result, Ok, Err}
+use Rattle.std.proofs.Common.{◌≡◌, ◌<◌, ◌≤◌, refl, sym, ap, subst, ◌∙◌, ℕ, ◌+◌, ◌^◌, true, false, List, [], ◌∷◌, length, take, Option, Some, None, option_map, inl, inr, ◌⊎◌, arith, codes}
 use Rattle.std.proofs.lemmas.Option.{same_Some}
 use Rattle.std.specs.FinMap.{entries, get}
 use Rattle.std.specs.Int.{w64, to_be_bytes}
 use Rattle.std.specs.List.{list_all}
 use Rattle.std.specs.Prelude.{IfSome}
-use Rattle.std.specs.Result.{IsErr, IsErrAnd}
 use Rattle.alt_cellbytes.specs.Places as cell
 use Rattle.alt_cells.specs.Changes.{Columns}
 use Rattle.alt_changes.specs.ChangeRows.{IsReadChange, IsReadItem, change_columns, item_bytes, writer_cell}
@@ -103,12 +102,6 @@ no_item bytes at begins place none = (
   inr (begins, place),
   λ item is e. none (M_tree (fields_of item)) (whole_map item is) (omega (arith, is.depth)) e,
 )
-
--- what was passed on is what was told
-pub bad_is : {A B : Type 0} (r : Result A B) (e b : B) → IsErr r × IsErrAnd r (λ x. x ≡ e)
-    → r ≡ Err b → e ≡ b
-bad_is (Ok x) e b passed is = absurd (let f : ⊥ = cc in f)
-bad_is {A} {B} (Err x) e b passed is = sym passed.1 ∙ (let same : x ≡ b = cc in same)
 
 -- ---- the cells of a row
 

@@ -6,11 +6,13 @@ use Rattle.std.proofs.lemmas.Fmt.{decimal_is_IsNumeral, length-decimal-le}
 use Rattle.std.proofs.lemmas.List.{length-replicate}
 use Rattle.std.proofs.lemmas.Slice.Eq.{bytes_eq-Decides}
 use Rattle.std.proofs.lemmas.Str.Parse.{numerals_by_value, parse_digits, tells_all_ascii_digits}
+use Rattle.std.proofs.lemmas.Option.{same_Some}
 use Rattle.std.specs.Char.{is_ascii_digit}
 use Rattle.std.specs.List.{list_all}
 use Rattle.std.specs.Result.{OkIff, result_ok}
 use Rattle.std.specs.Str.{all_ascii_digits, IsCharBoundary}
 use Rattle.std.specs.Str.Parse.{AllDigits, ParsesUnsigned, digits_value}
+use Rattle.alt_base.proofs.Numbers.{digits_value-zeros}
 use Rattle.alt_machine.specs.Streams.{Iterator, before_number, iterator_of, iterator_text, number_within}
 use Rattle.alt_schema.specs.Json.{label}
 
@@ -49,9 +51,6 @@ within_above largest digits all large =
 -- what isn't up to a number is above it
 above : (m n : ℕ) → nat_le n m ≡ false → m < n
 above m n e = grind arith
-
-same_Some : {A : Type 0} (x y : A) → Some x ≡ Some y → x ≡ y
-same_Some x y e = cc
 
 -- what is parsed is the value
 module _ {E : Type 0} (digits : List ℕ) (r : Result ℕ E) (all : all_ascii_digits digits ≡ true)
@@ -200,11 +199,6 @@ module _ (text : List ℕ) where
 
 -- ---- and back
 
--- zeros in front change no value
-zeros_value : (k : ℕ) (ds : List ℕ) → digits_value 10 (replicate k 48 ++ ds) ≡ digits_value 10 ds
-zeros_value zero ds = refl
-zeros_value (suc k) ds = zeros_value k ds
-
 zeros_digits : (k : ℕ) (ds : List ℕ) → all_ascii_digits ds ≡ true
     → all_ascii_digits (replicate k 48 ++ ds) ≡ true
 zeros_digits zero ds h = h
@@ -233,7 +227,7 @@ module _ (n : ℕ) (small : n ≤ 2 ^ 62) where
 
   label_value : digits_value 10 (label n) ≡ n
   unfolding label
-  label_value = zeros_value (21 - length (decimal n)) (decimal n) ∙ numeral.1
+  label_value = digits_value-zeros (21 - length (decimal n)) (decimal n) ∙ numeral.1
 
   label_within : number_within (2 ^ 62) (label n) ≡ Some n
   label_within = within_is (2 ^ 62) (label n) label_digits (omega (arith, label_value, small))

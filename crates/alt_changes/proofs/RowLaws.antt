@@ -1,11 +1,11 @@
 -- The row of a change can be shown, and is that of one change of its number.
-use Rattle.std.proofs.Common.{◌≡◌, ◌<◌, refl, sym, ap, ◌∙◌, ℕ, ◌^◌, Bool, true, false, List, [], ◌++◌, length, Option, Some, None, option_map, arith}
-use Rattle.std.proofs.lemmas.Bool.{eqb-true}
+use Rattle.std.proofs.Common.{◌≡◌, ◌<◌, refl, sym, ap, ◌∙◌, ℕ, ◌^◌, List, [], ◌++◌, length, Option, Some, None, option_map, arith}
 use Rattle.std.proofs.lemmas.Nat.{from_be_bytes-to_be_bytes_8}
 use Rattle.std.proofs.lemmas.Option.{same_Some}
 use Rattle.std.specs.FinMap.{len, len-entries}
 use Rattle.std.specs.Int.{w64, from_be_bytes, to_be_bytes}
-use Rattle.std.specs.Prelude.{◌==◌, if◌then◌else◌, IfSome}
+use Rattle.std.specs.Prelude.{if◌then◌else◌, IfSome}
+use Rattle.alt_base.proofs.Numbers.{above_zero_is_told}
 use Rattle.alt_cellbytes.proofs.Apart.{cell_bytes-apart}
 use Rattle.alt_cellbytes.proofs.WholeValues.{whole_has}
 use Rattle.alt_cells.specs.Changes.{CanShow, Columns}
@@ -18,19 +18,12 @@ use Rattle.alt_machine.specs.State.{Change}
 use Rattle.alt_value.specs.Tree.{Pair, Tree, Fields, M_tree, fields_of, no_fields, pairs}
 use Rattle.alt_value.proofs.Trees.{pairs-fields_of}
 
-not_zero : (n : ℕ) → 0 < n → (n == 0) ≡ false
-not_zero n some = by (n == 0) refl
-  where
-    by : (b : Bool) → (n == 0) ≡ b → (n == 0) ≡ false
-    by true e = absurd (omega (arith, eqb-true n 0 e, some))
-    by false e = e
-
 -- it has a column
 pub change_can_show : (c : Change) → CanShow (Some (change_columns c))
 change_can_show c =
     let row : Columns = change_columns c in
     let some : 0 < len row = omega (arith, len-entries row, ap length (entries-change c)) in
-    ap (λ b. if b then None else Some row) (not_zero (len row) some)
+    ap (λ b. if b then None else Some row) (above_zero_is_told (len row) some)
 
 -- ---- one change
 

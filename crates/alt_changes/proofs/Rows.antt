@@ -6,10 +6,10 @@ use Rattle.std.specs.FinMap.Entries.{find, is_sorted}
 use Rattle.std.specs.Int.{w64, to_be_bytes}
 use Rattle.std.specs.List.{list_all}
 use Rattle.std.specs.Ordering.{eq_by_cmp}
+use Rattle.alt_base.proofs.Orderings.{is_eq-holds}
 use Rattle.alt_cells.specs.Changes.{Columns}
 use Rattle.alt_cells.specs.Keys.{key_cmp}
 use Rattle.alt_cells.proofs.CellLaws.{key_total, key_exact}
-use Rattle.alt_cells.proofs.Entries.{equal}
 use Rattle.alt_changes.specs.ChangeRows.{change_columns, columns_of, item_bytes, writer_cell}
 use Rattle.alt_changes.specs.NoChange.{is_column}
 use Rattle.alt_codec.specs.declared.writer.Writer.{Writer}
@@ -137,7 +137,7 @@ none_found q other (e ∷ es) known =
         → cond b (Some e.1) (find key_cmp q es) ≡ None
     by behind b is false not_known h = absurd (let f : ⊥ = cc in f)
     by behind true is true named h =
-        let same : q ≡ e.0 = key_exact q e.0 (equal _ (subst T (sym is) tt)) in
+        let same : q ≡ e.0 = key_exact q e.0 (is_eq-holds _ (subst T (sym is) tt)) in
         absurd (let none : false ≡ true = sym other ∙ ap is_column same ∙ named in
         let f : ⊥ = cc in f)
     by behind false is true named h = behind h

@@ -48,7 +48,7 @@ column_one : (n : ℕ) → get (trimmed_columns n) (codes "x") ≡ Some (to_be_b
 column_one n = get-insert key_total empty (codes "x") (to_be_bytes w64 n) (codes "x")
 
 -- it is there where something was trimmed
-row_there : (n : ℕ) → 1 ≤ n → trimmed_row n ≡ Some (trimmed_columns n)
+pub row_there : (n : ℕ) → 1 ≤ n → trimmed_row n ≡ Some (trimmed_columns n)
 row_there n some = by (n == 0) refl
   where
     by : (b : Bool) → (n == 0) ≡ b

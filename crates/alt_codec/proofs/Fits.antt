@@ -6,6 +6,8 @@ use Rattle.std.specs.Ordering.{int_cmp}
 use Rattle.std.specs.declared.cmp.Ordering.{Ordering}
 use Rattle.std.specs.declared.cmp.Ordering.TheVariants.{Less, Equal, Greater}
 use Rattle.std.specs.FinMap.Entries.{by_order}
+use Rattle.alt_base.proofs.Bools.{both_hold, first_holds, second_holds}
+use Rattle.alt_base.proofs.Numbers.{told_above_zero}
 use Rattle.serde_json.specs.Data.{Data, null, boolean, number, string, array, object, Items, no_items, item, Members, no_members, member}
 use Rattle.alt_codec.specs.declared.fault.ValueFault.{ValueFault}
 use Rattle.alt_codec.specs.declared.fault.ValueFault.TheVariants as fault
@@ -19,7 +21,6 @@ use Rattle.alt_value.specs.Members.{text_order, set_of, are_apart, gathered, wit
 use Rattle.alt_value.specs.Size.{depth, elements_depth, fields_depth}
 use Rattle.alt_value.specs.Tree.{Tree, S_tree, N_tree, B_tree, SS_tree, NS_tree, BS_tree, L_tree, M_tree, Pair, trees_of, fields_of}
 use Rattle.alt_value.proofs.Entries.{IsItem-with_pair}
-use Rattle.alt_value.proofs.Places.{first, second, both}
 
 -- ---- what is to hold of a value and of the parts of one
 
@@ -167,17 +168,21 @@ in_room Q room false r e h = h (some room e)
 -- a pair more
 fields_with : (room : ℕ) (name : List ℕ) (t : Tree) (ps : List Pair) → Fits room t
     → FieldsFit room ps → FieldsFit room (with_pair name t ps)
-fields_with room name t [] h f = (omega (arith, h.0), both _ true h.1 tt)
+fields_with room name t [] h f = (omega (arith, h.0), both_hold _ true h.1 tt)
 fields_with room name t (q ∷ qs) h f =
     let there : FieldsFit room (with_pair name t qs) =
-    fields_with room name t qs h (omega (arith, f.0), second (sets_full q.1) _ f.1) in
+    fields_with room name t qs h (omega (arith, f.0), second_holds (sets_full q.1) _ f.1) in
     elim (text_order name q.0) as (λ o. FieldsFit room
     (by_order o ((name, t) ∷ q ∷ qs) ((q.0, t) ∷ qs) (q ∷ with_pair name t qs))) [
-      | Less ↦ (omega (arith, h.0, f.0), both (sets_full t) _ h.1 f.1)
-      | Equal ↦ (omega (arith, h.0, f.0), both (sets_full t) _ h.1 (second (sets_full q.1) _ f.1))
+      | Less ↦ (omega (arith, h.0, f.0), both_hold (sets_full t) _ h.1 f.1)
+      | Equal ↦ (
+        omega (arith, h.0, f.0),
+        both_hold (sets_full t) _ h.1
+            (second_holds (sets_full q.1) _ f.1),
+      )
       | Greater ↦ (
         omega (arith, there.0, f.0),
-        both (sets_full q.1) _ (first (sets_full q.1) _ f.1) there.1,
+        both_hold (sets_full q.1) _ (first_holds (sets_full q.1) _ f.1) there.1,
       )
     ]
 
@@ -247,7 +252,7 @@ mutual
       of_and_then (Fits room) (ElementsFit room) (λ t. map_ok (λ ts. t ∷ ts) (elements_in room ds))
       (value_in room d)
       (λ t p. of_map_ok (ElementsFit room) (ElementsFit room) (λ ts. t ∷ ts) (elements_in room ds)
-      (λ ts q. (omega (arith, p.0, q.0), both (sets_full t) _ p.1 q.1)) (elements_fit room ds))
+      (λ ts q. (omega (arith, p.0, q.0), both_hold (sets_full t) _ p.1 q.1)) (elements_fit room ds))
       (value_fits room d)
 
   fields_fit : (room : ℕ) (found : List Pair) (ms : Members) → FieldsFit room found
@@ -262,10 +267,6 @@ mutual
 
 -- ---- items
 
--- a length that isn't zero is above it
-some_name : (n : ℕ) → (n == 0) ≡ false → 0 < n
-some_name n e = grind arith
-
 -- names that aren't empty, each put at its place
 names_rise : (room : ℕ) (found : List Pair) (ms : Members) → IsItem found
     → IfOk (fields_in room found ms) IsItem
@@ -278,7 +279,7 @@ names_rise room found (member name d ms) f =
       | false ↦ λ e. of_and_then (λ _. Unit {0}) IsItem
           (λ t. fields_in room (with_pair name t found) ms) (value_in room d)
           (λ t p. names_rise room (with_pair name t found) ms
-          (IsItem-with_pair name t found (some_name (length name) e) f))
+          (IsItem-with_pair name t found (told_above_zero (length name) e) f))
           (anything (value_in room d))
     ]) refl
 

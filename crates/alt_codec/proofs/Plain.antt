@@ -13,7 +13,7 @@ use Rattle.alt_decimal.specs.Printed.{printed}
 use Rattle.alt_codec.specs.Writing.{strings, json_of, json_items, json_members, json_of_pairs}
 
 -- no text is a float
-strings_plain : (ss : List (List ℕ)) → items_have_float (strings ss) ≡ false
+pub strings_plain : (ss : List (List ℕ)) → items_have_float (strings ss) ≡ false
 strings_plain [] = refl
 strings_plain (s ∷ ss) = strings_plain ss
 

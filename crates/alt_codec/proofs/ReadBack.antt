@@ -9,6 +9,9 @@ use Rattle.std.specs.FinMap.{IsAntisymmetric, int_cmp-IsAntisymmetric}
 use Rattle.std.specs.FinMap.Entries.{below_all, is_sorted}
 use Rattle.std.proofs.lemmas.List.Sorted.{IsPermutation-refl}
 use Rattle.std.proofs.lemmas.Bool.{ne_eqb}
+use Rattle.alt_base.proofs.Bools.{first_holds, second_holds}
+use Rattle.alt_base.proofs.Lists.{take_whole}
+use Rattle.alt_base.proofs.Orderings.{is_lt-holds}
 use Rattle.base64.specs.Engines.{standard}
 use Rattle.base64.specs.GeneralPurpose.{encode_of, decode_of, IsConsistent}
 use Rattle.serde_json.specs.Data.{Data, string, array}
@@ -20,7 +23,7 @@ use Rattle.alt_value.specs.Members.{IsSet, text_order, set_of}
 use Rattle.alt_value.specs.Size.{elements_depth, fields_depth}
 use Rattle.alt_value.specs.Tree.{Tree, S_tree, N_tree, B_tree, BOOL_tree, NULL_tree, SS_tree, NS_tree, BS_tree, L_tree, M_tree, Pair, trees_of, fields_of}
 use Rattle.alt_value.proofs.Gathered.{set_of-rising}
-use Rattle.alt_value.proofs.Places.{first, second, less, turned}
+use Rattle.alt_value.proofs.Places.{turned}
 use Rattle.alt_value.proofs.Texts.{text_total, text_apart}
 use Rattle.alt_codec.specs.declared.fault.ValueFault.{ValueFault}
 use Rattle.alt_codec.specs.Reading.{value_in, elements_in, fields_in, if_room}
@@ -29,7 +32,6 @@ use Rattle.alt_codec.specs.Returning.{NumberReturns, BytesReturn, Returns, ItemR
 use Rattle.alt_codec.specs.Scalars.{text_in, number_in, binary_in, or_bad_number, or_bad_base64}
 use Rattle.alt_codec.specs.Sets.{sound, first_fault, told, members_in, then_sound, or_later}
 use Rattle.alt_codec.specs.Steps.{map_ok}
-use Rattle.alt_codec.proofs.Written.{take_whole}
 use Rattle.alt_codec.specs.Writing.{strings, json_of, json_items, json_members}
 
 -- ---- kinds without parts
@@ -132,9 +134,10 @@ elements_in-written : (ts : List Tree) → Each Returns ts → (room : ℕ)
     → elements_in room (json_items (trees_of ts)) ≡ Ok ts
 elements_in-written [] h room full fits = refl
 elements_in-written (t ∷ ts) h room full fits =
-    let here : value_in room (json_of t) ≡ Ok t = h.0 room (first _ _ full) (omega (arith, fits)) in
+    let here : value_in room (json_of t) ≡ Ok t =
+    h.0 room (first_holds _ _ full) (omega (arith, fits)) in
     let there : elements_in room (json_items (trees_of ts)) ≡ Ok ts =
-    elements_in-written ts h.1 room (second _ _ full) (omega (arith, fits)) in
+    elements_in-written ts h.1 room (second_holds _ _ full) (omega (arith, fits)) in
     rw (here, there) refl
 
 -- a list, where each element is
@@ -150,8 +153,8 @@ list_returns ts h room full fits =
 -- a name below all is below one of them
 below_there : (x : List ℕ) (ps qs : List Pair) (p : Pair)
     → T (below_all text_order x (ps ++ p ∷ qs)) → text_order x p.0 ≡ Less
-below_there x [] qs p h = less _ (first _ _ h)
-below_there x (r ∷ ps) qs p h = below_there x ps qs p (second _ _ h)
+below_there x [] qs p h = is_lt-holds _ (first_holds _ _ h)
+below_there x (r ∷ ps) qs p h = below_there x ps qs p (second_holds _ _ h)
 
 -- a pair whose name is above those before it goes to the end
 put-above : (ps qs : List Pair) (p : Pair) → T (is_sorted text_order (ps ++ p ∷ qs))
@@ -159,8 +162,8 @@ put-above : (ps qs : List Pair) (p : Pair) → T (is_sorted text_order (ps ++ p 
 put-above [] qs p h = refl
 put-above (r ∷ ps) qs p h =
     let above : text_order p.0 r.0 ≡ Greater =
-    turned text_order text_total r.0 p.0 Less (below_there r.0 ps qs p (first _ _ h)) in
-    rw above (ap (λ l. r ∷ l) (put-above ps qs p (second _ _ h)))
+    turned text_order text_total r.0 p.0 Less (below_there r.0 ps qs p (first_holds _ _ h)) in
+    rw above (ap (λ l. r ∷ l) (put-above ps qs p (second_holds _ _ h)))
 
 -- a name above the empty one isn't empty
 named : (name : List ℕ) → text_order [] name ≡ Less → (length name == 0) ≡ false
@@ -178,8 +181,8 @@ fields_in-written found [] sorted names h room full fits = ap Ok (sym (append_ni
     append_nil (q ∷ qs) = ap (λ l. q ∷ l) (append_nil qs)
 fields_in-written found (p ∷ ps) sorted names h room full fits =
     let here : value_in room (json_of p.1) ≡ Ok p.1 =
-    h.0 room (first _ _ full) (omega (arith, fits)) in
-    let name : (length p.0 == 0) ≡ false = named p.0 (less _ (first _ _ names)) in
+    h.0 room (first_holds _ _ full) (omega (arith, fits)) in
+    let name : (length p.0 == 0) ≡ false = named p.0 (is_lt-holds _ (first_holds _ _ names)) in
     let put_last : with_pair p.0 p.1 found ≡ found ++ p ∷ [] = put-above found ps p sorted in
     let joined : (found ++ p ∷ []) ++ ps ≡ found ++ p ∷ ps = append_assoc found (p ∷ []) ps in
     let still : T (is_sorted text_order ((found ++ p ∷ []) ++ ps)) =
@@ -187,8 +190,8 @@ fields_in-written found (p ∷ ps) sorted names h room full fits =
     let later : fields_depth (fields_of ps) ≤ room = omega (arith, fits) in
     let there : fields_in room (found ++ p ∷ []) (json_members (fields_of ps))
     ≡ Ok ((found ++ p ∷ []) ++ ps) =
-    fields_in-written (found ++ p ∷ []) ps still (second _ _ names) h.1 room
-    (second _ _ full) later in
+    fields_in-written (found ++ p ∷ []) ps still (second_holds _ _ names) h.1 room
+    (second_holds _ _ full) later in
     rw (name, here, put_last) (there ∙ ap Ok joined)
 
 -- an item, where each value is

@@ -5,7 +5,6 @@ use Rattle.std.specs.Ordering.{int_cmp}
 use Rattle.std.specs.Str.{bytes_eq}
 use Rattle.std.specs.declared.cmp.Ordering.{Ordering}
 use Rattle.std.proofs.lemmas.Bool.{ne_eqb, eqb-false}
-use Rattle.std.proofs.lemmas.Slice.Eq.{bytes_eq-Decides}
 use Rattle.base64.specs.Engines.{standard}
 use Rattle.base64.specs.GeneralPurpose.{decode_of}
 use Rattle.base64.specs.declared.decode.DecodeError.{DecodeError}
@@ -24,6 +23,7 @@ use Rattle.alt_codec.specs.Scalars.{text_in, number_in, binary_in, truth_in, nul
 use Rattle.alt_codec.specs.Sets.{members_in, told, sound, first_fault, then_sound, or_later}
 use Rattle.alt_codec.specs.Steps.{and_then, map_ok}
 use Rattle.alt_base.specs.declared.NoMemory.{NoMemory}
+use Rattle.alt_base.proofs.Lists.{bytes_eq-true}
 use Rattle.serde_json.specs.View.{view}
 use Rattle.serde_json.specs.declared.value.Value.{Value}
 use Rattle.alt_codec.specs.ReadBack.{StandsFor}
@@ -53,10 +53,6 @@ arm : {A : Type 0} (b : Bool) (x y z : A) → cond b x y ≡ z
     → ((b ≡ true) × (x ≡ z)) ⊎ ((b ≡ false) × (y ≡ z))
 arm true x y z e = inl (refl, e)
 arm false x y z e = inr (refl, e)
-
--- names that are the same bytes
-same_name : (name kind : List ℕ) → bytes_eq name kind ≡ true → name ≡ kind
-same_name name kind e = (bytes_eq-Decides name kind).0 e
 
 -- ---- the one member
 
@@ -409,7 +405,7 @@ module _ (room : ℕ) (ms : Members) (d : Data) (t : Tree) where
   flat-there name o e =
       let named : (kind : List ℕ) → bytes_eq name kind ≡ true
       → IsOnly ms kind d = λ kind same. subst (λ n. IsOnly ms n d)
-      (same_name name kind same) o in
+      (bytes_eq-true name kind same) o in
       elim (arm (bytes_eq name (codes "S")) _ _ _ e) [
         | inl x ↦ text-there (named (codes "S") x.0) x.1
         | inr x ↦ elim (arm (bytes_eq name (codes "N")) _ _ _ x.1) [
@@ -467,12 +463,12 @@ module _ (room : ℕ) (there : (n : ℕ) → suc n ≡ room → (d : Data) (t : 
         | inl x ↦
             let a = array_of room d t x.1 in
             list-there room there ms a.0 t (subst₂ (IsOnly ms)
-            (same_name name (codes "L") x.0) a.1 o) a.2
+            (bytes_eq-true name (codes "L") x.0) a.1 o) a.2
         | inr x ↦ elim (arm (bytes_eq name (codes "M")) _ _ _ x.1) [
           | inl y ↦
               let a = object_of room d t y.1 in
               map-there room there ms a.0 t (subst₂ (IsOnly ms)
-              (same_name name (codes "M") y.0) a.1 o) a.2
+              (bytes_eq-true name (codes "M") y.0) a.1 o) a.2
           | inr y ↦ flat-there room ms d t name o y.1
         ]
       ]

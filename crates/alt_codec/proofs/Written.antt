@@ -1,5 +1,5 @@
 -- What is written so far is what the elements so far are written as.
-use Rattle.std.proofs.Common.{◌≡◌, refl, sym, ap, ◌∙◌, ℕ, zero, suc, ◌+◌, ◌≤◌, List, [], ◌∷◌, ◌++◌, map, take, length, Some, None, arith, add-one, T, String, Global, string_bytes, rules}
+use Rattle.std.proofs.Common.{◌≡◌, refl, sym, ap, ◌∙◌, ℕ, zero, suc, ◌+◌, ◌≤◌, List, [], ◌∷◌, ◌++◌, map, take, length, Some, add-one, T, String, Global, string_bytes, rules}
 use Rattle.std.specs.Prelude.{slice_get}
 use Rattle.std.proofs.lemmas.List.{map-append}
 use Rattle.std.proofs.lemmas.Cmp.{nat_list_cmp_total}
@@ -7,38 +7,15 @@ use Rattle.std.specs.declared.cmp.Ordering.TheVariants.{Less, Greater}
 use Rattle.std.specs.Ordering.{nat_cmp, is_lt, ordering_reverse}
 use Rattle.std.specs.Cmp.Lexicographic.{slice_cmp}
 use Rattle.std.specs.FinMap.Entries.{below_all, is_sorted}
+use Rattle.alt_base.proofs.Bools.{first_holds, second_holds}
+use Rattle.alt_base.proofs.Lists.{take_whole, take_one_more}
+use Rattle.alt_base.proofs.Orderings.{is_lt-holds}
 use Rattle.serde_json.specs.Data.{Data, string, item, member, put}
 use Rattle.serde_json.specs.View.{view, items_view, items_of}
 use Rattle.serde_json.specs.declared.value.Value.{Value, String as Text, the_lemmas}
 use Rattle.alt_value.specs.Members.{text_order}
 use Rattle.alt_value.specs.Tree.{Tree, Pair, trees_of, fields_of}
-use Rattle.alt_value.proofs.Places.{first, second, less}
 use Rattle.alt_codec.specs.Writing.{strings, json_of, json_items, json_members}
-
--- one member more
-take_suc : {A : Type 0} (xs : List A) (i : ℕ) (x : A) → Some x ≡ slice_get xs i
-    → take (suc i) xs ≡ take i xs ++ x ∷ []
-take_suc [] i x e = absurd (let f : ⊥ = cc in f)
-take_suc (y ∷ xs) zero x e = let f : x ≡ y = cc in rw f refl
-take_suc (y ∷ xs) (suc i) x e = ap (λ zs. y ∷ zs) (take_suc xs i x e)
-
--- the members before a place and the one there
-pub take_more : {A : Type 0} (xs : List A) (i : ℕ) (x : A) → Some x ≡ slice_get xs i
-    → take (i + 1) xs ≡ take i xs ++ x ∷ []
-take_more xs i x e = ap (λ j. take j xs) (add-one i) ∙ take_suc xs i x e
-
--- all members stand before the end
-pub take_whole : {A : Type 0} (xs : List A) (i : ℕ) → length xs ≤ i → take i xs ≡ xs
-take_whole [] zero h = refl
-take_whole [] (suc i) h = refl
-take_whole (x ∷ xs) zero h = absurd (omega arith)
-take_whole (x ∷ xs) (suc i) h = ap (λ zs. x ∷ zs) (take_whole xs i (omega arith))
-
--- a place without a member is past the end
-pub past_end : {A : Type 0} (xs : List A) (i : ℕ) → None ≡ slice_get xs i → length xs ≤ i
-past_end [] i e = omega arith
-past_end (x ∷ xs) zero e = absurd (let f : ⊥ = cc in f)
-past_end (x ∷ xs) (suc i) e = omega (arith, past_end xs i e)
 
 -- a text is written, whose bytes are these
 pub text_written : (s : String Global) (bytes : List ℕ) → string_bytes s ≡ bytes
@@ -56,7 +33,7 @@ written_more write xs i x vs v before e here =
     map-append view vs (v ∷ [])
     ∙ ap (λ ds. ds ++ view v ∷ []) before
     ∙ ap (λ d. map write (take i xs) ++ d ∷ []) here
-    ∙ sym (ap (map write) (take_more xs i x e) ∙ map-append write (take i xs) (x ∷ []))
+    ∙ sym (ap (map write) (take_one_more xs i x e) ∙ map-append write (take i xs) (x ∷ []))
 
 -- all elements are written
 pub written_whole : {A : Type 0} (write : A → Data) (xs : List A) (i : ℕ) (vs : List Value)
@@ -85,9 +62,10 @@ below_there : (x : List ℕ) (ps : List Pair) (i : ℕ) (p : Pair) → T (below_
     → Some p ≡ slice_get ps i → text_order x p.0 ≡ Less
 below_there x [] i p h e = absurd (let f : ⊥ = cc in f)
 below_there x (q ∷ ps) zero p h e = let f : p ≡ q = cc in
-    rw f (less (text_order x q.0) (first (is_lt (text_order x q.0)) (below_all text_order x ps) h))
+    rw f (is_lt-holds (text_order x q.0)
+    (first_holds (is_lt (text_order x q.0)) (below_all text_order x ps) h))
 below_there x (q ∷ ps) (suc i) p h e = below_there x ps i p
-    (second (is_lt (text_order x q.0)) (below_all text_order x ps) h) e
+    (second_holds (is_lt (text_order x q.0)) (below_all text_order x ps) h) e
 
 -- a pair behind those before it
 put_suc : (ps : List Pair) (i : ℕ) (p : Pair) → T (is_sorted text_order ps)
@@ -99,10 +77,11 @@ put_suc (q ∷ ps) zero p h e = let f : p ≡ q = cc in rw f refl
 put_suc (q ∷ ps) (suc i) p h e =
     let above : slice_cmp nat_cmp p.0 q.0 ≡ Greater =
     nat_list_cmp_total.antisymm p.0 q.0 ∙ ap ordering_reverse
-    (below_there q.0 ps i p (first (below_all text_order q.0 ps) (is_sorted text_order ps) h) e)
+    (below_there q.0 ps i p
+    (first_holds (below_all text_order q.0 ps) (is_sorted text_order ps) h) e)
     in
     rw above (ap (λ ms. member q.0 (json_of q.1) ms)
-    (put_suc ps i p (second (below_all text_order q.0 ps) (is_sorted text_order ps) h) e))
+    (put_suc ps i p (second_holds (below_all text_order q.0 ps) (is_sorted text_order ps) h) e))
 
 -- one more pair is written, whose name is above those before it
 pub put_more : (ps : List Pair) (i : ℕ) (p : Pair) → T (is_sorted text_order ps)

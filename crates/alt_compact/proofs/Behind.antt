@@ -12,10 +12,12 @@ use Rattle.std.specs.declared.cmp.Ordering.TheVariants.{Less, Equal, Greater}
 use Rattle.std.specs.declared.ops.Bound.TheVariants.{Included, Unbounded}
 use Rattle.std.specs.FinMap.{entries, entries_sorted}
 use Rattle.std.specs.FinMap.Entries.{is_sorted, below_all}
+use Rattle.alt_base.proofs.Bools.{first_holds, second_holds}
+use Rattle.alt_base.proofs.Orderings.{is_lt-holds}
 use Rattle.alt_cells.specs.declared.row.RowCells.{RowCells}
 use Rattle.alt_cells.specs.Keys.{key_cmp}
 use Rattle.alt_cells.specs.Walks.{RowMap, RowList, rows_from}
-use Rattle.alt_cells.proofs.Entries.{first, second, less, turned_less, turned_greater}
+use Rattle.alt_cells.proofs.Entries.{turned_less, turned_greater}
 use Rattle.alt_cells.proofs.CellLaws.{key_total}
 use Rattle.alt_compact.specs.Jobs.{last_of, last_key}
 
@@ -76,8 +78,8 @@ all_behind : (k : List ℕ) (left : RowList) → T (below_all key_cmp k left)
 all_behind k [] h = refl
 all_behind k (e ∷ left) h =
     ap (λ b. cond (b && true) (e ∷ filter (from_behind k) left) (filter (from_behind k) left))
-    (above_key k e.0 (less _ (first _ _ h)))
-    ∙ ap (λ l. e ∷ l) (all_behind k left (second _ _ h))
+    (above_key k e.0 (is_lt-holds _ (first_holds _ _ h)))
+    ∙ ap (λ l. e ∷ l) (all_behind k left (second_holds _ _ h))
 
 -- and of rows behind others those
 behind : (e : List ℕ × RowCells) (es left : RowList) → T (is_sorted key_cmp ((e ∷ es) ++ left))
@@ -86,12 +88,13 @@ behind : (e : List ℕ × RowCells) (es left : RowList) → T (is_sorted key_cmp
 behind e [] left h = (
   at_key e.0,
   ap (λ b. cond (b && true) (e ∷ filter (from_behind e.0) left) (filter (from_behind e.0) left))
-      (at_key e.0) ∙ all_behind e.0 left (first _ _ h),
+      (at_key e.0) ∙ all_behind e.0 left (first_holds _ _ h),
 )
 behind e (f ∷ es) left h =
-    let rest = behind f es left (second _ _ h) in
+    let rest = behind f es left (second_holds _ _ h) in
     let k = last_of f es in
-    let here = below_key (k ++ 0 ∷ []) e.0 f.0 (less _ (first _ _ (first _ _ h))) rest.0 in
+    let here = below_key (k ++ 0 ∷ []) e.0 f.0
+    (is_lt-holds _ (first_holds _ _ (first_holds _ _ h))) rest.0 in
     let more = filter (from_behind k) ((f ∷ es) ++ left) in
     (here, ap (λ b. cond (b && true) (e ∷ more) more) here ∙ rest.1)
 

@@ -3,11 +3,11 @@ use Rattle.std.proofs.Common.{◌≡◌, ℕ, ◌≤◌, zero, suc, Bool, true, 
 use Rattle.std.proofs.lemmas.List.{append-nil}
 use Rattle.std.specs.Prelude.{if◌then◌else◌}
 use Rattle.std.specs.FinMap.Entries.{is_sorted, below_all}
+use Rattle.alt_base.proofs.Bools.{both_hold, first_holds, second_holds}
 use Rattle.alt_cells.specs.declared.row.RowCells.{RowCells}
 use Rattle.alt_cells.specs.Keys.{key_cmp}
 use Rattle.alt_cells.specs.Compacted.{compacted, compacted_row, entry_compacted, is_bare}
 use Rattle.alt_cells.specs.Walks.{RowList}
-use Rattle.alt_cells.proofs.Entries.{both, first, second}
 use Rattle.alt_compact.specs.Jobs.{last_of, last_key}
 
 last_pushed : (d e : List ℕ × RowCells) (es : RowList) → last_of d (es ++ e ∷ []) ≡ e.0
@@ -34,12 +34,12 @@ below_pushed : (purge : Bool) (k : List ℕ) (taken : RowList) (q : List ℕ) (v
     → T (below_all key_cmp k (compacted purge taken ++ (q, w) ∷ []))
 below_pushed purge k [] q v w h = h
 below_pushed purge k (e ∷ taken) q v w h =
-    let rest = below_pushed purge k taken q v w (second _ _ h) in
+    let rest = below_pushed purge k taken q v w (second_holds _ _ h) in
     elim (is_bare (compacted_row purge e.1)) as
     (λ b. T (below_all key_cmp k (((if b then [] else ((e.0, compacted_row purge e.1) ∷ []))
     ++ compacted purge taken) ++ (q, w) ∷ []))) [
       | true ↦ rest
-      | false ↦ both _ _ (first _ _ h) rest
+      | false ↦ both_hold _ _ (first_holds _ _ h) rest
     ]
 
 -- so they rise with it
@@ -48,12 +48,12 @@ pub sorted_pushed : (purge : Bool) (taken : RowList) (q : List ℕ) (v w : RowCe
     → T (is_sorted key_cmp (compacted purge taken ++ (q, w) ∷ []))
 sorted_pushed purge [] q v w h = h
 sorted_pushed purge (e ∷ taken) q v w h =
-    let rest = sorted_pushed purge taken q v w (second _ _ h) in
+    let rest = sorted_pushed purge taken q v w (second_holds _ _ h) in
     elim (is_bare (compacted_row purge e.1)) as
     (λ b. T (is_sorted key_cmp (((if b then [] else ((e.0, compacted_row purge e.1) ∷ []))
     ++ compacted purge taken) ++ (q, w) ∷ []))) [
       | true ↦ rest
-      | false ↦ both _ _ (below_pushed purge e.0 taken q v w (first _ _ h)) rest
+      | false ↦ both_hold _ _ (below_pushed purge e.0 taken q v w (first_holds _ _ h)) rest
     ]
 
 take_nil : (n : ℕ) → take {A = List ℕ × RowCells} n [] ≡ []

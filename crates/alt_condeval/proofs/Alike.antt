@@ -1,7 +1,9 @@
 -- Conditions with answers in the place of their parts hold of the same items.
-use Rattle.std.proofs.Common.{◌≡◌, refl, sym, ap, ◌∙◌, Bool, true, false, ◌||◌, ◌&&◌, not, List, [], ◌∷◌, ◌++◌, map, Option, Some}
+use Rattle.std.proofs.Common.{◌≡◌, sym, ap, ◌∙◌, Bool, ◌&&◌, not, List, [], ◌∷◌, ◌++◌, map, Option, Some}
 use Rattle.std.proofs.lemmas.List.{map-append}
+use Rattle.std.proofs.Math.Bool.{and-true}
 use Rattle.std.specs.List.{list_any, list_all}
+use Rattle.alt_base.proofs.Lists.{all-map, any-map}
 use Rattle.alt_value.specs.Tree.{Tree}
 use Rattle.alt_expr.specs.declared.cond.Comparison.{Comparison}
 use Rattle.alt_expr.specs.declared.cond.Comparison.TheVariants.{LessEqual, GreaterEqual}
@@ -13,25 +15,17 @@ use Rattle.alt_expr.specs.Holds.{holds, denoted, compares, equal, begins, contai
 use Rattle.alt_expr.proofs.HoldsLaws.{holds-Any, holds-All, holds-Not, holds-Compare, holds-Between, holds-Among, holds-BeginsWith, holds-Contains}
 use Rattle.alt_condeval.specs.Settled.{HoldsAs, EachAs, Tells, IsGiven}
 
-any_told : {A : Type 0} (f : A → Bool) (xs : List A) → list_any (λ b. b) (map f xs) ≡ list_any f xs
-any_told f [] = refl
-any_told f (x ∷ xs) = ap (λ b. f x || b) (any_told f xs)
-
-all_told : {A : Type 0} (f : A → Bool) (xs : List A) → list_all (λ b. b) (map f xs) ≡ list_all f xs
-all_told f [] = refl
-all_told f (x ∷ xs) = ap (λ b. f x && b) (all_told f xs)
-
 -- one of them holds where one did
 pub any-as : (xs ys : List Cond) → EachAs xs ys → HoldsAs (cond.Any xs) (cond.Any ys)
 any-as xs ys each item =
-    holds-Any item ys ∙ sym (any_told (holds item) ys) ∙ ap (list_any (λ b. b)) (each item)
-    ∙ any_told (holds item) xs ∙ sym (holds-Any item xs)
+    holds-Any item ys ∙ sym (any-map (holds item) ys) ∙ ap (list_any (λ b. b)) (each item)
+    ∙ any-map (holds item) xs ∙ sym (holds-Any item xs)
 
 -- and all where all did
 pub all-as : (xs ys : List Cond) → EachAs xs ys → HoldsAs (cond.All xs) (cond.All ys)
 all-as xs ys each item =
-    holds-All item ys ∙ sym (all_told (holds item) ys) ∙ ap (list_all (λ b. b)) (each item)
-    ∙ all_told (holds item) xs ∙ sym (holds-All item xs)
+    holds-All item ys ∙ sym (all-map (holds item) ys) ∙ ap (list_all (λ b. b)) (each item)
+    ∙ all-map (holds item) xs ∙ sym (holds-All item xs)
 
 pub not-as : (c d : Cond) → HoldsAs c d → HoldsAs (cond.Not c) (cond.Not d)
 not-as c d same item = holds-Not item d ∙ ap not (same item) ∙ sym (holds-Not item c)
@@ -65,10 +59,6 @@ contains-as x y d tells item = tells item ∙ sym (holds-Contains item x y)
 
 pub ruleset laws = (any-as, all-as, not-as, compare-as, between-as, among-as, begins-as, contains-as)
 
-and-true : (b : Bool) → (b && true) ≡ b
-and-true true = refl
-and-true false = refl
-
 -- both of two conditions
 pub both-tell : (f g : View → Bool) (c d : Cond) → Tells f c → Tells g d
     → Tells (λ item. f item && g item) (cond.All (c ∷ d ∷ []))
@@ -83,8 +73,8 @@ pub any-tells : (f : View → Operand → Bool) (ys : List Operand) (cs : List C
     → ((item : View) → map (holds item) cs ≡ map (f item) ys)
     → Tells (λ item. list_any (f item) ys) (cond.Any cs)
 any-tells f ys cs each item =
-    holds-Any item cs ∙ sym (any_told (holds item) cs) ∙ ap (list_any (λ b. b)) (each item)
-    ∙ any_told (f item) ys
+    holds-Any item cs ∙ sym (any-map (holds item) cs) ∙ ap (list_any (λ b. b)) (each item)
+    ∙ any-map (f item) ys
 
 -- a question about two given values has one answer for every item
 pub two-told : (f : Option Tree → Option Tree → Bool) (x y : Operand) (s t : Tree) (truth : Bool)

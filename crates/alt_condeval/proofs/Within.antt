@@ -1,19 +1,12 @@
 -- Bytes that stand within others: what a search for them tells.
 use Rattle.std.proofs.Common.{◌≡◌, refl, sym, ap, ◌∙◌, ℕ, zero, suc, ◌≤◌, ◌<◌, Bool, true, false, ◌||◌, nat_le, List, [], ◌∷◌, length, take, drop, Option, Some, None, arith, length-take, length-drop}
+use Rattle.std.proofs.lemmas.Bool.{or_left, lt-leb, or_right}
 use Rattle.std.specs.Prelude.{nat_eq, is_some}
 use Rattle.std.specs.List.{starts_with}
 use Rattle.std.specs.Cmp.Lexicographic.{bytes_decides}
 use Rattle.memchr.specs.Find.{FindsNeedle, OccursAt}
 use Rattle.memchr.proofs.lemmas.MatchLemmas.{OccursAt-part, OccursAt-from_part}
 use Rattle.alt_expr.specs.Holds.{stands_in}
-
-left : (a b : Bool) → a ≡ true → (a || b) ≡ true
-left true b e = refl
-left false b e = cc
-
-right : (a b : Bool) → b ≡ true → (a || b) ≡ true
-right true b e = refl
-right false b e = e
 
 by_either : {P : Type 0} (a b : Bool) → (a || b) ≡ true → (a ≡ true → P) → (b ≡ true → P) → P
 by_either true b e f g = f refl
@@ -32,9 +25,9 @@ found : (needle hay : List ℕ) (k : ℕ) → k ≤ length hay → take (length 
 found needle [] zero le e = starts needle [] e
 found needle [] (suc k) le e = absurd (omega arith)
 found needle (c ∷ cs) zero le e =
-    left (starts_with nat_eq (c ∷ cs) needle) _ (starts needle (c ∷ cs) e)
+    or_left (starts_with nat_eq (c ∷ cs) needle) _ (starts needle (c ∷ cs) e)
 found needle (c ∷ cs) (suc k) le e =
-    right (starts_with nat_eq (c ∷ cs) needle) _ (found needle cs k (omega arith) e)
+    or_right (starts_with nat_eq (c ∷ cs) needle) _ (found needle cs k (omega arith) e)
 
 place : (needle hay : List ℕ) → stands_in needle hay ≡ true
     → (k : ℕ) × (k ≤ length hay) × (take (length needle) (drop k hay) ≡ needle)
@@ -81,11 +74,8 @@ too_long needle hay less =
       | false ↦ λ e. refl
     ] refl
 
-over : (m n : ℕ) → n < m → nat_le m n ≡ false
-over m n lt = grind arith
-
--- and no search is needed for that
+-- where a text is longer than another no search is needed
 pub told_by_length : (needle hay : List ℕ) → length hay < length needle
     → nat_le (length needle) (length hay) ≡ stands_in needle hay
 told_by_length needle hay less =
-    over (length needle) (length hay) less ∙ sym (too_long needle hay less)
+    lt-leb (length needle) (length hay) less ∙ sym (too_long needle hay less)

@@ -1,6 +1,7 @@
 -- What `is_crowded` is at each kind of condition.
-use Rattle.std.proofs.Common.{◌≡◌, refl, sym, ap, ◌∙◌, Bool, ◌||◌, List, [], ◌∷◌, map, length, nat_lt, rules}
+use Rattle.std.proofs.Common.{◌≡◌, sym, ap, ◌∙◌, Bool, ◌||◌, List, length, nat_lt, rules}
 use Rattle.std.specs.List.{list_any}
+use Rattle.alt_base.proofs.Lists.{any-map}
 use Rattle.alt_expr.specs.declared.cond.Cond.{Cond, fold-Cond, fold-roll-Cond, the_lemmas}
 use Rattle.alt_expr.specs.declared.cond.Cond.TheOpen.{Cond-F}
 use Rattle.alt_expr.specs.declared.cond.Cond.TheVariants as cond
@@ -10,21 +11,17 @@ use Rattle.alt_expr.specs.declared.cond.Operand.{Operand}
 use Rattle.alt_expr.specs.declared.path.PathPart.{PathPart}
 use Rattle.alt_expr.specs.Crowded.{is_long, has_long, crowded_step, is_crowded}
 
-any_map : {A : Type 0} (f : A → Bool) (xs : List A) → list_any (λ x. x) (map f xs) ≡ list_any f xs
-any_map f [] = refl
-any_map f (x ∷ xs) = ap (λ b. f x || b) (any_map f xs)
-
 -- an OR is crowded where one of its conditions is
 pub any_law : (xs : List Cond) → is_crowded (cond.Any xs) ≡ list_any is_crowded xs
 unfolding is_crowded
 any_law xs = ap (fold-Cond Bool crowded_step) (sym (rolls-Any xs))
-    ∙ fold-roll-Cond Bool crowded_step (Cond-F.Any xs) ∙ any_map is_crowded xs
+    ∙ fold-roll-Cond Bool crowded_step (Cond-F.Any xs) ∙ any-map is_crowded xs
 
 -- an AND is crowded where one of its conditions is
 pub all_law : (xs : List Cond) → is_crowded (cond.All xs) ≡ list_any is_crowded xs
 unfolding is_crowded
 all_law xs = ap (fold-Cond Bool crowded_step) (sym (rolls-All xs))
-    ∙ fold-roll-Cond Bool crowded_step (Cond-F.All xs) ∙ any_map is_crowded xs
+    ∙ fold-roll-Cond Bool crowded_step (Cond-F.All xs) ∙ any-map is_crowded xs
 
 -- a NOT is crowded where its condition is
 pub not_law : (x : Cond) → is_crowded (cond.Not x) ≡ is_crowded x

@@ -7,12 +7,13 @@ use Rattle.std.specs.Cmp.Lexicographic.{slice_cmp}
 use Rattle.std.proofs.lemmas.Map.Lookups.{exact_signed}
 use Rattle.std.proofs.lemmas.List.{map-append, append-nil}
 use Rattle.std.specs.Int.Digits.{digits_of}
+use Rattle.alt_base.proofs.Lists.{cons_rest, cons_first}
+use Rattle.alt_base.proofs.Orderings.{nat_cmp-equal}
 use Rattle.alt_decimal.specs.Digits.{width}
 use Rattle.alt_decimal.specs.declared.Decimal.TheInside.{Inside}
 use Rattle.alt_decimal.specs.Form.{units_of, IsNormal}
 use Rattle.alt_decimal.specs.Spelled.{pairs, complement, magnitude_bytes, spelled}
 use Rattle.alt_decimal.proofs.Unspelling.{IsPairs}
-use Rattle.alt_decimal.proofs.Orders.{nat_cmp-equal}
 use Rattle.alt_decimal.proofs.Spelling.{magnitude_bytes-mul}
 use Rattle.alt_decimal.proofs.SpellingOrder.{Fitting, all_coefficient, Look, at_zero, over, under, look, spelled_cmp}
 
@@ -65,13 +66,6 @@ flipped_shape t z f r =
     ∙ ap (λ ts. (255 - (width t + z - 38)) ∷ ts)
     (append_assoc (complement (pairs (digits_of 10 t))) (255 ∷ []) r)
 
--- the first of a list, and the rest
-front : (x y : ℕ) (xs ys : List ℕ) → x ∷ xs ≡ y ∷ ys → x ≡ y
-front x y xs ys e = cc
-
-back : (x y : ℕ) (xs ys : List ℕ) → x ∷ xs ≡ y ∷ ys → xs ≡ ys
-back x y xs ys e = cc
-
 -- spellings that begin differently, kind by kind
 apart : (u v : ℤ) (x y : ℕ) (xs ys r s : List ℕ) → spelled u ≡ x ∷ xs → spelled v ≡ y ∷ ys
     → spelled u ++ r ≡ spelled v ++ s → x ∷ (xs ++ r) ≡ y ∷ (ys ++ s)
@@ -80,39 +74,39 @@ apart u v x y xs ys r s e f is = sym (ap (λ ts. ts ++ r) e) ∙ is ∙ ap (λ t
 looks_apart : (u v : ℤ) (r s : List ℕ) → Look u → Look v → spelled u ++ r ≡ spelled v ++ s
     → Same (spelled u) (spelled v) r s
 looks_apart u v r s (at_zero e a) (at_zero f b) is =
-    record { lists = a ∙ sym b; rests = back 2 2 r s (apart u v 2 2 [] [] r s a b is) }
+    record { lists = a ∙ sym b; rests = cons_rest 2 2 r s (apart u v 2 2 [] [] r s a b is) }
 looks_apart u v r s (at_zero e a) (over t z h f b) is =
-    absurd (omega (arith, front _ _ _ _ (apart u v 2 3 _ _ r s a b is)))
+    absurd (omega (arith, cons_first _ _ _ _ (apart u v 2 3 _ _ r s a b is)))
 looks_apart u v r s (at_zero e a) (under t z h f b) is =
-    absurd (omega (arith, front _ _ _ _ (apart u v 2 1 _ _ r s a b is)))
+    absurd (omega (arith, cons_first _ _ _ _ (apart u v 2 1 _ _ r s a b is)))
 looks_apart u v r s (over t y g e a) (at_zero f b) is =
-    absurd (omega (arith, front _ _ _ _ (apart u v 3 2 _ _ r s a b is)))
+    absurd (omega (arith, cons_first _ _ _ _ (apart u v 3 2 _ _ r s a b is)))
 looks_apart u v r s (over t y g e a) (under t' z h f b) is =
-    absurd (omega (arith, front _ _ _ _ (apart u v 3 1 _ _ r s a b is)))
+    absurd (omega (arith, cons_first _ _ _ _ (apart u v 3 1 _ _ r s a b is)))
 looks_apart u v r s (under t y g e a) (at_zero f b) is =
-    absurd (omega (arith, front _ _ _ _ (apart u v 1 2 _ _ r s a b is)))
+    absurd (omega (arith, cons_first _ _ _ _ (apart u v 1 2 _ _ r s a b is)))
 looks_apart u v r s (under t y g e a) (over t' z h f b) is =
-    absurd (omega (arith, front _ _ _ _ (apart u v 1 3 _ _ r s a b is)))
+    absurd (omega (arith, cons_first _ _ _ _ (apart u v 1 3 _ _ r s a b is)))
 looks_apart u v r s (over t y g e a) (over t' z h f b) is =
-    let behind = back 3 3 _ _ (apart u v 3 3 _ _ r s a b is) in
+    let behind = cons_rest 3 3 _ _ (apart u v 3 3 _ _ r s a b is) in
     let shapes = sym (plain_shape t y g r) ∙ behind ∙ plain_shape t' z h s in
-    let first = front _ _ _ _ shapes in
+    let first = cons_first _ _ _ _ shapes in
     let w = ends_same 0 (pairs (digits_of 10 t)) (pairs (digits_of 10 t')) r s
     (pairs_without _ (all_coefficient t y g)) (pairs_without _ (all_coefficient t' z h))
-    (back _ _ _ _ shapes) in
+    (cons_rest _ _ _ _ shapes) in
     let same : magnitude_bytes (t * 10 ^ y) ≡ magnitude_bytes (t' * 10 ^ z) =
     magnitude_bytes-mul t y g.last ∙ ap (λ p. p ∷ (pairs (digits_of 10 t) ++ 0 ∷ [])) first
     ∙ ap (λ ps. (width t' + z - 38) ∷ (ps ++ 0 ∷ [])) w.lists
     ∙ sym (magnitude_bytes-mul t' z h.last) in
     record { lists = a ∙ ap (λ ts. 3 ∷ ts) same ∙ sym b; rests = w.rests }
 looks_apart u v r s (under t y g e a) (under t' z h f b) is =
-    let behind = back 1 1 _ _ (apart u v 1 1 _ _ r s a b is) in
+    let behind = cons_rest 1 1 _ _ (apart u v 1 1 _ _ r s a b is) in
     let shapes = sym (flipped_shape t y g r) ∙ behind ∙ flipped_shape t' z h s in
-    let first = front _ _ _ _ shapes in
+    let first = cons_first _ _ _ _ shapes in
     let w = ends_same 255 (complement (pairs (digits_of 10 t)))
     (complement (pairs (digits_of 10 t'))) r s
     (flipped_without _ (all_coefficient t y g)) (flipped_without _ (all_coefficient t' z h))
-    (back _ _ _ _ shapes) in
+    (cons_rest _ _ _ _ shapes) in
     let plain : complement (magnitude_bytes (t * 10 ^ y)) ++ []
     ≡ complement (magnitude_bytes (t' * 10 ^ z)) ++ [] =
     flipped_shape t y g [] ∙ ap (λ p. p ∷ (complement (pairs (digits_of 10 t)) ++ 255 ∷ [])) first

@@ -4,6 +4,7 @@ use Rattle.std.specs.Prelude.{pos}
 use Rattle.std.proofs.lemmas.Bool.{cases_lt}
 use Rattle.std.specs.Str.Parse.{AllDigits, digits_value}
 use Rattle.std.proofs.lemmas.Int.Digits.{digits_value-lt}
+use Rattle.alt_base.proofs.Numbers.{digits_value-zeros}
 use Rattle.alt_decimal.specs.Digits.{digit_count}
 use Rattle.alt_decimal.specs.Coefficient.{IsCoefficient, Trims}
 use Rattle.alt_decimal.specs.Number.{fitted}
@@ -13,7 +14,7 @@ use Rattle.alt_decimal.proofs.Widths.{ten_pow-le, width-gt, width-le, case_pos}
 use Rattle.alt_decimal.proofs.Magnitudes.{digit_count-mul, digit_count-trimmed}
 use Rattle.alt_decimal.proofs.Fitting.{number, fitted-zero, fitted-many, fitted-large, fitted-small, fitted-shift}
 use Rattle.alt_decimal.proofs.Trimming.{zeros}
-use Rattle.alt_decimal.proofs.Values.{value_zeros_before, value_zeros_behind, value_first, value_last, AllDigits-append, AllDigits-front, AllDigits-back}
+use Rattle.alt_decimal.proofs.Values.{value_zeros_behind, value_first, value_last, AllDigits-append, AllDigits-front, AllDigits-back}
 
 -- a number above 0 has a digit
 some_digit : (ds : List ℕ) → 0 < digits_value 10 ds → 0 < length ds
@@ -36,7 +37,7 @@ module _ (whole fraction w f : List ℕ) (behind : ℕ) (t : Trims whole fractio
   pub trimmed_value : digits_value 10 (whole ++ fraction) ≡ digits_value 10 (w ++ f) * 10 ^ behind
   trimmed_value =
       ap (digits_value 10) t.digits.1 ∙ value_zeros_behind (zeros t.digits.0 ++ (w ++ f)) behind
-      ∙ ap (λ v. v * 10 ^ behind) (value_zeros_before t.digits.0 (w ++ f))
+      ∙ ap (λ v. v * 10 ^ behind) (digits_value-zeros t.digits.0 (w ++ f))
 
   -- their last digit is not 0
   pub last_trimmed : 0 < length (w ++ f) → 0 < digits_value 10 (w ++ f) % 10
@@ -87,7 +88,7 @@ pub capped_few : (digits short : List ℕ) (j : ℕ) → digits ≡ zeros j ++ s
     → length short ≤ 36 → digits_value 10 short ≡ capped digits
 capped_few digits short j e all few =
     let same : digits_value 10 digits ≡ digits_value 10 short =
-    ap (digits_value 10) e ∙ value_zeros_before j short in
+    ap (digits_value 10) e ∙ digits_value-zeros j short in
     let below : digits_value 10 short < 10 ^ 36 =
     omega (arith, digits_value-lt 10 short all, ten_pow-le (length short) 36 few) in
     rw same (capped_short (digits_value 10 short) below)
@@ -98,7 +99,7 @@ pub capped_many : (digits short : List ℕ) (j : ℕ) → digits ≡ zeros j ++ 
     → 10 ^ 36 ≡ capped digits
 capped_many digits short j e all first many =
     let same : digits_value 10 digits ≡ digits_value 10 short =
-    ap (digits_value 10) e ∙ value_zeros_before j short in
+    ap (digits_value 10) e ∙ digits_value-zeros j short in
     let some : 0 < length short = omega arith in
     let (n, is) = case_pos (length short) some in
     let long : 10 ^ n ≤ digits_value 10 short = value_first short n all is (first some) in

@@ -9,6 +9,7 @@ use Rattle.std.proofs.lemmas.List.{append-nil, length-replicate, take-append-dro
 use Rattle.std.proofs.lemmas.Bool.{cases_lt}
 use Rattle.std.proofs.lemmas.Nat.{div_below}
 use Rattle.std.proofs.Math.Nat.{pow-suc}
+use Rattle.alt_base.proofs.Numbers.{digits_value-zeros}
 use Rattle.alt_decimal.specs.Digits.{width, padded, glyphs}
 use Rattle.alt_decimal.specs.Number.{with_sign, fitted}
 use Rattle.alt_decimal.specs.NumberText.{Sign, minus, unsigned, ReadsAs, sign_text, fraction_text, fraction_digits}
@@ -19,7 +20,7 @@ use Rattle.alt_decimal.specs.Printed.{printed}
 use Rattle.alt_decimal.specs.Layout.{magnitude_text}
 use Rattle.alt_decimal.proofs.Widths.{lt-width, width-le, width-pos, mul-width_gt, mul-width_le}
 use Rattle.alt_decimal.proofs.Padded.{padded-none, padded-last, glyphs-append, glyphs-cons, glyphs-none}
-use Rattle.alt_decimal.proofs.Values.{value_zeros_before, value_zeros_behind, AllDigits-append, AllDigits-front, AllDigits-back}
+use Rattle.alt_decimal.proofs.Values.{value_zeros_behind, AllDigits-append, AllDigits-front, AllDigits-back}
 use Rattle.alt_decimal.proofs.Fitting.{number, fitted-zero, fitted-ok, ok_units, fitted-shift}
 use Rattle.alt_decimal.proofs.Magnitudes.{digit_count-trimmed}
 use Rattle.alt_decimal.proofs.Layouts.{text_whole, text_split, text_fraction}
@@ -182,7 +183,7 @@ module _ (d : Inside) (n : IsNormal d) (above : 0 < d.coefficient) where
       let j = 167 - (length ds + z) in
       let fraction = replicate j 48 ++ ds in
       let value : digits_value 10 ((48 ∷ []) ++ fraction) ≡ c =
-      value_zeros_before (suc j) ds ∙ value_digits c in
+      digits_value-zeros (suc j) ds ∙ value_digits c in
       let len : 0 + length fraction ≡ 167 - z =
       omega (arith, length-append (replicate j 48) ds, length-replicate {A = ℕ} j 48, k, h) in
       let answer : Ok (units_of d) ≡ fitted (number d.negative

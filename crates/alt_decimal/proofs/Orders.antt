@@ -2,25 +2,14 @@
 use Rattle.std.proofs.Common.{◌≡◌, ℕ, zero, suc, ◌+◌, ◌*◌, ◌^◌, ◌<◌, ◌≤◌, refl, sym, ap, ◌∙◌, arith, inl, inr}
 use Rattle.std.specs.Prelude.{pos, negsuc, neg_ℤ}
 use Rattle.std.specs.Ordering.{nat_cmp, int_cmp}
-use Rattle.std.specs.declared.cmp.Ordering.TheVariants.{Less, Equal, Greater}
+use Rattle.std.specs.declared.cmp.Ordering.TheVariants.{Less, Greater}
 use Rattle.std.proofs.Math.Nat.{mul-lt-mul_of_pos_right, mul-le-mul_right, pow-le-pow_right}
 use Rattle.std.proofs.lemmas.Nat.{pow-add}
 use Rattle.std.proofs.lemmas.Bool.{cases_order, cases_lt}
+use Rattle.alt_base.proofs.Orderings.{nat_cmp-equal, nat_cmp-greater, nat_cmp-less}
 use Rattle.alt_decimal.specs.Digits.{width}
 use Rattle.alt_decimal.specs.Normal.{ten_pow_pos}
 use Rattle.alt_decimal.proofs.Widths.{lt-width, width-low, width-pos, width-zero, case_pos}
-
--- the order of naturals, by the three cases
-pub nat_cmp-less : (m n : ℕ) → m < n → nat_cmp m n ≡ Less
-nat_cmp-less m n h = grind arith
-
--- the same
-pub nat_cmp-equal : (m n : ℕ) → m ≡ n → nat_cmp m n ≡ Equal
-nat_cmp-equal m n h = grind arith
-
--- the greater
-pub nat_cmp-greater : (m n : ℕ) → n < m → nat_cmp m n ≡ Greater
-nat_cmp-greater m n h = grind arith
 
 -- a positive factor keeps the order
 pub nat_cmp-mul : (m n p : ℕ) → 0 < p → nat_cmp (m * p) (n * p) ≡ nat_cmp m n

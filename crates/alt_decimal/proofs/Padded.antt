@@ -9,6 +9,7 @@ use borrow.Rule.Slice.PartMut.{put_mid}
 use Rattle.std.proofs.lemmas.Bool.{cases_lt}
 use Rattle.std.specs.Int.Digits.{digits_of}
 use Rattle.std.proofs.lemmas.Int.Digits.{digits_of_step, length-digits_of_step}
+use Rattle.alt_base.proofs.Lists.{length-zero}
 use Rattle.alt_decimal.specs.Digits.{padded, width, glyphs}
 use Rattle.alt_decimal.specs.Normal.{ten_pow_pos, mul-ten_pow}
 use Rattle.alt_decimal.proofs.Widths.{width-zero}
@@ -94,11 +95,6 @@ padded-wide j k n h =
     let none : n / 10 ^ k ≡ 0 = div-eq_of_lt h in
     padded-append j k n ∙ ap (λ ds. ds ++ padded k n) (ap (padded j) none ∙ padded-zero j)
 
--- a list without members
-no_items : (ds : List ℕ) → length ds ≡ 0 → ds ≡ []
-no_items [] h = refl
-no_items (d ∷ ds) h = absurd (omega arith)
-
 -- what has a digit is above zero
 above_none : (n k : ℕ) → width n ≡ suc k → 0 < n
 above_none n k e = elim (cases_lt 0 n) [
@@ -112,7 +108,8 @@ width-step n h = length-digits_of_step 10 n (omega arith) h
 
 -- a number's digits are its last ones, as many as it has
 digits_of-padded_at : (k n : ℕ) → width n ≡ k → digits_of 10 n ≡ padded k n
-digits_of-padded_at zero n e = no_items (digits_of 10 n) (unfold width in e) ∙ sym (padded-none n)
+digits_of-padded_at zero n e =
+    length-zero (digits_of 10 n) (unfold width in e) ∙ sym (padded-none n)
 digits_of-padded_at (suc k) n e =
     let above : 0 < n = above_none n k e in
     let two : 2 ≤ 10 = omega arith in
@@ -168,7 +165,7 @@ pub none_put : (z n : ℕ) (out : List ℕ) → drop (length out) out
     ≡ glyphs z (padded (length out - length out) n)
 none_put z n out =
     let none : length out - length out ≡ 0 = omega arith in
-    no_items (drop (length out) out) (omega (arith, length-drop (length out) out))
+    length-zero (drop (length out) out) (omega (arith, length-drop (length out) out))
     ∙ sym (ap (λ k. glyphs z (padded k n)) none ∙ ap (glyphs z) (padded-none n) ∙ glyphs-none z)
 
 -- and all is left
@@ -192,7 +189,7 @@ halves xs zs ys ex ez =
     ∙ take-append_seam xs zs in
     let behind = drop 19 (drop 19 (xs ++ zs)) in
     let end : behind ≡ [] =
-    no_items behind (omega (
+    length-zero behind (omega (
       arith,
       length-drop 19 (drop 19 (xs ++ zs)),
       length-drop 19 (xs ++ zs),

@@ -8,6 +8,7 @@ use Rattle.std.proofs.lemmas.Nat.{pow-add}
 use Rattle.std.proofs.lemmas.List.{take_more, length-map, map-append, get_or_append_left, get_or-append-add}
 use Rattle.std.proofs.lemmas.Bool.{cases_order, cases_eq, ne_eqb}
 use Rattle.std.specs.Int.Digits.{digits_of}
+use Rattle.alt_base.proofs.Lists.{take-length}
 use Rattle.alt_decimal.specs.Digits.{width, padded, digit_count}
 use Rattle.alt_decimal.specs.Number.{with_sign, Fits, IsMagnitude}
 use Rattle.alt_decimal.specs.Spelled.{pairs, magnitude_bytes, spelled}
@@ -222,14 +223,9 @@ module _ (negative : Bool) (first : ℕ) (rest : List ℕ) (c n : ℕ) (z : ℤ)
     some = omega arith;
   }
 
--- all of a list, and all behind its first
-take_all : (bs : List ℕ) → take (length bs) bs ≡ bs
-take_all [] = refl
-take_all (b ∷ bs) = ap (λ ts. b ∷ ts) (take_all bs)
-
 rest_of : (b : ℕ) (bs : List ℕ) → take (length {A = ℕ} (b ∷ bs) - 1) bs ≡ bs
 rest_of b bs = let e : suc (length bs) - 1 ≡ length bs = omega arith in
-    ap (λ i. take i bs) e ∙ take_all bs
+    ap (λ i. take i bs) e ∙ take-length bs
 
 -- the same, by what the reader's calls gave
 pub IsSpelledAt-read : (negative : Bool) (bytes : List ℕ) (c n r : ℕ) (z : ℤ) → 1 ≤ length bytes

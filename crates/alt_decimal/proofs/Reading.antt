@@ -8,9 +8,11 @@ use Rattle.std.specs.Char.{is_ascii_digit, digit_value}
 use Rattle.std.specs.Float.Numeral.{digits_len}
 use Rattle.std.specs.Str.Parse.{AllDigits}
 use Rattle.std.proofs.lemmas.Str.Parse.{digit_from_value}
+use Rattle.std.proofs.lemmas.Option.{none-some, same_Some}
 use Rattle.alt_decimal.specs.declared.fault.NumberFault.{NumberFault}
 use Rattle.alt_decimal.specs.declared.fault.NumberFault.TheVariants.{NotANumber}
 use Rattle.std.specs.Str.Parse.{digits_value}
+use Rattle.alt_base.proofs.Lists.{take-length}
 use Rattle.alt_decimal.specs.Number.{Number, fitted}
 use Rattle.alt_decimal.specs.NumberText.{Sign, minus, plus, unsigned, Exponent, NumberText, sign_text, fraction_text, exponent_text, text_of, fraction_digits, IsExponent, IsNumberText, is_minus, denoted, ReadsAs}
 use Rattle.alt_decimal.specs.Reading.{ExponentIs, exponent_digits, below_of, sign_of, behind_sign, front_digits, behind_digits, fraction_of, behind_fraction, exponent_from, exponent_of, reading_behind, reading}
@@ -259,21 +261,9 @@ AllDigits-fraction_of [] = tt
 AllDigits-fraction_of (b ∷ bs) = elim (cases_Bool (b == 46))
     [ inl e ↦ rw e (AllDigits-front_digits bs) | inr e ↦ rw e tt ]
 
--- all of a list
-take_all : (bs : List ℕ) → take (length bs) bs ≡ bs
-take_all [] = refl
-take_all (b ∷ bs) = ap (λ xs. b ∷ xs) (take_all bs)
-
 -- digits from end to end
 whole_digits : (ds : List ℕ) → length ds ≤ digits_len ds → AllDigits 10 ds
-whole_digits ds h = subst (AllDigits 10) (take_all ds) (AllDigits-take (length ds) ds h)
-
--- an option that is there
-some_is : {A : Type 0} (x y : A) → Some x ≡ Some y → x ≡ y
-some_is x y e = cc
-
-none_some : {A : Type 0} (y : A) → None ≡ Some y → ⊥
-none_some y e = cc
+whole_digits ds h = subst (AllDigits 10) (take-length ds) (AllDigits-take (length ds) ds h)
 
 -- an exponent of these digits
 record IsExponentOf (upper : Bool) (s : Sign) (ds : List ℕ) (e : Option Exponent) : Type 0 where
@@ -286,14 +276,14 @@ exponent_from_parts : (upper : Bool) (s : Sign) (ds : List ℕ) (e : Option Expo
     → exponent_from upper s ds ≡ Some e → IsExponentOf upper s ds e
 exponent_from_parts upper s ds e h = elim (cases_Bool
     (digits_len ds == 0 || nat_lt (digits_len ds) (length ds))) [
-      | inl bad ↦ absurd (none_some e (rw bad at h))
+      | inl bad ↦ absurd (none-some e (rw bad at h))
       | inr good ↦
           let p = or_parts (digits_len ds == 0) (nat_lt (digits_len ds) (length ds)) good in
           let some : digits_len ds ≡ 0 → ⊥ = eqb-false (digits_len ds) 0 p.0 in
           let long : length ds ≤ digits_len ds = ltb-false (digits_len ds) (length ds) p.1 in
           let most : digits_len ds ≤ length ds = prefix_len-le-length is_ascii_digit ds in
           record {
-            is = some_is _ e (rw good at h);
+            is = same_Some _ e (rw good at h);
             some = omega (arith, some, most);
             all =
                 whole_digits ds long;
@@ -323,12 +313,12 @@ exponent_some_parts b bs e is p = subst (ExponentParts (b ∷ bs)) p.is (record 
 
 -- or there is none
 exponent_parts : (bs : List ℕ) (e : Option Exponent) → exponent_of bs ≡ Some e → ExponentParts bs e
-exponent_parts [] e h = subst (ExponentParts []) (some_is None e h)
+exponent_parts [] e h = subst (ExponentParts []) (same_Some None e h)
     (record { text = refl; formed = tt })
 exponent_parts (b ∷ bs) e h = elim (cases_Bool (b == 101 || b == 69)) [
   | inl is ↦ exponent_some_parts b bs e (letter b is)
       (exponent_from_parts (b == 69) (sign_of bs) (behind_sign bs) e (rw is at h))
-  | inr isnt ↦ absurd (none_some e (rw isnt at h))
+  | inr isnt ↦ absurd (none-some e (rw isnt at h))
 ]
 
 -- an exponent has digits alone
@@ -342,7 +332,7 @@ AllDigits-exponent bs (Some e) h = (exponent_parts bs (Some e) h).formed.1
 -- a text that can't be cut is no number
 pub ReadsAs-none : (text : List ℕ) → reading text ≡ None → ReadsAs text (Err NotANumber)
 ReadsAs-none text none = record {
-  number = λ t h e. absurd (none_some t (sym none ∙ ap reading e ∙ reading-text_of t h));
+  number = λ t h e. absurd (none-some t (sym none ∙ ap reading e ∙ reading-text_of t h));
   no_number = inl refl;
 }
 
@@ -352,7 +342,7 @@ pub ReadsAs-some : (text : List ℕ) (t : NumberText) (answer : Result ℤ Numbe
     → ReadsAs text answer
 ReadsAs-some text t answer h is e = record {
   number = λ t' h' is'.
-      let same : t ≡ t' = some_is t t' (sym (reading-text_of t h) ∙ ap reading (sym is ∙ is')
+      let same : t ≡ t' = same_Some t t' (sym (reading-text_of t h) ∙ ap reading (sym is ∙ is')
       ∙ reading-text_of t' h') in
       e ∙ ap (λ u. fitted (denoted u)) same;
   no_number = inr (t, h, is);

@@ -9,6 +9,7 @@ use Rattle.std.proofs.lemmas.Nat.{pow-add}
 use Rattle.std.proofs.lemmas.Bool.{cases_order, cases_lt, cases_Bool}
 use Rattle.alt_decimal.proofs.Magnitudes.{units_of-zero}
 use Rattle.std.specs.Int.Digits.{digits_of}
+use Rattle.alt_base.proofs.Orderings.{nat_cmp-equal, nat_cmp-greater, nat_cmp-less}
 use Rattle.alt_decimal.specs.Digits.{width}
 use Rattle.alt_decimal.specs.Number.{with_sign}
 use Rattle.alt_decimal.specs.declared.Decimal.TheInside.{Inside}
@@ -17,7 +18,7 @@ use Rattle.alt_decimal.specs.Spelled.{pairs, complement, magnitude_bytes, spelle
 use Rattle.alt_decimal.specs.Unspelled.{pairs_value_after, IsWhole}
 use Rattle.alt_decimal.specs.Normal.{ten_pow_pos}
 use Rattle.alt_decimal.proofs.Widths.{width-le, mul-width_gt, mul-width_le, mul-zeros}
-use Rattle.alt_decimal.proofs.Orders.{nat_cmp-less, nat_cmp-equal, nat_cmp-greater, nat_cmp-mul, int_cmp-pos, int_cmp-neg, int_cmp-neg_pos, int_cmp-pos_neg, lt-by_place}
+use Rattle.alt_decimal.proofs.Orders.{nat_cmp-mul, int_cmp-pos, int_cmp-neg, int_cmp-neg_pos, int_cmp-pos_neg, lt-by_place}
 use Rattle.alt_decimal.proofs.Unspelling.{IsPairs, hundred, pairs_after, pairs_below, AreOf}
 use Rattle.alt_decimal.proofs.Spelling.{magnitude_bytes-mul, spelled-zero, spelled-above, spelled-below}
 use Rattle.alt_decimal.proofs.ReadBack.{Filling, filling, filled_pairs, filled_whole, filled_few}

@@ -1,6 +1,7 @@
 -- The digits of a number text from the first to the last that is not 0.
 use Rattle.std.proofs.Common.{◌≡◌, ◌≢◌, ℕ, ◌+◌, ◌-◌, ◌^◌, ◌<◌, List, [], ◌∷◌, ◌++◌, length, get_or, refl, ap, ◌∙◌, arith, replicate, length-append, append_assoc}
 use Rattle.std.proofs.lemmas.List.{append-nil, replicate-append-replicate, get_or-append-add}
+use Rattle.alt_base.proofs.Lists.{length-zero}
 use Rattle.alt_decimal.specs.Coefficient.{Trims}
 
 -- so many zeros
@@ -14,11 +15,6 @@ First ds = 0 < length ds → get_or ds 0 0 ≢ 48
 -- nor is the last
 abbrev pub Last : List ℕ → Type 0
 Last ds = 0 < length ds → get_or ds (length ds - 1) 0 ≢ 48
-
--- a list without members
-empty : (ds : List ℕ) → length ds ≡ 0 → ds ≡ []
-empty [] h = refl
-empty (d ∷ ds) h = absurd (omega arith)
 
 First-front : (v ys : List ℕ) → First (v ++ ys) → First v
 First-front [] ys h = λ some. absurd (omega arith)
@@ -47,7 +43,7 @@ pub trims_whole : (whole fraction w v f : List ℕ) (j k cut : ℕ) → whole �
     → w ≡ v ++ zeros k → fraction ≡ f ++ zeros cut
     → length f ≡ 0 → First w → Last v → cut + k < 2 ^ 65 → Trims whole fraction v f (cut + k)
 trims_whole whole fraction w v f j k cut e_whole e_w e_fraction none first last room =
-    let f_is : f ≡ [] = empty f none in
+    let f_is : f ≡ [] = length-zero f none in
     let v_is : v ++ f ≡ v = rw f_is (append-nil v) in
     let behind : zeros k ++ zeros cut ≡ zeros (cut + k) =
     replicate-append-replicate k cut 48 ∙ ap zeros (omega arith) in
@@ -65,7 +61,7 @@ pub trims_fraction : (whole fraction w f g : List ℕ) (j i cut : ℕ) → whole
     → fraction ≡ f ++ zeros cut → f ≡ zeros i ++ g
     → length w ≡ 0 → First g → Last f → cut < 2 ^ 65 → Trims whole fraction w g cut
 trims_fraction whole fraction w f g j i cut e_whole e_fraction e_f none first last room =
-    let w_is : w ≡ [] = empty w none in
+    let w_is : w ≡ [] = length-zero w none in
     let g_is : w ++ g ≡ g = rw w_is refl in
     let before : zeros j ++ zeros i ≡ zeros (j + i) = replicate-append-replicate j i 48 in
     let all : whole ++ fraction ≡ zeros (j + i) ++ (w ++ g) ++ zeros cut =

@@ -35,12 +35,6 @@ pub value_append : (c : ℕ) (xs ys : List ℕ) → digits_value_after 10 c (xs 
 value_append c [] ys = refl
 value_append c (x ∷ xs) ys = value_append (c * 10 + digit_value x) xs ys
 
--- zeros in front don't matter
-pub value_zeros_before : (k : ℕ) (ds : List ℕ)
-    → digits_value 10 (replicate k 48 ++ ds) ≡ digits_value 10 ds
-value_zeros_before zero ds = refl
-value_zeros_before (suc k) ds = value_zeros_before k ds
-
 -- zeros behind a number
 value_zeros : (c k : ℕ) → digits_value_after 10 c (replicate k 48) ≡ c * 10 ^ k
 value_zeros c zero = omega arith

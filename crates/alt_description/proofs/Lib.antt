@@ -1,4 +1,3 @@
-pub mod Bools
 pub mod Labels
 pub mod Plain
 pub mod Shown

@@ -1,5 +1,6 @@
 -- A description as it is shown has no float.
 use Rattle.std.proofs.Common.{◌≡◌, refl, sym, ap, ◌∙◌, ℕ, true, false, List, [], ◌∷◌, Option, Some, None, option_map, codes, Result, Ok, Err, IfOk}
+use Rattle.std.proofs.lemmas.Bool.{or_from}
 use Rattle.serde_json.specs.Data.{Data, boolean, string, array, Members}
 use Rattle.serde_json.specs.View.{view}
 use Rattle.serde_json.specs.declared.value.Value.{Value}
@@ -14,20 +15,19 @@ use Rattle.alt_description.specs.declared.schema.Projection.TheVariants.{All, Ke
 use Rattle.alt_description.specs.declared.schema.View.{View}
 use Rattle.alt_description.specs.declared.schema.IndexSchema.{IndexSchema}
 use Rattle.alt_description.specs.declared.schema.TableSchema.{TableSchema}
-use Rattle.alt_description.proofs.Bools.{neither}
 
 -- items by what they show
 items_plain : {A : Type 0} (shown : A → Data) → ((x : A) → has_float (shown x) ≡ false)
     → (xs : List A) → items_have_float (items_by shown xs) ≡ false
 items_plain shown each [] = refl
-items_plain shown each (x ∷ xs) = neither _ _ (each x) (items_plain shown each xs)
+items_plain shown each (x ∷ xs) = or_from _ _ (each x) (items_plain shown each xs)
 
 -- a member that may be there, before others
 member_plain : (name : List ℕ) (o : Option Data) (ms : Members)
     → ((d : Data) → o ≡ Some d → has_float d ≡ false) → members_have_float ms ≡ false
     → members_have_float (member_if name o ms) ≡ false
 member_plain name None ms value rest = rest
-member_plain name (Some d) ms value rest = neither _ _ (value d refl) rest
+member_plain name (Some d) ms value rest = or_from _ _ (value d refl) rest
 
 -- an array of such items
 array_plain : {A : Type 0} (shown : A → Data) → ((x : A) → has_float (shown x) ≡ false)
@@ -57,12 +57,12 @@ projection_plain : (p : Projection) → has_float (projection_json p) ≡ false
 projection_plain All = refl
 projection_plain KeysOnly = refl
 projection_plain (Include names) =
-    neither _ false (items_plain (λ name. string name) (λ name. refl) names) refl
+    or_from _ false (items_plain (λ name. string name) (λ name. refl) names) refl
 
 -- a local index
 local_plain : (table : List ℕ) (i : IndexSchema) → has_float (local_json table i) ≡ false
-local_plain table i = neither _ _ (key_schema_plain i.hash i.range)
-    (neither _ false (projection_plain i.projection) refl)
+local_plain table i = or_from _ _ (key_schema_plain i.hash i.range)
+    (or_from _ false (projection_plain i.projection) refl)
 
 -- whether an index is being built, where that is shown
 built_plain : (b : Built) (d : Data) → backfilling b ≡ Some d → has_float d ≡ false
@@ -74,18 +74,18 @@ built_plain (UpTo key) d e =
 -- a global index
 global_plain : (table : List ℕ) (i : IndexSchema) → has_float (global_json table i) ≡ false
 global_plain table i = member_plain (codes "Backfilling") _ _ (built_plain i.built)
-    (neither _ _ (key_schema_plain i.hash i.range)
-    (neither _ false (projection_plain i.projection) refl))
+    (or_from _ _ (key_schema_plain i.hash i.range)
+    (or_from _ false (projection_plain i.projection) refl))
 
 -- the whole of it
 description_plain : (s : TableSchema) (status : List ℕ) → has_float (description_json s status)
     ≡ false
 unfolding description_json
 description_plain s status =
-    neither _ _ (items_plain definition_json (λ d. refl) s.definitions)
+    or_from _ _ (items_plain definition_json (λ d. refl) s.definitions)
     (member_plain (codes "GlobalSecondaryIndexes") _ _
     (array_plain (global_json s.name) (global_plain s.name) s.globals)
-    (neither _ _ (key_schema_plain s.hash s.range)
+    (or_from _ _ (key_schema_plain s.hash s.range)
     (member_plain (codes "LatestStreamArn") _ _
     (of_stream (λ v. string (stream_arn s.name s.number)) (λ v. refl) s.view)
     (member_plain (codes "LatestStreamLabel") _ _

@@ -1,23 +1,17 @@
 -- What is shown of a list, element by element, and of a description, member by member.
 use Rattle.std.proofs.Common.{◌≡◌, refl, sym, ap, ◌∙◌, ℕ, zero, suc, ◌+◌, ◌<◌, ◌≤◌, List, [], ◌∷◌, ◌++◌, map, take, length, get_or, arith, add-one}
 use Rattle.std.proofs.lemmas.List.{map-append}
+use Rattle.alt_base.proofs.Lists.{take_whole}
 use Rattle.serde_json.specs.Data.{Data, item}
 use Rattle.serde_json.specs.View.{view, items_view, items_of}
 use Rattle.serde_json.specs.declared.value.Value.{Value}
 use Rattle.alt_description.specs.Json.{items_by}
 
 -- the items of what is shown of each element are those of the list
-items_of-map : {A : Type 0} (shown : A → Data) (xs : List A) → items_of (map shown xs)
+pub items_of-map : {A : Type 0} (shown : A → Data) (xs : List A) → items_of (map shown xs)
     ≡ items_by shown xs
 items_of-map shown [] = refl
 items_of-map shown (x ∷ xs) = ap (λ ds. item (shown x) ds) (items_of-map shown xs)
-
--- as many as there are are all
-pub take_all : {A : Type 0} (xs : List A) (i : ℕ) → length xs ≤ i → take i xs ≡ xs
-take_all [] zero h = refl
-take_all [] (suc i) h = refl
-take_all (x ∷ xs) zero h = absurd (omega arith)
-take_all (x ∷ xs) (suc i) h = ap (λ zs. x ∷ zs) (take_all xs i (omega arith))
 
 -- the same as the next, by the successor of a number
 take_suc : {A : Type 0} (xs : List A) (i : ℕ) (x : A) → i < length xs → x ≡ get_or xs i x
@@ -44,5 +38,5 @@ shown_more shown xs i x vs v within at here before =
 pub shown_whole : {A : Type 0} (shown : A → Data) (xs : List A) (i : ℕ) (vs : List Value)
     → length xs ≤ i → map view vs ≡ map shown (take i xs)
     → items_view vs ≡ items_by shown xs
-shown_whole shown xs i vs end before = ap items_of (before ∙ ap (map shown) (take_all xs i end))
+shown_whole shown xs i vs end before = ap items_of (before ∙ ap (map shown) (take_whole xs i end))
     ∙ items_of-map shown xs

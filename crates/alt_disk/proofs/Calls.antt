@@ -67,16 +67,6 @@ silent_fault a b c silent fault = record {
   same = same_on a b c silent.same fault.same;
 }
 
--- what follows where the answer is Ok
-pub on_ok : {T E X Y : Type 0} (r : Result T E) → (X → Y) → OnOk r X → OnOk r Y
-on_ok (Ok x) leads ok = leads ok
-on_ok (Err e) leads ok = tt
-
--- and where it is an error
-pub on_err : {T E X Y : Type 0} (r : Result T E) → (X → Y) → OnErr r X → OnErr r Y
-on_err (Ok x) leads err = tt
-on_err (Err e) leads err = leads err
-
 -- an error is no Ok
 pub not_ok : {T E : Type 0} (r : Result T E) → IsErr r → is_ok r ≡ false
 not_ok (Ok x) err = absurd (false≢true err)

@@ -9,3 +9,4 @@ mod Picking
 mod Walk
 mod Settle
 mod PickedFits
+pub mod Staying

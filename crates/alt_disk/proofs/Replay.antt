@@ -1,5 +1,5 @@
 -- How the list of calls goes on by one, and what shows of it at each moment.
-use Rattle.std.proofs.Common.{slice_index_or, get_or, length, ◌≡◌, ◌≢◌, ◌<◌, ◌≤◌, ◌==◌, nat_le, if◌then◌else◌, ⊎_elim, ℕ, zero, suc, List, [], ◌∷◌, ◌++◌, Option, refl, sym, ◌∙◌, ap, arith}
+use Rattle.std.proofs.Common.{slice_index_or, ◌≡◌, ◌≢◌, ◌<◌, ◌≤◌, ◌==◌, nat_le, if◌then◌else◌, ⊎_elim, ℕ, zero, suc, List, [], ◌∷◌, ◌++◌, Option, refl, sym, ◌∙◌, ap, arith}
 use Rattle.std.proofs.lemmas.Bool.Decides.{nat_tests}
 use Rattle.std.proofs.lemmas.Bool.{cases_eq}
 use Rattle.std.proofs.lemmas.List.{append-nil}
@@ -92,10 +92,3 @@ kept-leaves calls made file kept leaves = kept-push calls made file file kept st
         ∙ sym (test_same made.file g _ _ same))
         (λ (other : made.file ≢ g). sym (test_other made.file g _ _ other))
         (cases_eq made.file g)
-
--- an element has a place, whatever stands in where there is none
-pub get_or-any : {X : Type 0} (xs : List X) (i : ℕ) (d e : X) → i < length xs
-    → get_or xs i d ≡ get_or xs i e
-get_or-any [] i d e less = absurd (omega (arith, less))
-get_or-any (x ∷ xs) zero d e less = refl
-get_or-any (x ∷ xs) (suc i) d e less = get_or-any xs i d e (omega (arith, less))

@@ -1,6 +1,6 @@
 -- How a run of calls begins, goes on, and is seen as one of several files.
 use Rattle.std.proofs.Common.{◌&&◌, IsTrue, ◌≡◌, ◌≢◌, ◌⊎◌, ◌≤◌, ⊎_elim, ℕ, Bool, List, Option, refl, sym, ◌∙◌, ap, subst, arith}
-use Rattle.alt_base.specs.Counts.{next_moment}
+use Rattle.alt_base.proofs.Numbers.{at_or_before, one_up_to_other}
 use Rattle.alt_disk.specs.Fates.{Fates, Fits}
 use Rattle.alt_disk.specs.Disk.{DiskState, Goes, Call, Others, Same, Synced, IsTrusted, now}
 use Rattle.alt_disk.specs.Runs.{Run, Spans, Quiet}
@@ -9,14 +9,6 @@ use Rattle.alt_disk.specs.Runs.{Run, Spans, Quiet}
 pub record RunSoFar (old new : DiskState) (f : ℕ) (P : ℕ → Option (List ℕ) → Type 0) : Type 0 where
   pub run : Run old new f P
   pub here : (left : Option (List ℕ)) → Fits (now new f) left → P new.moment left
-
--- a moment up to the end of one call is up to its start, or is its end
-at_or_before : (t m n : ℕ) → t ≤ n → n ≤ next_moment m → m ≤ n → (t ≤ m) ⊎ (t ≡ n)
-at_or_before t m n le step later = grind arith
-
--- a moment is up to another, or from it on
-before_or_from : (t m : ℕ) → (t ≤ m) ⊎ (m ≤ t)
-before_or_from t m = grind arith
 
 -- calls keep whether the contents can be relied on
 pub trusted_on : (a b : DiskState) → Goes a b → IsTrusted a → IsTrusted b
@@ -99,12 +91,12 @@ run_then a b c f P Q first then leads = record {
       (λ (before : t ≤ b.moment). then.past t g before ∙ first.fates t g other low before)
       (λ (from : b.moment ≤ t). then.fates t g other from high
       ∙ first.fates b.moment g other first.later (omega arith))
-      (before_or_from t b.moment);
+      (one_up_to_other t b.moment);
   each = λ t left low high fits. ⊎_elim
       (λ (before : t ≤ b.moment). first.each t left low before
       (subst (λ (s : Fates). Fits s left) (then.past t f before) fits))
       (λ (from : b.moment ≤ t). leads t left (then.each t left from high fits))
-      (before_or_from t b.moment);
+      (one_up_to_other t b.moment);
 }
 
 -- what a run promises may be weakened
@@ -145,12 +137,12 @@ spans_on a b c touched P first then = record {
       (λ (before : t ≤ b.moment). then.past t g before ∙ first.fates t g outside low before)
       (λ (from : b.moment ≤ t). then.fates t g outside from high
       ∙ first.fates b.moment g outside first.later (omega arith))
-      (before_or_from t b.moment);
+      (one_up_to_other t b.moment);
   each = λ t image low high is_image. ⊎_elim
       (λ (before : t ≤ b.moment). first.each t image low before
       (λ f. subst (λ (s : Fates). Fits s (image f)) (then.past t f before) (is_image f)))
       (λ (from : b.moment ≤ t). then.each t image from high is_image)
-      (before_or_from t b.moment);
+      (one_up_to_other t b.moment);
 }
 
 -- what calls promise of images may be weakened, and the files that they may touch added to
@@ -199,7 +191,7 @@ quiet_then a b c first then = record {
       (λ (before : t ≤ b.moment). then.past t g before ∙ first.fates t g low before)
       (λ (from : b.moment ≤ t). then.fates t g from high
       ∙ first.fates b.moment g first.later (omega arith))
-      (before_or_from t b.moment);
+      (one_up_to_other t b.moment);
 }
 
 -- after quiet calls all files stand as before

@@ -4,6 +4,7 @@ use Rattle.std.proofs.lemmas.Bool.{cases_eq, false≢true}
 use Rattle.std.proofs.lemmas.Bool.Decides.{nat_tests}
 use Rattle.std.proofs.lemmas.List.Elements.{recursion_from_All}
 use Rattle.std.proofs.lemmas.Map.Keys.{below_from_sorted}
+use Rattle.std.proofs.Math.Bool.{or-true}
 use Rattle.std.specs.List.{All, AllByRecursion, list_any, filter}
 use Rattle.std.specs.List.Sorted.{IsStrictlySortedBy}
 use Rattle.std.specs.Ordering.{nat_cmp}
@@ -30,11 +31,6 @@ place_of f (n ∷ ns) = ⊎_elim
     not_first other none = let test : (f == n) ≡ false = grind (arith, nat_tests, other) in
         λ i. test i || none i
 
--- or true is true
-or_true : (b : Bool) → (b || true) ≡ true
-or_true true = refl
-or_true false = refl
-
 -- the first of a list is in it
 first_listed : (f n : ℕ) (b : Bool) → n ≡ f → ((f == n) || b) ≡ true
 first_listed f n b same = let test : (f == n) ≡ true = grind (arith, nat_tests, same) in
@@ -46,7 +42,7 @@ listed : (f : ℕ) (ns : List ℕ) (k : ℕ) → k < length ns → get_or ns k 0
 listed f [] k less same = absurd (omega (arith, less))
 listed f (n ∷ ns) zero less same = first_listed f n (list_any (λ g. f == g) ns) same
 listed f (n ∷ ns) (suc k) less same = ap (λ (x : Bool). (f == n) || x)
-    (listed f ns k (omega (arith, less)) same) ∙ or_true (f == n)
+    (listed f ns k (omega (arith, less)) same) ∙ or-true (f == n)
 
 -- a file that is not in a list is not that of a call in it
 other_file : (f : ℕ) (ns : List ℕ) (made : Made) → list_any (λ g. f == g) ns ≡ false

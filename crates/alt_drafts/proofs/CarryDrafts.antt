@@ -17,7 +17,7 @@ use Rattle.alt_layout.specs.Families.{files_of, flushed_of}
 use Rattle.alt_layout.specs.Files.{all_of}
 use Rattle.alt_layout.specs.Layout.{Layout}
 use Rattle.alt_layout.specs.Merges.{IsMapFrom}
-use Rattle.alt_layout.proofs.FileLaws.{in_back, in_either, in_front}
+use Rattle.alt_layout.proofs.FileLaws.{in_either}
 use Rattle.alt_layout.proofs.FlushLaws.{IsPut, flushed_of-own, of-other, put_file}
 use Rattle.alt_layout.proofs.MergeLaws.{none_from, with_later-behind}
 use Rattle.alt_layout.proofs.MomentLaws.{same_or_not}
@@ -35,6 +35,7 @@ use Rattle.alt_drafts.specs.Merging.{IsLater, IsOlder, MayEnd}
 use Rattle.alt_drafts.proofs.StillLaws.{each_on, may_end_on}
 use Rattle.alt_drafts.proofs.MakesLaws.{named_of}
 use Rattle.alt_drafts.proofs.MergingLaws.{one_map, open_count}
+use Rattle.alt_manifest.proofs.Among.{in_back, in_front}
 
 -- ---- no step, and one behind another
 

@@ -6,21 +6,21 @@ use Rattle.std.specs.BTreeMap.{get}
 use Rattle.std.specs.FinMap.{empty, empty_of_len, entries, len-entries}
 use Rattle.std.specs.Ordering.{eq_by_cmp, is_eq, nat_cmp}
 use Rattle.std.specs.Set.{is_member}
+use Rattle.alt_base.proofs.Orderings.{is_eq-nat_cmp}
 use Rattle.alt_disk.specs.Disk.{DiskState}
 use Rattle.alt_flush.specs.Drafts.{without}
-use Rattle.alt_flush.proofs.RemoveLaws.{in_at}
 use Rattle.alt_layout.specs.Layout.{Layout, RowMap}
-use Rattle.alt_layout.proofs.FileLaws.{in_back, in_either, in_front}
+use Rattle.alt_layout.proofs.FileLaws.{in_either}
 use Rattle.alt_manifest.specs.Versions.{IsIn, numbers_of, row_files}
 use Rattle.alt_manifest.specs.declared.version.FamilyVersion.{FamilyVersion}
 use Rattle.alt_manifest.specs.declared.version.Version.{Version}
 use Rattle.alt_families.specs.Families.{Families, rows_in}
-use Rattle.alt_families.proofs.MemoryLaws.{same_test}
 use Rattle.alt_writes.specs.Writes.{Write}
 use Rattle.alt_layout.specs.Families.{layout_of}
 use Rattle.alt_layout.specs.Files.{all_of}
 use Rattle.alt_drafts.specs.Drafting.{AreDead, Empties, Makes, is_some_row, without_all}
 use Rattle.alt_drafts.proofs.MakesLaws.{empties_none, empties_then, makes_none}
+use Rattle.alt_manifest.proofs.Among.{in_at, in_back, in_front}
 
 -- ---- lists of numbers
 
@@ -73,7 +73,7 @@ member_in (x ∷ xs) n e = by_test (n == x) refl (λ later. member_in xs n later
         → (is_member (eq_by_cmp nat_cmp) xs n ≡ true → IsIn xs n) → (n ≡ x) ⊎ IsIn xs n
     by_test true same rest = inl (eqb-true n x same)
     by_test false apart rest = inr (rest
-        (ap (λ t. t || is_member (eq_by_cmp nat_cmp) xs n) (sym (same_test n x ∙ apart)) ∙ e))
+        (ap (λ t. t || is_member (eq_by_cmp nat_cmp) xs n) (sym (is_eq-nat_cmp n x ∙ apart)) ∙ e))
 
 -- ---- families in hand
 
@@ -103,14 +103,14 @@ pub taken_out : (old new : Families) (family : ℕ) → ((q : ℕ) → get nat_c
     ≡ cond (is_eq (nat_cmp family q)) None (get nat_cmp old q))
     → get nat_cmp new family ≡ None
 taken_out old new family at = at family ∙ ap (λ t. cond t None (get nat_cmp old family))
-    (same_test family family ∙ Rattle.std.proofs.Common.eq-eqb family family refl)
+    (is_eq-nat_cmp family family ∙ Rattle.std.proofs.Common.eq-eqb family family refl)
 
 pub others_stay : (old new : Families) (family : ℕ) → ((q : ℕ) → get nat_cmp new q
     ≡ cond (is_eq (nat_cmp family q)) None (get nat_cmp old q)) → (other : ℕ)
     → (other ≡ family → ⊥) → get nat_cmp new other ≡ get nat_cmp old other
 others_stay old new family at other apart =
     at other ∙ ap (λ t. cond t None (get nat_cmp old other))
-    (same_test family other ∙ differs (family == other) refl)
+    (is_eq-nat_cmp family other ∙ differs (family == other) refl)
   where
     differs : (t : Bool) → (family == other) ≡ t → (family == other) ≡ false
     differs false is = is

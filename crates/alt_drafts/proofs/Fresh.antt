@@ -21,14 +21,9 @@ use Rattle.alt_manifest.specs.declared.version.Version.{Version}
 use Rattle.alt_layout.proofs.FreshLaws.{fresh_layout as layout_fresh}
 use Rattle.alt_drafts.specs.Making.{HasSegment, LeavesNoVersions}
 use Rattle.std.specs.Prelude.{⊤}
+use Rattle.alt_gatelog.proofs.Append.{length-header}
 
--- the header of a log has eight bytes
-length-header : (form : Form) → length (header form) ≡ 8
-unfolding header
-length-header One = refl
-length-header Two = refl
-
--- and one without entries is an empty log
+-- a log without entries is an empty log
 has_none : (file : Option (List ℕ)) → file ≡ Some (log_bytes Two [] 0 []) → IsLog Two [] file
 has_none file is = record { gate = 0; closed = omega arith; rest = []; is = is; lengths = tt }
 
@@ -38,15 +33,6 @@ pub fresh_layout : (s : DiskState) → IsFresh s → (image : ℕ → Option (Li
 fresh_layout s fresh image is_image = layout_fresh image
     (fresh.versions_last (image versions_file) (is_image versions_file) ∙ fresh.versions)
     (fresh.entries_last (image entries_file) (is_image entries_file) ∙ fresh.entries)
-
--- a file stays settled while calls touch another one
-pub settled_on : (a b : DiskState) (f g : ℕ) (P : ℕ → Option (List ℕ) → Type 0) → Run a b f P
-    → g ≢ f
-    → IsSettled a g → IsSettled b g
-settled_on a b f g P run other settled left fits =
-    settled left (subst (λ (x : Fates). Fits x left)
-    (run.fates b.moment g other run.later (omega arith)) fits)
-    ∙ sym (run.file g other)
 
 -- ---- no version without its segment
 
@@ -141,7 +127,3 @@ pub first_of_names : (xs : List ℕ) (file : ℕ → Option (List ℕ)) → IsNa
     → (file (get_or xs 0 0) ≢ None) × ((f : ℕ) → f < get_or xs 0 0 → file f ≡ None)
 first_of_names [] file names some = absurd (omega (arith, some))
 first_of_names (x ∷ xs) file names some = first_named x xs file names
-
--- a number that isn't 0
-pub above_zero : (n : ℕ) → (n == 0) ≡ false → 0 < n
-above_zero n other = grind (arith, nat_tests)

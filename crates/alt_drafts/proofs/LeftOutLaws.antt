@@ -12,21 +12,13 @@ use Rattle.alt_flush.proofs.NamedLaws.{without_drops}
 use Rattle.alt_layout.specs.Families.{files_of, flushed_of}
 use Rattle.alt_layout.specs.Flushes.{with_file}
 use Rattle.alt_layout.specs.Merged.{with_made}
-use Rattle.alt_layout.proofs.FileLaws.{in_back, in_front}
 use Rattle.alt_layout.proofs.FlushLaws.{differs}
 use Rattle.alt_layout.proofs.MomentLaws.{same_or_not}
 use Rattle.alt_manifest.specs.Versions.{IsIn, files_named, numbers_of}
 use Rattle.alt_manifest.specs.declared.version.FamilyVersion.{FamilyVersion}
 use Rattle.alt_manifest.specs.declared.version.Version.{Version}
 use Rattle.alt_drafts.specs.Drafting.{IsLeftOut, IsThere, AreDead, without_all}
-
--- a number is among others, or not
-pub in_or_not : (xs : List ℕ) (n : ℕ) → IsIn xs n ⊎ (IsIn xs n → ⊥)
-in_or_not [] n = inr (λ there. there)
-in_or_not (x ∷ xs) n = ⊎_elim (λ (e : n ≡ x). inl (inl e)) (λ (apart : n ≡ x → ⊥).
-    ⊎_elim (λ (later : IsIn xs n). inl (inr later))
-    (λ (out : IsIn xs n → ⊥). inr (λ there. ⊎_elim apart out there)) (in_or_not xs n))
-    (same_or_not n x)
+use Rattle.alt_manifest.proofs.Among.{in_back, in_front, in_or_not}
 
 -- ---- files of families
 

@@ -16,7 +16,6 @@ use Rattle.alt_layout.specs.Families.{Held, files_of, flushed_of, layout_of, wit
 use Rattle.alt_layout.specs.Files.{all_of}
 use Rattle.alt_layout.specs.Flushes.{with_rows}
 use Rattle.alt_layout.specs.Layout.{Layout, RowMap}
-use Rattle.alt_layout.proofs.FileLaws.{in_back, in_front}
 use Rattle.alt_layout.proofs.FlushLaws.{files_of-own, flushed_of-own, of-other, other_rows, own_rows}
 use Rattle.alt_layout.proofs.MomentLaws.{same_or_not}
 use Rattle.alt_layout.proofs.RowLaws.{with_later-none}
@@ -29,6 +28,7 @@ use Rattle.alt_writes.specs.Writes.{Write}
 use Rattle.alt_families.specs.Families.{Families, files_in, rows_in}
 use Rattle.alt_drafts.specs.Drafting.{Empties, Makes}
 use Rattle.alt_drafts.specs.InHand.{AreOpen}
+use Rattle.alt_manifest.proofs.Among.{in_back, in_front}
 
 -- ---- files in hand
 

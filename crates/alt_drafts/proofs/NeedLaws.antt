@@ -6,7 +6,6 @@ use Rattle.std.specs.FinMap.{empty, entries, len-empty, len-entries}
 use Rattle.std.specs.Ordering.{nat_cmp}
 use Rattle.alt_cells.specs.Keys.{key_cmp}
 use Rattle.alt_cells.specs.declared.row.RowCells.{RowCells}
-use Rattle.alt_flush.proofs.RemoveLaws.{in_at}
 use Rattle.alt_manifest.specs.Versions.{IsIn, RiseFrom}
 use Rattle.alt_families.specs.Families.{Families, files_in, rows_in}
 use Rattle.alt_families.specs.declared.family.Family.{Family}
@@ -14,6 +13,7 @@ use Rattle.alt_rowfile.specs.declared.rowfile.RowFile.{RowFile}
 use Rattle.alt_drafts.specs.Drafting.{IsFlushed, IsSpentFor, files_for, files_needed, is_some_row}
 use Rattle.alt_drafts.specs.declared.fault.EngineFault.{EngineFault}
 use Rattle.alt_drafts.specs.declared.fault.EngineFault.TheVariants.{Spent, Damaged, Failed, NoMemory}
+use Rattle.alt_manifest.proofs.Among.{in_at, risen}
 
 -- no rows take none
 pub files_for-empty : files_for (entries (empty {K = List ℕ} {X = RowCells} {R = key_cmp})) ≡ 0
@@ -42,15 +42,7 @@ needed_same old new (f ∷ fs) same = λ i.
     files_for (entries (rows_in (same f (inl refl) i)))
     + needed_same old new fs (λ g there. same g (inr there)) i
 
--- numbers that rise from one on are that one or greater
-risen : (least n : ℕ) (ns : List ℕ) → RiseFrom least ns → IsIn ns n → least ≤ n
-risen least n [] rise there = absurd there
-risen least n (m ∷ ms) rise there = ⊎_elim
-    (λ (e : n ≡ m). let first = rise.0 in omega arith)
-    (λ (later : IsIn ms n). let more = risen (m + 1) n ms rise.1 later in
-    let first = rise.0 in omega arith) there
-
--- and do so from any one of them on
+-- numbers that rise do so from any one of them on
 rise_drop : (least : ℕ) (xs : List ℕ) (i : ℕ) → RiseFrom least xs
     → (low : ℕ) × RiseFrom low (drop i xs)
 rise_drop least xs zero rise = (least, rise)

@@ -1,6 +1,7 @@
 -- What is known stays known where fewer moments and places are covered and the others stay listed.
-use Rattle.std.proofs.Common.{◌≡◌, ℕ, ◌≤◌, Bool, true, false, Option, Some, None, refl, sym, ap, ◌∙◌, arith, inl, inr, true≢false}
-use Rattle.std.specs.Prelude.{◌&&◌, IsTrue}
+use Rattle.std.proofs.Common.{◌≡◌, ℕ, ◌≤◌, true, false, Option, Some, None, refl, sym, ap, ◌∙◌, arith, inl, inr, true≢false}
+use Rattle.std.proofs.lemmas.Bool.{and_from}
+use Rattle.std.specs.Prelude.{IsTrue}
 use Rattle.std.specs.declared.cmp.Ordering.{Ordering}
 use Rattle.std.specs.declared.cmp.Ordering.TheVariants.{Less, Equal, Greater}
 use Rattle.std.specs.BTreeSet.{BTreeSet, contains}
@@ -8,6 +9,7 @@ use Rattle.std.specs.List.{list_any}
 use Rattle.std.specs.BTreeMap.{is_at}
 use Rattle.std.specs.Cmp.{first_so, second_so, upto, nat_cmp_total}
 use Rattle.std.specs.Ordering.{is_eq, is_lt, is_le, is_gt, nat_cmp}
+use Rattle.alt_base.proofs.Orderings.{is_lt-true}
 use Rattle.alt_due.specs.declared.due.Due.{Due}
 use Rattle.alt_due.specs.declared.spot.Spot.{Spot}
 use Rattle.alt_due.specs.declared.spot.Term.{Term}
@@ -15,22 +17,12 @@ use Rattle.alt_due.specs.Due.{is_before, is_within, Lists, Knows, IsReady, IsRip
 use Rattle.alt_due.specs.Order.{spot_cmp, spot_total, term_of, term_cmp}
 use Rattle.alt_due.proofs.Orders.{not_before, spots_apart, places_apart}
 
--- both tests hold
-pub both : (a b : Bool) → a ≡ true → b ≡ true → (a && b) ≡ true
-both a b p q = (λ i. p i && b) ∙ q
-
--- what is less is so as an order says it
-pub less : (o : Ordering) → is_lt o ≡ true → o ≡ Less
-less Less e = refl
-less Equal e = cc
-less Greater e = cc
-
 -- what is before a place before the end is before the end
 pub before_before : (end : Option Spot) (x y : Spot) → is_lt (spot_cmp x y) ≡ true
     → is_before end y ≡ true → is_before end x ≡ true
 before_before None x y p q = refl
-before_before (Some end) x y p q = ap is_lt (spot_total.trans x y end (less (spot_cmp x y) p)
-    (less (spot_cmp y end) q))
+before_before (Some end) x y p q = ap is_lt (spot_total.trans x y end (is_lt-true (spot_cmp x y) p)
+    (is_lt-true (spot_cmp y end) q))
 
 -- what is before a place is another one
 pub before_apart : (x y : Spot) → is_lt (spot_cmp x y) ≡ true → is_eq (spot_cmp y x) ≡ false
@@ -93,8 +85,8 @@ pub ripe_ready : (d : Due) (moment : ℕ) (spot : Spot) → IsRipe moment d
     → IsTrue (is_within d moment) → Knows d moment spot → IsTrue (is_before d.end spot)
     → IsReady d spot
 ripe_ready d moment spot ripe within known before =
-    shown (known (both (is_within d moment) (is_before d.end spot) within before))
+    shown (known (and_from (is_within d moment) (is_before d.end spot) within before))
   where
     shown : Lists d moment spot → IsReady d spot
-    shown (inl r) = both (contains spot_cmp d.ready spot) (is_before d.end spot) r before
+    shown (inl r) = and_from (contains spot_cmp d.ready spot) (is_before d.end spot) r before
     shown (inr w) = absurd (omega (arith, w.1, ripe w.0 spot w.2))

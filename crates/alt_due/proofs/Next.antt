@@ -1,5 +1,6 @@
 -- The first place of a range of those that are ready.
-use Rattle.std.proofs.Common.{◌≡◌, Bool, true, false, List, [], ◌∷◌, Option, Some, None, refl, sym, ap, subst, ◌∙◌, true≢false}
+use Rattle.std.proofs.Common.{◌≡◌, true, false, List, [], ◌∷◌, Option, Some, None, refl, sym, ap, subst, ◌∙◌, true≢false}
+use Rattle.std.proofs.lemmas.Bool.{and_from, false_from_ne_true}
 use Rattle.std.specs.Prelude.{IsTrue, IfSome, slice_get}
 use Rattle.std.specs.declared.cmp.Ordering.{Ordering}
 use Rattle.std.specs.declared.cmp.Ordering.TheVariants.{Less, Equal, Greater}
@@ -8,22 +9,17 @@ use Rattle.std.specs.BTreeMap.Range.{IsInRange, IsLeBy}
 use Rattle.std.specs.BTreeSet.{contains, IsKeyRangeOf}
 use Rattle.std.specs.Cmp.{first_so, second_so}
 use Rattle.std.specs.Ordering.{is_lt, is_gt, ordering_reverse}
+use Rattle.alt_base.proofs.Orderings.{is_lt-true}
 use Rattle.alt_due.specs.declared.due.Due.{Due}
 use Rattle.alt_due.specs.declared.spot.Spot.{Spot}
 use Rattle.alt_due.specs.Due.{behind, is_before, is_behind, FindsNext, IsReady}
 use Rattle.alt_due.specs.Order.{spot_cmp, spot_total}
-use Rattle.alt_due.proofs.Known.{both, less}
-
--- a test that can't hold
-unless : (b : Bool) → (b ≡ true → ⊥) → b ≡ false
-unless true f = absurd (f refl)
-unless false f = refl
 
 -- what is behind a place is in the range behind it
 from_start : (after : Option Spot) (spot : Spot) → is_behind after spot ≡ true
     → IsInRange spot_cmp (behind after) Unbounded spot
 from_start None spot p = (tt, tt)
-from_start (Some after) spot p = (less (spot_cmp after spot) p, tt)
+from_start (Some after) spot p = (is_lt-true (spot_cmp after spot) p, tt)
 
 -- and the other way round
 is_from : (after : Option Spot) (spot : Spot) → IsInRange spot_cmp (behind after) Unbounded spot
@@ -47,7 +43,7 @@ before_by : (end : Option Spot) (x y : Spot) → is_gt (spot_cmp x y) ≡ false
 before_by None x y p q = refl
 before_by (Some end) x y p q = elim (spot_cmp x y) as
     (λ o. spot_cmp x y ≡ o → is_gt o ≡ false → is_lt (spot_cmp x end) ≡ true) [
-      | Less ↦ λ e g. ap is_lt (spot_total.trans x y end e (less (spot_cmp y end) q))
+      | Less ↦ λ e g. ap is_lt (spot_total.trans x y end e (is_lt-true (spot_cmp y end) q))
       | Equal ↦ λ e g. ap is_lt (spot_total.congr x y end e) ∙ q
       | Greater ↦ λ e g. absurd (true≢false g)
     ] refl p
@@ -67,18 +63,19 @@ module _ (d : Due) (after : Option Spot) (range : List Spot)
       let there = subst (λ r. IfSome (slice_get r 0)
       (λ k. IsInRange spot_cmp (behind after) Unbounded k × IsTrue (contains spot_cmp d.ready k)))
       e is.1 in (
-        both (contains spot_cmp d.ready first) (is_before d.end first) there.1 before,
+        and_from (contains spot_cmp d.ready first) (is_before d.end first) there.1 before,
         is_from after first there.0,
         λ spot ready behind. not_less first spot (no_later first rest e spot ready behind),
       )
 
   pub past : (first : Spot) (rest : List Spot) → range ≡ first ∷ rest
       → is_before d.end first ≡ false → FindsNext d after None
-  past first rest e outside spot ready = unless (is_behind after spot) (λ behind. true≢false
+  past first rest e outside spot ready =
+      false_from_ne_true (is_behind after spot) (λ behind. true≢false
       (sym (before_by d.end first spot (no_later first rest e spot ready behind)
       (second_so (contains spot_cmp d.ready spot) (is_before d.end spot) ready)) ∙ outside))
 
   pub none : range ≡ [] → FindsNext d after None
-  none e spot ready = unless (is_behind after spot) (λ behind. true≢false
+  none e spot ready = false_from_ne_true (is_behind after spot) (λ behind. true≢false
       (sym (first_so (contains spot_cmp d.ready spot) (is_before d.end spot) ready)
       ∙ is.5 e spot (from_start after spot behind)))

@@ -2,6 +2,7 @@
 use Rattle.std.proofs.Common.{◌≡◌, ℕ, Bool, true, false, List, [], ◌∷◌, length, Option, Some, None, refl, sym, ap, ◌∙◌, arith, inl, inr, true≢false}
 use Rattle.std.specs.Prelude.{◌||◌, is_some}
 use Rattle.std.proofs.Math.Nat.{lt_of_not-le}
+use Rattle.std.proofs.lemmas.Bool.{and_from}
 use Rattle.std.specs.BTreeMap.{is_at}
 use Rattle.std.specs.List.{list_any}
 use Rattle.std.specs.Cmp.{second_so, tied_itself}
@@ -10,7 +11,6 @@ use Rattle.alt_due.specs.declared.due.Due.{Due}
 use Rattle.alt_due.specs.declared.spot.Spot.{Spot}
 use Rattle.alt_due.specs.Due.{is_before, is_within, covers, IsRipe, CoversAll, ListsNone, NoneDue}
 use Rattle.alt_due.specs.Order.{spot_cmp, spot_total}
-use Rattle.alt_due.proofs.Known.{both}
 use Rattle.alt_due.proofs.Orders.{not_before}
 
 -- where all is covered and none is listed, none is due
@@ -39,7 +39,7 @@ no_end (Some end) e spot = absurd (true≢false e)
 pub covered_all : (d : Due) (moment : ℕ) → is_some d.end ≡ false → is_within d moment ≡ true
     → CoversAll d moment
 covered_all d moment e within spot =
-    both (is_within d moment) (is_before d.end spot) within (no_end d.end e spot)
+    and_from (is_within d moment) (is_before d.end spot) within (no_end d.end e spot)
 
 -- where each place is before it, there is no end
 endless : (end : Option Spot) → ((spot : Spot) → is_before end spot ≡ true) → is_some end ≡ false

@@ -2,36 +2,28 @@
 use Rattle.std.proofs.Common.{◌≡◌, ℕ, false, refl, ap}
 use Rattle.std.specs.declared.cmp.Ordering.{Ordering}
 use Rattle.std.specs.declared.cmp.Ordering.TheVariants.{Less, Equal, Greater}
-use Rattle.std.specs.Ordering.{is_eq, is_lt, ordering_then, nat_cmp}
+use Rattle.std.specs.Ordering.{is_eq, is_lt, nat_cmp}
 use Rattle.std.specs.Cmp.{tied_itself}
-use Rattle.std.specs.FinMap.{IsAntisymmetric, nat_cmp-IsAntisymmetric, slice_cmp-IsAntisymmetric}
+use Rattle.std.specs.FinMap.{IsAntisymmetric, nat_cmp-IsAntisymmetric}
+use Rattle.alt_base.proofs.Orderings.{then-equal_both}
 use Rattle.alt_value.specs.Members.{text_order}
 use Rattle.alt_due.specs.declared.spot.Spot.{Spot}
 use Rattle.alt_due.specs.declared.spot.Term.{Term}
 use Rattle.alt_due.specs.Order.{spot_cmp, spot_total, term_of, term_cmp}
-
--- a tie of two orders in turn is a tie of each
-ties : (r s : Ordering) → ordering_then r s ≡ Equal → (r ≡ Equal) × (s ≡ Equal)
-ties Less s e = cc
-ties Equal s e = (refl, e)
-ties Greater s e = cc
-
--- only equal texts tie
-text_exact : IsAntisymmetric text_order
-text_exact = slice_cmp-IsAntisymmetric nat_cmp-IsAntisymmetric
+use Rattle.alt_value.proofs.Texts.{text_apart}
 
 -- only equal places tie
 pub spot_exact : IsAntisymmetric spot_cmp
 spot_exact x y e =
-    let both = ties (text_order x.table y.table) (text_order x.place y.place) e in
-    let table = text_exact x.table y.table both.0 in
-    let place = text_exact x.place y.place both.1 in
+    let both = then-equal_both (text_order x.table y.table) (text_order x.place y.place) e in
+    let table = text_apart x.table y.table both.0 in
+    let place = text_apart x.place y.place both.1 in
     λ i. record { table = table i; place = place i }
 
 -- and only equal terms
 pub term_exact : IsAntisymmetric term_cmp
 term_exact x y e =
-    let both = ties (nat_cmp x.first y.first) (spot_cmp x.at y.at) e in
+    let both = then-equal_both (nat_cmp x.first y.first) (spot_cmp x.at y.at) e in
     let first = nat_cmp-IsAntisymmetric x.first y.first both.0 in
     let at = spot_exact x.at y.at both.1 in
     λ i. record { first = first i; at = at i }

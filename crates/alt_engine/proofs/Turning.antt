@@ -6,7 +6,6 @@ use Rattle.alt_disk.specs.Disk.{DiskState}
 use Rattle.alt_layout.specs.Families.{Held, files_of}
 use Rattle.alt_layout.specs.Fresh.{versions_file}
 use Rattle.alt_layout.specs.Layout.{Layout}
-use Rattle.alt_layout.proofs.FileLaws.{in_back}
 use Rattle.alt_manifest.specs.Versions.{IsIn}
 use Rattle.alt_manifest.specs.declared.version.Version.{Version}
 use Rattle.alt_manifest.proofs.OneVersion.{same_version}
@@ -32,6 +31,7 @@ use Rattle.alt_engine.specs.declared.engine.Engine.{Engine}
 use Rattle.alt_engine.specs.declared.work.Task.TheVariants.{FlushAll}
 use Rattle.alt_engine.specs.declared.work.Worked.{Worked}
 use Rattle.alt_engine.specs.declared.work.Worked.TheVariants.{Idle, Went, Done}
+use Rattle.alt_manifest.proofs.Among.{in_back}
 
 -- ---- merges under way
 

@@ -8,7 +8,6 @@ use Rattle.alt_layout.specs.Families.{Held, files_of}
 use Rattle.alt_layout.specs.Files.{IsOf}
 use Rattle.alt_layout.specs.Fresh.{versions_file}
 use Rattle.alt_layout.specs.Layout.{Layout}
-use Rattle.alt_layout.proofs.FileLaws.{in_front}
 use Rattle.alt_manifest.specs.Versions.{HasVersion, IsIn, numbers_of, row_files}
 use Rattle.alt_manifest.specs.declared.version.Version.{Version}
 use Rattle.alt_manifest.proofs.OneVersion.{same_version}
@@ -30,6 +29,7 @@ use Rattle.alt_engine.specs.declared.engine.Engine.{Engine}
 use Rattle.alt_engine.specs.declared.work.Task.TheVariants.{Step}
 use Rattle.alt_engine.specs.declared.work.Worked.{Worked}
 use Rattle.alt_engine.specs.declared.work.Worked.TheVariants.{Done}
+use Rattle.alt_manifest.proofs.Among.{in_front}
 
 -- ---- answers
 

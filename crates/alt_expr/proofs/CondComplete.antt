@@ -114,7 +114,8 @@ among_read g x b bs rest =
     rw (close_read (operands_toks b bs) rest, operands_read g b bs (mark m.RightRound ∷ rest) (ends_close rest) (no_comma_close rest)) refl
 
 -- two parts with a comma between, and the bracket behind them
-comma_read : (xs ys rest : List Tok) → ((xs ++ mark m.Comma ∷ ys) ++ mark m.RightRound ∷ []) ++ rest
+pub comma_read : (xs ys rest : List Tok) →
+    ((xs ++ mark m.Comma ∷ ys) ++ mark m.RightRound ∷ []) ++ rest
     ≡ xs ++ mark m.Comma ∷ (ys ++ mark m.RightRound ∷ rest)
 comma_read xs ys rest = simp append_assoc
 

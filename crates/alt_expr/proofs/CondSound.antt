@@ -1,5 +1,7 @@
 -- What is read was derived, and its tree is the phrase's.
 use Rattle.std.proofs.Common.{◌≡◌, refl, sym, ap, subst, ◌∙◌, ℕ, zero, suc, Bool, true, false, ◌⊎◌, inl, inr, List, [], ◌∷◌, ◌++◌, length, map, drop, Option, Some, None, append_assoc, append-nil}
+use Rattle.std.proofs.lemmas.Bool.{cases_Bool}
+use Rattle.std.proofs.lemmas.Option.{none-some, same_Some}
 use Rattle.std.specs.Prelude.{codes}
 use Rattle.alt_expr.specs.Tokens.{Tok, key, word, hash, colon, index, mark}
 use Rattle.alt_expr.specs.Given.{Given, value_of}
@@ -17,7 +19,7 @@ use Rattle.alt_expr.specs.declared.path.PathPart.{PathPart}
 use Rattle.alt_expr.specs.PathGrammar.{PathPhrase, path_toks, path_tree}
 use Rattle.alt_expr.specs.CondGrammar.{OperandPhrase, at, value, size, TestPhrase, compared, between, among, exists, not_exists, has_kind, begins, contains, CondPhrase, last, either, AndPhrase, final, both, NotPhrase, negated, group, test, operand_toks, operands_toks, mark_of, test_toks, cond_toks, and_toks, not_toks, operand_tree, test_tree, any_of, all_of, cond_trees, and_trees, not_tree, cond_tree}
 use Rattle.alt_expr.specs.Reader.{Parser, and_then, sees_mark, sees_key, calls, is_call, after_mark, after_key, expect, expect_key, path, in_brackets}
-use Rattle.alt_expr.proofs.Seen.{Derived, then_some, some_pair, none_some, some_is, either_way, mark_seen, key_seen, expected, expected_key, called}
+use Rattle.alt_expr.proofs.Seen.{Derived, then_some, some_pair, mark_seen, key_seen, expected, expected_key, called}
 use Rattle.alt_expr.proofs.PathFound.{path_sound, bracketed}
 use Rattle.alt_expr.proofs.Lists.{listed_sound}
 use Rattle.alt_expr.specs.CondReader as r
@@ -28,7 +30,7 @@ use Rattle.alt_expr.specs.CondReader.{joined, joined_from}
 named_sound : (g : Given) (i : List Tok) (x : Operand) (rest : List Tok)
     → r.named g i ≡ Some (x, rest) → Derived operand_toks (operand_tree g) i x rest
 unfolding r.named
-named_sound g i x rest h = elim (either_way (calls (codes "size") i)) [
+named_sound g i x rest h = elim (cases_Bool (calls (codes "size") i)) [
   | inl seen ↦
       let b = simp seen at h in
       let a = then_some (in_brackets (path g.names) (drop 2 i)) _ _ b in
@@ -42,8 +44,8 @@ named_sound g i x rest h = elim (either_way (calls (codes "size") i)) [
             (d.tokens ∙ ap (λ t. (path_toks d.by ++ mark m.RightRound ∷ []) ++ t) e.1);
         stands = sym e.0 ∙ ap o.Size d.stands;
       }
-  | inr no_size ↦ elim (either_way (is_call i)) [
-    | inl seen ↦ absurd (none_some _ (simp (no_size, seen) at h))
+  | inr no_size ↦ elim (cases_Bool (is_call i)) [
+    | inl seen ↦ absurd (none-some _ (simp (no_size, seen) at h))
     | inr none ↦
         let b = simp (no_size, none) at h in
         let a = then_some (path g.names i) _ _ b in
@@ -64,20 +66,20 @@ operand_sound g i x rest h = named_sound g i x rest h
 
 -- the comparison that a mark is
 compares : (mk : Mark) (by : Comparison) → r.comparison_of mk ≡ Some by → mk ≡ mark_of by
-compares m.Equal by h = ap mark_of (some_is c.Equal by h)
-compares m.NotEqual by h = ap mark_of (some_is c.NotEqual by h)
-compares m.Less by h = ap mark_of (some_is c.Less by h)
-compares m.LessEqual by h = ap mark_of (some_is c.LessEqual by h)
-compares m.Greater by h = ap mark_of (some_is c.Greater by h)
-compares m.GreaterEqual by h = ap mark_of (some_is c.GreaterEqual by h)
-compares _ by h = absurd (none_some by h)
+compares m.Equal by h = ap mark_of (same_Some c.Equal by h)
+compares m.NotEqual by h = ap mark_of (same_Some c.NotEqual by h)
+compares m.Less by h = ap mark_of (same_Some c.Less by h)
+compares m.LessEqual by h = ap mark_of (same_Some c.LessEqual by h)
+compares m.Greater by h = ap mark_of (same_Some c.Greater by h)
+compares m.GreaterEqual by h = ap mark_of (same_Some c.GreaterEqual by h)
+compares _ by h = absurd (none-some by h)
 
 comparison_seen : (i : List Tok) (by : Comparison) → r.sees_comparison i ≡ Some by
     → i ≡ mark (mark_of by) ∷ drop 1 i
 unfolding r.sees_comparison
-comparison_seen [] by h = absurd (none_some by h)
+comparison_seen [] by h = absurd (none-some by h)
 comparison_seen (mark mk ∷ i) by h = ap (λ x. mark x ∷ i) (compares mk by h)
-comparison_seen (_ ∷ i) by h = absurd (none_some by h)
+comparison_seen (_ ∷ i) by h = absurd (none-some by h)
 
 -- the tokens behind the first operand of a test
 data Tails (g : Given) (a : OperandPhrase) (i : List Tok) (x : Cond)
@@ -142,11 +144,11 @@ compared_sound g a i (Some by) x rest is h =
     (comparison_seen i by is ∙ ap (λ t. mark (mark_of by) ∷ t)
     (d.tokens ∙ ap (λ t. operand_toks d.by ++ t) e.1))
     (sym e.0 ∙ ap (λ t. cond.Compare by (operand_tree g a) t) d.stands)
-compared_sound g a i None x rest is h = elim (either_way (sees_key k.Between i)) [
+compared_sound g a i None x rest is h = elim (cases_Bool (sees_key k.Between i)) [
   | inl seen ↦ between_sound g a i x rest seen (simp seen at h)
-  | inr no_between ↦ elim (either_way (sees_key k.Among i)) [
+  | inr no_between ↦ elim (cases_Bool (sees_key k.Among i)) [
     | inl seen ↦ among_sound g a i x rest seen (simp (no_between, seen) at h)
-    | inr none ↦ absurd (none_some _ (simp (no_between, none) at h))
+    | inr none ↦ absurd (none-some _ (simp (no_between, none) at h))
   ]
 ]
 
@@ -158,7 +160,7 @@ tail_sound g i a x rest now is (tail d more toks left stands) =
 -- ---- functions
 
 -- two parts with a comma between, and the bracket behind them
-comma_found : (xs ys rest : List Tok) → xs ++ mark m.Comma ∷ (ys ++ mark m.RightRound ∷ rest)
+pub comma_found : (xs ys rest : List Tok) → xs ++ mark m.Comma ∷ (ys ++ mark m.RightRound ∷ rest)
     ≡ ((xs ++ mark m.Comma ∷ ys) ++ mark m.RightRound ∷ []) ++ rest
 comma_found xs ys rest = sym (simp append_assoc)
 
@@ -241,15 +243,15 @@ path_call g name f i x rest seen h =
 operand_test_sound : (g : Given) (i : List Tok) (x : Cond) (rest : List Tok)
     → r.operand_test g i ≡ Some (x, rest) → Derived test_toks (test_tree g) i x rest
 unfolding r.operand_test r.tail
-operand_test_sound g i x rest h = elim (either_way (calls (codes "attribute_type") i)) [
+operand_test_sound g i x rest h = elim (cases_Bool (calls (codes "attribute_type") i)) [
   | inl seen ↦
       let s = kind_sound g (drop 2 i) x rest (simp seen at h) in
       record { by = has_kind s.p s.a; tokens = called (codes "attribute_type") i seen ∙ ap (λ t. word (codes "attribute_type") ∷ mark m.LeftRound ∷ t) s.tokens; stands = s.stands }
-  | inr no_type ↦ elim (either_way (calls (codes "begins_with") i)) [
+  | inr no_type ↦ elim (cases_Bool (calls (codes "begins_with") i)) [
     | inl seen ↦
         let s = pair_sound g cond.BeginsWith (drop 2 i) x rest (simp (no_type, seen) at h) in
         record { by = begins s.a s.b; tokens = called (codes "begins_with") i seen ∙ ap (λ t. word (codes "begins_with") ∷ mark m.LeftRound ∷ t) s.tokens; stands = s.stands }
-    | inr no_begins ↦ elim (either_way (calls (codes "contains") i)) [
+    | inr no_begins ↦ elim (cases_Bool (calls (codes "contains") i)) [
       | inl seen ↦
           let s = pair_sound g cond.Contains (drop 2 i) x rest
           (simp (no_type, no_begins, seen) at h) in
@@ -269,11 +271,11 @@ operand_test_sound g i x rest h = elim (either_way (calls (codes "attribute_type
 test_sound : (g : Given) (i : List Tok) (x : Cond) (rest : List Tok)
     → r.whole_test g i ≡ Some (x, rest) → Derived test_toks (test_tree g) i x rest
 unfolding r.whole_test
-test_sound g i x rest h = elim (either_way (calls (codes "attribute_exists") i)) [
+test_sound g i x rest h = elim (cases_Bool (calls (codes "attribute_exists") i)) [
   | inl seen ↦
       let s = path_call g (codes "attribute_exists") cond.Exists i x rest seen (simp seen at h) in
       record { by = exists s.0; tokens = s.1; stands = s.2 }
-  | inr no_exists ↦ elim (either_way (calls (codes "attribute_not_exists") i)) [
+  | inr no_exists ↦ elim (cases_Bool (calls (codes "attribute_not_exists") i)) [
     | inl seen ↦
         let s = path_call g (codes "attribute_not_exists") cond.NotExists i x rest seen
         (simp (no_exists, seen) at h) in
@@ -308,7 +310,7 @@ module _ (one : Parser Cond) {D : Type 0} (toks : D → List Tok) (tree : D → 
   members_sound (suc n) found i xs rest h =
       let a = then_some (one i) _ _ h in
       let d = sound i _ _ a.1 in
-      elim (either_way (sees_key j a.0.1)) [
+      elim (cases_Bool (sees_key j a.0.1)) [
         | inl seen ↦
             let b = members_sound n (found ++ a.0.0 ∷ []) (drop 1 a.0.1) xs rest
             (simp seen at a.2) in
@@ -335,7 +337,7 @@ module _ (one : Parser Cond) {D : Type 0} (toks : D → List Tok) (tree : D → 
     joined_sound i x rest h =
         let a = then_some (one i) _ _ h in
         let d = sound i _ _ a.1 in
-        elim (either_way (sees_key j a.0.1)) [
+        elim (cases_Bool (sees_key j a.0.1)) [
           | inl seen ↦
               let c = then_some (joined_from one j (length i) (a.0.0 ∷ []) (drop 1 a.0.1)) _ _
               (simp seen at a.2) in
@@ -399,13 +401,13 @@ pub one_sound : (g : Given) (n : ℕ) (i : List Tok) (x : Cond) (rest : List Tok
     → r.one g n i ≡ Some (x, rest) → Derived not_toks (not_tree g) i x rest
 unfolding r.one r.prim after_key after_mark
 one_sound g zero i x rest h = absurd (cc)
-one_sound g (suc n) i x rest h = elim (either_way (sees_key k.Not i)) [
+one_sound g (suc n) i x rest h = elim (cases_Bool (sees_key k.Not i)) [
   | inl seen ↦
       let a = then_some (r.one g n (drop 1 i)) _ _ (simp seen at h) in
       let e = some_pair _ _ a.2 in
       let d = one_sound g n (drop 1 i) _ _ a.1 in
       record { by = negated d.by; tokens = key_seen k.Not i seen ∙ ap (λ t. key k.Not ∷ t) (d.tokens ∙ ap (λ t. not_toks d.by ++ t) e.1); stands = sym e.0 ∙ ap cond.Not d.stands }
-  | inr no_key ↦ elim (either_way (sees_mark m.LeftRound i)) [
+  | inr no_key ↦ elim (cases_Bool (sees_mark m.LeftRound i)) [
     | inl seen ↦
         let d = bracketed cond_toks (cond_tree g) (r.any (r.one g n))
         (any_sound g (r.one g n) (λ j y t. one_sound g n j y t)) (drop 1 i) x rest

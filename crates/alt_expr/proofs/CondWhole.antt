@@ -1,5 +1,6 @@
 -- From the reader to the grammar.
 use Rattle.std.proofs.Common.{◌≡◌, ◌≢◌, false, refl, sym, ap, subst, ◌∙◌, ℕ, ◌+◌, ◌≤◌, List, [], length, Some, None, Ok, Err, arith, append-nil}
+use Rattle.std.proofs.lemmas.Option.{none-some}
 use Rattle.alt_expr.specs.Tokens.{Tok}
 use Rattle.alt_expr.specs.Given.{Given}
 use Rattle.alt_expr.specs.CondGrammar.{CondPhrase, cond_toks, cond_tree}
@@ -10,7 +11,7 @@ use Rattle.alt_expr.proofs.Parsing.{whole_tree, whole_none}
 use Rattle.alt_expr.specs.declared.fault.ExprFault.{ExprFault}
 use Rattle.alt_expr.specs.declared.fault.ExprFault.TheVariants as fault
 use Rattle.alt_expr.specs.declared.cond.Cond.{Cond}
-use Rattle.alt_expr.proofs.Seen.{some_pair, none_some}
+use Rattle.alt_expr.proofs.Seen.{some_pair}
 use Rattle.alt_expr.specs.CondReader.{any, one}
 use Rattle.alt_expr.proofs.CondComplete.{cond_nest, cond_fits, whole_read}
 use Rattle.alt_expr.proofs.CondSound.{any_sound, one_sound}
@@ -47,7 +48,7 @@ module _ (g : Given) (toks : List Tok) where
   unfolding conditions
   read_none n f room h =
       whole_none conditions g toks f (λ other. let e = h other in
-      (e.1, λ p. let r = read_of n room p.0 p.1 in absurd (none_some _ (sym e.0 ∙ r))))
+      (e.1, λ p. let r = read_of n room p.0 p.1 in absurd (none-some _ (sym e.0 ∙ r))))
 
 -- tokens have one tree
 pub one_tree : (g : Given) (d e : CondPhrase) → cond_toks d ≡ cond_toks e

@@ -1,18 +1,10 @@
 -- A value is that of its tree.
-use Rattle.std.proofs.Common.{◌≡◌, refl, ap, ◌∙◌, sym, List, [], ◌∷◌, Option, Some, None}
+use Rattle.std.proofs.Common.{◌≡◌, refl, ap, ◌∙◌, sym, Option, Some, None}
 use Rattle.alt_value.specs.declared.attr.Attr.{Attr}
 use Rattle.alt_value.specs.declared.attr.Attr.TheVariants as a
 use Rattle.alt_value.specs.Stands.{tree_of}
-use Rattle.alt_value.specs.Tree.{Tree, Pair, trees_of, elements, fields_of, pairs}
 use Rattle.alt_expr.specs.Given.{attr_of}
-
-elements-trees_of : (ts : List Tree) → elements (trees_of ts) ≡ ts
-elements-trees_of [] = refl
-elements-trees_of (t ∷ ts) = ap (λ (us : List Tree). t ∷ us) (elements-trees_of ts)
-
-pairs-fields_of : (ps : List Pair) → pairs (fields_of ps) ≡ ps
-pairs-fields_of [] = refl
-pairs-fields_of (p ∷ ps) = ap (λ (qs : List Pair). p ∷ qs) (pairs-fields_of ps)
+use Rattle.alt_value.proofs.Trees.{elements-trees_of, pairs-fields_of}
 
 -- no value is lost in its tree
 pub attr_of-tree_of : (v : Attr) → attr_of (tree_of v) ≡ v

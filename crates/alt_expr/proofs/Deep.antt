@@ -1,7 +1,7 @@
 -- One walk finds exactly what nests too deep.
 use Rattle.std.proofs.Common.{◌≡◌, refl, ℕ, zero, suc, ◌+◌, ◌<◌, ◌≤◌, Bool, true, false, cond, ◌||◌, ◌⊎◌, ◌↔◌, inl, inr, if◌then◌else◌, List, [], ◌∷◌, take, nat_lt, arith, T}
 use Rattle.std.specs.Prelude.{IsTrue}
-use Rattle.std.proofs.lemmas.Bool.Decides.{nat_tests}
+use Rattle.std.proofs.lemmas.Bool.{cases_Bool, ltb-true, ltb-false, or_parts, or_cases}
 use Rattle.alt_expr.specs.Tokens.{Tok, is_mark, is_key}
 use Rattle.alt_expr.specs.declared.token.Keyword.TheVariants.{Not}
 use Rattle.alt_expr.specs.declared.token.Mark.TheVariants.{LeftRound, RightRound}
@@ -12,24 +12,6 @@ use Rattle.alt_expr.specs.Walks.{deep_from, is_deep}
 abbrev Deep : ℕ → ℕ → ℕ → List Tok → Type 0
 Deep o c n ts = ((k : ℕ) × (c + closed (take k ts) + 64 < o + opened (take k ts)))
     ⊎ (64 < n + nots ts)
-
-either_way : (b : Bool) → (b ≡ true) ⊎ (b ≡ false)
-either_way true = inl refl
-either_way false = inr refl
-
-or_true : (a b : Bool) → (a || b) ≡ true → (a ≡ true) ⊎ (b ≡ true)
-or_true true b h = inl refl
-or_true false b h = inr h
-
-or_false : (a b : Bool) → (a || b) ≡ false → (a ≡ false) × (b ≡ false)
-or_false true b h = absurd (cc)
-or_false false b h = (refl, h)
-
-less : (a b : ℕ) → nat_lt a b ≡ true → a < b
-less a b h = grind (arith, nat_tests, h)
-
-not_less : (a b : ℕ) → nat_lt a b ≡ false → b ≤ a
-not_less a b h = grind (arith, nat_tests, h)
 
 one_if : (b : Bool) (n : ℕ) → (if b then suc n else n) ≡ cond b 1 0 + n
 one_if true n = omega arith
@@ -52,11 +34,11 @@ found (t ∷ ts) o c n h =
     let x : ℕ = cond (is_mark LeftRound t) 1 0 in
     let y : ℕ = cond (is_mark RightRound t) 1 0 in
     let z : ℕ = cond (is_key Not t) 1 0 in
-    elim (either_way (nat_lt (c + y + 64) (o + x) || nat_lt 64 (n + z))) [
-      | inl here ↦ elim (or_true _ _ here) [
-        | inl a ↦ let f : c + y + 64 < o + x = less _ _ a in
+    elim (cases_Bool (nat_lt (c + y + 64) (o + x) || nat_lt 64 (n + z))) [
+      | inl here ↦ elim (or_cases _ _ here) [
+        | inl a ↦ let f : c + y + 64 < o + x = ltb-true _ _ a in
             inl (1, omega (arith, f, opened_on 0 t ts, closed_on 0 t ts))
-        | inr b ↦ let f : 64 < n + z = less _ _ b in inr (omega (arith, f, nots_on t ts))
+        | inr b ↦ let f : 64 < n + z = ltb-true _ _ b in inr (omega (arith, f, nots_on t ts))
       ]
       | inr on ↦ elim (found ts (o + x) (c + y) (n + z) (rw on at h)) [
         | inl a ↦ inl (suc a.0, omega (arith, a.1, opened_on a.0 t ts, closed_on a.0 t ts))
@@ -73,12 +55,12 @@ missed (t ∷ ts) o c n a b h d =
     let x : ℕ = cond (is_mark LeftRound t) 1 0 in
     let y : ℕ = cond (is_mark RightRound t) 1 0 in
     let z : ℕ = cond (is_key Not t) 1 0 in
-    elim (either_way (nat_lt (c + y + 64) (o + x) || nat_lt 64 (n + z))) [
+    elim (cases_Bool (nat_lt (c + y + 64) (o + x) || nat_lt 64 (n + z))) [
       | inl here ↦ let g = rw here at h in absurd (cc)
       | inr on ↦
-          let f = or_false _ _ on in
-          let low : o + x ≤ c + y + 64 = not_less _ _ f.0 in
-          let few : n + z ≤ 64 = not_less _ _ f.1 in
+          let f = or_parts _ _ on in
+          let low : o + x ≤ c + y + 64 = ltb-false _ _ f.0 in
+          let few : n + z ≤ 64 = ltb-false _ _ f.1 in
           missed ts (o + x) (c + y) (n + z) low few (rw on at h) (elim d [
             | inl (zero, more) ↦ absurd (omega (arith, more))
             | inl (suc k, more) ↦ inl (k, omega (arith, more, opened_on k t ts, closed_on k t ts))
@@ -99,7 +81,7 @@ deep_no toks h d = missed toks 0 0 0 (omega arith) (omega arith) h
 
 -- the walk's answer
 pub deep_is : (toks : List Tok) → IsTrue (is_deep toks) ↔ TooDeep toks
-deep_is toks = elim (either_way (is_deep toks)) [
+deep_is toks = elim (cases_Bool (is_deep toks)) [
   | inl yes_deep ↦ rw yes_deep ((λ _. deep_yes toks yes_deep), (λ _. refl))
   | inr no_deep ↦ rw no_deep ((λ h. absurd (cc)), (λ d. absurd (deep_no toks no_deep d)))
 ]

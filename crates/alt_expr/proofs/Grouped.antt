@@ -3,16 +3,12 @@ use Rattle.std.proofs.Common.{◌≡◌, refl, sym, ap, ◌∙◌, Bool, true, f
 use Rattle.std.specs.Prelude.{filter}
 use Rattle.std.specs.Option.{option_map_or}
 use Rattle.std.specs.declared.cmp.Ordering.{Ordering}
-use Rattle.std.specs.declared.cmp.Ordering.TheVariants.{Less, Equal, Greater}
+use Rattle.std.specs.declared.cmp.Ordering.TheVariants.{Equal}
 use Rattle.std.specs.Ordering.{eq_by_cmp, is_eq}
 use Rattle.std.specs.Cmp.{IsTotalOrder, alike_right}
 use Rattle.std.proofs.lemmas.List.{append-nil, map-append}
 use Rattle.std.proofs.lemmas.List.Elements.{filter-append}
-
-tied : (r : Ordering) → is_eq r ≡ true → r ≡ Equal
-tied Less e = cc
-tied Equal e = refl
-tied Greater e = cc
+use Rattle.alt_base.proofs.Orderings.{is_eq-true}
 
 module _ {K T V : Type 0} (R : K → K → Ordering) (o : IsTotalOrder R) (items : V → List T) where
   -- the values of pairs that have a key
@@ -43,7 +39,8 @@ module _ {K T V : Type 0} (R : K → K → Ordering) (o : IsTotalOrder R) (items
       ap (λ n. option_map_or items n []) is ∙
       elim (eq_by_cmp R key q) as (λ b. eq_by_cmp R key q ≡ b
       → option_map_or items (cond b (Some w) before) [] ≡ grouped q (ps ++ (key, value) ∷ [])) [
-        | true ↦ λ e. written ∙ ap (λ l. l ++ value ∷ []) (read ∙ alike q key ps (tied (R key q) e))
+        | true ↦ λ e. written
+            ∙ ap (λ l. l ++ value ∷ []) (read ∙ alike q key ps (is_eq-true (R key q) e))
             ∙ sym (more q key value ps
             ∙ ap (λ b. grouped q ps ++ map (λ (p : K × T). p.1) (cond b ((key, value) ∷ []) []))
             e)

@@ -1,7 +1,8 @@
 -- What `holds` is at each kind of condition.
-use Rattle.std.proofs.Common.{◌≡◌, refl, sym, ap, ◌∙◌, Bool, true, false, ◌||◌, ◌&&◌, not, List, [], ◌∷◌, map, rules}
+use Rattle.std.proofs.Common.{◌≡◌, sym, ap, ◌∙◌, Bool, true, false, ◌&&◌, not, List, rules}
 use Rattle.std.specs.Prelude.{is_some}
 use Rattle.std.specs.List.{list_any, list_all}
+use Rattle.alt_base.proofs.Lists.{all-map, any-map}
 use Rattle.alt_expr.specs.declared.path.PathPart.{PathPart}
 use Rattle.alt_expr.specs.declared.cond.Comparison.{Comparison}
 use Rattle.alt_expr.specs.declared.cond.Comparison.TheVariants.{LessEqual, GreaterEqual}
@@ -13,25 +14,17 @@ use Rattle.alt_expr.specs.declared.cond.Cond.TheVariants.{rolls-Any, rolls-All}
 use Rattle.alt_expr.specs.Located.{View, located}
 use Rattle.alt_expr.specs.Holds.{denoted, equal, compares, has_kind, begins, contains, judged, holds}
 
-any_map : {A : Type 0} (f : A → Bool) (xs : List A) → list_any (λ b. b) (map f xs) ≡ list_any f xs
-any_map f [] = refl
-any_map f (x ∷ xs) = ap (λ b. f x || b) (any_map f xs)
-
-all_map : {A : Type 0} (f : A → Bool) (xs : List A) → list_all (λ b. b) (map f xs) ≡ list_all f xs
-all_map f [] = refl
-all_map f (x ∷ xs) = ap (λ b. f x && b) (all_map f xs)
-
 -- OR holds where one of its members does, and AND where each does
 pub holds-Any : (item : View) (cs : List Cond) → holds item (cond.Any cs) ≡ list_any (holds item) cs
 unfolding holds
 holds-Any item cs = ap (fold-Cond Bool (judged item)) (sym (rolls-Any cs))
-    ∙ fold-roll-Cond Bool (judged item) (Cond-F.Any cs) ∙ any_map (holds item) cs
+    ∙ fold-roll-Cond Bool (judged item) (Cond-F.Any cs) ∙ any-map (holds item) cs
 
 -- an AND holds where all its conditions do
 pub holds-All : (item : View) (cs : List Cond) → holds item (cond.All cs) ≡ list_all (holds item) cs
 unfolding holds
 holds-All item cs = ap (fold-Cond Bool (judged item)) (sym (rolls-All cs))
-    ∙ fold-roll-Cond Bool (judged item) (Cond-F.All cs) ∙ all_map (holds item) cs
+    ∙ fold-roll-Cond Bool (judged item) (Cond-F.All cs) ∙ all-map (holds item) cs
 
 -- the others, each by the definition
 pub holds-Not : (item : View) (c : Cond) → holds item (cond.Not c) ≡ not (holds item c)

@@ -9,6 +9,7 @@ use Rattle.std.specs.declared.cmp.Ordering.TheVariants.{Less, Equal, Greater}
 use Rattle.std.specs.Cmp.Lexicographic.{bytes_decides}
 use Rattle.std.specs.Ordering.{is_lt, is_le, is_gt, is_ge, is_some_and, ordering_reverse}
 use Rattle.std.proofs.lemmas.Cmp.{int_cmp_total}
+use Rattle.std.proofs.lemmas.Option.{same_Some}
 use Rattle.alt_value.proofs.Texts.{text_total}
 use Rattle.alt_value.specs.declared.attr.Attr.{Attr}
 use Rattle.alt_value.specs.declared.kind.KeyKind.{KeyKind}
@@ -29,7 +30,7 @@ use Rattle.alt_expr.specs.Holds.{denoted, judged, holds, compares, begins, same,
 use Rattle.alt_expr.specs.KeyForm as k
 use Rattle.alt_expr.specs.KeyForm.{Key, Ask, RangeTest, is_key, has_kind, value_for, mirrored, with_value, key_test, hash_at, hash_value, range_test, asked, both_asked, or_else, in_range, ask_of, meets}
 use Rattle.alt_expr.proofs.SameValues.{same_decides}
-use Rattle.alt_expr.proofs.Seen.{some_is, some_pair, either_way}
+use Rattle.alt_expr.proofs.Seen.{some_pair}
 
 -- ---- sides changed
 
@@ -125,7 +126,7 @@ module _ (item : View) where
   value_denotes key (o.Value w) v e = by (has_kind key.kind w) e
     where
       by : (b : Bool) → (if b then Some w else None) ≡ Some v → Some (tree_of w) ≡ Some (tree_of v)
-      by true e = ap (λ u. Some (tree_of u)) (some_is w v e)
+      by true e = ap (λ u. Some (tree_of u)) (same_Some w v e)
       by false e = cc
 
   valued : (by : Comparison) (w : Option Attr) (c : Comparison) (v : Attr)
@@ -166,7 +167,7 @@ module _ (item : View) where
   equal_is : (t : Option (Comparison × Attr)) (v : Attr) → k.equal_value t ≡ Some v
       → t ≡ Some (c.Equal, v)
   equal_is None v e = cc
-  equal_is (Some (c.Equal, w)) v e = ap (λ u. Some (c.Equal, u)) (some_is w v e)
+  equal_is (Some (c.Equal, w)) v e = ap (λ u. Some (c.Equal, u)) (same_Some w v e)
   equal_is (Some (_, w)) v e = cc
 
   -- a condition holds by the top of its tree, once it is known which of its parts do
@@ -193,16 +194,16 @@ module _ (item : View) where
   range_compared key by x y t None is e = cc
   range_compared key by x y t (Some (c.NotEqual, v)) is e = cc
   range_compared key by x y t (Some (c.Equal, v)) is e = compared_as key by x y c.Equal v is
-      ∙ ap (λ r. in_range r (item key.name)) (some_is _ t e)
+      ∙ ap (λ r. in_range r (item key.name)) (same_Some _ t e)
   range_compared key by x y t (Some (c.Less, v)) is e = compared_as key by x y c.Less v is
-      ∙ ap (λ r. in_range r (item key.name)) (some_is _ t e)
+      ∙ ap (λ r. in_range r (item key.name)) (same_Some _ t e)
   range_compared key by x y t (Some (c.LessEqual, v)) is e = compared_as key by x y c.LessEqual v is
-      ∙ ap (λ r. in_range r (item key.name)) (some_is _ t e)
+      ∙ ap (λ r. in_range r (item key.name)) (same_Some _ t e)
   range_compared key by x y t (Some (c.Greater, v)) is e = compared_as key by x y c.Greater v is
-      ∙ ap (λ r. in_range r (item key.name)) (some_is _ t e)
+      ∙ ap (λ r. in_range r (item key.name)) (same_Some _ t e)
   range_compared key by x y t (Some (c.GreaterEqual, v)) is e =
       compared_as key by x y c.GreaterEqual v is
-      ∙ ap (λ r. in_range r (item key.name)) (some_is _ t e)
+      ∙ ap (λ r. in_range r (item key.name)) (same_Some _ t e)
 
   range_bounded : (key : Key) (x low high : Operand) (t : RangeTest) (l h : Option Attr)
       → value_for key low ≡ l → value_for key high ≡ h → is_key key x ≡ true
@@ -212,7 +213,7 @@ module _ (item : View) where
   range_bounded key x low high t (Some l) (Some h) is_low is_high is e =
       (λ i. compares c.GreaterEqual (key_denotes key x is i) (value_denotes key low l is_low i)
       && compares c.LessEqual (key_denotes key x is i) (value_denotes key high h is_high i))
-      ∙ ap (λ r. in_range r (item key.name)) (some_is _ t e)
+      ∙ ap (λ r. in_range r (item key.name)) (same_Some _ t e)
   range_bounded key x low high t None h is_low is_high is e = cc
   range_bounded key x low high t (Some l) None is_low is_high is e = cc
 
@@ -222,10 +223,10 @@ module _ (item : View) where
   range_begun key x y t kind.N v is_v is e = cc
   range_begun key x y t kind.S (Some v) is_v is e =
       (λ i. begins (key_denotes key x is i) (value_denotes key y v is_v i))
-      ∙ ap (λ r. in_range r (item key.name)) (some_is _ t e)
+      ∙ ap (λ r. in_range r (item key.name)) (same_Some _ t e)
   range_begun key x y t kind.B (Some v) is_v is e =
       (λ i. begins (key_denotes key x is i) (value_denotes key y v is_v i))
-      ∙ ap (λ r. in_range r (item key.name)) (some_is _ t e)
+      ∙ ap (λ r. in_range r (item key.name)) (same_Some _ t e)
   range_begun key x y t kind.S None is_v is e = cc
   range_begun key x y t kind.B None is_v is e = cc
 
@@ -255,7 +256,7 @@ module _ (item : View) where
 
   both_parts : (v : Option Attr) (t : Option RangeTest) (ask : Ask) → asked v t ≡ Some ask
       → (v ≡ Some ask.hash) × (t ≡ Some ask.range)
-  both_parts (Some v) (Some t) ask e = let is = some_is _ ask e in
+  both_parts (Some v) (Some t) ask e = let is = same_Some _ ask e in
       (ap (λ a. Some a.hash) is, ap (λ a. Some a.range) is)
   both_parts None t ask e = cc
   both_parts (Some v) None ask e = cc
@@ -299,7 +300,7 @@ module _ (item : View) where
   alone_holds hash range x ask e =
       let parts = both_parts (hash_value hash x) (Some k.anything) ask e in
       let free : k.range_meets range ask.range item ≡ true =
-      ap (λ r. k.range_meets range r item) (sym (some_is _ _ parts.1)) ∙ any_range range in
+      ap (λ r. k.range_meets range r item) (sym (same_Some _ _ parts.1)) ∙ any_range range in
       hash_holds hash x ask.hash parts.0 ∙ and_true
       (compares c.Equal (item hash.name) (Some (tree_of ask.hash)))
       ∙ ap (λ b. compares c.Equal (item hash.name) (Some (tree_of ask.hash)) && b) (sym free)

@@ -19,8 +19,10 @@ pub mod PathFound
 pub mod PathRead
 pub mod PathsTexts
 pub mod PathsWhole
+pub mod Picked
 pub mod PlacesOfWords
 pub mod PlainFacts
+pub mod Prefixes
 pub mod SameValues
 pub mod Seen
 pub mod Suffix

@@ -1,10 +1,11 @@
 -- Lists with commas between: what is derived is read, and what is read was derived.
 use Rattle.std.proofs.Common.{◌≡◌, refl, sym, ap, ◌∙◌, ℕ, zero, suc, ◌+◌, ◌<◌, ◌≤◌, true, false, inl, inr, List, [], ◌∷◌, ◌++◌, length, map, drop, Some, None, arith, append_assoc, append-nil, length-append}
+use Rattle.std.proofs.lemmas.Bool.{cases_Bool}
 use Rattle.alt_expr.specs.Tokens.{Tok, mark}
 use Rattle.alt_expr.specs.declared.token.Mark.TheVariants as m
 use Rattle.alt_expr.specs.PathGrammar.{between_toks}
 use Rattle.alt_expr.specs.Reader.{Parser, sees_mark, after_mark, listed, listed_from}
-use Rattle.alt_expr.proofs.Seen.{Derived, then_some, some_pair, none_some, either_way, mark_seen}
+use Rattle.alt_expr.proofs.Seen.{Derived, then_some, some_pair, mark_seen}
 
 module _ {D T : Type 0} (toks : D → List Tok) (tree : D → T) (one : Parser T) where
   -- each behind a comma
@@ -76,7 +77,7 @@ module _ {D T : Type 0} (toks : D → List Tok) (tree : D → T) (one : Parser T
         → listed_from one n found i ≡ Some (xs, rest) → Further found i xs rest
     unfolding listed_from after_mark
     from_sound zero found i xs rest h = absurd (cc)
-    from_sound (suc n) found i xs rest h = elim (either_way (sees_mark m.Comma i)) [
+    from_sound (suc n) found i xs rest h = elim (cases_Bool (sees_mark m.Comma i)) [
       | inl seen ↦
           let g = simp seen at h in
           let a = then_some (one (drop 1 i)) _ _ g in

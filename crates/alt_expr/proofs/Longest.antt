@@ -1,6 +1,6 @@
 -- One look finds the longest token.
 use Rattle.std.proofs.Common.{◌≡◌, refl, subst, ◌∙◌, ℕ, zero, suc, ◌<◌, ◌≤◌, min, Bool, true, false, ◌&&◌, ◌==◌, nat_le, if◌then◌else◌, ◌⊎◌, inl, inr, List, [], ◌∷◌, length, take, Option, Some, None, arith, MatchOption, get_or, add-one}
-use Rattle.std.proofs.lemmas.Bool.{cases_lt}
+use Rattle.std.proofs.lemmas.Bool.{cases_lt, and_right, cases_Bool}
 use Rattle.std.proofs.lemmas.List.{length-take-le}
 use Rattle.std.proofs.Common.{length-drop}
 use Rattle.std.specs.Prelude.{⊤}
@@ -16,10 +16,6 @@ use Rattle.alt_expr.specs.declared.lexer.Kind.{Kind}
 use Rattle.alt_expr.specs.declared.lexer.Kind.TheVariants as k
 use Rattle.alt_expr.specs.Look.{kind_tok, found, found_signed, found_single, found_mark, LooksFit}
 
-either_way : (b : Bool) → (b ≡ true) ⊎ (b ≡ false)
-either_way true = inl refl
-either_way false = inr refl
-
 told : {A : Type 0} (o : Option A) → ((x : A) × (o ≡ Some x)) ⊎ (o ≡ None)
 told None = inr refl
 told (Some x) = inl (x, refl)
@@ -29,7 +25,7 @@ all_within : (p : ℕ → Bool) (bs : List ℕ) (n : ℕ) → n ≤ prefix_len p
     → list_all p (take n bs) ≡ true
 all_within p bs zero h = refl
 all_within p [] (suc n) h = refl
-all_within p (b ∷ bs) (suc n) h = elim (either_way (p b)) [
+all_within p (b ∷ bs) (suc n) h = elim (cases_Bool (p b)) [
   | inl yes_b ↦ rw yes_b (all_within p bs n (let g = rw yes_b at h in omega (arith, g)))
   | inr no_b ↦ absurd (let g = rw no_b at h in omega (arith, g))
 ]
@@ -38,7 +34,7 @@ not_beyond : (p : ℕ → Bool) (bs : List ℕ) (n : ℕ) → prefix_len p bs < 
     → list_all p (take n bs) ≡ false
 not_beyond p bs zero h w = absurd (omega arith)
 not_beyond p [] (suc n) h w = absurd (omega (arith, w))
-not_beyond p (b ∷ bs) (suc n) h w = elim (either_way (p b)) [
+not_beyond p (b ∷ bs) (suc n) h w = elim (cases_Bool (p b)) [
   | inl yes_b ↦
       rw yes_b (not_beyond p bs n (let g = rw yes_b at h in omega (arith, g)) (omega (arith, w)))
   | inr no_b ↦ rw no_b refl
@@ -47,7 +43,7 @@ not_beyond p (b ∷ bs) (suc n) h w = elim (either_way (p b)) [
 -- the front of bytes that pass a test is no longer than they
 pub prefix_fits : (p : ℕ → Bool) (bs : List ℕ) → prefix_len p bs ≤ length bs
 prefix_fits p [] = omega arith
-prefix_fits p (b ∷ bs) = elim (either_way (p b)) [
+prefix_fits p (b ∷ bs) = elim (cases_Bool (p b)) [
   | inl yes_b ↦ rw yes_b (omega (arith, prefix_fits p bs))
   | inr no_b ↦ rw no_b (omega arith)
 ]
@@ -56,15 +52,6 @@ prefix_fits p (b ∷ bs) = elim (either_way (p b)) [
 abbrev pub Holds : List ℕ → Option (Kind × ℕ) → Type 0
 Holds text answer =
     MatchOption answer (NoneStands text) (λ p. Stands text p.1 (kind_tok p.0 (take p.1 text)))
-
--- nothing is told with what doesn't hold
-and_none : (b : Bool) → (b && false) ≡ false
-and_none true = refl
-and_none false = refl
-
-and_last : (a b : Bool) → b ≡ false → (a && b) ≡ false
-and_last true b h = h
-and_last false b h = refl
 
 -- a word and its like: a first byte, then the run of what passes
 run_spells : (p : ℕ → Bool) (b : ℕ) (bs : List ℕ) → list_all p (take (prefix_len p bs) bs) ≡ true
@@ -127,7 +114,7 @@ over n h = grind (arith, nat_tests, h)
 digits_longer : (bs : List ℕ) (n : ℕ) → min (prefix_len is_ascii_digit bs) 8 < n → n ≤ length bs
     → (list_all is_ascii_digit (take n bs) && nat_le (length (take n bs)) 8) ≡ false
 digits_longer bs n more fits = elim (cases_lt 8 n) [
-  | inl long ↦ and_last (list_all is_ascii_digit (take n bs)) (nat_le (length (take n bs)) 8)
+  | inl long ↦ and_right (list_all is_ascii_digit (take n bs)) (nat_le (length (take n bs)) 8)
       (rw (length-take-le n bs fits) (over n long))
   | inr short ↦ rw (not_beyond is_ascii_digit bs n (omega (arith, more, short)) fits) refl
 ]
@@ -149,7 +136,7 @@ module _ (b : ℕ) (kind : Kind) (spell : (cs : List ℕ)
       ∙ rw (signed_none bs n e (omega (arith, fits))) refl
 
   sign_holds : (bs : List ℕ) → Holds (b ∷ bs) (found_signed kind (suc (prefix_len is_inner bs)))
-  sign_holds bs = elim (either_way (suc (prefix_len is_inner bs) == 1)) [
+  sign_holds bs = elim (cases_Bool (suc (prefix_len is_inner bs) == 1)) [
     | inl only ↦
         rw only (sign_none bs (let e : suc (prefix_len is_inner bs)
         ≡ 1 = grind (arith, nat_tests, only) in omega (arith, e)))
@@ -250,14 +237,14 @@ nothing (suc n) fits = refl
 -- what is found of a text is its longest token
 pub scan_holds : (text : List ℕ) → Holds text (found text)
 scan_holds [] = nothing
-scan_holds (b ∷ bs) = elim (either_way (is_ascii_alphabetic b)) [
+scan_holds (b ∷ bs) = elim (cases_Bool (is_ascii_alphabetic b)) [
   | inl letter ↦ rw letter (word_stands b bs letter)
-  | inr not_letter ↦ elim (either_way (b == 35)) [
+  | inr not_letter ↦ elim (cases_Bool (b == 35)) [
     | inl sign ↦ rw (not_letter, sign) (sign_holds b k.Hash (λ cs. simp (not_letter, sign)) bs)
-    | inr no_hash ↦ elim (either_way (b == 58)) [
+    | inr no_hash ↦ elim (cases_Bool (b == 58)) [
       | inl sign ↦ rw (not_letter, no_hash, sign)
           (sign_holds b k.Colon (λ cs. simp (not_letter, no_hash, sign)) bs)
-      | inr no_colon ↦ elim (either_way (is_ascii_digit b)) [
+      | inr no_colon ↦ elim (cases_Bool (is_ascii_digit b)) [
         | inl digit ↦ rw (not_letter, no_hash, no_colon, digit)
             (number_stands b not_letter no_hash no_colon digit bs)
         | inr no_digit ↦ rw (not_letter, no_hash, no_colon, no_digit)
@@ -277,7 +264,7 @@ prefix_here p b bs e (suc m) h ih = ih m (omega (arith, h))
 
 prefix_last : (p : ℕ → Bool) (bs : List ℕ) (m : ℕ) → m < prefix_len p bs → p (get_or bs m 0) ≡ true
 prefix_last p [] m h = absurd (omega (arith, h))
-prefix_last p (b ∷ bs) m h = elim (either_way (p b)) [
+prefix_last p (b ∷ bs) m h = elim (cases_Bool (p b)) [
   | inl yes_b ↦ prefix_here p b bs yes_b m (let g = rw yes_b at h in omega (arith, g))
       (λ k g. prefix_last p bs k g)
   | inr no_b ↦ absurd (let g = rw no_b at h in omega (arith, g))
@@ -328,7 +315,7 @@ byte_is b n small h = grind (arith, nat_tests, h)
 
 sign_cut : (kind : Kind) (b : ℕ) (bs : List ℕ) → b < 128
     → IsAsciiCut (b ∷ bs) (found_signed kind (suc (prefix_len is_inner bs)))
-sign_cut kind b bs first = elim (either_way (suc (prefix_len is_inner bs) == 1)) [
+sign_cut kind b bs first = elim (cases_Bool (suc (prefix_len is_inner bs) == 1)) [
   | inl only ↦ rw only tt
   | inr more ↦ rw more (prefix_len is_inner bs, refl, run_cut is_inner inner_ascii b bs first (prefix_len is_inner bs) (omega arith))
 ]
@@ -347,14 +334,14 @@ mark_cut b (c ∷ bs) = elim (told (pair_of b c)) [
 
 found_ascii : (text : List ℕ) → IsAsciiCut text (found text)
 found_ascii [] = tt
-found_ascii (b ∷ bs) = elim (either_way (is_ascii_alphabetic b)) [
+found_ascii (b ∷ bs) = elim (cases_Bool (is_ascii_alphabetic b)) [
   | inl letter ↦ rw letter (prefix_len is_inner bs, refl, run_cut is_inner inner_ascii b bs (letter_ascii b letter) (prefix_len is_inner bs) (omega arith))
-  | inr not_letter ↦ elim (either_way (b == 35)) [
+  | inr not_letter ↦ elim (cases_Bool (b == 35)) [
     | inl sign ↦ rw (not_letter, sign) (sign_cut k.Hash b bs (byte_is b 35 (omega arith) sign))
-    | inr no_hash ↦ elim (either_way (b == 58)) [
+    | inr no_hash ↦ elim (cases_Bool (b == 58)) [
       | inl sign ↦
           rw (not_letter, no_hash, sign) (sign_cut k.Colon b bs (byte_is b 58 (omega arith) sign))
-      | inr no_colon ↦ elim (either_way (is_ascii_digit b)) [
+      | inr no_colon ↦ elim (cases_Bool (is_ascii_digit b)) [
         | inl digit ↦ rw (not_letter, no_hash, no_colon, digit) (min (prefix_len is_ascii_digit bs) 8, refl, run_cut is_ascii_digit digit_ascii b bs (digit_ascii b digit) (min (prefix_len is_ascii_digit bs) 8) (omega arith))
         | inr no_digit ↦ rw (not_letter, no_hash, no_colon, no_digit) (mark_cut b bs)
       ]
@@ -378,7 +365,7 @@ digits_fit b bs digit =
 sign_fit : (text : List ℕ) (kind : Kind) (n : ℕ) → ((s : List ℕ) → LooksFit kind s)
     → Fits9 text (found_signed kind n)
 sign_fit text kind n fit =
-    elim (either_way (n == 1)) [ inl only ↦ rw only tt | inr more ↦ rw more (fit (take n text)) ]
+    elim (cases_Bool (n == 1)) [ inl only ↦ rw only tt | inr more ↦ rw more (fit (take n text)) ]
 
 single_fit : (text : List ℕ) (b : ℕ) → Fits9 text (found_single b)
 single_fit text b = elim (told (mark_of_byte b)) [ inl some ↦ rw some.1 tt | inr none ↦ rw none tt ]
@@ -391,13 +378,13 @@ mark_fit text b (c ∷ bs) =
 
 found_fit : (text : List ℕ) → Fits9 text (found text)
 found_fit [] = tt
-found_fit (b ∷ bs) = elim (either_way (is_ascii_alphabetic b)) [
+found_fit (b ∷ bs) = elim (cases_Bool (is_ascii_alphabetic b)) [
   | inl letter ↦ rw letter tt
-  | inr not_letter ↦ elim (either_way (b == 35)) [
+  | inr not_letter ↦ elim (cases_Bool (b == 35)) [
     | inl sign ↦ rw (not_letter, sign) (sign_fit (b ∷ bs) k.Hash _ (λ s. tt))
-    | inr no_hash ↦ elim (either_way (b == 58)) [
+    | inr no_hash ↦ elim (cases_Bool (b == 58)) [
       | inl sign ↦ rw (not_letter, no_hash, sign) (sign_fit (b ∷ bs) k.Colon _ (λ s. tt))
-      | inr no_colon ↦ elim (either_way (is_ascii_digit b)) [
+      | inr no_colon ↦ elim (cases_Bool (is_ascii_digit b)) [
         | inl digit ↦ rw (not_letter, no_hash, no_colon, digit) (digits_fit b bs digit)
         | inr no_digit ↦ rw (not_letter, no_hash, no_colon, no_digit) (mark_fit (b ∷ bs) b bs)
       ]

@@ -10,6 +10,7 @@ use Rattle.std.specs.Cmp.{IsTotalOrder, upto}
 use Rattle.std.specs.Cmp.Lexicographic.{slice_cmp, lists_total}
 use Rattle.std.proofs.lemmas.List.Sums.{sum_by-cons}
 use Rattle.std.proofs.lemmas.List.Sorted.{sum_by-IsPermutation, length_permutation, IsPermutation-map}
+use Rattle.std.proofs.lemmas.Bool.{and_parts}
 use Rattle.alt_expr.specs.Projected.{same_step}
 use Rattle.alt_expr.specs.PartOrder.{parts_total, parts_tie, parts_equiv}
 use Rattle.alt_expr.specs.PathOrder.{part_cmp, is_one_before, is_before_one}
@@ -21,10 +22,6 @@ begins = starts_with same_step
 
 abbrev path_cmp : List PathPart → List PathPart → Ordering
 path_cmp = slice_cmp part_cmp
-
-both : (a b : Bool) → (a && b) ≡ true → (a ≡ true) × (b ≡ true)
-both true b e = (refl, e)
-both false b e = cc
 
 -- ---- in order
 
@@ -46,7 +43,7 @@ between [] b c below above e = refl
 between (s ∷ ss) [] c below above e = cc
 between (s ∷ ss) (u ∷ us) [] below above e = cc
 between (s ∷ ss) (u ∷ us) (t ∷ ts) below above e =
-    let p = both (same_step s t) (begins ts ss) e in
+    let p = and_parts (same_step s t) (begins ts ss) e in
     let st = tied s t p.0 in
     by (between ss us ts) (part_cmp u s) refl st p.1
   where
@@ -78,7 +75,7 @@ later_begins : (a c : List PathPart) → is_lt (path_cmp c a) ≡ false → begi
 later_begins [] c below e = refl
 later_begins (s ∷ ss) [] below e = cc
 later_begins (s ∷ ss) (t ∷ ts) below e =
-    let p = both (same_step t s) (begins ss ts) e in
+    let p = and_parts (same_step t s) (begins ss ts) e in
     let below' : is_lt (path_cmp ts ss) ≡ false =
     ap (λ r. is_lt (ordering_then r (path_cmp ts ss))) (sym (tied t s p.0)) ∙ below in
     ap (λ b. b && begins ts ss) (parts_equiv.symm s t ∙ p.0) ∙ later_begins ss ts below' p.1

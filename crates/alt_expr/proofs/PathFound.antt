@@ -1,5 +1,6 @@
 -- A path that was read is a path, and its tree is the phrase's.
 use Rattle.std.proofs.Common.{◌≡◌, refl, sym, ap, subst, ◌∙◌, ℕ, zero, suc, Bool, true, false, ◌⊎◌, inl, inr, List, [], ◌∷◌, ◌++◌, length, map, drop, Option, Some, None, append_assoc, append-nil}
+use Rattle.std.proofs.lemmas.Bool.{cases_Bool}
 use Rattle.alt_value.specs.Tree.{Pair}
 use Rattle.alt_expr.specs.Tokens.{Tok, key, word, hash, colon, index, mark}
 use Rattle.alt_expr.specs.Given.{name_of}
@@ -9,7 +10,7 @@ use Rattle.alt_expr.specs.declared.path.PathPart.TheVariants as p
 use Rattle.alt_expr.specs.PathGrammar.{NamePhrase, plain, hashed, StepPhrase, dotted, indexed, PathPhrase, path, name_tok, step_toks, steps_toks, path_toks, name_text, step_part, path_tree}
 use Rattle.alt_expr.specs.Reader as r
 use Rattle.alt_expr.specs.Reader.{Parser, sees_mark, after_mark, expect, parts_from, in_brackets}
-use Rattle.alt_expr.proofs.Seen.{Derived, then_some, some_pair, either_way, mark_seen, expected}
+use Rattle.alt_expr.proofs.Seen.{Derived, then_some, some_pair, mark_seen, expected}
 
 name_sound : (names : List Pair) (i : List Tok) (w : List ℕ) (rest : List Tok)
     → r.name names i ≡ Some (w, rest) → (n : NamePhrase) × (i ≡ name_tok n ∷ rest)
@@ -48,7 +49,7 @@ data Parted (names : List Pair) (i : List Tok) (rest : List Tok) : Option PathPa
 part_sound : (names : List Pair) (i : List Tok) (x : Option PathPart) (rest : List Tok)
     → r.part names i ≡ Some (x, rest) → Parted names i rest x
 unfolding r.part after_mark
-part_sound names i x rest h = elim (either_way (sees_mark m.Dot i)) [
+part_sound names i x rest h = elim (cases_Bool (sees_mark m.Dot i)) [
   | inl seen ↦
       let g = simp seen at h in
       let a = then_some (r.name names (drop 1 i)) _ _ g in
@@ -58,7 +59,7 @@ part_sound names i x rest h = elim (either_way (sees_mark m.Dot i)) [
       ∙ ap (λ t. mark m.Dot ∷ t) (n.1 ∙ ap (λ t. name_tok n.0 ∷ t) e.1) in
       subst (Parted names i rest) (ap (λ w. Some (p.Name w)) (sym n.2) ∙ e.0)
       (stepped (dotted n.0) is)
-  | inr no_dot ↦ elim (either_way (sees_mark m.LeftSquare i)) [
+  | inr no_dot ↦ elim (cases_Bool (sees_mark m.LeftSquare i)) [
     | inl seen ↦
         let g = simp (no_dot, seen) at h in
         let a = then_some (r.index_part (drop 1 i)) _ _ g in

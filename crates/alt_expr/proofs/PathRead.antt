@@ -1,5 +1,6 @@
 -- A path is read as its tree, whatever may stand behind it.
-use Rattle.std.proofs.Common.{◌≡◌, refl, ap, ◌∙◌, ℕ, zero, suc, ◌<◌, Bool, true, false, ◌&&◌, List, [], ◌∷◌, ◌++◌, length, map, Some, None, arith, append_assoc, append-nil, length-append}
+use Rattle.std.proofs.Common.{◌≡◌, refl, ap, ◌∙◌, ℕ, zero, suc, ◌<◌, false, List, [], ◌∷◌, ◌++◌, length, map, Some, None, arith, append_assoc, append-nil, length-append}
+use Rattle.std.proofs.lemmas.Bool.{and_right}
 use Rattle.std.specs.Str.{bytes_eq}
 use Rattle.alt_value.specs.Tree.{Pair}
 use Rattle.alt_expr.specs.Tokens.{Tok, key, mark}
@@ -16,11 +17,6 @@ pub record Ends (rest : List Tok) : Type 0 where
   pub no_dot : sees_mark m.Dot rest ≡ false
   pub no_square : sees_mark m.LeftSquare rest ≡ false
   pub no_round : sees_mark m.LeftRound rest ≡ false
-
--- nothing is told with what doesn't hold
-pub and_none : (b c : Bool) → c ≡ false → (b && c) ≡ false
-and_none true c e = e
-and_none false c e = refl
 
 -- a step is read as its part, whatever stands behind it
 part_read : (names : List Pair) (s : StepPhrase) (rest : List Tok)
@@ -107,7 +103,7 @@ no_bracket (indexed n ∷ ss) rest e = refl
 pub no_call : (d : PathPhrase) (rest : List Tok) (name : List ℕ) → Ends rest
     → calls name (path_toks d ++ rest) ≡ false
 unfolding calls
-no_call (path (plain w) ss) rest name e = and_none (bytes_eq w name) _ (no_bracket ss rest e)
+no_call (path (plain w) ss) rest name e = and_right (bytes_eq w name) _ (no_bracket ss rest e)
 no_call (path (hashed w) ss) rest name e = refl
 
 -- nor of any

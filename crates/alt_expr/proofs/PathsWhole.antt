@@ -1,5 +1,6 @@
 -- Paths: from the reader to the grammar.
 use Rattle.std.proofs.Common.{◌≡◌, ◌≢◌, refl, sym, ap, subst, ◌∙◌, ◌<◌, false, List, [], length, Some, None, Ok, Err, arith, append-nil}
+use Rattle.std.proofs.lemmas.Option.{none-some}
 use Rattle.std.specs.List.{list_any}
 use Rattle.alt_expr.specs.Given.{Given}
 use Rattle.alt_expr.specs.Tokens.{Tok}
@@ -14,13 +15,13 @@ use Rattle.alt_expr.specs.PathsGrammar.{PathsPhrase, paths, paths_toks, paths_tr
 use Rattle.alt_expr.specs.Read.{ReadsWhole}
 use Rattle.alt_expr.specs.Reader as r
 use Rattle.alt_expr.specs.Reader.{sees_mark, listed}
-use Rattle.alt_expr.proofs.Seen.{some_pair, none_some}
+use Rattle.alt_expr.proofs.Seen.{some_pair}
 use Rattle.alt_expr.proofs.PathRead.{Ends, path_read, ends_comma, ends_nothing}
 use Rattle.alt_expr.proofs.PathFound.{path_sound}
 use Rattle.alt_expr.proofs.Lists.{listed_read, listed_sound}
 use Rattle.alt_expr.proofs.Parsing.{whole_tree, whole_none}
 
-path_some : (d : PathPhrase) → 0 < length (path_toks d)
+pub path_some : (d : PathPhrase) → 0 < length (path_toks d)
 path_some (path n ss) = omega arith
 
 no_comma_end : sees_mark m.Comma [] ≡ false
@@ -64,7 +65,7 @@ module _ (g : Given) where
     unfolding projections
     read_none f h =
         whole_none projections g toks f (λ other. let e = h other in
-        (e.1, λ p. absurd (none_some _ (sym e.0 ∙ read_of p.0 p.1))))
+        (e.1, λ p. absurd (none-some _ (sym e.0 ∙ read_of p.0 p.1))))
 
   -- tokens have one tree
   pub one_tree : (d e : PathsPhrase) → paths_toks d ≡ paths_toks e → paths_tree g d ≡ paths_tree g e

@@ -6,10 +6,12 @@ use Rattle.std.proofs.lemmas.Bool.{cases_order}
 use Rattle.std.specs.declared.cmp.Ordering.TheVariants.{Less, Equal, Greater}
 use Rattle.std.specs.Cmp.{tied_itself}
 use Rattle.std.specs.FinMap.Entries.{below_all, is_sorted}
+use Rattle.alt_base.proofs.Bools.{first_holds, second_holds}
+use Rattle.alt_base.proofs.Orderings.{is_lt-holds}
 use Rattle.alt_value.specs.Members.{text_order}
 use Rattle.alt_value.specs.Tree.{Tree, Pair}
 use Rattle.alt_value.specs.Item.{IsItem, at_name}
-use Rattle.alt_value.proofs.Places.{first, second, less, turned, Rises, before_tied}
+use Rattle.alt_value.proofs.Places.{turned, Rises, before_tied}
 use Rattle.alt_value.proofs.Texts.{text_total, text_apart}
 use Rattle.alt_expr.specs.declared.word_values.WordValue.{WordValue}
 use Rattle.alt_expr.specs.WordValues.{pair_of, StandsAt, GoesTo}
@@ -24,17 +26,17 @@ module _ {V : Type 0} (tree : V → Tree) where
       → T (below_all text_order x (map (pair_of tree) es)) → k < length es
       → text_order x (get_or es k d).word ≡ Less
   below_at x [] k d h within = absurd (omega arith)
-  below_at x (e ∷ es) zero d h within = less _ (first _ _ h)
-  below_at x (e ∷ es) (suc k) d h within = below_at x es k d (second _ _ h) (omega arith)
+  below_at x (e ∷ es) zero d h within = is_lt-holds _ (first_holds _ _ h)
+  below_at x (e ∷ es) (suc k) d h within = below_at x es k d (second_holds _ _ h) (omega arith)
 
   rises-entries : (es : List (WordValue V)) → T (is_sorted text_order (map (pair_of tree) es))
       → Rises text_order text_total word_of es
   rises-entries [] h i j d below within = absurd (omega arith)
   rises-entries (e ∷ es) h i zero d below within = absurd (omega arith)
   rises-entries (e ∷ es) h zero (suc j) d below within =
-      below_at e.word es j d (first _ _ h) (omega arith)
+      below_at e.word es j d (first_holds _ _ h) (omega arith)
   rises-entries (e ∷ es) h (suc i) (suc j) d below within =
-      rises-entries es (second _ _ h) i j d (omega arith) (omega arith)
+      rises-entries es (second_holds _ _ h) i j d (omega arith) (omega arith)
 
   -- where the word is above an entry, it is above those before it too
   pub before_more : (word : List ℕ) (es : List (WordValue V)) (i : ℕ) (e : WordValue V) → IsItem (map (pair_of tree) es)

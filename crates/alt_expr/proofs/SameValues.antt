@@ -6,20 +6,11 @@ use Rattle.std.specs.Str.{bytes_eq}
 use Rattle.std.specs.Ordering.{int_eq}
 use Rattle.std.specs.Cmp.Lexicographic.{bytes_decides}
 use Rattle.std.proofs.lemmas.Bool.Decides.{Decides-int_eq}
+use Rattle.std.proofs.lemmas.Bool.{and_from}
+use Rattle.std.specs.Cmp.{first_so, second_so}
 use Rattle.alt_value.specs.Tree.{Tree, S_tree, N_tree, B_tree, BOOL_tree, NULL_tree, SS_tree, NS_tree, BS_tree, L_tree, M_tree, Trees, no_trees, tree_then, Fields, no_fields, field_then}
 use Rattle.alt_value.proofs.Same.{texts_decide, numbers_decide}
 use Rattle.alt_expr.specs.Holds.{same, same_elements, same_fields}
-
-first : (a b : Bool) → (a && b) ≡ true → a ≡ true
-first true b e = refl
-first false b e = e
-
-second : (a b : Bool) → (a && b) ≡ true → b ≡ true
-second true b e = e
-second false b e = cc
-
-both : (a b : Bool) → a ≡ true → b ≡ true → (a && b) ≡ true
-both a b e f = rw (e, f) refl
 
 mutual
   is_one : (s t : Tree) → same s t ≡ true → s ≡ t
@@ -39,16 +30,17 @@ mutual
   are_one : (ss ts : Trees) → same_elements ss ts ≡ true → ss ≡ ts
   are_one no_trees no_trees e = refl
   are_one (tree_then s ss) (tree_then t ts) e =
-      λ i. tree_then (is_one s t (first (same s t) _ e) i) (are_one ss ts (second (same s t) _ e) i)
+      λ i. tree_then (is_one s t (first_so (same s t) _ e) i)
+      (are_one ss ts (second_so (same s t) _ e) i)
   are_one _ _ e = cc
 
   fields_one : (es fs : Fields) → same_fields es fs ≡ true → es ≡ fs
   fields_one no_fields no_fields e = refl
   fields_one (field_then m s es) (field_then n t fs) e =
-      let rest = second (bytes_eq m n && same s t) _ e in
-      let here = first (bytes_eq m n && same s t) _ e in
-      λ i. field_then ((bytes_decides m n).0 (first (bytes_eq m n) _ here) i)
-      (is_one s t (second (bytes_eq m n) _ here) i) (fields_one es fs rest i)
+      let rest = second_so (bytes_eq m n && same s t) _ e in
+      let here = first_so (bytes_eq m n && same s t) _ e in
+      λ i. field_then ((bytes_decides m n).0 (first_so (bytes_eq m n) _ here) i)
+      (is_one s t (second_so (bytes_eq m n) _ here) i) (fields_one es fs rest i)
   fields_one _ _ e = cc
 
 mutual
@@ -67,13 +59,14 @@ mutual
 
   elements_themselves : (ts : Trees) → same_elements ts ts ≡ true
   elements_themselves no_trees = refl
-  elements_themselves (tree_then t ts) = both (same t t) _ (same_itself t) (elements_themselves ts)
+  elements_themselves (tree_then t ts) =
+      and_from (same t t) _ (same_itself t) (elements_themselves ts)
 
   fields_themselves : (fs : Fields) → same_fields fs fs ≡ true
   fields_themselves no_fields = refl
   fields_themselves (field_then n t fs) =
-      both (bytes_eq n n && same t t) _
-      (both (bytes_eq n n) _ ((bytes_decides n n).1 refl) (same_itself t))
+      and_from (bytes_eq n n && same t t) _
+      (and_from (bytes_eq n n) _ ((bytes_decides n n).1 refl) (same_itself t))
       (fields_themselves fs)
 
 -- the test decides whether two values are one

@@ -1,8 +1,8 @@
 -- What a look at the next tokens tells of them, and what both halves of a reader gave.
-use Rattle.std.proofs.Common.{◌≡◌, refl, ap, ◌∙◌, ℕ, arith, Bool, true, false, ◌&&◌, ◌⊎◌, inl, inr, List, [], ◌∷◌, ◌++◌, drop, Option, Some, None, unwrap_or, rules}
-use Rattle.std.specs.Str.{bytes_eq}
+use Rattle.std.proofs.Common.{◌≡◌, refl, ap, ◌∙◌, ℕ, true, inl, inr, List, [], ◌∷◌, ◌++◌, drop, Option, Some, None, unwrap_or, rules}
 use denote.Enum.Bare.{same_true}
-use Rattle.std.proofs.lemmas.Slice.Eq.{bytes_eq-Decides}
+use Rattle.std.proofs.lemmas.Bool.{and_parts, cases_Bool}
+use Rattle.alt_base.proofs.Lists.{bytes_eq-true}
 use Rattle.alt_expr.specs.contracts.token.Keyword as keywords
 use Rattle.alt_expr.specs.contracts.token.Mark as marks
 use Rattle.alt_expr.specs.Tokens.{Tok, key, word, mark, same_mark, same_keyword}
@@ -27,19 +27,6 @@ then_some (Some p) f q h = (p, refl, h)
 -- pairs that are equal as options are equal in both parts
 pub some_pair : {A B : Type 0} (p q : A × B) → Some p ≡ Some q → (p.0 ≡ q.0) × (p.1 ≡ q.1)
 some_pair p q h = let e : p ≡ q = ap (λ o. unwrap_or o p) h in (ap (λ x. x.0) e, ap (λ x. x.1) e)
-
--- something isn't nothing
-pub none_some : {A : Type 0} (a : A) → None ≡ Some a → ⊥
-none_some a h = cc
-
--- values that are equal as options are equal
-pub some_is : {A : Type 0} (a b : A) → Some a ≡ Some b → a ≡ b
-some_is a b h = cc
-
--- a test holds or it doesn't
-pub either_way : (b : Bool) → (b ≡ true) ⊎ (b ≡ false)
-either_way true = inl refl
-either_way false = inr refl
 
 -- marks that are told to be the same are
 same_marks : (a b : Mark) → same_mark a b ≡ true → a ≡ b
@@ -66,7 +53,7 @@ key_seen j (_ ∷ i) h = absurd (cc)
 pub expected : (m : Mark) (i : List Tok) (u : Unit {0}) (rest : List Tok)
     → expect m i ≡ Some (u, rest) → i ≡ mark m ∷ rest
 unfolding expect
-expected m i u rest h = elim (either_way (sees_mark m i)) [
+expected m i u rest h = elim (cases_Bool (sees_mark m i)) [
   | inl seen ↦ let g = rw seen at h in mark_seen m i seen ∙ ap (λ x. mark m ∷ x) (some_pair _ _ g).1
   | inr none ↦ let g = rw none at h in absurd (cc)
 ]
@@ -75,18 +62,10 @@ expected m i u rest h = elim (either_way (sees_mark m i)) [
 pub expected_key : (j : Keyword) (i : List Tok) (u : Unit {0}) (rest : List Tok)
     → expect_key j i ≡ Some (u, rest) → i ≡ key j ∷ rest
 unfolding expect_key
-expected_key j i u rest h = elim (either_way (sees_key j i)) [
+expected_key j i u rest h = elim (cases_Bool (sees_key j i)) [
   | inl seen ↦ let g = rw seen at h in key_seen j i seen ∙ ap (λ x. key j ∷ x) (some_pair _ _ g).1
   | inr none ↦ let g = rw none at h in absurd (cc)
 ]
-
--- of two that hold together each does
-and_true : (b c : Bool) → (b && c) ≡ true → (b ≡ true) × (c ≡ true)
-and_true true c h = (refl, h)
-and_true false c h = absurd (cc)
-
-bytes_same : (a b : List ℕ) → bytes_eq a b ≡ true → a ≡ b
-bytes_same a b h = grind (arith, bytes_eq-Decides, h)
 
 -- a call that was seen: the function's name and a bracket
 pub called : (name : List ℕ) (i : List Tok) → calls name i ≡ true
@@ -94,7 +73,7 @@ pub called : (name : List ℕ) (i : List Tok) → calls name i ≡ true
 unfolding calls
 called name [] h = absurd (cc)
 called name (word w ∷ i) h =
-    let e = and_true _ _ h in
-    ap (λ x. word x ∷ i) (bytes_same w name e.0)
+    let e = and_parts _ _ h in
+    ap (λ x. word x ∷ i) (bytes_eq-true w name e.0)
     ∙ ap (λ t. word name ∷ t) (mark_seen m.LeftRound i e.1)
 called name (_ ∷ i) h = absurd (cc)

@@ -1,11 +1,11 @@
 -- Each text has tokens.
 use Rattle.std.proofs.Common.{◌≡◌, refl, ap, ℕ, zero, suc, ◌≤◌, ◌⊎◌, inl, inr, true, false, List, [], ◌∷◌, length, take, drop, Option, Some, None, arith, length-drop}
+use Rattle.alt_base.proofs.Lists.{length-zero}
 use Rattle.alt_expr.specs.Look.{found, kind_tok}
 use Rattle.alt_expr.specs.Spelling.{skip}
 use Rattle.alt_expr.specs.Told.{TextTokens}
 use Rattle.alt_expr.specs.declared.lexer.Kind.{Kind}
 use Rattle.alt_expr.proofs.Longest.{stands_of, none_of, skip_fits}
-use Rattle.alt_expr.proofs.PlainFacts.{length_none}
 use Rattle.alt_expr.proofs.Tokenized.{stands_some}
 
 empty : (xs : List ℕ) → (xs ≡ []) ⊎ (xs ≡ [] → ⊥)
@@ -48,7 +48,7 @@ looked m text fits again (inr more) (Some p) is = one_on text more p.0 p.1 is
     (again (drop p.1 (skip text)) (shorter text p.0 p.1 m is fits))
 
 lexed : (m : ℕ) (text : List ℕ) → length text ≤ m → TextTokens text
-lexed zero text fits = at_end text (length_none (skip text) (omega (arith, fits, skip_fits text)))
+lexed zero text fits = at_end text (length-zero (skip text) (omega (arith, fits, skip_fits text)))
 lexed (suc m) text fits = looked m text fits (lexed m) (empty (skip text)) (found (skip text)) refl
 
 -- each text has tokens, up to its end or to what begins none

@@ -15,6 +15,8 @@ use Rattle.alt_expr.specs.Reader.{sees_mark, calls, after_mark, expect, name}
 use Rattle.alt_expr.proofs.PathRead.{Ends, path_read, no_call, not_call, ends_key, ends_close, ends_comma, ends_nothing}
 use Rattle.alt_expr.proofs.Lists.{listed_read}
 use Rattle.alt_expr.specs.UpdateReader as r
+use Rattle.alt_expr.proofs.CondComplete.{comma_read}
+use Rattle.alt_expr.proofs.PathsWhole.{path_some}
 use Rattle.alt_expr.proofs.UpdateBehind.{behind, put_behind}
 
 -- what may stand behind an action: a comma, a clause's keyword, or nothing
@@ -72,11 +74,6 @@ term_value : (g : Given) (w : List ℕ) (n : ℕ) (rest : List Tok)
     → r.term g (suc n) (colon w ∷ rest) ≡ Some (t.Value (value_of g.values w), rest)
 unfolding r.term r.operand calls
 term_value g w n rest = refl
-
--- two parts with a comma between, and the bracket behind them
-comma_read : (xs ys rest : List Tok) → ((xs ++ mark m.Comma ∷ ys) ++ mark m.RightRound ∷ []) ++ rest
-    ≡ xs ++ mark m.Comma ∷ (ys ++ mark m.RightRound ∷ rest)
-comma_read xs ys rest = simp append_assoc
 
 term_if : (g : Given) (p : PathPhrase) (x : TermPhrase) (n : ℕ) (rest : List Tok)
     → r.term g n (term_toks x ++ mark m.RightRound ∷ rest)
@@ -190,9 +187,6 @@ delete_read g (pair (hashed n) w) rest c = refl
 
 set_some : (d : SetPhrase) → 0 < length (set_toks d)
 set_some (set (path n ss) x) = omega arith
-
-path_some : (d : PathPhrase) → 0 < length (path_toks d)
-path_some (path n ss) = omega arith
 
 pair_some : (d : PairPhrase) → 0 < length (pair_toks d)
 pair_some (pair n w) = omega arith

@@ -1,6 +1,8 @@
 -- What is read was derived, and its tree is the phrase's.
 use Rattle.std.proofs.Common.{◌≡◌, refl, sym, ap, ◌∙◌, ℕ, zero, suc, true, inl, inr, List, [], ◌∷◌, ◌++◌, length, map, drop, Some, None, arith, append_assoc, append-nil}
 use borrow.Author.Tests.{eqb-true}
+use Rattle.std.proofs.lemmas.Bool.{cases_Bool}
+use Rattle.std.proofs.lemmas.Option.{none-some}
 use Rattle.std.specs.Prelude.{codes}
 use Rattle.alt_value.specs.declared.attr.Attr.{Attr}
 use Rattle.alt_expr.specs.Tokens.{Tok, key, word, hash, colon, mark}
@@ -17,10 +19,11 @@ use Rattle.alt_expr.specs.declared.update.Action.TheVariants as a
 use Rattle.alt_expr.specs.PathGrammar.{NamePhrase, plain, hashed, name_tok, name_text, path_toks, path_tree, between_toks}
 use Rattle.alt_expr.specs.UpdateGrammar.{at, value, if_not_exists, list_append, one, plus, minus, set, PairPhrase, pair, ClausePhrase, sets, removes, adds, deletes, UpdatePhrase, clauses, term_toks, sum_toks, set_toks, pair_toks, clause_toks, clauses_toks, update_toks, term_tree, sum_tree, set_tree, remove_tree, add_tree, delete_tree, clause_tree, clauses_tree, update_tree}
 use Rattle.alt_expr.specs.Reader.{Parser, and_then, sees_mark, calls, is_call, after_mark, expect, name, path, listed}
-use Rattle.alt_expr.proofs.Seen.{Derived, then_some, some_pair, none_some, either_way, mark_seen, expected, called}
+use Rattle.alt_expr.proofs.Seen.{Derived, then_some, some_pair, mark_seen, expected, called}
 use Rattle.alt_expr.proofs.PathFound.{path_sound}
 use Rattle.alt_expr.proofs.Lists.{listed_sound}
 use Rattle.alt_expr.specs.UpdateReader as r
+use Rattle.alt_expr.proofs.CondSound.{comma_found}
 use Rattle.alt_expr.proofs.UpdateBehind.{behind}
 
 -- ---- terms
@@ -28,8 +31,8 @@ use Rattle.alt_expr.proofs.UpdateBehind.{behind}
 located_sound : (g : Given) (i : List Tok) (x : Term) (rest : List Tok)
     → r.located g i ≡ Some (x, rest) → Derived term_toks (term_tree g) i x rest
 unfolding r.located
-located_sound g i x rest h = elim (either_way (is_call i)) [
-  | inl seen ↦ absurd (none_some _ (simp seen at h))
+located_sound g i x rest h = elim (cases_Bool (is_call i)) [
+  | inl seen ↦ absurd (none-some _ (simp seen at h))
   | inr none ↦
       let b = simp none at h in
       let a = then_some (path g.names i) _ _ b in
@@ -44,11 +47,6 @@ unfolding r.operand
 operand_sound g (colon w ∷ i) x rest h = let e = some_pair (t.Value (value_of g.values w), i)
     (x, rest) h in record { by = value w; tokens = ap (λ ts. colon w ∷ ts) e.1; stands = sym e.0 }
 operand_sound g i x rest h = located_sound g i x rest h
-
--- two parts with a comma between, and the bracket behind them
-comma_found : (xs ys rest : List Tok) → xs ++ mark m.Comma ∷ (ys ++ mark m.RightRound ∷ rest)
-    ≡ ((xs ++ mark m.Comma ∷ ys) ++ mark m.RightRound ∷ []) ++ rest
-comma_found xs ys rest = sym (simp append_assoc)
 
 -- a reader of terms that are derived
 abbrev Sound : Given → Parser Term → Type 0
@@ -116,9 +114,9 @@ append_sound g f sound i x rest seen h =
 term_sound : (g : Given) (n : ℕ) → Sound g (r.term g n)
 unfolding r.term
 term_sound g zero i x rest h = absurd (cc)
-term_sound g (suc n) i x rest h = elim (either_way (calls (codes "if_not_exists") i)) [
+term_sound g (suc n) i x rest h = elim (cases_Bool (calls (codes "if_not_exists") i)) [
   | inl seen ↦ if_sound g (r.term g n) (term_sound g n) i x rest seen (simp seen at h)
-  | inr no_if ↦ elim (either_way (calls (codes "list_append") i)) [
+  | inr no_if ↦ elim (cases_Bool (calls (codes "list_append") i)) [
     | inl seen ↦
         append_sound g (r.term g n) (term_sound g n) i x rest seen (simp (no_if, seen) at h)
     | inr none ↦ operand_sound g i x rest (simp (no_if, none) at h)
@@ -135,7 +133,7 @@ unfolding r.sum after_mark
 sum_sound g i x rest h =
     let b = then_some (r.whole_term g i) _ _ h in
     let p = whole_sound g _ _ _ b.1 in
-    elim (either_way (sees_mark m.Plus b.0.1)) [
+    elim (cases_Bool (sees_mark m.Plus b.0.1)) [
       | inl seen ↦
           let c = then_some (r.whole_term g (drop 1 b.0.1)) _ _ (simp seen at b.2) in
           let q = whole_sound g _ _ _ c.1 in
@@ -149,7 +147,7 @@ sum_sound g i x rest h =
             stands = sym e.0 ∙ ap (λ z. s.Plus z c.0.0) p.stands
                 ∙ ap (s.Plus (term_tree g p.by)) q.stands;
           }
-      | inr no_plus ↦ elim (either_way (sees_mark m.Minus b.0.1)) [
+      | inr no_plus ↦ elim (cases_Bool (sees_mark m.Minus b.0.1)) [
         | inl seen ↦
             let c = then_some (r.whole_term g (drop 1 b.0.1)) _ _ (simp (no_plus, seen) at b.2) in
             let q = whole_sound g _ _ _ c.1 in
@@ -205,13 +203,13 @@ name_found : (g : Given) (i : List Tok) (x : List ℕ) (rest : List Tok)
     → name g.names i ≡ Some (x, rest) → (d : NamePhrase) × (i ≡ name_tok d ∷ rest)
     × (x ≡ name_text g.names d)
 unfolding name
-name_found g [] x rest h = absurd (none_some _ h)
-name_found g (key w ∷ i) x rest h = absurd (none_some _ h)
+name_found g [] x rest h = absurd (none-some _ h)
+name_found g (key w ∷ i) x rest h = absurd (none-some _ h)
 name_found g (word w ∷ i) x rest h = let e = some_pair (w, i) (x, rest) h in
     (plain w, ap (λ z. word w ∷ z) e.1, sym e.0)
 name_found g (hash w ∷ i) x rest h = let e = some_pair (name_of g.names w, i) (x, rest) h in
     (hashed w, ap (λ z. hash w ∷ z) e.1, sym e.0)
-name_found g (_ ∷ i) x rest h = absurd (none_some _ h)
+name_found g (_ ∷ i) x rest h = absurd (none-some _ h)
 
 -- a value was read
 value_found : (g : Given) (i : List Tok) (x : Attr) (rest : List Tok) → r.value g i ≡ Some (x, rest)
@@ -219,7 +217,7 @@ value_found : (g : Given) (i : List Tok) (x : Attr) (rest : List Tok) → r.valu
 unfolding r.value
 value_found g (colon w ∷ i) x rest h = let e = some_pair (value_of g.values w, i) (x, rest) h in
     (w, ap (λ z. colon w ∷ z) e.1, sym e.0)
-value_found g _ x rest h = absurd (none_some _ h)
+value_found g _ x rest h = absurd (none-some _ h)
 
 -- the name of a pair, and its value
 abbrev name_of_pair : Given → PairPhrase → List ℕ
@@ -303,7 +301,7 @@ no_clause : (g : Given) (found : List Action) (j : Keyword) (i : List Tok) (xs :
     → r.listed_behind (r.action g j) found i ≡ Some (xs, rest) → ⊥
 unfolding r.listed_behind
 no_clause g found j i xs rest refused h =
-    absurd (none_some _ (sym (ap (λ (f : Parser Action). r.listed_behind f found i) refused) ∙ h))
+    absurd (none-some _ (sym (ap (λ (f : Parser Action). r.listed_behind f found i) refused) ∙ h))
 
 refused : (g : Given) → (r.action g k.And ≡ (λ l. None)) × (r.action g k.Or ≡ (λ l. None))
     × (r.action g k.Not ≡ (λ l. None)) × (r.action g k.Among ≡ (λ l. None))
@@ -314,7 +312,7 @@ refused g = (refl, refl, refl, refl, refl)
 clause_sound : (g : Given) (found : List Action) (i : List Tok) (xs : List Action) (rest : List Tok)
     → r.clause g found i ≡ Some (xs, rest) → OneClause g found i xs rest
 unfolding r.clause
-clause_sound g found [] xs rest h = absurd (none_some _ h)
+clause_sound g found [] xs rest h = absurd (none-some _ h)
 clause_sound g found (key k.Set ∷ i) xs rest h =
     let l = actions_sound set_toks (set_tree g) k.Set g (set_sound g) found i xs rest h in
     record { by = sets l.first l.others; tokens = ap (λ z. key k.Set ∷ z) l.tokens; stands = l.stands }
@@ -337,7 +335,7 @@ clause_sound g found (key k.Among ∷ i) xs rest h =
     absurd (no_clause g found k.Among i xs rest (refused g).3 h)
 clause_sound g found (key k.Between ∷ i) xs rest h =
     absurd (no_clause g found k.Between i xs rest (refused g).4 h)
-clause_sound g found (_ ∷ i) xs rest h = absurd (none_some _ h)
+clause_sound g found (_ ∷ i) xs rest h = absurd (none-some _ h)
 
 -- no tokens are left
 done_is : (i : List Tok) → r.is_done i ≡ true → i ≡ []
@@ -358,7 +356,7 @@ clauses_sound : (g : Given) (n : ℕ) (found : List Action) (i : List Tok) (xs :
     (rest : List Tok) → r.clauses_from g n found i ≡ Some (xs, rest) → MoreClauses g found i xs rest
 unfolding r.clauses_from
 clauses_sound g zero found i xs rest h = absurd (cc)
-clauses_sound g (suc n) found i xs rest h = elim (either_way (r.is_done i)) [
+clauses_sound g (suc n) found i xs rest h = elim (cases_Bool (r.is_done i)) [
   | inl done ↦
       let e = some_pair _ _ (simp done at h) in
       let none = done_is i done in

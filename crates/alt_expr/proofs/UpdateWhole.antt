@@ -1,5 +1,6 @@
 -- Updates: from the reader to the grammar.
 use Rattle.std.proofs.Common.{◌≡◌, ◌≢◌, refl, sym, ap, ◌∙◌, List, Some, None, Ok, Err}
+use Rattle.std.proofs.lemmas.Option.{none-some}
 use Rattle.std.specs.List.{list_any}
 use Rattle.alt_expr.specs.Tokens.{Tok}
 use Rattle.alt_expr.specs.Given.{Given}
@@ -10,7 +11,7 @@ use Rattle.alt_expr.specs.declared.fault.ExprFault.{ExprFault}
 use Rattle.alt_expr.specs.declared.fault.ExprFault.TheVariants as fault
 use Rattle.alt_expr.specs.declared.update.Action.{Action}
 use Rattle.alt_expr.proofs.Parsing.{whole_tree, whole_none}
-use Rattle.alt_expr.proofs.Seen.{some_pair, none_some}
+use Rattle.alt_expr.proofs.Seen.{some_pair}
 use Rattle.alt_expr.specs.UpdateKeys.{is_twice}
 use Rattle.alt_expr.specs.UpdateReader.{update}
 use Rattle.alt_expr.proofs.UpdateComplete.{update_read}
@@ -32,7 +33,7 @@ module _ (g : Given) (toks : List Tok) where
   unfolding updates
   read_none f h =
       whole_none updates g toks f (λ other. let e = h other in
-      (e.1, λ p. absurd (none_some _ (sym e.0 ∙ ap (update g) p.1 ∙ update_read g p.0))))
+      (e.1, λ p. absurd (none-some _ (sym e.0 ∙ ap (update g) p.1 ∙ update_read g p.0))))
 
 -- tokens have one tree
 pub unique : (g : Given) (d e : UpdatePhrase) → updates.toks d ≡ updates.toks e

@@ -1,5 +1,7 @@
 -- Given words one by one.
-use Rattle.std.proofs.Common.{◌≡◌, refl, ℕ, zero, suc, ◌+◌, Bool, true, false, ◌&&◌, ◌||◌, not, List, [], ◌∷◌, drop, Some, OnOk, Result, Ok, Err, add-one}
+use Rattle.std.proofs.Common.{◌≡◌, refl, ℕ, zero, suc, ◌+◌, Bool, true, false, ◌||◌, not, List, [], ◌∷◌, drop, Some, OnOk, Result, Ok, Err, add-one}
+use Rattle.std.proofs.lemmas.Bool.{and_from}
+use Rattle.std.specs.Cmp.{first_so, second_so}
 use Rattle.std.specs.Prelude.{slice_get}
 use Rattle.std.specs.Option.{option_map_or}
 use Rattle.std.specs.List.{list_all}
@@ -29,30 +31,17 @@ pub unused_on : (given : List Pair) (used : List (List ℕ)) (i : ℕ)
     || has_unused (drop (i + 1) given) used)
 unused_on given used i = rw add-one (unused_step given used i)
 
--- two that hold, hold together
-and_both : (a b : Bool) → a ≡ true → b ≡ true → (a && b) ≡ true
-and_both true b p q = q
-and_both false b p q = p
-
-and_first : (a b : Bool) → (a && b) ≡ true → a ≡ true
-and_first true b p = refl
-and_first false b p = p
-
-and_second : (a b : Bool) → (a && b) ≡ true → b ≡ true
-and_second true b p = p
-and_second false b p = absurd (cc)
-
 -- names with one name more are names
 pub are_names-with_pair : (w : List ℕ) (t : Tree) (ps : List Pair) → is_name t ≡ true
     → are_names ps ≡ true → are_names (with_pair w t ps) ≡ true
-are_names-with_pair w t [] name names = and_both _ _ name refl
+are_names-with_pair w t [] name names = and_from _ _ name refl
 are_names-with_pair w t (p ∷ ps) name names =
     elim (text_order w p.0) as (λ o. are_names
     (by_order o ((w, t) ∷ p ∷ ps) ((p.0, t) ∷ ps) (p ∷ with_pair w t ps)) ≡ true) [
-      | Less ↦ and_both _ _ name names
-      | Equal ↦ and_both _ _ name (and_second (is_name p.1) _ names)
-      | Greater ↦ and_both _ _ (and_first _ _ names)
-          (are_names-with_pair w t ps name (and_second (is_name p.1) _ names))
+      | Less ↦ and_from _ _ name names
+      | Equal ↦ and_from _ _ name (second_so (is_name p.1) _ names)
+      | Greater ↦ and_from _ _ (first_so _ _ names)
+          (are_names-with_pair w t ps name (second_so (is_name p.1) _ names))
     ]
 
 -- the same of an answer
@@ -68,8 +57,8 @@ pub kept_at : (holds : Tree → Bool) (ps : List Pair) (i : ℕ) (p : Pair) → 
 kept_at holds [] zero p at all = absurd (cc)
 kept_at holds [] (suc i) p at all = absurd (cc)
 kept_at holds (q ∷ qs) zero p at all =
-    let same : p ≡ q = cc in rw same (and_first (holds q.1) _ all)
-kept_at holds (q ∷ qs) (suc i) p at all = kept_at holds qs i p at (and_second (holds q.1) _ all)
+    let same : p ≡ q = cc in rw same (first_so (holds q.1) _ all)
+kept_at holds (q ∷ qs) (suc i) p at all = kept_at holds qs i p at (second_so (holds q.1) _ all)
 
 -- each value may be kept where all may
 pub each_kept : (ps : List Pair) → list_all (λ (p : Pair). true) ps ≡ true

@@ -14,12 +14,13 @@ use Rattle.std.specs.Ordering.{nat_cmp, is_le, is_eq}
 use Rattle.std.specs.declared.cmp.Ordering.{Ordering}
 use Rattle.std.specs.declared.cmp.Ordering.TheVariants.{Less, Equal, Greater}
 use Rattle.std.specs.declared.ops.Bound.TheVariants.{Included, Unbounded}
+use Rattle.alt_base.proofs.Bools.{first_holds}
 use Rattle.alt_cells.specs.Changes.{Columns}
 use Rattle.alt_cells.specs.Keys.{key_cmp}
 use Rattle.alt_cells.specs.Shown.{row_shown}
 use Rattle.alt_cells.specs.Walks.{RowList}
 use Rattle.alt_cells.proofs.CellLaws.{key_total}
-use Rattle.alt_cells.proofs.Entries.{first, below_less, find_below}
+use Rattle.alt_cells.proofs.Entries.{below_less, find_below}
 use Rattle.alt_disk.specs.Disk.{DiskState}
 use Rattle.alt_layout.specs.Layout.{RowMap, shown_of}
 use Rattle.alt_layout.proofs.ShownLaws.{find-shown, is_sorted-shown}
@@ -63,9 +64,9 @@ first_of_shown : (rows : RowMap) (shows : List (List ℕ × Columns))
     → (rest : List (List ℕ × Columns)) → shows ≡ e ∷ rest → IsFirstKey (shown_at rows) e.0
 first_of_shown rows shows is e rest one = record {
   shows = λ none. let bad : Some e.1 ≡ None = sym found ∙ none in cc bad;
-  first = λ q less. at q ∙ ap (λ o. cond (is_eq o) (Some e.1) (find key_cmp q rest)) less
+  first_holds = λ q less. at q ∙ ap (λ o. cond (is_eq o) (Some e.1) (find key_cmp q rest)) less
       ∙ find_below key_cmp key_total q rest (below_less key_cmp key_total q e.0 rest less
-      (first _ _ (subst (λ l. T (is_sorted key_cmp l)) (is ∙ one)
+      (first_holds _ _ (subst (λ l. T (is_sorted key_cmp l)) (is ∙ one)
       (is_sorted-shown row_shown (entries rows) (entries_sorted rows)))));
 }
   where

@@ -1,13 +1,11 @@
 -- Changes of a write, joined to the rows in memory one by one.
-use Rattle.std.proofs.Common.{◌≡◌, ◌+◌, ◌<◌, ◌==◌, ◌++◌, ℕ, Bool, true, false, cond, List, [], ◌∷◌, drop, take, length, get_or, Some, refl, sym, ap, subst, ◌∙◌, eqb-true, eq-eqb, inl, inr, ⊎_elim, arith}
+use Rattle.std.proofs.Common.{◌≡◌, ◌+◌, ◌<◌, ◌==◌, ◌++◌, ℕ, Bool, true, false, cond, List, [], ◌∷◌, drop, take, length, get_or, Some, refl, sym, ap, subst, ◌∙◌, eqb-true, inl, inr, ⊎_elim}
 use Rattle.std.proofs.lemmas.List.{drop_more, take_more}
 use Rattle.std.specs.Prelude.{if◌then◌else◌}
 use Rattle.std.specs.BTreeMap.{get}
-use Rattle.std.specs.Cmp.{ranked}
-use Rattle.std.specs.declared.cmp.Ordering.{Ordering}
-use Rattle.std.specs.declared.cmp.Ordering.TheVariants.{Less, Equal, Greater}
 use Rattle.std.specs.FinMap.{empty}
 use Rattle.std.specs.Ordering.{nat_cmp, is_eq}
+use Rattle.alt_base.proofs.Orderings.{is_eq-nat_cmp}
 use Rattle.alt_cells.specs.declared.batch.RowChange.{RowChange}
 use Rattle.alt_cells.specs.Changes.{row_of_change}
 use Rattle.alt_cells.specs.Joined.{joined_map}
@@ -137,24 +135,6 @@ changes_one number f c = by_test (c.family == f)
     by_test true = none_behind (one_row c.key (row_of_change number c))
     by_test false = refl
 
--- two tests of numbers
-pub same_test : (m n : ℕ) → is_eq (nat_cmp m n) ≡ (m == n)
-same_test m n = by_test (m == n) refl
-  where
-    tied : (o : Ordering) → o ≡ nat_cmp m n → (b : Bool) → (m == n) ≡ b → is_eq o ≡ b
-    tied Less is true told = let r = ranked m n Less is in let same = eqb-true m n told in
-        absurd (omega (arith, r, same))
-    tied Less is false told = refl
-    tied Equal is true told = refl
-    tied Equal is false told = let r = ranked m n Equal is in
-        let no : true ≡ false = sym (eq-eqb m n r) ∙ told in cc no
-    tied Greater is true told = let r = ranked m n Greater is in
-        let same = eqb-true m n told in absurd (omega (arith, r, same))
-    tied Greater is false told = refl
-
-    by_test : (b : Bool) → (m == n) ≡ b → is_eq (nat_cmp m n) ≡ (m == n)
-    by_test b is = tied (nat_cmp m n) refl b is ∙ sym is
-
 -- One family put in, with the change joined to its rows and its files as they were.
 pub put_written : (old new : Families) (number : ℕ) (c : RowChange) (family : Family)
     → ((q : ℕ) → get nat_cmp new q ≡ cond (is_eq (nat_cmp c.family q)) (Some family) (get nat_cmp old q))
@@ -170,7 +150,7 @@ put_written old new number c family at rows files = record {
     found : (f : ℕ) (t : Bool) → (c.family == f) ≡ t
         → get nat_cmp new f ≡ cond t (Some family) (get nat_cmp old f)
     found f t is = at f ∙ ap (λ b. cond b (Some family) (get nat_cmp old f))
-        (same_test c.family f ∙ is)
+        (is_eq-nat_cmp c.family f ∙ is)
 
     rows_at : (f : ℕ) (t : Bool) → (c.family == f) ≡ t → rows_in (get nat_cmp new f)
         ≡ joined_map join_row (rows_in (get nat_cmp old f)) (changes_in number f (c ∷ []))

@@ -8,7 +8,7 @@ use Rattle.alt_cells.specs.Rows.{join_row}
 use Rattle.alt_cells.proofs.CellLaws.{key_total}
 use Rattle.alt_cells.proofs.Entries.{either_none, either-assoc}
 use Rattle.alt_cells.proofs.RowLaws.{get-joined_map, IsJoin-join_row}
-use Rattle.alt_disk.specs.Disk.{DiskState, Goes}
+use Rattle.alt_disk.specs.Disk.{DiskState}
 use Rattle.alt_disk.specs.Runs.{Quiet}
 use Rattle.alt_layout.specs.Layout.{RowMap}
 use Rattle.alt_layout.proofs.RowLaws.{none_before}
@@ -121,29 +121,6 @@ some_open {P} s fs i f key row rows left within at leads =
     by : (maps : List RowMap) → Each2 (IsOpen s) (f ∷ drop (suc i) fs) maps → P
     by [] each = absurd each
     by (m ∷ ms) each = leads m each.0
-
--- calls so far
-pub goes_start : (s : DiskState) → Goes s s
-goes_start s = record {
-  tells = refl;
-  honest = refl;
-  beside = refl;
-  anchors = refl;
-  later = omega arith;
-  faults = omega arith;
-  past = λ t f le. refl;
-}
-
-pub goes_then : (a b c : DiskState) → Goes a b → Goes b c → Goes a c
-goes_then a b c first more = record {
-  tells = more.tells ∙ first.tells;
-  honest = more.honest ∙ first.honest;
-  beside = more.beside ∙ first.beside;
-  anchors = more.anchors ∙ first.anchors;
-  later = omega (arith, first.later, more.later);
-  faults = omega (arith, first.faults, more.faults);
-  past = λ t f le. more.past t f (omega (arith, le, first.later)) ∙ first.past t f le;
-}
 
 -- a family reads as it read while calls leave every file
 pub reads_still : (a b : DiskState) (f : Option Family) (rows : RowMap) → Quiet a b

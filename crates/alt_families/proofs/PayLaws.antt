@@ -10,6 +10,8 @@ use Rattle.std.specs.List.{AllByRecursion, cons_option}
 use Rattle.std.specs.Ordering.{is_le}
 use Rattle.std.specs.declared.cmp.Ordering.TheVariants.{Equal}
 use Rattle.std.specs.declared.ops.Bound.TheVariants.{Included}
+use Rattle.alt_base.proofs.Bools.{first_holds, second_holds}
+use Rattle.alt_base.proofs.Orderings.{is_eq-holds, is_lt-holds}
 use Rattle.alt_cells.specs.Changes.{Columns}
 use Rattle.alt_cells.specs.Joined.{all_joined, joined_map}
 use Rattle.alt_cells.specs.Keys.{key_cmp}
@@ -18,7 +20,6 @@ use Rattle.alt_cells.specs.Shown.{row_shown}
 use Rattle.alt_cells.specs.Walks.{RowMap, RowList, Gives, first_bound, last_bound, rows_from, walk_cmp}
 use Rattle.alt_cells.specs.declared.row.RowCells.{RowCells}
 use Rattle.alt_cells.proofs.CellLaws.{key_total}
-use Rattle.alt_cells.proofs.Entries.{equal, first, less, second}
 use Rattle.alt_disk.specs.Disk.{DiskState}
 use Rattle.alt_layout.specs.Layout.{end_bound, shown_of}
 use Rattle.alt_merge.specs.declared.merge.Merge.{Merge}
@@ -70,13 +71,13 @@ at_or_before : (forward : Bool) (k : List ℕ) (es : RowList)
     → AllByRecursion (λ d. is_le (walk_cmp forward k d.0) ≡ true) es
 at_or_before forward k [] below = tt
 at_or_before forward k (e ∷ es) below = (
-  ap is_le (less (walk_cmp forward k e.0) (first _ _ below)),
-  at_or_before forward k es (second _ _ below),
+  ap is_le (is_lt-holds (walk_cmp forward k e.0) (first_holds _ _ below)),
+  at_or_before forward k es (second_holds _ _ below),
 )
 
 -- and is its own equal
 same_key : (k : List ℕ) → key_cmp k k ≡ Equal
-same_key k = equal (key_cmp k k) (subst T (sym ((eq_by_cmp_equiv key_total).refl k)) tt)
+same_key k = is_eq-holds (key_cmp k k) (subst T (sym ((eq_by_cmp_equiv key_total).refl k)) tt)
 
 at_itself : (forward : Bool) (k : List ℕ) → is_le (walk_cmp forward k k) ≡ true
 at_itself true k = ap is_le (same_key k)
@@ -102,7 +103,7 @@ passed_first forward from to e more shows n are is out =
     (entries_between key_cmp (Included from) (end_bound to) (e ∷ more))
     (all_tested (λ k. is_le (walk_cmp forward e.0 k) ≡ true)
     (range_contains key_cmp (Included from) (end_bound to)) (e ∷ more)
-    (at_itself forward e.0, at_or_before forward e.0 more (first _ _ are.sorted)))))
+    (at_itself forward e.0, at_or_before forward e.0 more (first_holds _ _ are.sorted)))))
   where
     both : (a b : Bool) → a ≡ true → b ≡ true → (a && b) ≡ true
     both true true yes_a yes_b = refl

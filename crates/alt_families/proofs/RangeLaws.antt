@@ -12,10 +12,11 @@ use Rattle.std.specs.List.{AllByRecursion}
 use Rattle.std.specs.Ordering.{is_le}
 use Rattle.std.specs.declared.cmp.Ordering.TheVariants.{Less}
 use Rattle.std.specs.declared.ops.Bound.TheVariants.{Included}
+use Rattle.alt_base.proofs.Bools.{first_holds, second_holds}
+use Rattle.alt_base.proofs.Orderings.{is_lt-holds}
 use Rattle.alt_cells.specs.Keys.{key_cmp}
 use Rattle.alt_cells.specs.Walks.{RowMap, RowList, last_bound, rows_from, turned, walk_cmp}
 use Rattle.alt_cells.proofs.CellLaws.{key_total}
-use Rattle.alt_cells.proofs.Entries.{first, second, less}
 use Rattle.alt_cells.proofs.WalkLaws.{is_sorted-rows_from}
 use Rattle.alt_cells.specs.Shown.{row_shown}
 use Rattle.alt_layout.specs.Layout.{Layout, end_bound, rows_between, shown_of, shown_rows}
@@ -166,7 +167,7 @@ ahead_first rows forward from to = record {
 pub ahead_next : (forward : Bool) (from : List ℕ) (to : Option (List ℕ)) (e : List ℕ × RowCells)
     (rest : RowList) → AreAhead forward from to (e ∷ rest) → AreAhead forward from to rest
 ahead_next forward from to e rest are =
-    record { sorted = second _ _ are.sorted; reached = are.reached.1 }
+    record { sorted = second_holds _ _ are.sorted; reached = are.reached.1 }
 
 -- a row ahead that isn't behind the range is the first of it
 pub first_within : (forward : Bool) (from : List ℕ) (to : Option (List ℕ)) (e : List ℕ × RowCells)
@@ -220,8 +221,8 @@ none_within forward from to (e ∷ es) k below out =
     ap (λ b. if b then e ∷ entries_between key_cmp (Included from) (end_bound to) es
     else entries_between key_cmp (Included from) (end_bound to) es)
     (not_within forward from to e.0 (out_behind forward from to k e.0
-    (less (walk_cmp forward k e.0) (first _ _ below)) out))
-    ∙ none_within forward from to es k (second _ _ below) out
+    (is_lt-holds (walk_cmp forward k e.0) (first_holds _ _ below)) out))
+    ∙ none_within forward from to es k (second_holds _ _ below) out
 
 pub out_within : (forward : Bool) (from : List ℕ) (to : Option (List ℕ)) (e : List ℕ × RowCells)
     (rest : RowList) → AreAhead forward from to (e ∷ rest) → is_out forward from to e.0 ≡ true
@@ -230,7 +231,7 @@ out_within forward from to e rest are out =
     ap (λ b. if b then e ∷ entries_between key_cmp (Included from) (end_bound to) rest
     else entries_between key_cmp (Included from) (end_bound to) rest)
     (not_within forward from to e.0 out)
-    ∙ none_within forward from to rest e.0 (first _ _ are.sorted) out
+    ∙ none_within forward from to rest e.0 (first_holds _ _ are.sorted) out
 
 -- ---- a family
 

@@ -1,22 +1,25 @@
 -- Pieces of bytes one behind another, and which ones they are, whatever follows them.
 use Rattle.std.proofs.Common.{◌≡◌, refl, sym, ap, ◌∙◌, ℕ, ◌+◌, ◌<◌, ◌≤◌, ◌^◌, List, [], ◌∷◌, ◌++◌, length, take, drop, arith, append_assoc, length-append}
 use Rattle.std.specs.List.{AllByRecursion, flat_map}
-use Rattle.std.specs.Int.{w64, to_be_bytes, from_be_bytes}
+use Rattle.std.specs.Int.{w64, to_be_bytes, from_be_bytes, w32}
 use Rattle.std.proofs.lemmas.List.{take_at, drop_at, take-append-drop}
-use Rattle.std.proofs.lemmas.Nat.{from_be_bytes-to_be_bytes_8}
+use Rattle.std.proofs.lemmas.Nat.{from_be_bytes-to_be_bytes_8, from_be_bytes-to_be_bytes_4}
+use Rattle.alt_base.proofs.Lists.{cons_rest, cons_first}
 use Rattle.alt_fields.specs.Bytes.{IsShort}
 use Rattle.alt_fields.specs.Field.{field, StandsAt, told_length}
 use Rattle.alt_fields.proofs.Numbers.{stands_within}
 
+-- whatever follows them, four bytes are those of one number
+pub number_four-apart : (m n : ℕ) (x y : List ℕ) → m < 2 ^ 32 → n < 2 ^ 32
+    → to_be_bytes w32 m ++ x ≡ to_be_bytes w32 n ++ y → (m ≡ n) × (x ≡ y)
+number_four-apart m n x y small_m small_n e = (
+  sym (from_be_bytes-to_be_bytes_4 m small_m)
+      ∙ ap (from_be_bytes w32) (sym (take_at (to_be_bytes w32 m) x 4 refl) ∙ ap (take 4) e
+      ∙ take_at (to_be_bytes w32 n) y 4 refl) ∙ from_be_bytes-to_be_bytes_4 n small_n,
+  sym (drop_at (to_be_bytes w32 m) x 4 refl) ∙ ap (drop 4) e ∙ drop_at (to_be_bytes w32 n) y 4 refl,
+)
+
 -- ---- lists
-
--- equal lists have equal first elements, and equal rests
-pub front : {A : Type 0} (x y : A) (xs ys : List A) → x ∷ xs ≡ y ∷ ys → x ≡ y
-front x y xs ys e = cc
-
--- equal lists have equal tails
-pub back : {A : Type 0} (x y : A) (xs ys : List A) → x ∷ xs ≡ y ∷ ys → xs ≡ ys
-back x y xs ys e = cc
 
 -- a list with an element isn't the one without
 pub nothing : {A : Type 0} (x : A) (xs : List A) → [] ≡ x ∷ xs → ⊥
@@ -29,8 +32,8 @@ same_fronts [] [] x y n e = (refl, e)
 same_fronts [] (b ∷ t) x y n e = absurd (omega (arith, n))
 same_fronts (a ∷ s) [] x y n e = absurd (omega (arith, n))
 same_fronts (a ∷ s) (b ∷ t) x y n e =
-    let h = same_fronts s t x y (omega (arith, n)) (back a b (s ++ x) (t ++ y) e) in
-    (rw (front a b (s ++ x) (t ++ y) e, h.0) refl, h.1)
+    let h = same_fronts s t x y (omega (arith, n)) (cons_rest a b (s ++ x) (t ++ y) e) in
+    (rw (cons_first a b (s ++ x) (t ++ y) e, h.0) refl, h.1)
 
 -- what holds of each element of two lists holds of those of both, of the front and of the back
 module _ {A : Type 0} (P : A → Type 0) where

@@ -5,6 +5,7 @@ use Rattle.std.specs.List.{AllByRecursion}
 use Rattle.alt_disk.specs.Disk.{DiskState, IsSettled}
 use Rattle.alt_disk.specs.Fates.{Fates, Fits}
 use Rattle.alt_disk.specs.Runs.{Run, Spans}
+use Rattle.alt_disk.proofs.Staying.{settled_on}
 use Rattle.alt_gatelog.specs.InHand.{file_of as log_file, form_of, Stands as LogStands}
 use Rattle.alt_gatelog.specs.declared.gatelog.GateLog.{GateLog}
 use Rattle.alt_gatelog.proofs.Elsewhere.{reads_log, reads_stays}
@@ -24,7 +25,7 @@ use Rattle.alt_layout.specs.Fresh.{versions_file}
 use Rattle.alt_layout.specs.Layout.{RowMap}
 use Rattle.alt_layout.specs.Moments.{Has, HasEither, IsIt, Lies}
 use Rattle.alt_layout.proofs.FamilyLaws.{same_layouts}
-use Rattle.alt_layout.proofs.FileLaws.{in_back, stored_on}
+use Rattle.alt_layout.proofs.FileLaws.{stored_on}
 use Rattle.alt_layout.proofs.FlushLaws.{above_all, all_later, flush_same, named_with, next_after-stays, stored_with, version_with_is}
 use Rattle.alt_layout.proofs.MomentLaws.{layout_where, lies_on, lies_version, spans_version}
 use Rattle.alt_layout.proofs.PastLaws.{none_below, with_later-past}
@@ -32,6 +33,7 @@ use Rattle.alt_flush.specs.Drafts.{Drafted, From, over_new_log, renumbered, with
 use Rattle.alt_flush.proofs.DropLaws.{named_without, without_is, without_stored}
 use Rattle.alt_flush.proofs.NewLogLaws.{named_new_log, new_log_is, new_log_stored}
 use Rattle.alt_flush.proofs.SegmentLaws.{all_of-none, in_inserted, with_segment_is, with_segment_stored}
+use Rattle.alt_manifest.proofs.Among.{in_back}
 
 -- ---- the first draft
 
@@ -116,13 +118,6 @@ without_drafted s u family held parts drafted fits = record {
 }
 
 -- ---- a file more
-
--- a file that stays keeps what it reads as, and so it lasts
-pub settled_on : (a b : DiskState) (f g : ℕ) (P : ℕ → Option (List ℕ) → Type 0) → Run a b f P → g ≢ f
-    → IsSettled a g → IsSettled b g
-settled_on a b f g P run other settled left fits =
-    settled left (subst (λ (x : Fates). Fits x left)
-    (run.fates b.moment g other run.later (omega arith)) fits) ∙ sym (run.file g other)
 
 module _ (a b : DiskState) (u : Version) (held : Held) (parts : List (List Write))
     (P : ℕ → Option (List ℕ) → Type 0) (drafted : Drafted a u held parts)

@@ -1,5 +1,5 @@
 -- What the step of a merge makes of a draft, and of its layout.
-use Rattle.std.proofs.Common.{◌≡◌, ⊎_elim, ℕ, List, [], ◌∷◌, subst, sym}
+use Rattle.std.proofs.Common.{⊎_elim, ℕ, List}
 use Rattle.std.specs.List.{AllByRecursion}
 use Rattle.alt_disk.specs.Disk.{DiskState, IsSettled}
 use Rattle.alt_layout.specs.Families.{Held, flushed_of}
@@ -10,12 +10,7 @@ use Rattle.alt_manifest.specs.Versions.{IsIn, files_named}
 use Rattle.alt_manifest.specs.declared.version.Version.{Version}
 use Rattle.alt_writes.specs.Writes.{Write}
 use Rattle.alt_flush.specs.Drafts.{Drafted}
-
--- what holds of each number holds of one of them
-of_all : (P : ℕ → Type 0) (xs : List ℕ) (n : ℕ) → AllByRecursion P xs → IsIn xs n → P n
-of_all P [] n all there = absurd there
-of_all P (x ∷ xs) n all there = ⊎_elim (λ (e : n ≡ x). subst P (sym e) all.0)
-    (λ (later : IsIn xs n). of_all P xs n all.1 later) there
+use Rattle.alt_manifest.proofs.Among.{in_all}
 
 -- The draft with what was made is one, once that lies on the disk.
 pub merged_drafted : (s : DiskState) (u : Version) (held more : Held) (parts : List (List Write))
@@ -28,7 +23,7 @@ merged_drafted s u held more parts family taken number made drafted may new last
   is = version_made_is u held more family taken number made drafted.is may;
   stored = stored_made u held more family taken number made drafted.is may s.file parts
       drafted.stored new;
-  settled = λ g there. ⊎_elim (λ (new : IsIn made g). of_all (IsSettled s) made g last new)
+  settled = λ g there. ⊎_elim (λ (new : IsIn made g). in_all (IsSettled s) made g last new)
       (λ (old : IsIn (files_named u) g). drafted.settled g old)
       (named_made u held more family taken number made drafted.is may g there);
   fresh = drafted.fresh;

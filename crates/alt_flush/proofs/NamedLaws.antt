@@ -7,12 +7,13 @@ use Rattle.alt_manifest.specs.declared.version.FamilyVersion.{FamilyVersion}
 use Rattle.alt_layout.specs.Families.{files_of, flushed_of}
 use Rattle.alt_layout.specs.Flushes.{with_file}
 use Rattle.alt_layout.specs.Merged.{with_made}
-use Rattle.alt_layout.proofs.FileLaws.{in_back, in_either, in_front, risen}
+use Rattle.alt_layout.proofs.FileLaws.{in_either}
 use Rattle.alt_layout.proofs.FlushLaws.{files_of-own, flushed_of-own, of-other, put_file}
 use Rattle.alt_flush.specs.Drafts.{kept_before, with_files, with_none}
 use Rattle.alt_flush.specs.Laws.{FlushDrops, FlushNames, LogDrops, LogNames, MergeDrops, WithoutDrops, WithoutNames}
 use Rattle.alt_flush.proofs.DropLaws.{files_of-none, flushed_of-none, none-other}
 use Rattle.alt_flush.proofs.NewLogLaws.{files_of-with_files, row_files-with_files}
+use Rattle.alt_manifest.proofs.Among.{in_back, in_front, risen}
 
 -- ---- the files of each family
 

@@ -16,6 +16,7 @@ use Rattle.alt_layout.proofs.FamilyLaws.{same_layouts}
 use Rattle.alt_layout.proofs.FlushLaws.{above_all, all_later, count_numbers, differs, numbers_fit, rise_count}
 use Rattle.alt_layout.proofs.RowLaws.{none_behind, with_later-from}
 use Rattle.alt_flush.specs.Drafts.{kept_before, over_new_log, with_files}
+use Rattle.alt_manifest.proofs.Among.{distinct_back, rise_lower}
 
 -- ---- the families with files
 
@@ -69,11 +70,6 @@ all_with_files P (f ∷ fs) all = here f.files (all_with_files P fs all.1)
     here [] rest = rest
     here (g ∷ gs) rest = (all.0, rest)
 
--- numbers that rise from one on rise from a lower one on
-rise_lower : (low least : ℕ) (ns : List ℕ) → low ≤ least → RiseFrom least ns → RiseFrom low ns
-rise_lower low least [] le rise = tt
-rise_lower low least (n ∷ ns) le rise = (let first = rise.0 in omega arith, rise.1)
-
 rising-with_files : (least : ℕ) (fs : List FamilyVersion) → RiseFrom least (numbers_of fs)
     → RiseFrom least (numbers_of (with_files fs))
 rising-with_files least [] rising = tt
@@ -86,10 +82,6 @@ rising-with_files least (f ∷ fs) rising = here f.files (rising-with_files (f.f
     here (g ∷ gs) rest = (rising.0, rest)
 
 -- ---- the draft
-
-distinct_back : (xs ys : List ℕ) → AreDistinct (xs ++ ys) → AreDistinct ys
-distinct_back [] ys distinct = distinct
-distinct_back (x ∷ xs) ys distinct = distinct_back xs ys distinct.1
 
 -- It is a version.
 pub new_log_is : (u : Version) → IsVersion u → u.next_file + 1 < 2 ^ 32 → 2 ≤ u.next_file

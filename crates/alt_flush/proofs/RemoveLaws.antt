@@ -1,5 +1,5 @@
 -- Files that are looked for among those that a version names, and removed one by one.
-use Rattle.std.proofs.Common.{◌≡◌, ◌≢◌, ◌<◌, ◌+◌, ◌==◌, ⊎_elim, inl, inr, ℕ, Bool, true, false, List, [], ◌∷◌, ◌++◌, length, take, drop, get_or, Option, suc, zero, refl, sym, ap, subst, ◌∙◌, eqb-true}
+use Rattle.std.proofs.Common.{◌≡◌, ◌≢◌, ◌<◌, ◌+◌, ◌==◌, ⊎_elim, inl, inr, ℕ, Bool, true, false, List, [], ◌∷◌, ◌++◌, length, take, drop, get_or, Option, refl, sym, ap, subst, ◌∙◌, eqb-true}
 use Rattle.std.proofs.lemmas.List.{drop_more, take_more}
 use Rattle.std.specs.Prelude.{◌||◌, ◌⊎◌}
 use Rattle.std.specs.List.{list_any}
@@ -13,6 +13,7 @@ use Rattle.alt_manifest.specs.Versions.{IsIn, row_files}
 use Rattle.alt_manifest.specs.declared.version.FamilyVersion.{FamilyVersion}
 use Rattle.alt_manifest.specs.declared.version.Version.{Version}
 use Rattle.alt_flush.specs.Drafts.{IsLeftOver}
+use Rattle.alt_manifest.proofs.Among.{in_at}
 
 -- ---- numbers in lists
 
@@ -21,16 +22,6 @@ pub row_files_at : (fs : List FamilyVersion) (i : ℕ) (f : FamilyVersion) → i
     → f ≡ get_or fs i f → row_files (drop i fs) ≡ f.files ++ row_files (drop (i + 1) fs)
 row_files_at fs i f within at = ap row_files (drop_more fs i f within)
     ∙ ap (λ (g : FamilyVersion). g.files ++ row_files (drop (i + 1) fs)) (sym at)
-
--- an item of a list is in it
-pub in_at : (xs : List ℕ) (i : ℕ) → i < length xs → IsIn xs (get_or xs i 0)
-in_at xs i within = in_drop (get_or xs i 0) xs i (subst (λ ys. IsIn ys (get_or xs i 0))
-    (sym (drop_more xs i 0 within)) (inl refl))
-  where
-    in_drop : (n : ℕ) (xs : List ℕ) (i : ℕ) → IsIn (drop i xs) n → IsIn xs n
-    in_drop n xs zero there = there
-    in_drop n [] (suc i) there = there
-    in_drop n (y ∷ xs) (suc i) there = inr (in_drop n xs i there)
 
 -- the numbers so far, with one more
 pub in_more : (xs : List ℕ) (i n : ℕ) → i < length xs → IsIn (take (i + 1) xs) n

@@ -1,7 +1,6 @@
 -- What a stop leaves around a write and its sync.
 use Rattle.std.proofs.Common.{◌≡◌, ◌⊎◌, ◌<◌, ◌≤◌, ◌+◌, ◌-◌, ◌^◌, arith, sym, ⊎_elim, inl, inr, length, ℕ, List, Result, Ok, Err, OnOk, is_ok, Bool, true, false, refl, ◌∙◌, subst}
 use Rattle.alt_disk.specs.Fates.{Fates, Fits, wrote}
-use Rattle.std.specs.Result.{IsErrOf}
 use Rattle.std.proofs.lemmas.Bool.{false≢true}
 use Rattle.alt_base.specs.Counts.{next_moment}
 use Rattle.alt_disk.specs.Disk.{DiskState, Tick, Call, Written, Synced, now, contents, overwritten}
@@ -61,7 +60,3 @@ tick_one a b tick = ⊎_elim
 pub tick_two : (a b c : DiskState) → Tick a b true → Tick b c true → c.moment ≡ a.moment + 2
 tick_two a b c first then = let one = tick_one a b first in let two = tick_one b c then in
     omega (arith, one, two)
-
--- an Ok is no error
-pub ok_is_none : {T E : Type 0} (x : T) (e : E) → IsErrOf {T = T} {E = E} (Ok x) e → ⊥
-ok_is_none x e is = cc is

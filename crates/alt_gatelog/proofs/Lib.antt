@@ -1,6 +1,6 @@
 pub mod OneList
 pub mod Elsewhere
 mod Around
-mod Append
+pub mod Append
 mod Entries
 mod Places

@@ -1,9 +1,8 @@
 -- Where an entry stands in its log.
-use Rattle.std.proofs.Common.{◌≡◌, ◌≢◌, ◌<◌, ◌≤◌, ◌+◌, ◌-◌, ◌==◌, if◌then◌else◌, ⊎_elim, ℕ, zero, suc, List, [], ◌∷◌, ◌++◌, length, get_or, take, drop, refl, sym, ◌∙◌, ap, arith, append_assoc, length-append, length-drop}
-use Rattle.std.proofs.lemmas.Bool.{cases_eq}
-use Rattle.std.proofs.lemmas.Bool.Decides.{nat_tests}
+use Rattle.std.proofs.Common.{◌≡◌, ◌<◌, ◌≤◌, ◌+◌, ◌-◌, ◌==◌, if◌then◌else◌, ℕ, zero, suc, List, [], ◌∷◌, ◌++◌, length, get_or, take, drop, refl, sym, ◌∙◌, ap, arith, append_assoc, length-append, length-drop}
 use Rattle.std.proofs.lemmas.List.{append-nil, take_at, drop_at, take_all, drop_all}
 use Rattle.std.specs.Int.{w64, to_be_bytes}
+use Rattle.alt_base.proofs.Numbers.{choice_by_equal}
 use Rattle.alt_disk.specs.Disk.{DiskState, Read, contents, bytes_or_none}
 use Rattle.alt_gatelog.specs.Log.{header, framed, behind_gates, gates_from, gate_place}
 use Rattle.alt_gatelog.specs.InHand.{ReadsAs}
@@ -104,15 +103,6 @@ gate_behind at (e ∷ entries) (suc i) less =
       length-framed e,
     )
 
--- a choice by a test of two numbers
-by_test : (a b x y z : ℕ) → (a ≡ b → x ≡ z) → (a ≢ b → y ≡ z) → (if a == b then x else y) ≡ z
-by_test a b x y z same other = ⊎_elim
-    (λ (is : a ≡ b). (let chosen : (if a == b then x else y) ≡ x = grind (arith, nat_tests, is) in
-    chosen) ∙ same is)
-    (λ (is : a ≢ b). (let chosen : (if a == b then x else y) ≡ y = grind (arith, nat_tests, is) in
-    chosen) ∙ other is)
-    (cases_eq a b)
-
 module _ (form : Form) (s : DiskState) (f at : ℕ) (places : List ℕ) (entries : List (List ℕ))
     (reads : ReadsAs form s f at places entries) (i : ℕ) (less : i < length places) where
   within : i < length entries
@@ -128,7 +118,7 @@ module _ (form : Form) (s : DiskState) (f at : ℕ) (places : List ℕ) (entries
   -- the gate behind an entry
   pub next_is : (if i + 1 == length places then at else get_or places (i + 1) 0)
       ≡ get_or places i 0 + (9 + length (get_or entries i []))
-  next_is = by_test (i + 1) (length places) at (get_or places (i + 1) 0)
+  next_is = choice_by_equal (i + 1) (length places) at (get_or places (i + 1) 0)
       (get_or places i 0 + (9 + length (get_or entries i [])))
       (λ last. let inner = next_last 8 entries i
       (omega (arith, last, ap length reads.are_at, length-gates 8 entries)) in

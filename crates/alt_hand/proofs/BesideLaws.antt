@@ -1,8 +1,9 @@
 -- An engine and a merge under way beside calls on a file that isn't the store's; and where a merge begins.
-use Rattle.std.proofs.Common.{◌≡◌, ◌≤◌, ◌<◌, ◌+◌, inl, inr, ℕ, Bool, true, false, List, [], ◌∷◌, length, take, drop, suc, Option, refl, sym, ap, subst, ◌∙◌, arith}
+use Rattle.std.proofs.Common.{◌≡◌, ◌≤◌, ◌<◌, ◌+◌, inl, inr, ℕ, Bool, true, false, List, [], ◌∷◌, length, drop, suc, Option, refl, sym, subst, ◌∙◌, arith}
 use Rattle.std.specs.Prelude.{◌==◌, if◌then◌else◌}
 use Rattle.std.specs.FinMap.{entries}
 use Rattle.std.specs.List.{AllByRecursion}
+use Rattle.alt_base.proofs.Lists.{take-length}
 use Rattle.alt_cells.specs.Walks.{Anything}
 use Rattle.alt_disk.specs.Disk.{DiskState}
 use Rattle.alt_disk.specs.Runs.{Spans}
@@ -15,7 +16,7 @@ use Rattle.alt_layout.specs.Families.{Held, IsMapBelow, files_of, flushed_of, la
 use Rattle.alt_layout.specs.Files.{AreRowFiles, HoldsRows, IsLayout, IsOf, all_of}
 use Rattle.alt_layout.specs.Layout.{Layout, RowMap}
 use Rattle.alt_layout.specs.Moments.{Has, IsIt}
-use Rattle.alt_layout.proofs.FileLaws.{in_back, in_front, last_named, stored_on}
+use Rattle.alt_layout.proofs.FileLaws.{last_named, stored_on}
 use Rattle.alt_layout.proofs.FlushLaws.{all_later, of_family, unnamed}
 use Rattle.alt_manifest.specs.InHand.{file_of as manifest_file, version_of}
 use Rattle.alt_manifest.specs.Versions.{files_named, row_files}
@@ -34,6 +35,7 @@ use Rattle.alt_drafts.proofs.StillLaws.{each_on, may_end_on}
 use Rattle.alt_hand.proofs.HandLaws.{lies_of}
 use Rattle.alt_hand.proofs.LogLaws.{holds_on, length_on}
 use Rattle.alt_drafts.proofs.MergingLaws.{one_map}
+use Rattle.alt_manifest.proofs.Among.{in_back, in_front}
 
 -- ---- an engine
 
@@ -136,13 +138,6 @@ merging_stays a b e family taken number file same merging =
 
 -- ---- where it begins
 
--- all of a list
-take_all : {X : Type 0} (xs : List X) → take (length xs) xs ≡ xs
-take_all [] = refl
-take_all (x ∷ xs) = let rest : take (length xs) xs ≡ xs = take_all xs in
-    let here : take (suc (length xs)) (x ∷ xs) ≡ x ∷ xs = ap (λ l. x ∷ l) rest in
-    subst (λ n. take n (x ∷ xs) ≡ x ∷ xs) (let n : suc (length xs) ≡ length (x ∷ xs) = omega arith in n) here
-
 pub drop_all : {X : Type 0} (xs : List X) → drop (length xs) xs ≡ []
 drop_all [] = refl
 drop_all (x ∷ xs) = let here : drop (suc (length xs)) (x ∷ xs) ≡ [] = drop_all xs in
@@ -222,7 +217,7 @@ module _ (s : DiskState) (e : Hand) (l : Layout) (stands : Stands s e l) where
         below = omega arith;
         new = unnamed last e.next_file stands.reads.versions.is free;
         older = subst (AllByRecursion (IsOlder s (flushed_of last.families family + 1) e.next_file))
-            (sym (take_all (files_at e family)))
+            (sym (take-length (files_at e family)))
             (all_older s stands.reads.held (flushed_of last.families family) e.next_file
             (files_of last.families family) (files_at e family) (stands.reads.opened family)
             (family_holds s.file stands.reads.held last.families family stands.reads.stored.files)

@@ -14,7 +14,7 @@ use Rattle.alt_gatelog.specs.declared.gatelog.GateLog.{GateLog}
 use Rattle.alt_layout.specs.Families.{files_of, flushed_of}
 use Rattle.alt_layout.specs.Layout.{Layout}
 use Rattle.alt_layout.specs.Fresh.{versions_file}
-use Rattle.alt_layout.proofs.FileLaws.{apart, in_back, in_front, last_named, named_later}
+use Rattle.alt_layout.proofs.FileLaws.{apart, last_named, named_later}
 use Rattle.alt_manifest.specs.InHand.{version_of}
 use Rattle.alt_manifest.specs.Versions.{IsIn, files_named, row_files}
 use Rattle.alt_manifest.specs.declared.version.Version.{Version}
@@ -31,6 +31,7 @@ use Rattle.alt_hand.specs.declared.hand.Hand.{Hand}
 use Rattle.alt_drafts.proofs.StillLaws.{each_on, may_end_on}
 use Rattle.alt_drafts.proofs.CarryDrafts.{all_still, still_then}
 use Rattle.alt_drafts.proofs.MakesLaws.{in_row_files, named_of}
+use Rattle.alt_manifest.proofs.Among.{in_back, in_front}
 
 -- ---- a write
 

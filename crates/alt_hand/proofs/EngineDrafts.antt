@@ -5,15 +5,16 @@ use Rattle.std.specs.FinMap.{empty}
 use Rattle.std.specs.Ordering.{nat_cmp}
 use Rattle.alt_disk.specs.Disk.{DiskState, IsSettled}
 use Rattle.alt_disk.specs.Runs.{Run}
+use Rattle.alt_disk.proofs.Staying.{settled_on}
 use Rattle.alt_flush.specs.Drafts.{renumbered}
-use Rattle.alt_flush.proofs.DraftLaws.{first_drafted, first_same, next_above, settled_on}
+use Rattle.alt_flush.proofs.DraftLaws.{first_drafted, first_same, next_above}
 use Rattle.alt_gatelog.specs.InHand.{file_of as log_file}
 use Rattle.alt_gatelog.specs.declared.gatelog.GateLog.{GateLog}
 use Rattle.alt_layout.specs.Families.{files_of, flushed_of, layout_of, next_after, with_later}
 use Rattle.alt_layout.specs.Files.{EndsWith, IsOf, Stored, all_of}
 use Rattle.alt_layout.specs.Fresh.{versions_file}
 use Rattle.alt_layout.specs.Layout.{Layout}
-use Rattle.alt_layout.proofs.FileLaws.{in_front, last_named, named_later, stored_on}
+use Rattle.alt_layout.proofs.FileLaws.{last_named, named_later, stored_on}
 use Rattle.alt_layout.proofs.RowLaws.{next_after-least}
 use Rattle.alt_manifest.specs.InHand.{file_of as manifest_file, version_of, Stands as ManifestStands}
 use Rattle.alt_manifest.specs.Versions.{IsIn, files_named, row_files}
@@ -28,6 +29,7 @@ use Rattle.alt_hand.specs.declared.hand.Hand.{Hand}
 use Rattle.alt_drafts.proofs.MakesLaws.{named_of, open_still}
 use Rattle.alt_hand.proofs.HandLaws.{lies_of}
 use Rattle.alt_hand.proofs.LogLaws.{holds_on, length_on}
+use Rattle.alt_manifest.proofs.Among.{in_front}
 
 -- ---- the first draft
 

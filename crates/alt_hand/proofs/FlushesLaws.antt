@@ -17,7 +17,7 @@ use Rattle.alt_layout.specs.Files.{IsLayout, IsOf, all_of}
 use Rattle.alt_layout.specs.Layout.{Layout}
 use Rattle.alt_layout.specs.Sizes.{IsSized}
 use Rattle.alt_layout.specs.Moments.{Has, HasEither}
-use Rattle.alt_layout.proofs.FileLaws.{in_front, last_named}
+use Rattle.alt_layout.proofs.FileLaws.{last_named}
 use Rattle.alt_layout.proofs.MomentLaws.{same_or_not}
 use Rattle.alt_manifest.specs.InHand.{file_of as manifest_file, version_of, Stands as ManifestStands}
 use Rattle.alt_manifest.specs.Versions.{IsIn, row_files}
@@ -31,7 +31,7 @@ use Rattle.alt_hand.proofs.HandLaws.{lies_of}
 use Rattle.alt_hand.proofs.LogLaws.{holds_empty, holds_on, length_on}
 use Rattle.alt_drafts.proofs.MakesLaws.{empties_same, makes_new_log}
 use Rattle.alt_hand.proofs.EngineDrafts.{makes_first}
-use Rattle.alt_drafts.proofs.LeftOutLaws.{in_or_not}
+use Rattle.alt_manifest.proofs.Among.{in_front, in_or_not}
 
 -- The families that aren't live are left out of the first draft.
 pub begun : (a : DiskState) (e : Hand) (l : Layout) (live : List ℕ) (stands : Stands a e l)

@@ -34,7 +34,7 @@ use Rattle.alt_recovery.specs.Opening.{ExplainsRows}
 use Rattle.alt_recovery.specs.Replays.{ExplainsSegments, IsBadEntry, Replays, ReplaysLast}
 use Rattle.alt_recovery.specs.declared.replay.Replay.{Replay}
 use Rattle.alt_recovery.proofs.HeldLaws.{families_quiet}
-use Rattle.alt_recovery.proofs.ReplayLaws.{held-append, next_after-append, rising-append}
+use Rattle.alt_recovery.proofs.ReplayLaws.{next_after-append}
 use Rattle.alt_rowfile.specs.Recovery.{HasDigest, NoRowFile}
 use Rattle.alt_rowfile.specs.declared.fault.RowFileFault.{RowFileFault}
 use Rattle.alt_rowfile.specs.declared.fault.RowFileFault.TheVariants as rows
@@ -46,6 +46,8 @@ use Rattle.alt_hand.specs.Found.{Found, log_fault, rows_fault}
 use Rattle.alt_hand.specs.InHand.{AreOpen, LogHolds, family_of}
 use Rattle.alt_hand.specs.Recovery.{ExplainsStore, IsBadAt, IsBadDigest, IsRowFileOf, late_rows, no_rows, no_segment, no_version, no_versions, no_write, other_form}
 use Rattle.alt_hand.specs.declared.hand.Hand.{Hand}
+use Rattle.alt_layout.proofs.FileLaws.{rising-join}
+use Rattle.alt_writes.proofs.PushLaws.{held-join}
 
 -- ---- the pieces
 
@@ -257,8 +259,8 @@ module _ (files : Image) (v : Version) (has : HasVersion v (files versions_file)
           (record { behind = bad.behind; is = bad.is })
           bad.parts bad.are form h.front h.writes h.entry h.behind
           (subst (λ (x : List (List ℕ)). IsLog form x (files f)) h.is is) h.holds
-          (held-append (all_of bad.parts) h.writes bad.held h.held)
-          (rising-append 1 1 (all_of bad.parts) h.writes (omega arith) bad.rising h.rising)
+          (held-join (all_of bad.parts) h.writes bad.held h.held)
+          (rising-join 1 1 (all_of bad.parts) h.writes (omega arith) bad.rising h.rising)
           (subst (λ (n : ℕ). IsNoEntry form n h.entry)
           (sym (next_after-append 1 (all_of bad.parts) h.writes)) h.none)
           (h.place ∙ ap (λ (x : List (List ℕ)). gate_place x (length h.front)) h.is)

@@ -30,7 +30,7 @@ use Rattle.alt_manifest.proofs.AppendLaws.{has_version}
 use Rattle.alt_layout.specs.Families.{Held, files_of, flushed_of, layout_of, next_after, with_later}
 use Rattle.alt_layout.specs.Files.{IsLayout, all_of}
 use Rattle.alt_layout.specs.Moments.{Lies, HasEither, IsIt}
-use Rattle.alt_layout.proofs.FileLaws.{all_of-join, apart, distinct_front, in_back, last_named, layout_join, named_later, stored_on}
+use Rattle.alt_layout.proofs.FileLaws.{all_of-join, apart, distinct_front, last_named, layout_join, named_later, stored_on}
 use Rattle.alt_layout.proofs.FamilyLaws.{flushed_below}
 use Rattle.alt_layout.proofs.FlushLaws.{unnamed}
 use Rattle.alt_layout.proofs.RowLaws.{next_after-least, next_number-numbered, with_later-above, with_later-append}
@@ -43,6 +43,7 @@ use Rattle.alt_families.specs.Memory.{AreWrittenTo}
 use Rattle.alt_hand.specs.declared.hand.Hand.{Hand}
 use Rattle.alt_drafts.proofs.MakesLaws.{in_row_files}
 use Rattle.alt_hand.proofs.LogLaws.{holds_on, length_on}
+use Rattle.alt_manifest.proofs.Among.{in_back}
 
 -- the last version, as the disk reads
 last_of : (s : DiskState) (e : Hand) (l : Layout) → Reads s e l

@@ -12,7 +12,7 @@ use Rattle.alt_layout.specs.Families.{Held, files_of}
 use Rattle.alt_layout.specs.Files.{AreRowFiles, AreSegments, HoldsRows, Image, IsLayout, IsOf, Stored}
 use Rattle.alt_layout.specs.Fresh.{versions_file}
 use Rattle.alt_layout.specs.Layout.{Layout}
-use Rattle.alt_layout.proofs.FileLaws.{in_back, in_either, in_front, last_named, stored_on}
+use Rattle.alt_layout.proofs.FileLaws.{in_either, last_named, stored_on}
 use Rattle.alt_layout.proofs.FlushLaws.{unnamed}
 use Rattle.alt_layout.proofs.MomentLaws.{same_or_not}
 use Rattle.alt_manifest.specs.Versions.{HasVersion, IsIn, IsVersion, RiseFrom, files_named, row_files, version_bytes}
@@ -29,6 +29,7 @@ use Rattle.alt_hand.proofs.FoundLaws.{version_there}
 use Rattle.alt_drafts.proofs.MakesLaws.{in_row_files}
 use Rattle.alt_hand.proofs.HandLaws.{open_elsewhere}
 use Rattle.alt_hand.proofs.LogLaws.{holds_on, length_on}
+use Rattle.alt_manifest.proofs.Among.{in_back, in_front, in_or_not}
 
 -- ---- numbers of files
 
@@ -62,17 +63,6 @@ gone_named v names before after named gone none f other = by_file (before f) ref
     by_file : (o : Option (List ℕ)) → before f ≡ o → after f ≡ None
     by_file None is = none f is
     by_file (Some bytes) is = gone f (named.exact f ∙ ap is_some is) other
-
--- a number is in a list, or isn't
-in_or_not : (xs : List ℕ) (f : ℕ) → IsIn xs f ⊎ (IsIn xs f → ⊥)
-in_or_not [] f = inr (λ there. there)
-in_or_not (x ∷ xs) f = by_first (same_or_not f x) (in_or_not xs f)
-  where
-    by_first : (f ≡ x) ⊎ (f ≢ x) → IsIn xs f ⊎ (IsIn xs f → ⊥)
-        → IsIn (x ∷ xs) f ⊎ (IsIn (x ∷ xs) f → ⊥)
-    by_first (inl same) rest = inl (inl same)
-    by_first (inr apart) (inl there) = inl (inr there)
-    by_first (inr apart) (inr none) = inr (λ there. ⊎_elim (λ (e : f ≡ x). apart e) none there)
 
 -- a file is one of the version's, or isn't
 pub of_or_not : (v : Version) (f : ℕ) → IsOf v f ⊎ IsOther v f

@@ -12,7 +12,7 @@ use Rattle.alt_layout.specs.Files.{IsLayout, IsOf, all_of}
 use Rattle.alt_layout.specs.Fresh.{versions_file}
 use Rattle.alt_layout.specs.Layout.{Layout}
 use Rattle.alt_layout.specs.Moments.{Has, HasEither, IsIt}
-use Rattle.alt_layout.proofs.FileLaws.{in_back, in_front, last_named, stored_on}
+use Rattle.alt_layout.proofs.FileLaws.{last_named, stored_on}
 use Rattle.alt_layout.proofs.FlushLaws.{unnamed}
 use Rattle.alt_manifest.specs.InHand.{file_of as manifest_file, version_of, OldOrNew, Stands as ManifestStands}
 use Rattle.alt_manifest.specs.Versions.{IsIn, files_named, row_files}
@@ -23,10 +23,10 @@ use Rattle.alt_hand.specs.Drafting.{IsLying, IsReady}
 use Rattle.alt_hand.specs.InHand.{AreBelow, Stands, family_of}
 use Rattle.alt_hand.specs.declared.hand.Hand.{Hand}
 use Rattle.alt_drafts.proofs.MakesLaws.{in_row_files, open_still}
-use Rattle.alt_drafts.proofs.LeftOutLaws.{in_or_not}
 use Rattle.alt_hand.proofs.HandLaws.{lies_of}
 use Rattle.alt_hand.proofs.LogLaws.{holds_on, length_on}
 use Rattle.alt_hand.proofs.EngineDrafts.{stands_by}
+use Rattle.alt_manifest.proofs.Among.{in_back, in_front, in_or_not}
 
 -- ---- files that are left over
 

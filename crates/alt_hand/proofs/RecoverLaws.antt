@@ -1,16 +1,16 @@
 -- Why files that are explained as no store's have no layout, and what is left on the way of a recovery.
-use Rattle.std.proofs.Common.{◌≡◌, ◌<◌, ◌≤◌, ◌+◌, ◌-◌, ◌++◌, ◌∷◌, ⊎_elim, inl, inr, ℕ, List, [], take, drop, length, max, Option, Some, refl, sym, ap, subst, ◌∙◌, length-append, append_assoc, arith}
+use Rattle.std.proofs.Common.{◌≡◌, ◌<◌, ◌≤◌, ◌+◌, ◌-◌, ◌++◌, ◌∷◌, ⊎_elim, ℕ, List, [], take, drop, length, max, Option, Some, refl, sym, ap, subst, ◌∙◌, length-append, append_assoc, arith}
 use Rattle.std.proofs.lemmas.List.{drop_at, take_at}
-use Rattle.std.specs.Prelude.{⊤, Result, Ok, Err, IfOk, OnOk, OnErr}
+use Rattle.std.specs.Prelude.{⊤, Result, Ok, Err, IfOk, OnOk}
 use Rattle.std.specs.FinMap.{entries, same_entries_map}
 use Rattle.std.specs.List.{AllByRecursion}
+use Rattle.alt_base.proofs.Lists.{last_same, all_among, cons_rest, cons_first as front}
 use Rattle.sha2.specs.Sha256.{sha256}
 use Rattle.sha2.proofs.Facts256.{length-sha256}
 use Rattle.alt_disk.specs.Disk.{DiskState, IsImage, bytes_or_none, now}
 use Rattle.alt_disk.specs.Fates.{Fates, Fits}
 use Rattle.alt_disk.specs.Runs.{Spans}
 use Rattle.alt_disk.proofs.Settled.{synced_settled}
-use Rattle.alt_fields.proofs.Apart.{back, front, same_fronts}
 use Rattle.alt_gatelog.specs.Log.{IsDamaged, IsLog}
 use Rattle.alt_gatelog.specs.declared.form.Form.{Form}
 use Rattle.alt_gatelog.specs.declared.form.Form.TheVariants.{One, Two}
@@ -22,7 +22,7 @@ use Rattle.alt_layout.specs.Fresh.{versions_file}
 use Rattle.alt_layout.specs.Layout.{Layout, RowMap}
 use Rattle.alt_layout.proofs.OneLayout.{same_parts}
 use Rattle.alt_manifest.specs.Recovery.{IsBadLast, no_entry, no_version as bad_version}
-use Rattle.alt_manifest.specs.Versions.{HasVersion, IsIn, version_bytes}
+use Rattle.alt_manifest.specs.Versions.{HasVersion, version_bytes}
 use Rattle.alt_manifest.specs.declared.version.Version.{Version}
 use Rattle.alt_manifest.proofs.OneVersion.{same_version}
 use Rattle.alt_recovery.proofs.ReplayLaws.{next_after-append}
@@ -39,27 +39,7 @@ use Rattle.alt_hand.specs.declared.hand.Hand.{Hand}
 use Rattle.alt_hand.specs.declared.recover.RecoverFault.{RecoverFault}
 use Rattle.alt_hand.specs.declared.recover.RecoverFault.TheVariants.{Damaged, DigestDiffers, Failed, NoMemory}
 use Rattle.alt_hand.proofs.KeepLaws.{found_version, layout_kept, of_there}
-
--- ---- lists
-
--- the last of two lists that are one
-last_same : (a b : List (List ℕ)) (x y : List ℕ) → a ++ x ∷ [] ≡ b ++ y ∷ [] → x ≡ y
-last_same a b x y e =
-    let size : length a ≡ length b = omega
-    (arith, ap length e, length-append a (x ∷ []), length-append b (y ∷ [])) in
-    front x y [] [] (same_fronts a b (x ∷ []) (y ∷ []) size e).1
-
--- what holds of all holds of one among them
-among_all : {A : Type 0} (P : A → Type 0) (before : List A) (x : A) (behind : List A)
-    → AllByRecursion P (before ++ x ∷ behind) → P x
-among_all P [] x behind all = all.0
-among_all P (y ∷ before) x behind all = among_all P before x behind all.1
-
--- and of a number that is in a list
-in_all : (P : ℕ → Type 0) (xs : List ℕ) (f : ℕ) → AllByRecursion P xs → IsIn xs f → P f
-in_all P [] f all there = absurd there
-in_all P (x ∷ xs) f all (inl same) = subst P (sym same) all.0
-in_all P (x ∷ xs) f all (inr later) = in_all P xs f all.1 later
+use Rattle.alt_manifest.proofs.Among.{in_all}
 
 -- ---- row files
 
@@ -127,7 +107,7 @@ among form n (y ∷ es) (g ∷ gs) (x ∷ before) (h ∷ hs) entry behind each_g
     (ap (λ (z : List Write). next_after (next_after n z) (all_of hs)) group
     ∙ sym (next_after-append n h (all_of hs)))
     (among form (next_after n g) es gs before hs entry behind each_g.1 each_h.1
-    (back y x es (before ++ entry ∷ behind) e) (rising_back n g (all_of gs) rising))
+    (cons_rest y x es (before ++ entry ∷ behind) e) (rising_back n g (all_of gs) rising))
 
 -- ---- segments
 
@@ -192,7 +172,7 @@ module _ (files : Image) (l : Layout) (layout : IsLayout files l) where
       (sym (ap (λ (w : Version). w.families) (same v has)) ∙ of.is) layout.stored.files in
       subst (λ (n : ℕ). HoldsRows (layout.held f) n (files f)) (sym of.flushed_is)
       (in_all (λ g. HoldsRows (layout.held g) of.family.flushed (files g)) of.family.files f
-      (among_all (AreRowFiles files layout.held) of.before of.family of.behind all) of.files)
+      (all_among (AreRowFiles files layout.held) of.before of.family of.behind all) of.files)
 
   -- its bytes are those that are read
   inside : (f flushed : ℕ) (m : RowMap) (h : HoldsRows m flushed (files f))
@@ -342,19 +322,8 @@ spans_removed a c d e l reads same all found spans = record {
 
 -- ---- results
 
--- what follows from the one follows of a result that is Ok
-pub if_ok : {A E : Type 0} (r : Result A E) (P Q : A → Type 0) → ((x : A) → P x → Q x) → IfOk r P
-    → IfOk r Q
-if_ok (Ok x) P Q leads ok = leads x ok
-if_ok (Err e) P Q leads ok = tt
-
--- so of what holds where it is Ok
+-- what holds where a result is Ok leads to what holds of its value
 pub ok_if : {A E : Type 0} (r : Result A E) (P : Type 0) (Q : A → Type 0) → ((x : A) → P → Q x)
     → OnOk r P → IfOk r Q
 ok_if (Ok x) P Q leads ok = leads x ok
 ok_if (Err e) P Q leads ok = tt
-
--- what holds is so of each fault
-pub on_err_of : {A E P : Type 0} (r : Result A E) → P → OnErr r P
-on_err_of (Ok x) it = tt
-on_err_of (Err e) it = it

@@ -20,7 +20,6 @@ use Rattle.alt_layout.specs.Moments.{Has, HasEither}
 use Rattle.alt_layout.specs.Sizes.{IsSized}
 use Rattle.alt_memtable.specs.Rows.{most_bytes}
 use Rattle.alt_layout.proofs.SizeLaws.{sized_on, sized_with}
-use Rattle.alt_layout.proofs.FileLaws.{in_front}
 use Rattle.alt_manifest.specs.InHand.{file_of as manifest_file, version_of, OldOrNew, Stands as ManifestStands}
 use Rattle.alt_manifest.specs.declared.manifest.Manifest.{Manifest}
 use Rattle.alt_manifest.specs.Versions.{IsIn, files_named, row_files}
@@ -39,6 +38,7 @@ use Rattle.alt_hand.proofs.LogLaws.{holds_empty}
 use Rattle.alt_hand.proofs.EngineDrafts.{makes_first}
 use Rattle.alt_drafts.proofs.MakesLaws.{named_of, open_still}
 use Rattle.alt_hand.proofs.PublishLaws.{published, publishing}
+use Rattle.alt_manifest.proofs.Among.{in_front}
 
 -- The draft over it holds what the one before holds.
 pub makes_segment : (a b : DiskState) (u : Version) (families : Families)

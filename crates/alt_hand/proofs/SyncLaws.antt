@@ -5,17 +5,11 @@ use Rattle.std.proofs.lemmas.List.{take_more, take_all}
 use Rattle.std.proofs.lemmas.Bool.{cases_eq}
 use Rattle.std.specs.Prelude.{is_some, ◌||◌}
 use Rattle.std.specs.List.{list_any}
-use Rattle.alt_base.specs.Counts.{next_moment}
+use Rattle.alt_base.proofs.Numbers.{at_or_before, one_up_to_other}
 use Rattle.alt_disk.specs.Fates.{Fates, Fits, synced}
-use Rattle.alt_disk.specs.Disk.{DiskState, Goes, Call, Synced, IsNames, now}
+use Rattle.alt_disk.specs.Disk.{DiskState, Call, Synced, IsNames, now}
 use Rattle.alt_disk.specs.Runs.{Quiet}
 use Rattle.alt_hand.specs.Syncing.{Narrows, AreSynced, AllSynced}
-
-at_or_before : (t m n : ℕ) → t ≤ n → n ≤ next_moment m → m ≤ n → (t ≤ m) ⊎ (t ≡ n)
-at_or_before t m n le step later = grind arith
-
-before_or_from : (t m : ℕ) → (t ≤ m) ⊎ (m ≤ t)
-before_or_from t m = grind arith
 
 -- before the first call
 pub narrows_start : (s : DiskState) → Narrows s s
@@ -59,7 +53,7 @@ narrows_quiet a b c so_far quiet = record {
       (subst (λ (s : Fates). Fits s left) (quiet.past t g before) fits))
       (λ (from : b.moment ≤ t). so_far.each b.moment g left so_far.later (omega arith)
       (subst (λ (s : Fates). Fits s left) (quiet.fates t g from high) fits))
-      (before_or_from t b.moment);
+      (one_up_to_other t b.moment);
 }
 
 -- calls after calls that narrow
@@ -72,7 +66,7 @@ narrows_then a b c first then = record {
       (subst (λ (s : Fates). Fits s left) (then.past t g before) fits))
       (λ (from : b.moment ≤ t). first.each b.moment g left first.later (omega arith)
       (then.each t g left from high fits))
-      (before_or_from t b.moment);
+      (one_up_to_other t b.moment);
 }
 
 -- a number that isn't the last of a list is one of those before it
@@ -116,18 +110,6 @@ pub synced_named : (s : DiskState) (list : List ℕ) (file : ℕ → Option (Lis
     → ((f : ℕ) → s.file f ≡ file f) → AreSynced s list → AllSynced s
 synced_named s list file names same listed f bytes there =
     listed f bytes (names.exact f ∙ ap is_some (sym (same f) ∙ there)) there
-
--- no call keeps all
-pub goes_start : (s : DiskState) → Goes s s
-goes_start s = record {
-  tells = refl;
-  honest = refl;
-  beside = refl;
-  anchors = refl;
-  later = omega arith;
-  faults = omega arith;
-  past = λ t f le. refl;
-}
 
 -- files that were synced stay so while calls leave every file
 pub synced_quiet : (a b : DiskState) → AllSynced a → Quiet a b → AllSynced b

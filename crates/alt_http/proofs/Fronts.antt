@@ -5,7 +5,7 @@ use Rattle.std.specs.Prelude.{◌⊎◌, All, IsTrue, ◌==◌, MatchOption, sli
 use Rattle.std.specs.List.{flat_map}
 use Rattle.std.proofs.lemmas.List.{length-append, length-drop, length-take, get_or-drop, take_all}
 use Rattle.std.proofs.lemmas.List.Elements.{All-cons, All-head, All-tail, All-take, All-weaker, All-from_get_or}
-use Rattle.std.proofs.lemmas.Bool.{cases_lt}
+use Rattle.std.proofs.lemmas.Bool.{cases_lt, false_from_ne_true}
 use Rattle.std.proofs.Math.Seq.{take-append_seam}
 use Rattle.memchr.specs.Find.{IsLastByte, is_byte}
 use Rattle.httparse.specs.Grammar.{is_uri_byte, LineEnd, crlf, lf, print_end, print_blank, print_version, Field, print_field, IsField, print_section, RequestHead, print_request, ReadsRequest, HasNoRequest, NeverHasRequest, EndsInTarget, MayBecomeRequest}
@@ -219,16 +219,13 @@ enough_room front room enough x =
 
 -- ---- the last line feed
 
-not_true : (t : Bool) → (t ≡ true → ⊥) → t ≡ false
-not_true true h = absurd (h refl)
-not_true false h = refl
-
 plain_behind : (w : List ℕ) (k : ℕ) → ((j : ℕ) → k ≤ j → j < length w
     → ((slice_index w j == 10) ≡ true → ⊥)) → IsPlain (drop k w)
 plain_behind w k none = All-from_get_or (λ b. (b == 10) ≡ false) (drop k w) 0 (λ i below.
     let e = length-drop k w in
     subst (λ (b : ℕ). (b == 10) ≡ false) (sym (get_or-drop k w i 0))
-    (not_true (slice_index w (k + i) == 10) (none (k + i) (omega arith) (omega (arith, e)))))
+    (false_from_ne_true (slice_index w (k + i) == 10)
+    (none (k + i) (omega arith) (omega (arith, e)))))
 
 feed_parts : (w : List ℕ) (k : ℕ) → k < length w → (slice_index w k == 10) ≡ true
     → w ≡ (take k w ++ 10 ∷ []) ++ drop (suc k) w

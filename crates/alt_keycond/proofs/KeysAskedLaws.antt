@@ -1,6 +1,8 @@
 -- The values of an ask are keys.
 use Rattle.std.proofs.Common.{◌≡◌, refl, sym, ap, subst, ◌∙◌, Bool, true, false, List, [], ◌∷◌, Option, Some, None}
+use Rattle.std.proofs.lemmas.Option.{same_Some}
 use Rattle.std.specs.Prelude.{if◌then◌else◌}
+use Rattle.alt_base.proofs.Options.{some_of_if}
 use Rattle.alt_value.specs.declared.attr.Attr.{Attr}
 use Rattle.alt_value.specs.declared.attr.Attr.TheVariants as a
 use Rattle.alt_value.specs.declared.kind.KeyKind.{KeyKind}
@@ -14,7 +16,7 @@ use Rattle.alt_expr.specs.declared.cond.Cond.{Cond, out-Cond}
 use Rattle.alt_expr.specs.declared.cond.Cond.TheOpen.{Cond-F}
 use Rattle.alt_expr.specs.KeyForm as f
 use Rattle.alt_expr.specs.KeyForm.{Key, Ask, RangeTest, ask_of}
-use Rattle.alt_expr.proofs.Seen.{some_is, some_pair}
+use Rattle.alt_expr.proofs.Seen.{some_pair}
 use Rattle.alt_keyorder.specs.KeyBytes.{IsKey}
 use Rattle.alt_keycond.specs.Asked.{test_of, asks}
 use Rattle.alt_keycond.specs.KeysAsked.{HasFront, AsksKeys}
@@ -48,13 +50,13 @@ found_kind key (o.Value w) v e = by (f.has_kind key.kind w) refl e
   where
     by : (b : Bool) → f.has_kind key.kind w ≡ b → (if b then Some w else None) ≡ Some v
         → f.has_kind key.kind v ≡ true
-    by true is e = ap (f.has_kind key.kind) (sym (some_is w v e)) ∙ is
+    by true is e = ap (f.has_kind key.kind) (sym (same_Some w v e)) ∙ is
     by false is e = cc
 
 found_key : (key : Key) (x : Operand) (v : Attr) → f.value_for key x ≡ Some v → IsKey (tree_of v)
 found_key key x v e = kind_key key.kind v (found_kind key x v e)
 
-valued : (by : Comparison) (w : Option Attr) (c : Comparison) (v : Attr)
+pub valued : (by : Comparison) (w : Option Attr) (c : Comparison) (v : Attr)
     → f.with_value by w ≡ Some (c, v) → w ≡ Some v
 valued by None c v e = cc
 valued by (Some u) c v e = ap Some (some_pair (by, u) (c, v) e).1
@@ -75,10 +77,10 @@ tested_key key by x y c v e = at (f.is_key key x) e
     at true e = found_key key y v (valued by (f.value_for key y) c v e)
     at false e = behind (f.is_key key y) e
 
-equal_is : (t : Option (Comparison × Attr)) (v : Attr) → f.equal_value t ≡ Some v
+pub equal_is : (t : Option (Comparison × Attr)) (v : Attr) → f.equal_value t ≡ Some v
     → t ≡ Some (c.Equal, v)
 equal_is None v e = cc
-equal_is (Some (c.Equal, w)) v e = ap (λ u. Some (c.Equal, u)) (some_is w v e)
+equal_is (Some (c.Equal, w)) v e = ap (λ u. Some (c.Equal, u)) (same_Some w v e)
 equal_is (Some (_, w)) v e = cc
 
 hash_key : (key : Key) (top : Cond-F Cond) (v : Attr) → f.hash_at key top ≡ Some v
@@ -130,21 +132,22 @@ comparison_keys : (key : Key) (by : Comparison) (x y : Operand) (ask : RangeAsk)
 comparison_keys key by x y ask None is e = cc
 comparison_keys key by x y ask (Some (c.NotEqual, v)) is e = cc
 comparison_keys key by x y ask (Some (c.Equal, v)) is e =
-    compared_keys c.Equal v ask (tested_key key by x y c.Equal v is) (some_is _ _ e)
+    compared_keys c.Equal v ask (tested_key key by x y c.Equal v is) (same_Some _ _ e)
 comparison_keys key by x y ask (Some (c.Less, v)) is e =
-    compared_keys c.Less v ask (tested_key key by x y c.Less v is) (some_is _ _ e)
+    compared_keys c.Less v ask (tested_key key by x y c.Less v is) (same_Some _ _ e)
 comparison_keys key by x y ask (Some (c.LessEqual, v)) is e =
-    compared_keys c.LessEqual v ask (tested_key key by x y c.LessEqual v is) (some_is _ _ e)
+    compared_keys c.LessEqual v ask (tested_key key by x y c.LessEqual v is) (same_Some _ _ e)
 comparison_keys key by x y ask (Some (c.Greater, v)) is e =
-    compared_keys c.Greater v ask (tested_key key by x y c.Greater v is) (some_is _ _ e)
+    compared_keys c.Greater v ask (tested_key key by x y c.Greater v is) (same_Some _ _ e)
 comparison_keys key by x y ask (Some (c.GreaterEqual, v)) is e =
-    compared_keys c.GreaterEqual v ask (tested_key key by x y c.GreaterEqual v is) (some_is _ _ e)
+    compared_keys c.GreaterEqual v ask (tested_key key by x y c.GreaterEqual v is) (same_Some _ _ e)
 
 bound_keys : (key : Key) (low high : Operand) (ask : RangeAsk) (l h : Option Attr)
     → f.value_for key low ≡ l → f.value_for key high ≡ h → f.range_between l h ≡ Some (test_of ask)
     → AsksKeys ask
 bound_keys key low high ask (Some l) (Some h) is_low is_high e =
-    between_keys l h ask (found_key key low l is_low) (found_key key high h is_high) (some_is _ _ e)
+    between_keys l h ask (found_key key low l is_low) (found_key key high h is_high)
+    (same_Some _ _ e)
 bound_keys key low high ask None h is_low is_high e = cc
 bound_keys key low high ask (Some l) None is_low is_high e = cc
 
@@ -154,18 +157,13 @@ front_keys key y ask kind.N v same is e = cc
 front_keys key y ask kind.S (Some v) same is e =
     fronted_keys v ask
     (kind_front kind.S v (λ n. cc)
-    (subst (λ j. f.has_kind j v ≡ true) same (found_kind key y v is))) (some_is _ _ e)
+    (subst (λ j. f.has_kind j v ≡ true) same (found_kind key y v is))) (same_Some _ _ e)
 front_keys key y ask kind.B (Some v) same is e =
     fronted_keys v ask
     (kind_front kind.B v (λ n. cc)
-    (subst (λ j. f.has_kind j v ≡ true) same (found_kind key y v is))) (some_is _ _ e)
+    (subst (λ j. f.has_kind j v ≡ true) same (found_kind key y v is))) (same_Some _ _ e)
 front_keys key y ask kind.S None same is e = cc
 front_keys key y ask kind.B None same is e = cc
-
-first_alone : (b : Bool) (q : Option RangeTest) (t : RangeTest)
-    → (if b then q else None) ≡ Some t → q ≡ Some t
-first_alone true q t e = e
-first_alone false q t e = cc
 
 range_keys : (key : Key) (top : Cond-F Cond) (ask : RangeAsk)
     → f.range_at key top ≡ Some (test_of ask) → AsksKeys ask
@@ -173,18 +171,18 @@ range_keys key (Cond-F.Compare by x y) ask e =
     comparison_keys key by x y ask (f.key_test key by x y) refl e
 range_keys key (Cond-F.Between x low high) ask e =
     bound_keys key low high ask (f.value_for key low) (f.value_for key high) refl refl
-    (first_alone (f.is_key key x) (f.range_between (f.value_for key low) (f.value_for key high))
+    (some_of_if (f.is_key key x) (f.range_between (f.value_for key low) (f.value_for key high))
     (test_of ask) e)
 range_keys key (Cond-F.BeginsWith x y) ask e =
     front_keys key y ask key.kind (f.value_for key y) refl refl
-    (first_alone (f.is_key key x) (f.range_front key.kind (f.value_for key y)) (test_of ask) e)
+    (some_of_if (f.is_key key x) (f.range_front key.kind (f.value_for key y)) (test_of ask) e)
 range_keys key _ ask e = cc
 
 -- ---- the whole
 
-both_parts : (v : Option Attr) (t : Option RangeTest) (ask : Ask) → f.asked v t ≡ Some ask
+pub both_parts : (v : Option Attr) (t : Option RangeTest) (ask : Ask) → f.asked v t ≡ Some ask
     → (v ≡ Some ask.hash) × (t ≡ Some ask.range)
-both_parts (Some v) (Some t) ask e = let is = some_is _ ask e in
+both_parts (Some v) (Some t) ask e = let is = same_Some _ ask e in
     (ap (λ q. Some q.hash) is, ap (λ q. Some q.range) is)
 both_parts None t ask e = cc
 both_parts (Some v) None ask e = cc
@@ -224,8 +222,11 @@ top_keys : (hash : Key) (range : Option Key) (top : Cond-F Cond) (ask : KeyAsk)
 top_keys hash range (Cond-F.All xs) ask e = joined_keys hash range xs ask e
 top_keys hash range (Cond-F.Compare by x y) ask e =
     let parts = both_parts (f.hash_at hash (Cond-F.Compare by x y)) (Some f.anything)
-    (asks ask) e in
-    (hash_key hash (Cond-F.Compare by x y) ask.hash parts.0, nothing_keys ask.range (some_is _ _ parts.1))
+    (asks ask) e in (
+      hash_key hash (Cond-F.Compare by x y) ask.hash parts.0,
+      nothing_keys ask.range
+          (same_Some _ _ parts.1),
+    )
 top_keys hash range _ ask e = cc
 
 -- the values of an ask are keys

@@ -9,10 +9,10 @@ use Rattle.std.specs.Cmp.Lexicographic.{nat_list_cmp_total}
 use Rattle.std.proofs.lemmas.Bool.{cases_order}
 use Rattle.std.proofs.lemmas.List.{append-nil, append_cancel_left}
 use Rattle.alt_base.specs.Prefix.{IsPrefix}
+use Rattle.alt_base.proofs.Orderings.{nat_cmp-equal, nat_cmp-greater, is_gt-false}
 use Rattle.alt_value.specs.Members.{text_order}
 use Rattle.alt_keyorder.specs.Range.{AreBytes, IsBelow, IsBelowEnd, IsInRange, IsUpTo}
-use Rattle.alt_keyorder.proofs.Bounds.{text_order-front, up_to_append}
-use Rattle.alt_keyorder.proofs.Parts.{nat_cmp-equal, nat_cmp-greater}
+use Rattle.alt_keyorder.proofs.Bounds.{text_order-front, up_to_append, up_to_not_above, less-not_greater, never_below_nothing}
 use Rattle.alt_keycond.specs.KeysAsked.{IsUpToPart}
 
 -- ---- orders of bytes
@@ -27,36 +27,9 @@ not_gt Less h = refl
 not_gt Equal h = refl
 not_gt Greater h = absurd (h refl)
 
-gt_not : (o : Ordering) → is_gt o ≡ false → o ≢ Greater
-gt_not Less h = λ e. cc
-gt_not Equal h = λ e. cc
-gt_not Greater h = cc
-
-less_not : (o : Ordering) → o ≡ Less → o ≢ Greater
-less_not Less h = λ e. cc
-less_not Equal h = cc
-less_not Greater h = cc
-
--- bytes below others are up to them
-below_up_to : (a b : List ℕ) → IsBelow a b → IsUpTo a b
-below_up_to a b h = less_not (text_order a b) h
-
 up_to_trans : (a b c : List ℕ) → IsUpTo a b → IsUpTo b c → IsUpTo a c
-up_to_trans a b c p q = gt_not (text_order a c)
+up_to_trans a b c p q = is_gt-false (text_order a c)
     (upto nat_list_cmp_total a b c (not_gt (text_order a b) p) (not_gt (text_order b c) q))
-
--- bytes up to some that are below others are below these
-up_to_below : (a b c : List ℕ) → IsUpTo a b → IsBelow b c → IsBelow a c
-up_to_below a b c p q = by (text_order a b) refl p
-  where
-    by : (o : Ordering) → text_order a b ≡ o → o ≢ Greater → text_order a c ≡ Less
-    by Less is h = nat_list_cmp_total.trans a b c is q
-    by Equal is h = nat_list_cmp_total.congr a b c is ∙ q
-    by Greater is h = absurd (h refl)
-
--- no bytes are up to others and above them
-apart : (a b : List ℕ) → IsUpTo a b → IsBelow b a → ⊥
-apart a b p q = p (nat_list_cmp_total.antisymm a b ∙ ap ordering_reverse q)
 
 -- of two lists one is below, or the other is up to it
 one_or_other : (a b : List ℕ) → IsBelow a b ⊎ IsUpTo b a
@@ -68,10 +41,6 @@ one_or_other a b = by (text_order a b) refl
         ∙ ap ordering_reverse e in cc)
     by Greater is = inr (λ e. let f : Greater ≡ Less = sym is ∙ nat_list_cmp_total.antisymm a b
         ∙ ap ordering_reverse e in cc)
-
-nothing_below_none : (k : List ℕ) → IsBelow k [] → ⊥
-nothing_below_none [] h = cc
-nothing_below_none (x ∷ k) h = cc
 
 -- ---- fronts
 
@@ -201,7 +170,7 @@ module _ (p : List ℕ) (key : List ℕ) (bytes : AreBytes key) (part : List ℕ
   pub behind_all : part_end ≡ None → IsInRange [] (Some []) key
       ↔ ((y : List ℕ) × (key ≡ p ++ y) × (IsUpTo part y × (IsPrefix part y → ⊥)))
   behind_all is = (
-    (λ h. absurd (nothing_below_none key h.1)),
+    (λ h. absurd (never_below_nothing key h.1)),
     (λ h. absurd (no_more h.0 h.1 h.2.0 h.2.1 (subst (IsBelowEnd key) (sym is) tt))),
   )
 
@@ -215,14 +184,14 @@ module _ (p : List ℕ) (end : Option (List ℕ)) (ends : Ends p end) (key : Lis
   behind_up h =
       let above : IsBelow (p ++ part) b = subst (IsBelowEnd (p ++ part)) is
       (part_below p key bytes part part_end part_ends part_bytes) in
-      let up = up_to_trans (p ++ part) b key (below_up_to (p ++ part) b above) h.0 in
+      let up = up_to_trans (p ++ part) b key (less-not_greater (p ++ part) b above) h.0 in
       let f = under_end p end ends key bytes
       (up_to_trans p (p ++ part) key (up_to_append p part) up) h.1 in (
         f.0,
         f.1,
         (
           as_key p part f.0 key f.1 up,
-          λ g. apart b key h.0
+          λ g. up_to_not_above b key h.0
               (subst (IsBelowEnd key) is
               ((part_ends key bytes).0 ((part_behind p part key).1 (f.0, f.1, g))).1),
         ),

@@ -1,5 +1,5 @@
 -- What goes on behind a HASH value meets what is asked exactly where the RANGE value does.
-use Rattle.std.proofs.Common.{◌≡◌, refl, sym, ap, ◌∙◌, ℕ, zero, suc, Bool, true, false, ◌&&◌, ◌⊎◌, inl, inr, List, [], ◌∷◌, ◌++◌, Some, arith}
+use Rattle.std.proofs.Common.{◌≡◌, refl, sym, ap, ◌∙◌, ℕ, zero, suc, true, ◌⊎◌, inl, inr, List, [], ◌∷◌, ◌++◌, Some, arith}
 use Rattle.std.specs.Prelude.{◌↔◌, nat_eq}
 use Rattle.std.specs.List.{starts_with}
 use Rattle.std.specs.declared.cmp.Ordering.{Ordering}
@@ -7,9 +7,11 @@ use Rattle.std.specs.declared.cmp.Ordering.TheVariants.{Less, Equal, Greater}
 use Rattle.std.specs.Ordering.{is_lt, is_le, is_gt, is_ge, is_some_and, ordering_reverse, ordering_then}
 use Rattle.std.specs.Cmp.Lexicographic.{nat_list_cmp_total}
 use Rattle.std.specs.FinMap.{nat_cmp-IsAntisymmetric, int_cmp-IsAntisymmetric, slice_cmp-IsAntisymmetric}
-use Rattle.std.proofs.lemmas.Bool.{eqb-true, eq-eqb}
+use Rattle.std.proofs.lemmas.Bool.{eqb-true, eq-eqb, and_parts, and_from}
 use Rattle.std.proofs.lemmas.List.{append-nil}
+use Rattle.std.proofs.lemmas.Option.{same_Some}
 use Rattle.alt_base.specs.Prefix.{IsPrefix}
+use Rattle.alt_base.proofs.Orderings.{then-equal}
 use Rattle.alt_value.specs.declared.kind.KeyKind.{KeyKind}
 use Rattle.alt_value.specs.declared.kind.KeyKind.TheVariants as kind
 use Rattle.alt_value.specs.Members.{text_order}
@@ -18,7 +20,6 @@ use Rattle.alt_value.specs.Tree.{Tree, S_tree, N_tree, B_tree}
 use Rattle.alt_expr.specs.declared.cond.Comparison.TheVariants as c
 use Rattle.alt_expr.specs.Holds.{compares, begins}
 use Rattle.alt_expr.proofs.SameValues.{same_decides}
-use Rattle.alt_expr.proofs.Seen.{some_is}
 use Rattle.alt_keyorder.specs.KeyBytes.{closed, escaped, key_bytes, IsPartOrder}
 use Rattle.alt_keyorder.specs.Kinds.{IsOfKind}
 use Rattle.alt_keyorder.specs.Range.{IsBelow, IsUpTo}
@@ -55,11 +56,6 @@ not_less_so Equal Equal none h e = cc
 not_less_so Equal Greater none h e = cc
 not_less_so Greater p none h e = cc
 
-equal_first : (o p : Ordering) → ordering_then o p ≡ Equal → o ≡ Equal
-equal_first Less p h = cc
-equal_first Equal p h = refl
-equal_first Greater p h = cc
-
 lt_le : (o : Ordering) → is_lt o ≡ true → is_le o ≡ true
 lt_le Less h = refl
 lt_le Equal h = cc
@@ -84,10 +80,10 @@ gt_ge Greater h = (refl, λ e. cc)
 tied : (k : KeyKind) (t v : Tree) → IsOfKind k t → IsOfKind k v
     → tree_order t v ≡ Some Equal → t ≡ v
 tied kind.S (S_tree s) (S_tree t) h g e =
-    ap S_tree (slice_cmp-IsAntisymmetric nat_cmp-IsAntisymmetric s t (some_is _ _ e))
-tied kind.N (N_tree y) (N_tree z) h g e = ap N_tree (int_cmp-IsAntisymmetric y z (some_is _ _ e))
+    ap S_tree (slice_cmp-IsAntisymmetric nat_cmp-IsAntisymmetric s t (same_Some _ _ e))
+tied kind.N (N_tree y) (N_tree z) h g e = ap N_tree (int_cmp-IsAntisymmetric y z (same_Some _ _ e))
 tied kind.B (B_tree s) (B_tree t) h g e =
-    ap B_tree (slice_cmp-IsAntisymmetric nat_cmp-IsAntisymmetric s t (some_is _ _ e))
+    ap B_tree (slice_cmp-IsAntisymmetric nat_cmp-IsAntisymmetric s t (same_Some _ _ e))
 tied kind.S (S_tree s) v h g e = absurd g
 tied kind.N (N_tree y) v h g e = absurd g
 tied kind.B (B_tree s) v h g e = absurd g
@@ -128,7 +124,7 @@ module _ (k : KeyKind) (t v : Tree) (kt : IsOfKind k t) (kv : IsOfKind k v) (res
   )
 
   prefix_tied : IsPrefix (key_bytes v) whole → o ≡ Equal
-  prefix_tied p = equal_first o (text_order rest p.0)
+  prefix_tied p = then-equal o (text_order rest p.0)
       (sym (lies rest p.0) ∙ ap (text_order whole) (sym p.1) ∙ text_order-refl whole)
 
   tied_prefix : o ≡ Equal → IsPrefix (key_bytes v) whole
@@ -185,13 +181,6 @@ apart_bytes n high low = omega (arith, high, low)
 no_zero : (n : ℕ) → suc n ≡ 0 → ⊥
 no_zero n e = omega (arith, e)
 
-and_both : (a b : Bool) → (a && b) ≡ true → (a ≡ true) × (b ≡ true)
-and_both true b e = (refl, e)
-and_both false b e = cc
-
-and_so : (a b : Bool) → a ≡ true → b ≡ true → (a && b) ≡ true
-and_so a b p q = ap (λ x. x && b) p ∙ q
-
 -- a value begins with a front where its part begins with the front's bytes
 fronts : (f s rest : List ℕ) → IsPrefix (escaped f) (closed s ++ rest)
     ↔ (starts_with nat_eq s f ≡ true)
@@ -209,7 +198,7 @@ fronts (zero ∷ f) (suc b ∷ s) rest = (
   (λ h. absurd
       (no_zero b (head_same (suc b) 0 (closed s ++ rest) (255 ∷ (escaped f ++ h.0)) h.1).0)),
   λ h. absurd (no_zero b
-      (sym (eqb-true 0 (suc b) (and_both (nat_eq 0 (suc b)) (starts_with nat_eq s f) h).0))),
+      (sym (eqb-true 0 (suc b) (and_parts (nat_eq 0 (suc b)) (starts_with nat_eq s f) h).0))),
 )
 fronts (suc a ∷ f) [] rest = (
   (λ h. absurd (no_zero a (sym (head_same 0 (suc a) (0 ∷ rest) (escaped f ++ h.0) h.1).0))),
@@ -219,16 +208,16 @@ fronts (suc a ∷ f) (zero ∷ s) rest = (
   (λ h. absurd
       (no_zero a (sym (head_same 0 (suc a) (255 ∷ (closed s ++ rest)) (escaped f ++ h.0) h.1).0))),
   λ h. absurd (no_zero a
-      (eqb-true (suc a) 0 (and_both (nat_eq (suc a) 0) (starts_with nat_eq s f) h).0)),
+      (eqb-true (suc a) 0 (and_parts (nat_eq (suc a) 0) (starts_with nat_eq s f) h).0)),
 )
 fronts (suc a ∷ f) (suc b ∷ s) rest =
     let r = fronts f s rest in (
       (λ h.
           let e = head_same (suc b) (suc a) (closed s ++ rest) (escaped f ++ h.0) h.1 in
-          and_so (nat_eq (suc a) (suc b)) (starts_with nat_eq s f)
+          and_from (nat_eq (suc a) (suc b)) (starts_with nat_eq s f)
           (eq-eqb (suc a) (suc b) (sym e.0)) (r.0 (h.0, e.1))),
       λ g.
-          let w = and_both (nat_eq (suc a) (suc b)) (starts_with nat_eq s f) g in
+          let w = and_parts (nat_eq (suc a) (suc b)) (starts_with nat_eq s f) g in
           let p = r.1 w.1 in
           (p.0, ap (λ (x : ℕ). x ∷ (closed s ++ rest)) (sym (eqb-true (suc a) (suc b) w.0)) ∙ ap (λ (u : List ℕ). suc a ∷ u) p.1),
     )

@@ -1,14 +1,28 @@
 -- The keys under a prefix lie between it and its bound.
-use Rattle.std.proofs.Common.{◌≡◌, ℕ, ◌+◌, ◌<◌, List, [], ◌∷◌, ◌++◌, refl, sym, ap, ◌∙◌, subst, inl, inr, arith, append_assoc}
+use Rattle.std.proofs.Common.{◌≡◌, ℕ, ◌+◌, ◌<◌, List, [], ◌∷◌, ◌++◌, refl, sym, ap, ◌∙◌, subst, inl, inr, arith, append_assoc, ◌≢◌, Ordering}
 use Rattle.std.specs.declared.cmp.Ordering.TheVariants.{Less, Equal, Greater}
 use Rattle.std.specs.Ordering.{ordering_reverse}
 use Rattle.std.specs.Cmp.Lexicographic.{nat_list_cmp_total}
 use Rattle.std.proofs.lemmas.Bool.{cases_order}
 use Rattle.std.proofs.lemmas.List.{append-nil}
 use Rattle.alt_base.specs.Prefix.{IsPrefix}
+use Rattle.alt_base.proofs.Orderings.{nat_cmp-equal, nat_cmp-greater, nat_cmp-less}
 use Rattle.alt_value.specs.Members.{text_order}
 use Rattle.alt_keyorder.specs.Range.{AreBytes, IsBelow, IsBoundOf, IsFull, IsUpTo}
-use Rattle.alt_keyorder.proofs.Parts.{nat_cmp-less, nat_cmp-equal, nat_cmp-greater, text_order-refl}
+use Rattle.alt_keyorder.proofs.Parts.{text_order-refl}
+
+-- bytes up to some that are below others are below these
+pub up_to_below : (a b c : List ℕ) → IsUpTo a b → IsBelow b c → IsBelow a c
+up_to_below a b c p q = by (text_order a b) refl p
+  where
+    by : (o : Ordering) → text_order a b ≡ o → o ≢ Greater → text_order a c ≡ Less
+    by Less is h = nat_list_cmp_total.trans a b c is q
+    by Equal is h = nat_list_cmp_total.congr a b c is ∙ q
+    by Greater is h = absurd (h refl)
+
+-- no bytes are up to others and above them
+pub up_to_not_above : (a b : List ℕ) → IsUpTo a b → IsBelow b a → ⊥
+up_to_not_above a b p q = p (nat_list_cmp_total.antisymm a b ∙ ap ordering_reverse q)
 
 -- behind the front the prefix has bytes 255 alone
 pub record IsEnd (front prefix : List ℕ) : Type 0 where
@@ -79,7 +93,7 @@ above_full (x ∷ t) (y ∷ k) full bytes h = elim (cases_order x y) [
 ]
 
 -- nothing is below no bytes
-never_below_nothing : (k : List ℕ) → IsBelow k [] → ⊥
+pub never_below_nothing : (k : List ℕ) → IsBelow k [] → ⊥
 never_below_nothing [] h = let e : Equal ≡ Less = h in absurd (cc)
 never_below_nothing (x ∷ k) h = greater-less h
 
@@ -162,7 +176,7 @@ full_range p k under = let P : List ℕ → Type 0 = λ s. IsUpTo p s in
     subst P (sym under.1) (up_to_append p under.0)
 
 -- what is below another is up to it
-less-not_greater : (s t : List ℕ) → IsBelow s t → IsUpTo s t
+pub less-not_greater : (s t : List ℕ) → IsBelow s t → IsUpTo s t
 less-not_greater s t h = λ g. less-greater (sym h ∙ g)
 
 -- no bytes below the bound are above all keys under the prefix

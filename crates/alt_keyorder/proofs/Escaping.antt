@@ -1,11 +1,7 @@
 -- How bytes are escaped, up to the next 0 and behind it.
-use Rattle.std.proofs.Common.{◌≡◌, ℕ, zero, suc, ◌<◌, ◌==◌, true, List, [], ◌∷◌, ◌++◌, length, take, drop, get_or, refl, sym, ap, ◌∙◌, subst, append_assoc, arith}
+use Rattle.std.proofs.Common.{◌≡◌, ℕ, zero, suc, ◌<◌, List, [], ◌∷◌, ◌++◌, length, take, drop, get_or, refl, sym, ap, ◌∙◌, subst, append_assoc, arith}
 use Rattle.alt_base.specs.Prefix.{IsPrefix}
 use Rattle.alt_keyorder.specs.KeyBytes.{escaped, closed, IsClean}
-
--- a byte that passes the test is 0
-pub zero_from_test : (n : ℕ) → (n == 0) ≡ true → n ≡ 0
-zero_from_test n h = grind arith
 
 -- no byte is 0 where none passes the test
 pub clean_from_tests : (s : List ℕ) → ((k : ℕ) → k < length s → get_or s k 0 ≡ 0 → ⊥) → IsClean s

@@ -1,27 +1,17 @@
 -- The order of key parts is the order of values, whatever follows them.
-use Rattle.std.proofs.Common.{◌≡◌, ℕ, zero, suc, ◌<◌, List, [], ◌∷◌, ◌++◌, refl, sym, ap, ◌∙◌, inl, inr, arith, Option, IfSome}
+use Rattle.std.proofs.Common.{◌≡◌, ℕ, zero, suc, List, [], ◌∷◌, ◌++◌, refl, sym, ap, ◌∙◌, inl, inr, arith, Option, IfSome}
 use Rattle.std.specs.Ordering.{nat_cmp, ordering_then}
 use Rattle.std.specs.declared.cmp.Ordering.{Ordering}
 use Rattle.std.specs.declared.cmp.Ordering.TheVariants.{Less, Equal, Greater}
 use Rattle.std.proofs.lemmas.Bool.{cases_order}
 use Rattle.std.proofs.lemmas.List.{append-nil}
 use Rattle.std.proofs.lemmas.Map.Lookups.{exact_bytes}
+use Rattle.alt_base.proofs.Lists.{cons_rest, cons_same}
+use Rattle.alt_base.proofs.Orderings.{nat_cmp-equal, nat_cmp-greater, nat_cmp-less, then-equal}
 use Rattle.alt_value.specs.Members.{text_order}
 use Rattle.alt_value.specs.Order.{tree_order}
 use Rattle.alt_value.specs.Tree.{Tree, S_tree, B_tree}
 use Rattle.alt_keyorder.specs.KeyBytes.{closed, IsPartOrder, AreApart}
-
--- numbers by their order
-pub nat_cmp-less : (m n : ℕ) → m < n → nat_cmp m n ≡ Less
-nat_cmp-less m n h = grind arith
-
--- equal numbers compare as equal
-pub nat_cmp-equal : (m n : ℕ) → m ≡ n → nat_cmp m n ≡ Equal
-nat_cmp-equal m n h = grind arith
-
--- a greater number compares as greater
-pub nat_cmp-greater : (m n : ℕ) → n < m → nat_cmp m n ≡ Greater
-nat_cmp-greater m n h = grind arith
 
 -- one order after another
 pub then-assoc : (o p q : Ordering) → ordering_then (ordering_then o p) q
@@ -29,12 +19,6 @@ pub then-assoc : (o p q : Ordering) → ordering_then (ordering_then o p) q
 then-assoc Less p q = refl
 then-assoc Equal p q = refl
 then-assoc Greater p q = refl
-
--- where one order and then another is equal, the first is
-pub then-equal : (o p : Ordering) → ordering_then o p ≡ Equal → o ≡ Equal
-then-equal Less p h = h
-then-equal Equal p h = refl
-then-equal Greater p h = h
 
 -- bytes tie with themselves
 pub text_order-refl : (s : List ℕ) → text_order s s ≡ Equal
@@ -63,13 +47,6 @@ closed-apart s t x y e =
     (sym (closed-order s t x y) ∙ ap (λ u. text_order u (closed t ++ y)) e
     ∙ text_order-refl (closed t ++ y)))
 
--- equal lists, by their parts
-back : (x y : ℕ) (xs ys : List ℕ) → x ∷ xs ≡ y ∷ ys → xs ≡ ys
-back x y xs ys e = cc
-
-cons : (x y : ℕ) (xs ys : List ℕ) → x ≡ y → xs ≡ ys → x ∷ xs ≡ y ∷ ys
-cons x y xs ys e f = cc
-
 -- of bytes neither of which begins the other, the order is the same whatever follows
 pub apart-order : (p q x y : List ℕ) → ((r s : List ℕ) → p ++ r ≡ q ++ s → p ≡ q)
     → text_order (p ++ x) (q ++ y) ≡ ordering_then (text_order p q) (text_order x y)
@@ -80,8 +57,8 @@ apart-order (a ∷ p) [] x y apart = let e : a ∷ p ≡ [] = apart [] (a ∷ p)
     absurd (cc)
 apart-order (a ∷ p) (b ∷ q) x y apart = elim (cases_order a b) [
   | inl e ↦
-      let more = apart-order p q x y (λ r s is. back a b p q
-      (apart r s (cons a b (p ++ r) (q ++ s) e is))) in
+      let more = apart-order p q x y (λ r s is. cons_rest a b p q
+      (apart r s (cons_same a b (p ++ r) (q ++ s) e is))) in
       rw (nat_cmp-equal a b e) more
   | inr o ↦ elim o [
     | inl lt ↦ rw (nat_cmp-less a b lt) refl

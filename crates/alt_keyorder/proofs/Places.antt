@@ -9,6 +9,7 @@ use Rattle.std.specs.declared.cmp.Ordering.TheVariants.{Less, Equal, Greater}
 use Rattle.std.proofs.Math.Nat.{mul-le-mul_right}
 use Rattle.std.proofs.lemmas.Bool.{cases_order}
 use Rattle.std.proofs.lemmas.Map.Lookups.{exact_bytes, exact_signed}
+use Rattle.alt_base.proofs.Orderings.{nat_cmp-equal, nat_cmp-greater, nat_cmp-less, then-equal, then-equal_both}
 use Rattle.alt_decimal.specs.Number.{Fits}
 use Rattle.alt_decimal.specs.Spelled.{spelled}
 use Rattle.alt_decimal.proofs.Normals.{spelled_apart, spelled_order}
@@ -18,7 +19,7 @@ use Rattle.alt_value.specs.Tree.{Tree, S_tree, N_tree, B_tree}
 use Rattle.alt_keyorder.specs.KeyBytes.{key_bytes, IsPartOrder}
 use Rattle.alt_keyorder.specs.Laws.{KeysLieAsPlaces, KeysTellPlaces}
 use Rattle.alt_keyorder.specs.Place.{Place, then_order, parts_order, place_order, place_bytes, IsKeyValue}
-use Rattle.alt_keyorder.proofs.Parts.{nat_cmp-less, nat_cmp-equal, nat_cmp-greater, then-assoc, then-equal, text_order-refl, apart-order, text_law, binary_law}
+use Rattle.alt_keyorder.proofs.Parts.{then-assoc, text_order-refl, apart-order, text_law, binary_law}
 
 -- ---- numbers of 8 bytes
 
@@ -97,7 +98,7 @@ eight_bytes = one_byte 7 72057594037927936 18446744073709551616 (λ n. omega ari
     (λ n. omega arith) seven_bytes
 
 -- numbers lie as their 8 bytes do
-token-order : (m n : ℕ) (x y : List ℕ) → m < 2 ^ 64 → n < 2 ^ 64
+pub token-order : (m n : ℕ) (x y : List ℕ) → m < 2 ^ 64 → n < 2 ^ 64
     → text_order (to_be_bytes w64 m ++ x) (to_be_bytes w64 n ++ y)
     ≡ ordering_then (nat_cmp m n) (text_order x y)
 token-order m n x y hm hn =
@@ -230,17 +231,12 @@ nat_tied m n e = grind arith
 same_place : (p q : Place) → p.token ≡ q.token → p.parts ≡ q.parts → p ≡ q
 same_place p q e f = λ i. record { token = e i; parts = f i }
 
-then-Equal : (o p : Ordering) → ordering_then o p ≡ Equal → (o ≡ Equal) × (p ≡ Equal)
-then-Equal Less p h = absurd (let f : ⊥ = cc in f)
-then-Equal Equal p h = (refl, h)
-then-Equal Greater p h = absurd (let f : ⊥ = cc in f)
-
 -- places that tie are one place
 pub tied_places : (p q : Place) → AllByRecursion IsKeyValue p.parts → place_order p q ≡ Some Equal
     → p ≡ q
 tied_places p q keys e =
     let d = both_of (Some (nat_cmp p.token q.token)) (parts_order p.parts q.parts) Equal e in
-    let both = then-Equal d.first d.second d.is in
+    let both = then-equal_both d.first d.second d.is in
     same_place p q (nat_tied p.token q.token (same_some (nat_cmp p.token q.token) d.first d.a_is
     ∙ both.0))
     (tied_parts p.parts q.parts keys (d.b_is ∙ ap (λ (r : Ordering). Some r) both.1))

@@ -7,18 +7,12 @@ use Rattle.std.specs.Prelude.{ℤ, nat_abs}
 use Rattle.std.specs.Int.{is_negative}
 use Rattle.std.specs.Str.{IsUtf8}
 use Rattle.std.proofs.lemmas.List.{take-append-drop}
+use Rattle.alt_base.proofs.Lists.{cons_rest, cons_first}
 use Rattle.alt_decimal.specs.Number.{Fits}
 use Rattle.alt_decimal.specs.Spelled.{spelled, complement, magnitude_bytes}
 use Rattle.alt_value.specs.declared.kind.KeyKind.{KeyKind}
 use Rattle.alt_value.specs.declared.kind.KeyKind.TheVariants.{S, N, B}
 use Rattle.alt_value.specs.Tree.{S_tree, N_tree, B_tree}
-
--- equal lists have equal first elements and equal rests
-first : (x y : ℕ) (xs ys : List ℕ) → x ∷ xs ≡ y ∷ ys → x ≡ y
-first x y xs ys e = cc
-
-back : (x y : ℕ) (xs ys : List ℕ) → x ∷ xs ≡ y ∷ ys → xs ≡ ys
-back x y xs ys e = cc
 
 nothing : (x : ℕ) (xs : List ℕ) → [] ≡ x ∷ xs → ⊥
 nothing x xs e = absurd (cc)
@@ -27,13 +21,15 @@ nothing x xs e = absurd (cc)
 strip : (c t tail r : List ℕ) → escaped c ++ tail ≡ closed t ++ r
     → (u : List ℕ) × (tail ≡ closed u ++ r)
 strip [] t tail r e = (t, e)
-strip (zero ∷ c) [] tail r e = absurd (let f : 255 ≡ 0 = first _ _ _ _ (back _ _ _ _ e) in
+strip (zero ∷ c) [] tail r e = absurd (let f : 255 ≡ 0 = cons_first _ _ _ _ (cons_rest _ _ _ _ e) in
     omega arith)
-strip (zero ∷ c) (zero ∷ t) tail r e = strip c t tail r (back _ _ _ _ (back _ _ _ _ e))
-strip (zero ∷ c) (suc b ∷ t) tail r e = absurd (let f : 0 ≡ suc b = first _ _ _ _ e in omega arith)
-strip (suc a ∷ c) [] tail r e = absurd (let f : suc a ≡ 0 = first _ _ _ _ e in omega arith)
-strip (suc a ∷ c) (zero ∷ t) tail r e = absurd (let f : suc a ≡ 0 = first _ _ _ _ e in omega arith)
-strip (suc a ∷ c) (suc b ∷ t) tail r e = strip c t tail r (back _ _ _ _ e)
+strip (zero ∷ c) (zero ∷ t) tail r e = strip c t tail r (cons_rest _ _ _ _ (cons_rest _ _ _ _ e))
+strip (zero ∷ c) (suc b ∷ t) tail r e =
+    absurd (let f : 0 ≡ suc b = cons_first _ _ _ _ e in omega arith)
+strip (suc a ∷ c) [] tail r e = absurd (let f : suc a ≡ 0 = cons_first _ _ _ _ e in omega arith)
+strip (suc a ∷ c) (zero ∷ t) tail r e =
+    absurd (let f : suc a ≡ 0 = cons_first _ _ _ _ e in omega arith)
+strip (suc a ∷ c) (suc b ∷ t) tail r e = strip c t tail r (cons_rest _ _ _ _ e)
 
 -- behind escaped bytes nothing is closed where nothing was
 pub unclosed_behind : (bytes c rest : List ℕ) → bytes ≡ escaped c ++ rest → IsUnclosed rest
@@ -49,9 +45,9 @@ nothing_closed (suc b ∷ t) r e = nothing _ _ e
 
 -- one byte that is no 0
 clean_step : (s : List ℕ) (b : ℕ) (t r : List ℕ) → IsUnclosed s → suc b ∷ s ≡ closed t ++ r → ⊥
-clean_step s b [] r none e = let f : suc b ≡ 0 = first _ _ _ _ e in omega arith
-clean_step s b (zero ∷ t) r none e = let f : suc b ≡ 0 = first _ _ _ _ e in omega arith
-clean_step s b (suc a ∷ t) r none e = none t r (back _ _ _ _ e)
+clean_step s b [] r none e = let f : suc b ≡ 0 = cons_first _ _ _ _ e in omega arith
+clean_step s b (zero ∷ t) r none e = let f : suc b ≡ 0 = cons_first _ _ _ _ e in omega arith
+clean_step s b (suc a ∷ t) r none e = none t r (cons_rest _ _ _ _ e)
 
 -- without a 0 nothing is closed
 pub clean-unclosed : (s : List ℕ) → IsClean s → IsUnclosed s
@@ -62,22 +58,24 @@ clean-unclosed (suc b ∷ s) clean = λ t r e. clean_step s b t r (clean-unclose
 -- behind the first 0 of closed bytes stands 0 or 255
 marked : (front behind t r : List ℕ) → IsClean front → front ++ 0 ∷ behind ≡ closed t ++ r
     → (u : List ℕ) × ((behind ≡ 0 ∷ u) ⊎ (behind ≡ 255 ∷ u))
-marked [] behind [] r clean e = (r, inl (back _ _ _ _ e))
-marked [] behind (zero ∷ t) r clean e = (closed t ++ r, inr (back _ _ _ _ e))
-marked [] behind (suc b ∷ t) r clean e = absurd (let f : 0 ≡ suc b = first _ _ _ _ e in omega arith)
+marked [] behind [] r clean e = (r, inl (cons_rest _ _ _ _ e))
+marked [] behind (zero ∷ t) r clean e = (closed t ++ r, inr (cons_rest _ _ _ _ e))
+marked [] behind (suc b ∷ t) r clean e =
+    absurd (let f : 0 ≡ suc b = cons_first _ _ _ _ e in omega arith)
 marked (zero ∷ front) behind t r clean e = absurd clean
 marked (suc a ∷ front) behind [] r clean e = absurd
-    (let f : suc a ≡ 0 = first _ _ _ _ e in omega arith)
+    (let f : suc a ≡ 0 = cons_first _ _ _ _ e in omega arith)
 marked (suc a ∷ front) behind (zero ∷ t) r clean e =
-    absurd (let f : suc a ≡ 0 = first _ _ _ _ e in omega arith)
-marked (suc a ∷ front) behind (suc b ∷ t) r clean e = marked front behind t r clean (back _ _ _ _ e)
+    absurd (let f : suc a ≡ 0 = cons_first _ _ _ _ e in omega arith)
+marked (suc a ∷ front) behind (suc b ∷ t) r clean e =
+    marked front behind t r clean (cons_rest _ _ _ _ e)
 
 -- behind the first 0 another byte stands, or none
 pub unmarked : (s front : List ℕ) (mark : ℕ) (after : List ℕ) → s ≡ front ++ 0 ∷ mark ∷ after
     → IsClean front → (mark ≡ 0 → ⊥) → (mark ≡ 255 → ⊥) → IsUnclosed s
 unmarked s front mark after is clean no_end no_escape = λ t r e.
     let m = marked front (mark ∷ after) t r clean (sym is ∙ e) in
-    elim m.1 [ inl f ↦ no_end (first _ _ _ _ f) | inr f ↦ no_escape (first _ _ _ _ f) ]
+    elim m.1 [ inl f ↦ no_end (cons_first _ _ _ _ f) | inr f ↦ no_escape (cons_first _ _ _ _ f) ]
 
 -- bytes aren't closed where nothing stands behind the first 0
 pub unfinished : (s front : List ℕ) → s ≡ front ++ 0 ∷ [] → IsClean front → IsUnclosed s

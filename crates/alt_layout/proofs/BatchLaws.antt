@@ -7,6 +7,7 @@ use Rattle.std.specs.Prelude.{if◌then◌else◌, not, ◌&&◌, ◌||◌}
 use Rattle.std.specs.FinMap.{get, get-empty, get-from_sorted, get-insert, insert, same_map}
 use Rattle.std.specs.Ordering.{eq_by_cmp}
 use Rattle.std.specs.Str.{bytes_eq}
+use Rattle.alt_base.proofs.Bools.{first_holds, not_holds_false, second_holds}
 use Rattle.alt_cells.specs.declared.batch.RowChange.{RowChange}
 use Rattle.alt_cells.specs.declared.row.RowCells.{RowCells}
 use Rattle.alt_cells.specs.Batches.{has_row, is_distinct}
@@ -22,18 +23,6 @@ use Rattle.alt_layout.proofs.FirstChange.{shows_write, changes_in as inserted_in
 use Rattle.alt_layout.specs.Writes.{changes_in, one_row, with_write}
 
 -- ---- tests
-
-first_of : (a b : Bool) → T (a && b) → T a
-first_of true b t = tt
-first_of false b t = t
-
-second_of : (a b : Bool) → T (a && b) → T b
-second_of true b t = t
-second_of false b t = absurd t
-
-none_of : (b : Bool) → T (not b) → b ≡ false
-none_of false t = refl
-none_of true t = absurd t
 
 -- keys whose bytes differ aren't equal in their order
 other_key : (k d : List ℕ) → bytes_eq d k ≡ false → eq_by_cmp key_cmp k d ≡ false
@@ -91,12 +80,13 @@ same_changes : (number family : ℕ) (cs : List RowChange) → T (is_distinct cs
 same_changes number family [] distinct = refl
 same_changes number family (c ∷ cs) distinct =
     by (c.family == family) refl
-    (same_changes number family cs (second_of (not (has_row cs c.family c.key)) (is_distinct cs) distinct))
+    (same_changes number family cs
+    (second_holds (not (has_row cs c.family c.key)) (is_distinct cs) distinct))
   where
     absent : c.family ≡ family → get (inserted_in number family cs) c.key ≡ None
     absent same = not_there number family c.key cs (subst (λ f. has_row cs f c.key ≡ false) same
-        (none_of (has_row cs c.family c.key)
-        (first_of (not (has_row cs c.family c.key)) (is_distinct cs) distinct)))
+        (not_holds_false (has_row cs c.family c.key)
+        (first_holds (not (has_row cs c.family c.key)) (is_distinct cs) distinct)))
 
     by : (b : Bool) → (c.family == family) ≡ b
         → changes_in number family cs ≡ inserted_in number family cs

@@ -5,6 +5,8 @@ use Rattle.std.specs.Prelude.{◌&&◌, ◌==◌, not, if◌then◌else◌, opti
 use Rattle.std.specs.FinMap.{empty_of_len, entries, entries_sorted, from_sorted, get, get-empty, get-entries, get-from_sorted, entries-from_sorted, len}
 use Rattle.std.specs.FinMap.Entries.{find, is_sorted, below_all}
 use Rattle.std.specs.Ordering.{eq_by_cmp}
+use Rattle.alt_base.proofs.Bools.{both_hold, first_holds, second_holds}
+use Rattle.alt_base.proofs.Orderings.{is_eq-holds}
 use Rattle.alt_cells.specs.declared.cell.Cell.{Cell}
 use Rattle.alt_cells.specs.declared.row.RowCells.{RowCells}
 use Rattle.alt_cells.specs.Changes.{IsBelow}
@@ -14,7 +16,7 @@ use Rattle.alt_cells.specs.Shown.{is_hidden, value_shown}
 use Rattle.alt_cells.specs.Walks.{RowList}
 use Rattle.alt_cells.proofs.CellLaws.{key_total, key_exact}
 use Rattle.alt_cells.proofs.CompactLaws.{get-compacted}
-use Rattle.alt_cells.proofs.Entries.{both, first, second, equal, find_below}
+use Rattle.alt_cells.proofs.Entries.{find_below}
 use Rattle.alt_layout.specs.Families.{IsMapBelow}
 use Rattle.alt_layout.specs.Layout.{RowMap}
 use Rattle.alt_layout.specs.Merged.{IsCompaction}
@@ -84,11 +86,11 @@ below-compacted : (k : List ℕ) (es : RowList) → T (below_all key_cmp k es)
     → T (below_all key_cmp k (compacted true es))
 below-compacted k [] h = tt
 below-compacted k (e ∷ es) h =
-    let rest = below-compacted k es (second _ _ h) in
+    let rest = below-compacted k es (second_holds _ _ h) in
     elim (is_bare (compacted_row true e.1)) as (λ b. T (below_all key_cmp k
     ((if b then [] else ((e.0, compacted_row true e.1) ∷ [])) ++ compacted true es))) [
       | true ↦ rest
-      | false ↦ both _ _ (first _ _ h) rest
+      | false ↦ both_hold _ _ (first_holds _ _ h) rest
     ]
 
 -- what is left of rows in order is in order
@@ -96,11 +98,11 @@ sorted-compacted : (es : RowList) → T (is_sorted key_cmp es)
     → T (is_sorted key_cmp (compacted true es))
 sorted-compacted [] h = tt
 sorted-compacted (e ∷ es) h =
-    let rest = sorted-compacted es (second _ _ h) in
+    let rest = sorted-compacted es (second_holds _ _ h) in
     elim (is_bare (compacted_row true e.1)) as (λ b. T (is_sorted key_cmp
     ((if b then [] else ((e.0, compacted_row true e.1) ∷ [])) ++ compacted true es))) [
       | true ↦ rest
-      | false ↦ both _ _ (below-compacted e.0 es (first _ _ h)) rest
+      | false ↦ both_hold _ _ (below-compacted e.0 es (first_holds _ _ h)) rest
     ]
 
 -- and is found by its key
@@ -108,14 +110,14 @@ find-compacted : (q : List ℕ) (es : RowList) → T (is_sorted key_cmp es)
     → find key_cmp q (compacted true es) ≡ option_and_then left_of (find key_cmp q es)
 find-compacted q [] h = refl
 find-compacted q (e ∷ es) h =
-    by (find-compacted q es (second _ _ h)) (is_bare (compacted_row true e.1)) refl
+    by (find-compacted q es (second_holds _ _ h)) (is_bare (compacted_row true e.1)) refl
     (eq_by_cmp key_cmp q e.0) refl
   where
     none : eq_by_cmp key_cmp q e.0 ≡ true → find key_cmp q (compacted true es) ≡ None
     none tied = ap (λ (k : List ℕ). find key_cmp k (compacted true es))
-        (key_exact q e.0 (equal _ (subst T (sym tied) tt)))
+        (key_exact q e.0 (is_eq-holds _ (subst T (sym tied) tt)))
         ∙ find_below key_cmp key_total e.0 (compacted true es)
-        (below-compacted e.0 es (first _ _ h))
+        (below-compacted e.0 es (first_holds _ _ h))
 
     left_is : (b : Bool) → is_bare (compacted_row true e.1) ≡ b
         → left_of e.1 ≡ (if b then None else Some (compacted_row true e.1))

@@ -1,20 +1,22 @@
 -- What rows show after a write of which the first change of a row alone counts.
-use Rattle.std.proofs.Common.{◌≡◌, ◌≤◌, ◌+◌, ℕ, Bool, true, false, cond, List, [], ◌∷◌, Option, Some, None, refl, sym, ap, subst, ◌∙◌, arith}
+use Rattle.std.proofs.Common.{◌≡◌, ◌≤◌, ◌+◌, ℕ, Bool, true, false, cond, List, [], ◌∷◌, Option, Some, None, refl, sym, ap, subst, ◌∙◌}
 use Rattle.std.specs.Prelude.{if◌then◌else◌, ◌==◌, option_and_then, option_map, unwrap_or}
 use Rattle.std.specs.Ordering.{eq_by_cmp}
-use Rattle.std.specs.FinMap.{empty, insert, get, get-insert, get-empty, same_map}
+use Rattle.std.specs.FinMap.{empty, insert, get, get-insert, get-empty}
 use Rattle.alt_cells.specs.declared.batch.RowChange.{RowChange}
 use Rattle.alt_cells.specs.declared.row.RowCells.{RowCells}
-use Rattle.alt_cells.specs.Changes.{as_shown, row_of_change, written, IsBelow}
+use Rattle.alt_cells.specs.Changes.{row_of_change, written, IsBelow}
 use Rattle.alt_cells.specs.Joined.{either, joined_map}
 use Rattle.alt_cells.specs.Keys.{key_cmp}
 use Rattle.alt_cells.specs.Rows.{join_row}
-use Rattle.alt_cells.specs.Shown.{value_shown, columns_shown, row_shown}
-use Rattle.alt_cells.proofs.CellLaws.{key_total, key_exact}
+use Rattle.alt_cells.specs.Shown.{row_shown}
+use Rattle.alt_cells.proofs.AfterLaws.{bare_below, bare_shown}
+use Rattle.alt_cells.proofs.CellLaws.{key_total}
 use Rattle.alt_cells.proofs.RowLaws.{get-joined_map, join_row-empty}
-use Rattle.alt_cells.proofs.ChangeLaws.{row_shown-written, row_shown_as, get-columns_shown, none_shown, IsBelow-join}
+use Rattle.alt_cells.proofs.ChangeLaws.{row_shown-written, IsBelow-join}
 use Rattle.alt_writes.specs.Writes.{Write}
 use Rattle.alt_layout.specs.Layout.{Layout, RowMap, IsPast, change_of, shown, shown_by}
+use Rattle.alt_layout.proofs.PastLaws.{row_later}
 
 -- the changes of a family, as rows
 abbrev pub changes_in : ℕ → ℕ → List RowChange → RowMap
@@ -73,20 +75,6 @@ get-with_write l w family key = get-joined_map key_cmp key_total join_row (l.row
 abbrev bare : RowCells
 bare = record { gone = None; cells = empty }
 
--- which no write made
-bare_below : (number : ℕ) → IsBelow number bare
-bare_below number = record {
-  gone = λ g e. let no : None ≡ Some g = e in cc no;
-  cells = λ q c e. let no : None ≡ Some c = sym (get-empty key_cmp q) ∙ e in cc no;
-}
-
--- it isn't shown
-bare_shown : row_shown bare ≡ None
-bare_shown = row_shown_as bare ∙ ap as_shown (same_map key_total key_exact
-    (columns_shown bare) empty (λ q.
-    get-columns_shown bare q ∙ ap (option_and_then (value_shown None)) (get-empty key_cmp q)
-    ∙ sym (get-empty key_cmp q))) ∙ none_shown
-
 -- one row, of which there is a change or not
 one_row : (number : ℕ) (o : Option RowCells) (c : Option RowChange)
     → ((row : RowCells) → o ≡ Some row → IsBelow number row)
@@ -98,17 +86,9 @@ one_row number None (Some c) below = ap row_shown (sym (join_row-empty (row_of_c
     ∙ row_shown-written number bare c (bare_below number) ∙ ap (written c) bare_shown
 one_row number (Some row) (Some c) below = row_shown-written number row c (below row refl)
 
--- a row below a number is below each later one
-later_below : (m n : ℕ) (row : RowCells) → m ≤ n → IsBelow m row → IsBelow n row
-later_below m n row le below = record {
-  gone = λ g e. let l = below.gone g e in
-      omega arith;
-  cells = λ q c e. let l = below.cells q c e in omega arith;
-}
-
 -- A write of the next number or a later one changes what is shown as its changes say.
 pub shows_write : (l : Layout) (w : Write) → IsPast l → l.next_number ≤ w.number → ShowsWrite l w
 shows_write l w past later family key = ap (option_and_then row_shown)
     (get-with_write l w family key)
     ∙ one_row w.number (get (l.rows family) key) (change_of family key w.changes)
-    (λ row e. later_below l.next_number w.number row later (past family key row e))
+    (λ row e. row_later l.next_number w.number row later (past family key row e))

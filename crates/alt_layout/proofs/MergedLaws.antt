@@ -16,9 +16,10 @@ use Rattle.alt_layout.specs.Families.{Held, flushed_of, files_of, family_rows, l
 use Rattle.alt_layout.specs.Files.{Image, AreRowFiles, HoldsRows, Stored, all_of}
 use Rattle.alt_layout.specs.Merged.{MayReplace, ShowsSame, with_made, version_made}
 use Rattle.alt_layout.proofs.FamilyLaws.{left_rows}
-use Rattle.alt_layout.proofs.FileLaws.{families_on, in_back, in_either, in_front, risen, row_files_on}
+use Rattle.alt_layout.proofs.FileLaws.{families_on, in_either, row_files_on}
 use Rattle.alt_layout.proofs.FlushLaws.{all_later, count_numbers, differs, distinct_put, of_family, rise_count}
 use Rattle.alt_layout.proofs.MergeLaws.{merged_shown}
+use Rattle.alt_manifest.proofs.Among.{distinct_back, in_back, in_front, rise_distinct}
 
 -- ---- lists of numbers
 
@@ -32,14 +33,6 @@ all_drop : (P : ℕ → Type 0) (n : ℕ) (xs : List ℕ) → AllByRecursion P x
     → AllByRecursion P (drop n xs)
 all_drop P n xs all = all_back P (take n xs) (drop n xs)
     (subst (AllByRecursion P) (sym (take-append-drop n xs)) all)
-
--- numbers that rise are distinct
-rise_distinct : (least : ℕ) (ns : List ℕ) → RiseFrom least ns → AreDistinct ns
-rise_distinct least [] rise = tt
-rise_distinct least (n ∷ ns) rise = (
-  λ there. let more = risen (n + 1) n ns rise.1 there in omega (arith, more),
-  rise_distinct (n + 1) ns rise.1,
-)
 
 -- the front of numbers that rise
 rise_front : (least : ℕ) (xs ys : List ℕ) → RiseFrom least (xs ++ ys) → RiseFrom least xs
@@ -192,11 +185,6 @@ all_swapped P xs ys old new swap all made = subst (AllByRecursion P) (sym swap.a
     (all_front P swap.front (old ++ swap.back) parts)
     (all_append P new swap.back made
     (all_back P old swap.back (all_back P swap.front (old ++ swap.back) parts))))
-
--- the back of distinct numbers
-distinct_back : (xs ys : List ℕ) → AreDistinct (xs ++ ys) → AreDistinct ys
-distinct_back [] ys distinct = distinct
-distinct_back (x ∷ xs) ys distinct = distinct_back xs ys distinct.1
 
 -- distinct numbers without some of them
 distinct_without : (front old back : List ℕ) → AreDistinct (front ++ (old ++ back))

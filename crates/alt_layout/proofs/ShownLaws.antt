@@ -17,12 +17,14 @@ use Rattle.std.specs.declared.cmp.Ordering.{Ordering}
 use Rattle.std.specs.declared.cmp.Ordering.TheVariants.{Less, Equal, Greater}
 use Rattle.std.specs.declared.ops.Bound.{Bound}
 use Rattle.std.specs.declared.ops.Bound.TheVariants.{Included, Excluded, Unbounded}
+use Rattle.alt_base.proofs.Bools.{both_hold, first_holds, second_holds}
+use Rattle.alt_base.proofs.Orderings.{is_eq-holds}
 use Rattle.alt_cells.specs.Changes.{Columns, as_shown}
 use Rattle.alt_cells.specs.Keys.{key_cmp}
 use Rattle.alt_cells.specs.Shown.{row_shown}
 use Rattle.alt_cells.specs.Walks.{turned}
 use Rattle.alt_cells.proofs.CellLaws.{key_total, key_exact}
-use Rattle.alt_cells.proofs.Entries.{both, first, second, equal, is_less, below_less, find_below}
+use Rattle.alt_cells.proofs.Entries.{below_less, find_below}
 use Rattle.alt_layout.specs.Layout.{Layout, entry_by, shown_of, end_bound, rows_between, shown, shown_rows}
 
 -- ---- entries whose rows show something
@@ -32,35 +34,36 @@ module _ {X : Type 0} (f : X → Option Columns) where
   below-shown : (k : List ℕ) (es : List (List ℕ × X)) → T (below_all key_cmp k es)
       → T (below_all key_cmp k (shown_of f es))
   below-shown k [] h = tt
-  below-shown k (e ∷ es) h = by (below-shown k es (second _ _ h)) (f e.1)
+  below-shown k (e ∷ es) h = by (below-shown k es (second_holds _ _ h)) (f e.1)
     where
       by : T (below_all key_cmp k (shown_of f es)) → (o : Option Columns) → T (below_all key_cmp k
           (cons_option (option_map (λ c. (e.0, c)) o) (shown_of f es)))
       by rest None = rest
-      by rest (Some c) = both _ _ (first _ _ h) rest
+      by rest (Some c) = both_hold _ _ (first_holds _ _ h) rest
 
   -- they are in order
   pub is_sorted-shown : (es : List (List ℕ × X)) → T (is_sorted key_cmp es)
       → T (is_sorted key_cmp (shown_of f es))
   is_sorted-shown [] h = tt
-  is_sorted-shown (e ∷ es) h = by (is_sorted-shown es (second _ _ h)) (f e.1)
+  is_sorted-shown (e ∷ es) h = by (is_sorted-shown es (second_holds _ _ h)) (f e.1)
     where
       by : T (is_sorted key_cmp (shown_of f es)) → (o : Option Columns) → T (is_sorted key_cmp
           (cons_option (option_map (λ c. (e.0, c)) o) (shown_of f es)))
       by rest None = rest
-      by rest (Some c) = both _ _ (below-shown e.0 es (first _ _ h)) rest
+      by rest (Some c) = both_hold _ _ (below-shown e.0 es (first_holds _ _ h)) rest
 
   -- and are found by their keys
   pub find-shown : (q : List ℕ) (es : List (List ℕ × X)) → T (is_sorted key_cmp es)
       → find key_cmp q (shown_of f es) ≡ option_and_then f (find key_cmp q es)
   find-shown q [] h = refl
   find-shown q (e ∷ es) h =
-      by (find-shown q es (second _ _ h)) (f e.1) refl (eq_by_cmp key_cmp q e.0) refl
+      by (find-shown q es (second_holds _ _ h)) (f e.1) refl (eq_by_cmp key_cmp q e.0) refl
     where
       none : eq_by_cmp key_cmp q e.0 ≡ true → find key_cmp q (shown_of f es) ≡ None
       none tied = ap (λ (k : List ℕ). find key_cmp k (shown_of f es))
-          (key_exact q e.0 (equal _ (subst T (sym tied) tt)))
-          ∙ find_below key_cmp key_total e.0 (shown_of f es) (below-shown e.0 es (first _ _ h))
+          (key_exact q e.0 (is_eq-holds _ (subst T (sym tied) tt)))
+          ∙ find_below key_cmp key_total e.0 (shown_of f es)
+          (below-shown e.0 es (first_holds _ _ h))
 
       by : find key_cmp q (shown_of f es) ≡ option_and_then f (find key_cmp q es)
           → (o : Option Columns) → f e.1 ≡ o → (b : Bool) → eq_by_cmp key_cmp q e.0 ≡ b

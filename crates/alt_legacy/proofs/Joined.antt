@@ -1,5 +1,6 @@
 -- The condition of several entries holds of the items that meet them, and of no others.
 use Rattle.std.proofs.Common.{◌≡◌, refl, sym, ap, ◌∙◌, Bool, true, false, ◌||◌, ◌&&◌, List, [], ◌∷◌, map, Option, Some}
+use Rattle.std.proofs.Math.Bool.{and-true}
 use Rattle.std.specs.Prelude.{is_none}
 use Rattle.std.specs.List.{list_any, list_all}
 use Rattle.alt_expr.specs.declared.cond.Cond.{Cond}
@@ -10,7 +11,7 @@ use Rattle.alt_legacy.specs.Answered.{IsCondition}
 use Rattle.alt_legacy.specs.declared.entry.Entry.{Entry}
 use Rattle.alt_legacy.specs.Meets.{holds_for, is_nothing, meets, holds_of}
 use Rattle.alt_legacy.specs.Trees.{tree_of, joined}
-use Rattle.alt_legacy.proofs.Meaning.{and_true, entry_holds}
+use Rattle.alt_legacy.proofs.Meaning.{entry_holds}
 
 -- some tree holds where some entry does
 any_hold : (item : View) (es : List Entry)
@@ -34,7 +35,7 @@ pub joined_holds : (any : Bool) (es : List Entry) (item : View)
 joined_holds true [] item = refl
 joined_holds false [] item = refl
 joined_holds true (e ∷ []) item = entry_holds item e ∙ or_false (holds_for item e)
-joined_holds false (e ∷ []) item = entry_holds item e ∙ sym (and_true (holds_for item e))
+joined_holds false (e ∷ []) item = entry_holds item e ∙ sym (and-true (holds_for item e))
 joined_holds true (d ∷ e ∷ es) item = holds-Any item (map tree_of (d ∷ e ∷ es))
     ∙ any_hold item (d ∷ e ∷ es)
 joined_holds false (d ∷ e ∷ es) item = holds-All item (map tree_of (d ∷ e ∷ es))

@@ -1,5 +1,6 @@
 -- The tree of an entry holds of the items that meet it, and of no others.
-use Rattle.std.proofs.Common.{◌≡◌, refl, ap, ◌∙◌, ℕ, Bool, true, false, ◌||◌, ◌&&◌, not, List, [], ◌∷◌, map, Option, Some, None}
+use Rattle.std.proofs.Common.{◌≡◌, refl, ap, ◌∙◌, ℕ, true, false, ◌||◌, ◌&&◌, not, List, [], ◌∷◌, map, Option, Some, None}
+use Rattle.std.proofs.Math.Bool.{and-true}
 use Rattle.std.specs.Prelude.{is_some, option_and_then}
 use Rattle.std.specs.List.{list_any}
 use Rattle.std.specs.Option.{option_map_or}
@@ -53,17 +54,12 @@ contained : (x : Option Tree) (v : Attr)
 contained None v = refl
 contained (Some s) v = refl
 
--- nothing more is asked
-pub and_true : (b : Bool) → (b && true) ≡ b
-and_true true = refl
-and_true false = refl
-
 -- there, and a value isn't within
 outside : (x : Option Tree) (v : Attr)
     → (is_some x && (not (option_map_or (λ s. h.has s (tree_of v)) x false) && true))
     ≡ option_map_or (λ s. not (h.has s (tree_of v))) x false
 outside None v = refl
-outside (Some s) v = and_true (not (h.has s (tree_of v)))
+outside (Some s) v = and-true (not (h.has s (tree_of v)))
 
 module _ (item : View) (name : List ℕ) where
   top : located item (path name) ≡ item name

@@ -109,7 +109,7 @@ name_first name (add v) = refl
 name_first name remove = refl
 name_first name (take v) = refl
 
-names_first : (cs : List NamedChange) → begin_with_names (map action_of cs) ≡ true
+pub names_first : (cs : List NamedChange) → begin_with_names (map action_of cs) ≡ true
 names_first [] = refl
 names_first (c ∷ cs) = λ i. name_first c.name c.change i && names_first cs i
 

@@ -16,28 +16,19 @@ use Rattle.alt_expr.specs.declared.update.Term.{the_lemmas}
 use Rattle.alt_expr.specs.declared.update.Term.TheVariants as term_of
 use Rattle.alt_legacy.specs.Changes.{Change, put, add, remove, take, NamedChange, changed_by, with_attribute, legacy_updated, takes_away, is_taking, Makes, Differ}
 use Rattle.alt_legacy.specs.Trees.{path, action_for, action_of}
+use Rattle.alt_value.proofs.Trees.{trees_of-elements, fields_of-pairs}
 
 -- ---- without edits a value stays
-
--- the elements of a list make that list
-same_elements : (ts : Trees) → trees_of (elements ts) ≡ ts
-same_elements no_trees = refl
-same_elements (tree_then t ts) = ap (tree_then t) (same_elements ts)
-
--- and the pairs of a map that map
-same_pairs : (fs : Fields) → fields_of (pairs fs) ≡ fs
-same_pairs no_fields = refl
-same_pairs (field_then name t fs) = ap (field_then name t) (same_pairs fs)
 
 mutual
   unchanged : (t : Tree) → changed [] t ≡ Some t
   unchanged (L_tree ts) =
       ap (λ (us : Trees). Some (L_tree (trees_of (elements us ++ [])))) (unchanged_elements 0 ts)
       ∙ ap (λ (us : List Tree). Some (L_tree (trees_of us))) (append-nil (elements ts))
-      ∙ ap (λ (us : Trees). Some (L_tree us)) (same_elements ts)
+      ∙ ap (λ (us : Trees). Some (L_tree us)) (trees_of-elements ts)
   unchanged (M_tree fs) =
       ap (λ (gs : Fields). Some (M_tree (fields_of (pairs gs)))) (unchanged_fields fs)
-      ∙ ap (λ (gs : Fields). Some (M_tree gs)) (same_pairs fs)
+      ∙ ap (λ (gs : Fields). Some (M_tree gs)) (fields_of-pairs fs)
   unchanged t = refl
 
   unchanged_elements : (i : ℕ) (ts : Trees) → changed_elements [] i ts ≡ ts
@@ -53,7 +44,7 @@ mutual
       ∙ ap (field_then name t) (unchanged_fields fs)
 
 -- what was there is as it was, and what wasn't stays away
-after-none : (o : Option Tree) → after [] o ≡ o
+pub after-none : (o : Option Tree) → after [] o ≡ o
 after-none None = refl
 after-none (Some t) = unchanged t
 

@@ -8,6 +8,7 @@ use Rattle.std.proofs.lemmas.List.{length-append, length-drop, length-take, take
 use Rattle.std.proofs.Math.Seq.{take-add}
 use Rattle.std.proofs.lemmas.List.Elements.{All-append, All-nil, All-cons, All-from_get_or}
 use Rattle.std.proofs.lemmas.List.Splits.{slice_split_at, slice_split_none}
+use Rattle.std.proofs.lemmas.Bool.{false_from_ne_true}
 use Rattle.alt_lines.specs.Feeds.{AllPlain, EndsAt}
 use Rattle.alt_lines.specs.Lines.{is_line_feed, pieces, but_last, last_piece, unless_empty, raw_lines, Line, whole, too_long, read_line, lines_of}
 
@@ -154,16 +155,12 @@ lines_of-long most ended line other (b ∷ more) plain plain' long long' =
 abbrev NoneBefore : List ℕ → ℕ → Type 0
 NoneBefore bytes k = (j : ℕ) → 0 ≤ j → j < k → (is_line_feed (slice_index bytes j) ≡ true → ⊥)
 
--- a test that isn't true
-not_true : (t : Bool) → (t ≡ true → ⊥) → t ≡ false
-not_true true h = absurd (h refl)
-not_true false h = refl
-
 -- what such a search of all bytes says of them
 plain_before : (bytes : List ℕ) → NoneBefore bytes (length bytes) → AllPlain bytes
 plain_before bytes none =
     All-from_get_or (λ b. is_line_feed b ≡ false) bytes 0
-    (λ i below. not_true (is_line_feed (slice_index bytes i)) (none i (omega arith) below))
+    (λ i below. false_from_ne_true (is_line_feed (slice_index bytes i))
+    (none i (omega arith) below))
 
 -- and of those before the place
 plain_front : (bytes : List ℕ) (k : ℕ) → NoneBefore bytes k → AllPlain (take k bytes)
@@ -171,7 +168,7 @@ plain_front bytes zero none = All-nil (λ b. is_line_feed b ≡ false)
 plain_front [] (suc k) none = All-nil (λ b. is_line_feed b ≡ false)
 plain_front (b ∷ bytes) (suc k) none =
     All-cons (λ n. is_line_feed n ≡ false) b (take k bytes)
-    (not_true (b == 10) (none 0 (omega arith) (omega arith)))
+    (false_from_ne_true (b == 10) (none 0 (omega arith) (omega arith)))
     (plain_front bytes k (λ j low below. none (suc j) (omega arith) (omega arith)))
 
 -- the bytes round a line feed

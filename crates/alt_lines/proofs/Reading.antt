@@ -7,6 +7,7 @@ use Rattle.std.proofs.lemmas.List.{length-append, length-replicate, length-drop}
 use Rattle.std.proofs.lemmas.List.Edits.{paste_all}
 use Rattle.std.proofs.Math.Seq.{take-append_seam}
 use Rattle.std.proofs.lemmas.List.Elements.{All-append, All-replicate}
+use Rattle.alt_base.proofs.Lists.{length-none}
 use Rattle.alt_lines.specs.Lines.{is_line_feed, Line, too_long, read_line, lines_of}
 use Rattle.alt_lines.specs.Unread.{Unread, too_many, TakesLine, HasNone, Tells}
 use Rattle.alt_lines.specs.declared.feed.Cut.{Cut}
@@ -136,12 +137,7 @@ has_none_long most past line plain long =
     long_by true h = many_long most line
     long_by false h = h refl
 
--- none are no bytes
-no_bytes : (line : List ℕ) → length line ≤ 0 → line ≡ []
-no_bytes [] few = refl
-no_bytes (b ∷ line) few = absurd (omega arith)
-
--- the same, told of an input that may have ended with nothing left
+-- a line that is too long is told of an input that may have ended with nothing left
 pub waits_long : (most : ℕ) (past ended : Bool) (line : List ℕ) → AllPlain line
     → (ended ≡ true → (past ≡ false) × (length line ≤ 0))
     → (past ≡ false → most < length line)
@@ -159,7 +155,7 @@ pub waits : (most : ℕ) (past ended : Bool) (line : List ℕ) → AllPlain line
 waits most true ended line plain going not_past short = cc
 waits most false true line plain going not_past short =
     subst (λ (l : List ℕ). HasNone (held most false l true) (held most false l true))
-    (sym (no_bytes line (going refl).1)) (has_none_left most true)
+    (sym (length-none line (going refl).1)) (has_none_left most true)
 waits most false false line plain going not_past short = has_none most line plain short
 
 -- a line that was read and taken is one that the call may tell of

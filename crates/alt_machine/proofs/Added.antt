@@ -5,6 +5,9 @@ use Rattle.std.specs.Option.{option_map_or}
 use Rattle.std.specs.Str.{bytes_eq}
 use Rattle.std.proofs.lemmas.List.{length-map}
 use Rattle.std.proofs.lemmas.List.Folds.{list_any-append}
+use Rattle.std.proofs.lemmas.Bool.{or_left, leb-true, and_from}
+use Rattle.std.proofs.Math.Bool.{or-false}
+use Rattle.std.specs.Cmp.{first_so, second_so}
 use Rattle.alt_schema.specs.Described.{is_one_of, keys_defined, same_kind}
 use Rattle.alt_schema.specs.Indexes.{indexes, is_key, is_used, of_range}
 use Rattle.alt_schema.specs.Rules as rules
@@ -14,14 +17,13 @@ use Rattle.alt_schema.specs.declared.schema.KeyAttr.{KeyAttr}
 use Rattle.alt_schema.specs.declared.schema.TableSchema.{TableSchema}
 use Rattle.alt_schema.specs.declared.stated.Stated.{Stated}
 use Rattle.alt_schema.specs.declared.stated.StatedIndex.{StatedIndex}
-use Rattle.alt_schema.proofs.Bools.{both}
-use Rattle.alt_schema.proofs.NewDescriptions.{at_most, keys_found, left, right}
+use Rattle.alt_schema.proofs.NewDescriptions.{keys_found}
 use Rattle.alt_schema.specs.Altered.{definitions_with, elements_of, index_added, indexes_fit_with, keys_fit_with, stated_index, stated_with, with_index}
 use Rattle.alt_machine.specs.Building.{IsBuilt, building_in, is_building, is_built_to}
 use Rattle.alt_machine.specs.State.{families_of}
 use Rattle.alt_machine.specs.Valid.{IsMade, is_pair, names_few}
-use Rattle.alt_machine.proofs.Inserted.{all_inserted, differ_inserted, inserted_is, last_passes, names_differ, or_left, push_passes}
-use Rattle.alt_machine.proofs.Made.{or_false, pair_kept, projection_kept, tests_alike, used_kept}
+use Rattle.alt_machine.proofs.Inserted.{all_inserted, differ_inserted, inserted_is, last_passes, names_differ, push_passes}
+use Rattle.alt_machine.proofs.Made.{pair_kept, projection_kept, tests_alike, used_kept}
 use Rattle.alt_machine.proofs.Redescribed.{IsAlike, keys_alike}
 
 -- where none is being built, one is with one more at most
@@ -45,8 +47,8 @@ one_built (g ∷ gs) x none = by (is_building g) none (λ h. one_built gs x h)
 all_weaker : {A : Type 0} (p q : A → Bool) → ((x : A) → p x ≡ true → q x ≡ true) → (xs : List A)
     → list_all p xs ≡ true → list_all q xs ≡ true
 all_weaker p q f [] h = refl
-all_weaker p q f (x ∷ xs) h = both (q x) _ (f x (left (p x) _ h))
-    (all_weaker p q f xs (right (p x) _ h))
+all_weaker p q f (x ∷ xs) h = and_from (q x) _ (f x (first_so (p x) _ h))
+    (all_weaker p q f xs (second_so (p x) _ h))
 
 module _ (d : TableSchema) (more : List KeyAttr) (family : ℕ) (i : StatedIndex) where
   abbrev e : TableSchema
@@ -76,9 +78,9 @@ module _ (d : TableSchema) (more : List KeyAttr) (family : ℕ) (i : StatedIndex
 
   keys_more : (hash : KeyAttr) (range : Option KeyAttr)
       → keys_defined d.definitions hash range ≡ true → keys_defined ds hash range ≡ true
-  keys_more hash range h = both (is_one_of ds hash) _
-      (one_more hash (left (is_one_of d.definitions hash) _ h))
-      (beside range (right (is_one_of d.definitions hash) _ h))
+  keys_more hash range h = and_from (is_one_of ds hash) _
+      (one_more hash (first_so (is_one_of d.definitions hash) _ h))
+      (beside range (second_so (is_one_of d.definitions hash) _ h))
     where
       beside : (r : Option KeyAttr) → of_range (is_one_of d.definitions) true r ≡ true
           → of_range (is_one_of ds) true r ≡ true
@@ -92,7 +94,7 @@ module _ (d : TableSchema) (more : List KeyAttr) (family : ℕ) (i : StatedIndex
       → rules.is_used_in name (elements_of hash range) ≡ is_key hash range name
   of_elements hash None name = refl
   of_elements hash (Some r) name = ap (λ c. bytes_eq hash.name name || c)
-      (or_false (bytes_eq r.name name))
+      (or-false (bytes_eq r.name name))
 
   -- so do those of indexes before others
   any_stated : (name : List ℕ) (ls : List IndexSchema) (xs : List StatedIndex)
@@ -155,24 +157,24 @@ module _ (d : TableSchema) (more : List KeyAttr) (family : ℕ) (i : StatedIndex
     schema : rules.is_key_schema i.keys ≡ true
     schema = last_passes (λ (x : StatedIndex). rules.is_key_schema x.keys) (map stated_index d.locals)
         (map stated_index d.globals) i
-        (right (rules.is_key_schema b.keys) _
-        (left (rules.in_each_schema rules.is_key_schema b) _ good))
+        (second_so (rules.is_key_schema b.keys) _
+        (first_so (rules.in_each_schema rules.is_key_schema b) _ good))
 
     exactly : rules.defines_exactly b ≡ true
-    exactly = right (rules.in_each_schema rules.is_key_schema b) _ good
+    exactly = second_so (rules.in_each_schema rules.is_key_schema b) _ good
 
     once : all_differ (λ (a : KeyAttr). a.name) ds ≡ true
-    once = left (all_differ (λ (a : KeyAttr). a.name) ds) _ exactly
+    once = first_so (all_differ (λ (a : KeyAttr). a.name) ds) _ exactly
 
     used_and_defined : (list_all (λ a. rules.is_used b a.name) ds
         && rules.in_each_schema (list_all (λ x. rules.is_defined ds x.name)) b) ≡ true
-    used_and_defined = right (all_differ (λ (a : KeyAttr). a.name) ds) _ exactly
+    used_and_defined = second_so (all_differ (λ (a : KeyAttr). a.name) ds) _ exactly
 
     defined : list_all (λ x. rules.is_defined ds x.name) i.keys ≡ true
     defined = last_passes (λ (x : StatedIndex). list_all (λ y. rules.is_defined ds y.name) x.keys)
         (map stated_index d.locals) (map stated_index d.globals) i
-        (right (list_all (λ x. rules.is_defined ds x.name) b.keys) _
-        (right (list_all (λ a. rules.is_used b a.name) ds) _ used_and_defined))
+        (second_so (list_all (λ x. rules.is_defined ds x.name) b.keys) _
+        (second_so (list_all (λ a. rules.is_used b a.name) ds) _ used_and_defined))
 
     -- a name is used as it is stated
     used_alike : (name : List ℕ) → rules.is_used b name ≡ is_used e name
@@ -187,21 +189,21 @@ module _ (d : TableSchema) (more : List KeyAttr) (family : ℕ) (i : StatedIndex
         (d.globals ++ new ∷ []) (names_stated d.globals (i ∷ []) (new ∷ []) refl)
 
     few : nat_le (length b.globals) rules.most_globals ≡ true
-    few = left (nat_le (length b.globals) rules.most_globals) _
-        (right (nat_le (length b.locals) rules.most_locals) _ fit)
+    few = first_so (nat_le (length b.globals) rules.most_globals) _
+        (second_so (nat_le (length b.locals) rules.most_locals) _ fit)
 
     behind : (all_differ (λ (x : StatedIndex). x.name) (rules.stated_indexes b)
         && (list_all (λ (x : StatedIndex). rules.is_local_to b.keys x.keys) b.locals
         && list_all (λ (x : StatedIndex). rules.is_projection x.projects x.includes)
         (rules.stated_indexes b))) ≡ true
-    behind = right (nat_le (length b.globals) rules.most_globals) _
-        (right (nat_le (length b.locals) rules.most_locals) _ fit)
+    behind = second_so (nat_le (length b.globals) rules.most_globals) _
+        (second_so (nat_le (length b.locals) rules.most_locals) _ fit)
 
     projected : rules.is_projection i.projects i.includes ≡ true
     projected = last_passes (λ (x : StatedIndex). rules.is_projection x.projects x.includes)
         (map stated_index d.locals) (map stated_index d.globals) i
-        (right (list_all (λ (x : StatedIndex). rules.is_local_to b.keys x.keys) b.locals) _
-        (right (all_differ (λ (x : StatedIndex). x.name) (rules.stated_indexes b)) _ behind))
+        (second_so (list_all (λ (x : StatedIndex). rules.is_local_to b.keys x.keys) b.locals) _
+        (second_so (all_differ (λ (x : StatedIndex). x.name) (rules.stated_indexes b)) _ behind))
 
     built_added : IsBuilt e
     built_added = record {
@@ -220,19 +222,19 @@ module _ (d : TableSchema) (more : List KeyAttr) (family : ℕ) (i : StatedIndex
       indexes_differ = names_differ (λ (x : IndexSchema). x.name) (indexes e)
           ∙ sym (ap (all_differ (λ (n : List ℕ). n)) names_alike)
           ∙ sym (names_differ (λ (x : StatedIndex). x.name) (rules.stated_indexes b))
-          ∙ left (all_differ (λ (x : StatedIndex). x.name) (rules.stated_indexes b)) _ behind;
+          ∙ first_so (all_differ (λ (x : StatedIndex). x.name) (rules.stated_indexes b)) _ behind;
       keys = made.keys;
       index_keys = push_passes (λ (x : IndexSchema). is_pair x.hash x.range) d.locals d.globals new
           made.index_keys (pair_kept ds i.keys schema);
       used = sym (tests_alike (rules.is_used b) (is_used e) ds used_alike)
-          ∙ left (list_all (λ a. rules.is_used b a.name) ds) _ used_and_defined;
+          ∙ first_so (list_all (λ a. rules.is_used b a.name) ds) _ used_and_defined;
       locals = made.locals;
       projections = push_passes (λ (x : IndexSchema). names_few x.projection) d.locals d.globals new
           made.projections (projection_kept i.projects i.includes projected);
       locals_few = made.locals_few;
       globals_few = omega (
         arith,
-        at_most (length b.globals) rules.most_globals few,
+        leb-true (length b.globals) rules.most_globals few,
         length-append (map stated_index d.globals) (i ∷ []),
         length-map d.globals stated_index,
         length-append d.globals (new ∷ []),

@@ -8,6 +8,7 @@ use Rattle.std.specs.Option.{option_map_or}
 use Rattle.std.specs.declared.cmp.Ordering.{Ordering}
 use Rattle.std.specs.declared.cmp.Ordering.TheVariants.{Less, Equal, Greater}
 use Rattle.std.proofs.lemmas.List.Elements.{All-push, All-weaker, All-contains_itself}
+use Rattle.std.proofs.lemmas.Option.{same_Some}
 use Rattle.serde_json.specs.Data.{Members}
 use Rattle.alt_codec.specs.declared.writer.Writer.TheVariants.{User, Expiry}
 use Rattle.alt_expr.specs.declared.cond.Cond.{Cond}
@@ -47,10 +48,6 @@ one_text a b e = text_apart a b (equal _ e)
     equal Less e = absurd (let f : ⊥ = cc in f)
     equal Equal e = refl
     equal Greater e = absurd (let f : ⊥ = cc in f)
-
--- options that are equal have equal values
-same_Some : {A : Type 0} (x y : A) → Some x ≡ Some y → x ≡ y
-same_Some x y e = cc
 
 -- ---- the changes of a user
 

@@ -4,13 +4,13 @@ use Rattle.std.specs.FinMap as map
 use Rattle.std.specs.List.{list_all, list_any}
 use Rattle.std.specs.Prelude.{codes, if◌then◌else◌}
 use Rattle.std.proofs.lemmas.List.Elements.{All-weaker}
+use Rattle.std.specs.Cmp.{first_so, second_so}
 use Rattle.serde_json.specs.Data.{Members}
 use Rattle.alt_schema.specs.Rules.{is_name}
 use Rattle.alt_schema.specs.Stated.{definitions_of}
 use Rattle.alt_schema.specs.declared.schema.KeyAttr.{KeyAttr}
 use Rattle.alt_schema.specs.declared.schema.TableSchema.{TableSchema}
 use Rattle.alt_schema.specs.declared.stated.StatedIndex.{StatedIndex}
-use Rattle.alt_schema.proofs.NewDescriptions.{left, right}
 use Rattle.alt_shape.specs.Bodies as bodies
 use Rattle.alt_shape.specs.Refusals.{bad_index, bad_index_update, bad_key_schema, bad_name, no_such_index}
 use Rattle.alt_machine.specs.declared.TheConstants.{NUMBERS_END, FAMILIES_END}
@@ -90,8 +90,8 @@ module _ (s : State) (name : List ℕ) (t : Table) (v : IsValid s)
       → IsValid (with_description s name t (altered_by d more s.next_family cs ns)
       (family_after s.next_family cs))
   altered_valid (i ∷ is) ns named good fit early enough = added_valid i (index_room s enough)
-      (left (keys_fit_with d more i) _ good) (left (indexes_fit_with d more i) _ fit)
-      (left (is_name i.name) _ named) (none_is (building_in d) early)
+      (first_so (keys_fit_with d more i) _ good) (first_so (indexes_fit_with d more i) _ fit)
+      (first_so (is_name i.name) _ named) (none_is (building_in d) early)
   altered_valid [] (gone ∷ ns) named good fit early enough = removed_valid gone (number_room s enough)
   altered_valid [] [] named good fit early enough = same_valid (number_room s enough)
 
@@ -100,7 +100,7 @@ names_good : (ms : Members) → first_answer (of_body ms) ≡ None → names_fit
 names_good ms free =
     let shaped = rest_none (of_shape (bodies.update_table ms)) _ free in
     let single = unless_holds (are_single ms) bad_index_update _ shaped.1 in
-    right (may_name ms (codes "TableName")) _
+    second_so (may_name ms (codes "TableName")) _
     (unless_holds (may_name ms (codes "TableName") && names_fit ms) bad_name [] single.1).0
 
 module _ (s : State) (ms : Members) (t : Table) (target : IsTarget (of_body ms) s ms t)
@@ -127,9 +127,9 @@ module _ (s : State) (ms : Members) (t : Table) (target : IsTarget (of_body ms) 
       → IsValid (state_altered s ms t)
   state_valid v enough = altered_valid s (table_name ms) t v target.there (definitions_of ms)
       (coming ms) (going ms)
-      (left (list_all (λ (i : StatedIndex). is_name i.name) (coming ms)) _
+      (first_so (list_all (λ (i : StatedIndex). is_name i.name) (coming ms)) _
       (names_good ms target.body))
-      (right (definitions_fit t.description (altered t.description ms 0) (definitions_of ms)) _
+      (second_so (definitions_fit t.description (altered t.description ms 0) (definitions_of ms)) _
       keys_pass.0)
       indexes_pass.0
       (if_fails (comes_early t.description (coming ms)) bad_index_update [] indexes_pass.1).0 enough

@@ -1,5 +1,5 @@
 -- The items of which an index is built after a step: those of before and the next ones.
-use Rattle.std.proofs.Common.{◌≡◌, ◌≤◌, refl, sym, ap, subst, ◌∙◌, ℕ, zero, suc, Bool, true, false, cond, not, ◌&&◌, T, is_eq, is_lt, is_le, nat_le, List, [], ◌∷◌, map, take, length, Option, Some, None, All, arith}
+use Rattle.std.proofs.Common.{◌≡◌, ◌≤◌, refl, sym, ap, subst, ◌∙◌, ℕ, zero, suc, Bool, true, false, cond, not, T, is_eq, is_lt, is_le, nat_le, List, [], ◌∷◌, map, take, length, Option, Some, None, All, arith}
 use Rattle.std.proofs.lemmas.Bool.{leb-true}
 use Rattle.std.proofs.lemmas.List.Elements.{All-cons, All-head, All-nil, All-tail, All-take}
 use Rattle.std.specs.FinMap as finite
@@ -10,6 +10,8 @@ use Rattle.std.specs.Ordering.{eq_by_cmp, ordering_reverse}
 use Rattle.std.specs.Prelude.{if◌then◌else◌}
 use Rattle.std.specs.declared.cmp.Ordering.{Ordering}
 use Rattle.std.specs.declared.cmp.Ordering.TheVariants.{Less, Equal, Greater}
+use Rattle.alt_base.proofs.Bools.{both_hold, first_holds, second_holds}
+use Rattle.alt_base.proofs.Orderings.{is_lt-holds}
 use Rattle.alt_schema.specs.declared.schema.Built.{Built}
 use Rattle.alt_schema.specs.declared.schema.Built.TheVariants.{Whole, UpTo}
 use Rattle.alt_schema.specs.declared.schema.TableSchema.{TableSchema}
@@ -23,7 +25,7 @@ use Rattle.alt_machine.specs.Valid.{IsStored}
 use Rattle.alt_machine.specs.Writes.{with_item}
 use Rattle.alt_machine.proofs.Building.{get-built_part}
 use Rattle.alt_machine.proofs.BuiltKeys.{key_there}
-use Rattle.alt_machine.proofs.Entries.{first, none_below, second}
+use Rattle.alt_machine.proofs.Entries.{none_below}
 
 -- items with their places
 abbrev pub Placed : Type 0
@@ -70,32 +72,23 @@ module _ (d : TableSchema) where
 
 -- ---- lists in order
 
-both : (a b : Bool) → T a → T b → T (a && b)
-both true b p q = q
-both false b p q = p
-
-less : (o : Ordering) → T (is_lt o) → o ≡ Less
-less Less h = refl
-less Equal h = absurd h
-less Greater h = absurd h
-
 -- what is below one that is below all is below all
 below_less : (q x : List ℕ) (es : Placed) → text_order q x ≡ Less → T (below_all text_order x es)
     → T (below_all text_order q es)
 below_less q x [] low h = tt
-below_less q x (e ∷ es) low h = both (is_lt (text_order q e.0)) _
+below_less q x (e ∷ es) low h = both_hold (is_lt (text_order q e.0)) _
     (subst (λ o. T (is_lt o)) (sym (text_total.trans q x e.0 low
-    (less (text_order x e.0) (first (is_lt (text_order x e.0)) _ h)))) tt)
-    (below_less q x es low (second (is_lt (text_order x e.0)) _ h))
+    (is_lt-holds (text_order x e.0) (first_holds (is_lt (text_order x e.0)) _ h)))) tt)
+    (below_less q x es low (second_holds (is_lt (text_order x e.0)) _ h))
 
 -- and below the first of them
 below_taken : (x : List ℕ) (n : ℕ) (es : Placed) → T (below_all text_order x es)
     → T (below_all text_order x (take n es))
 below_taken x zero es h = tt
 below_taken x (suc n) [] h = tt
-below_taken x (suc n) (e ∷ es) h = both (is_lt (text_order x e.0)) _
-    (first (is_lt (text_order x e.0)) _ h)
-    (below_taken x n es (second (is_lt (text_order x e.0)) _ h))
+below_taken x (suc n) (e ∷ es) h = both_hold (is_lt (text_order x e.0)) _
+    (first_holds (is_lt (text_order x e.0)) _ h)
+    (below_taken x n es (second_holds (is_lt (text_order x e.0)) _ h))
 
 -- and below the last
 below_last : (x : List ℕ) (f : List ℕ × List Pair) (fs : Placed)
@@ -104,17 +97,18 @@ below_last : (x : List ℕ) (f : List ℕ × List Pair) (fs : Placed)
 below_last x f [] h e is =
     let same : f ≡ e = cc in
     ap (λ (g : List ℕ × List Pair). text_order x g.0) (sym same)
-    ∙ less (text_order x f.0) (first (is_lt (text_order x f.0)) _ h)
-below_last x f (g ∷ gs) h e is = below_last x g gs (second (is_lt (text_order x f.0)) _ h) e is
+    ∙ is_lt-holds (text_order x f.0) (first_holds (is_lt (text_order x f.0)) _ h)
+below_last x f (g ∷ gs) h e is =
+    below_last x g gs (second_holds (is_lt (text_order x f.0)) _ h) e is
 
 -- the first of a list in order are in order
 pub sorted_taken : (n : ℕ) (es : Placed) → T (is_sorted text_order es)
     → T (is_sorted text_order (take n es))
 sorted_taken zero es h = tt
 sorted_taken (suc n) [] h = tt
-sorted_taken (suc n) (e ∷ es) h = both (below_all text_order e.0 (take n es)) _
-    (below_taken e.0 n es (first (below_all text_order e.0 es) _ h))
-    (sorted_taken n es (second (below_all text_order e.0 es) _ h))
+sorted_taken (suc n) (e ∷ es) h = both_hold (below_all text_order e.0 (take n es)) _
+    (below_taken e.0 n es (first_holds (below_all text_order e.0 es) _ h))
+    (sorted_taken n es (second_holds (below_all text_order e.0 es) _ h))
 
 -- ---- the first of a list in order
 
@@ -130,10 +124,10 @@ find_take q [] n e sorted is = absurd (nothing n is)
     nothing (suc k) g = let f : ⊥ = cc in f
 find_take q (x ∷ es) zero e sorted is = absurd (let f : ⊥ = cc in f)
 find_take q (x ∷ es) (suc n) e sorted is = by (take n es) refl is
-    (λ h. find_take q es n e (second (below_all text_order x.0 es) _ sorted) h)
+    (λ h. find_take q es n e (second_holds (below_all text_order x.0 es) _ sorted) h)
   where
     below : T (below_all text_order x.0 es)
-    below = first (below_all text_order x.0 es) _ sorted
+    below = first_holds (below_all text_order x.0 es) _ sorted
 
     -- where that is the first alone
     alone : x ≡ e → cond (eq_by_cmp text_order q x.0) (Some x.1) None
@@ -206,7 +200,7 @@ get-with_all : (items : Texts (List Pair)) (es : Placed) → T (is_sorted text_o
 get-with_all items [] sorted q = refl
 get-with_all items (e ∷ es) sorted q =
     get-with_all (with_item items e.0 (Some e.1)) es
-    (second (below_all text_order e.0 es) _ sorted) q
+    (second_holds (below_all text_order e.0 es) _ sorted) q
     ∙ ap (or_else (find text_order q es)) (finite.get-insert text_total items e.0 e.1 q)
     ∙ by (text_order q e.0) refl
   where
@@ -216,7 +210,7 @@ get-with_all items (e ∷ es) sorted q =
     by Less t = refl
     by Equal t = ap (λ o. or_else o (Some e.1)) (none_below q es
         (subst (λ n. T (below_all text_order n es)) (sym (text_apart q e.0 t))
-        (first (below_all text_order e.0 es) _ sorted)))
+        (first_holds (below_all text_order e.0 es) _ sorted)))
     by Greater t = refl
 
 -- ---- a step

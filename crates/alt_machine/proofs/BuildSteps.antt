@@ -7,6 +7,8 @@ use Rattle.std.specs.Prelude.{◌&&◌, ◌||◌, if◌then◌else◌, not}
 use Rattle.std.specs.Str.{bytes_eq}
 use Rattle.std.proofs.lemmas.List.{length-map}
 use Rattle.std.proofs.lemmas.List.Elements.{All-filter, All-from_recursion, All-head, All-tail, All-take}
+use Rattle.std.proofs.lemmas.Bool.{and_from}
+use Rattle.std.specs.Cmp.{first_so, second_so}
 use Rattle.alt_schema.specs.Described.{keys_defined}
 use Rattle.alt_schema.specs.Indexes.{indexes, is_key, is_used}
 use Rattle.alt_schema.specs.Rules.{all_differ, is_name}
@@ -28,8 +30,6 @@ use Rattle.alt_machine.proofs.Chains.{IsStep, all_valid, no_steps, one_at_most, 
 use Rattle.alt_machine.proofs.Entries.{each_entry}
 use Rattle.alt_machine.proofs.Lacks.{number_room}
 use Rattle.alt_machine.proofs.Redescribed.{IsAlike, built_to-alike, with_description_valid}
-use Rattle.alt_schema.proofs.Bools.{both}
-use Rattle.alt_schema.proofs.NewDescriptions.{left, right}
 
 -- ---- how far an index is built then
 
@@ -155,13 +155,13 @@ module _ (b : Built) where
         → list_all (λ i. is_built_to d i.built) gs ≡ true
         → list_all (λ i. is_built_to e i.built) (map (so_far b) gs) ≡ true
     keys_built to [] h = refl
-    keys_built to (g ∷ gs) h = both _ _ (one (is_building g))
-        (keys_built to gs (right (is_built_to d g.built) _ h))
+    keys_built to (g ∷ gs) h = and_from _ _ (one (is_building g))
+        (keys_built to gs (second_so (is_built_to d g.built) _ h))
       where
         one : (c : Bool)
             → is_built_to e (if c then record g { built = b } else g).built ≡ true
         one true = built_to-alike d e alike_so_far b ∙ to
-        one false = built_to-alike d e alike_so_far g.built ∙ left (is_built_to d g.built) _ h
+        one false = built_to-alike d e alike_so_far g.built ∙ first_so (is_built_to d g.built) _ h
 
     built_so_far : is_built_to d b ≡ true → IsBuilt d → IsBuilt e
     built_so_far to is = record {

@@ -5,11 +5,11 @@ use Rattle.std.specs.FinMap.Entries.{find-where_key, where_key}
 use Rattle.std.specs.List.{list_all}
 use Rattle.std.specs.Str.{bytes_eq}
 use Rattle.std.proofs.lemmas.Slice.Eq.{bytes_eq-Decides}
+use Rattle.std.proofs.lemmas.Bool.{and_from}
 use Rattle.alt_keyorder.specs.Place.{place_in_table, place_bytes}
 use Rattle.alt_schema.specs.Indexes.{is_key}
 use Rattle.alt_schema.specs.declared.schema.KeyAttr.{KeyAttr}
 use Rattle.alt_schema.specs.declared.schema.TableSchema.{TableSchema}
-use Rattle.alt_schema.proofs.Bools.{both}
 use Rattle.alt_value.specs.Item.{at_name}
 use Rattle.alt_value.specs.Members.{text_order}
 use Rattle.alt_value.specs.Tree.{Tree, Pair, S_tree, N_tree, B_tree}
@@ -35,7 +35,7 @@ all_pass test [] = refl
 all_pass test (p ∷ ps) =
     elim (test p.0) as (λ b. test p.0 ≡ b → list_all (λ q. test q.0)
     (cond b (p ∷ where_key text_order test ps) (where_key text_order test ps)) ≡ true) [
-      | true ↦ λ e. both (test p.0) _ e (all_pass test ps)
+      | true ↦ λ e. and_from (test p.0) _ e (all_pass test ps)
       | false ↦ λ e. all_pass test ps
     ] refl
 

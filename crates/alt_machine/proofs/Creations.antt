@@ -1,5 +1,6 @@
 -- A CreateTable leads from a valid state to a valid one.
-use Rattle.std.proofs.Common.{◌≡◌, refl, ℕ, ◌<◌, nat_le, arith, false, Option, Some, None, [], ◌∷◌}
+use Rattle.std.proofs.Common.{◌≡◌, refl, ℕ, ◌<◌, nat_le, false, Option, Some, None, [], ◌∷◌}
+use Rattle.std.proofs.lemmas.Bool.{leb-false}
 use Rattle.std.specs.FinMap as map
 use Rattle.serde_json.specs.Data.{Members}
 use Rattle.alt_machine.specs.declared.TheConstants.{MOST_TABLES}
@@ -17,10 +18,6 @@ use Rattle.alt_schema.specs.Described.{description_of}
 use Rattle.alt_schema.specs.Rules.{refusal_of}
 use Rattle.alt_shape.specs.Refusals.{table_exists, too_many_tables}
 use Rattle.alt_shape.specs.declared.refusal.Refusal.{Refusal}
-
--- a number that doesn't reach a bound is below it
-not_full : (m n : ℕ) → nat_le m n ≡ false → n < m
-not_full m n e = grind arith
 
 -- where a refusal answers nothing there is none
 not_refused : (o : Option Refusal) → refuse_by o ≡ None → o ≡ None
@@ -51,7 +48,7 @@ module _ (s : State) (ms : Members) (free : first_answer (of_tables s ms) ≡ No
 
   -- there are fewer tables than there may be
   pub has_room : map.len s.tables < MOST_TABLES
-  has_room = not_full MOST_TABLES (map.len s.tables)
+  has_room = leb-false MOST_TABLES (map.len s.tables)
       (if_fails (nat_le MOST_TABLES (map.len s.tables)) too_many_tables _ room_test.1).0
 
 -- each write of a CreateTable leads from a valid state to a valid one

@@ -1,24 +1,15 @@
 -- What holds of all that is found in a map holds of its entries.
-use Rattle.std.proofs.Common.{◌≡◌, refl, sym, ap, subst, ◌∙◌, Bool, true, false, cond, ◌&&◌, T, is_eq, is_lt, ℕ, List, [], ◌∷◌, Some, None}
+use Rattle.std.proofs.Common.{◌≡◌, refl, sym, ap, subst, ◌∙◌, cond, ◌&&◌, T, is_eq, is_lt, ℕ, List, [], ◌∷◌, Some, None}
 use Rattle.std.specs.Cmp.{tied_itself}
 use Rattle.std.specs.FinMap as finite
 use Rattle.std.specs.FinMap.Entries.{below_all, find, is_sorted}
 use Rattle.std.specs.List.{AllByRecursion}
 use Rattle.std.specs.declared.cmp.Ordering.{Ordering}
 use Rattle.std.specs.declared.cmp.Ordering.TheVariants.{Less, Equal, Greater}
+use Rattle.alt_base.proofs.Bools.{first_holds, second_holds}
 use Rattle.alt_value.specs.Members.{text_order}
 use Rattle.alt_value.proofs.Texts.{text_total, text_apart}
 use Rattle.alt_machine.specs.State.{Texts}
-
--- the first of two tests that pass
-pub first : (a b : Bool) → T (a && b) → T a
-first true b p = tt
-first false b p = p
-
--- and the second
-pub second : (a b : Bool) → T (a && b) → T b
-second true b p = p
-second false b p = absurd p
 
 module _ {X : Type 0} where
   -- a key below all is none of them
@@ -54,8 +45,8 @@ module _ {X : Type 0} where
     each_so (e ∷ es) h f = (
       f e.0 e.1 (ap (λ o. cond (is_eq o) (Some e.1) (find text_order e.0 es))
           (tied_itself text_total e.0)),
-      each_so es (second (below_all text_order e.0 es) _ h)
-          (λ k x at. f k x (behind e es (first (below_all text_order e.0 es) _ h) k x at)),
+      each_so es (second_holds (below_all text_order e.0 es) _ h)
+          (λ k x at. f k x (behind e es (first_holds (below_all text_order e.0 es) _ h) k x at)),
     )
 
     -- what holds of all that is found holds of each entry

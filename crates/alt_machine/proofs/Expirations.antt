@@ -1,14 +1,12 @@
 -- Deletions of expired items lead from a valid state to valid ones, and delete those items alone.
-use Rattle.std.proofs.Common.{◌≡◌, refl, sym, ap, ◌∙◌, ℕ, Bool, true, false, cond, is_eq, List, [], ◌∷◌, ◌++◌, map, Option, Some, None}
+use Rattle.std.proofs.Common.{◌≡◌, refl, sym, ap, ◌∙◌, ℕ, Bool, true, false, cond, List, [], ◌∷◌, ◌++◌, map, Option, Some, None}
+use Rattle.std.specs.Cmp.{first_so, second_so}
 use Rattle.std.specs.Prelude.{◌&&◌, ◌||◌, if◌then◌else◌, option_and_then}
 use Rattle.std.specs.List.{list_any}
 use Rattle.std.specs.Ordering.{eq_by_cmp}
-use Rattle.std.specs.declared.cmp.Ordering.{Ordering}
-use Rattle.std.specs.declared.cmp.Ordering.TheVariants.{Less, Equal, Greater}
 use Rattle.alt_codec.specs.declared.writer.Writer.TheVariants.{Expiry}
-use Rattle.alt_schema.proofs.NewDescriptions.{left, right}
 use Rattle.alt_value.specs.Members.{text_order}
-use Rattle.alt_value.proofs.Texts.{text_total, text_apart}
+use Rattle.alt_value.proofs.Texts.{text_total}
 use Rattle.std.specs.FinMap as finite
 use Rattle.std.specs.Option.{option_map_or}
 use Rattle.alt_machine.specs.declared.Standing.{Standing}
@@ -25,6 +23,7 @@ use Rattle.alt_machine.proofs.Lacks.{number_room}
 use Rattle.alt_machine.proofs.Same.{same_is}
 use Rattle.alt_machine.proofs.States.{after_item_valid}
 use Rattle.alt_machine.proofs.Together.{Count, count-then, together_steps}
+use Rattle.alt_value.proofs.TextTies.{one_text}
 
 module _ (moment : ℕ) where
   -- the write that deletes an item, where it is there, is a step, and so are those behind it
@@ -88,15 +87,6 @@ expire_steps s moment = together_steps s (deletions s moment)
 
 -- ---- what they leave
 
--- texts that tie are one
-one_text : (a b : List ℕ) → eq_by_cmp text_order a b ≡ true → a ≡ b
-one_text a b e = text_apart a b (equal _ e)
-  where
-    equal : (o : Ordering) → is_eq o ≡ true → o ≡ Equal
-    equal Less e = absurd (let f : ⊥ = cc in f)
-    equal Equal e = refl
-    equal Greater e = absurd (let f : ⊥ = cc in f)
-
 -- what is none where a test holds
 none_where : {A : Type 0} (b : Bool) (x : Option A) → (b ≡ true → x ≡ None)
     → x ≡ (if b then None else x)
@@ -126,9 +116,9 @@ module _ (moment : ℕ) (name place : List ℕ) where
           → item_in s name place ≡ (if is_at name place e then None else item_in s name place)
       stays o there none = none_where (is_at name place e) (item_in s name place) (λ both.
           let same : eq_by_cmp text_order name e.table ≡ true =
-          left (eq_by_cmp text_order name e.table) _ both in
+          first_so (eq_by_cmp text_order name e.table) _ both in
           let also : eq_by_cmp text_order place e.place ≡ true =
-          right (eq_by_cmp text_order name e.table) _ both in
+          second_so (eq_by_cmp text_order name e.table) _ both in
           (λ j. item_in s (one_text name e.table same j) (one_text place e.place also j))
           ∙ ap (option_and_then (λ (t : Table). finite.get t.items e.place)) there ∙ none)
 

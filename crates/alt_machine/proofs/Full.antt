@@ -5,6 +5,7 @@ use Rattle.std.specs.Ordering.{eq_by_cmp}
 use Rattle.std.specs.declared.cmp.Ordering.{Ordering}
 use Rattle.std.specs.declared.cmp.Ordering.TheVariants.{Less, Equal, Greater}
 use Rattle.std.specs.FinMap.Entries.{by_order}
+use Rattle.alt_base.proofs.Bools.{both_hold, first_holds, second_holds}
 use Rattle.alt_expr.specs.Given.{attr_of, value_of}
 use Rattle.alt_expr.specs.Located.{View, step, part, located}
 use Rattle.alt_expr.specs.declared.path.PathPart.{PathPart}
@@ -14,7 +15,6 @@ use Rattle.alt_value.specs.Members.{text_order, with_member, with_members}
 use Rattle.alt_value.specs.Stands.{tree_of}
 use Rattle.alt_value.specs.Tree.{Tree, NULL_tree, L_tree, M_tree, Trees, no_trees, tree_then, Fields, no_fields, field_then, Pair, trees_of, fields_of, elements, pairs}
 use Rattle.alt_value.specs.Values.{is_full, sets_full, elements_full, fields_full}
-use Rattle.alt_value.proofs.Places.{first, second, both}
 
 -- no set in the value is empty, if there is one
 abbrev pub MayFull : Option Tree → Type 0
@@ -35,9 +35,9 @@ pub full-at_name : (name : List ℕ) (ps : List Pair) → PairsFull ps → MayFu
 full-at_name name [] h = tt
 full-at_name name (p ∷ ps) h =
     let rest : MayFull (at_name name ps) =
-    full-at_name name ps (second (sets_full p.1) _ h) in
+    full-at_name name ps (second_holds (sets_full p.1) _ h) in
     elim (eq_by_cmp text_order name p.0) as (λ b. MayFull (cond b (Some p.1) (at_name name ps))) [
-      | true ↦ first (sets_full p.1) _ h
+      | true ↦ first_holds (sets_full p.1) _ h
       | false ↦ rest
     ]
 
@@ -45,19 +45,21 @@ full-at_name name (p ∷ ps) h =
 pub full-pairs : (fs : Fields) → T (fields_full fs) → PairsFull (pairs fs)
 full-pairs no_fields h = tt
 full-pairs (field_then name t fs) h =
-    both (sets_full t) _ (first (sets_full t) _ h) (full-pairs fs (second (sets_full t) _ h))
+    both_hold (sets_full t) _ (first_holds (sets_full t) _ h)
+    (full-pairs fs (second_holds (sets_full t) _ h))
 
 -- the elements of a list
 pub full-elements : (ts : Trees) → T (elements_full ts) → T (elements_full (trees_of (elements ts)))
 full-elements no_trees h = tt
 full-elements (tree_then t ts) h =
-    both (sets_full t) _ (first (sets_full t) _ h) (full-elements ts (second (sets_full t) _ h))
+    both_hold (sets_full t) _ (first_holds (sets_full t) _ h)
+    (full-elements ts (second_holds (sets_full t) _ h))
 
 -- the element at an index
 full-slice_get : (ts : Trees) (i : ℕ) → T (elements_full ts) → MayFull (slice_get (elements ts) i)
 full-slice_get no_trees i h = tt
-full-slice_get (tree_then t ts) zero h = first (sets_full t) _ h
-full-slice_get (tree_then t ts) (suc i) h = full-slice_get ts i (second (sets_full t) _ h)
+full-slice_get (tree_then t ts) zero h = first_holds (sets_full t) _ h
+full-slice_get (tree_then t ts) (suc i) h = full-slice_get ts i (second_holds (sets_full t) _ h)
 
 -- where a step leads
 full-step : (s : PathPart) (t : Tree) → T (sets_full t) → MayFull (step s t)
@@ -92,21 +94,22 @@ pub full-append : (ss ts : List Tree) → T (elements_full (trees_of ss))
     → T (elements_full (trees_of ts)) → T (elements_full (trees_of (ss ++ ts)))
 full-append [] ts h k = k
 full-append (s ∷ ss) ts h k =
-    both (sets_full s) _ (first (sets_full s) _ h) (full-append ss ts (second (sets_full s) _ h) k)
+    both_hold (sets_full s) _ (first_holds (sets_full s) _ h)
+    (full-append ss ts (second_holds (sets_full s) _ h) k)
 
 -- a value put at a name
 pub full-with_pair : (name : List ℕ) (t : Tree) (ps : List Pair) → T (sets_full t) → PairsFull ps
     → PairsFull (with_pair name t ps)
-full-with_pair name t [] h f = both (sets_full t) true h tt
+full-with_pair name t [] h f = both_hold (sets_full t) true h tt
 full-with_pair name t (q ∷ qs) h f =
-    let there : T (sets_full q.1) = first (sets_full q.1) _ f in
-    let others : PairsFull qs = second (sets_full q.1) _ f in
+    let there : T (sets_full q.1) = first_holds (sets_full q.1) _ f in
+    let others : PairsFull qs = second_holds (sets_full q.1) _ f in
     let more : PairsFull (with_pair name t qs) = full-with_pair name t qs h others in
     elim (text_order name q.0) as (λ o. PairsFull
     (by_order o ((name, t) ∷ q ∷ qs) ((q.0, t) ∷ qs) (q ∷ with_pair name t qs))) [
-      | Less ↦ both (sets_full t) _ h f
-      | Equal ↦ both (sets_full t) _ h others
-      | Greater ↦ both (sets_full q.1) _ there more
+      | Less ↦ both_hold (sets_full t) _ h f
+      | Equal ↦ both_hold (sets_full t) _ h others
+      | Greater ↦ both_hold (sets_full q.1) _ there more
     ]
 
 module _ {K : Type 0} (R : K → K → Ordering) where

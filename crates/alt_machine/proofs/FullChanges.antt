@@ -5,6 +5,7 @@ use Rattle.std.specs.Ordering.{nat_cmp}
 use Rattle.std.specs.declared.cmp.Ordering.TheVariants.{Less, Equal, Greater}
 use Rattle.std.specs.FinMap.Entries.{by_order}
 use Rattle.std.specs.FinMap.Entries as entries
+use Rattle.alt_base.proofs.Bools.{both_hold, first_holds, second_holds}
 use Rattle.alt_expr.specs.Located.{View}
 use Rattle.alt_expr.specs.Projected.{same_step, element_then, pair_then}
 use Rattle.alt_expr.specs.Updated.{Edit, edits, behind, under, put_here, is_taken, past, put_name, put_names, outcome, changed, changed_elements, changed_fields, after, updated}
@@ -17,7 +18,6 @@ use Rattle.alt_machine.proofs.FullActions.{EditFull, EditsFull, ActionsFull, ful
 use Rattle.alt_machine.proofs.FullTerms as term
 use Rattle.alt_value.specs.Tree.{Tree, L_tree, M_tree, Trees, no_trees, tree_then, Fields, no_fields, field_then, Pair, trees_of, fields_of, elements, pairs}
 use Rattle.alt_value.specs.Values.{sets_full, elements_full, fields_full}
-use Rattle.alt_value.proofs.Places.{first, second, both}
 
 -- ---- edits that go on from a step
 
@@ -52,15 +52,15 @@ EntriesFull es = T (elements_full (trees_of (map (λ p. p.1) es)))
 
 full-put : (i : ℕ) (t : Tree) (es : List (ℕ × Tree)) → T (sets_full t) → EntriesFull es
     → EntriesFull (entries.put nat_cmp i t es)
-full-put i t [] h f = both (sets_full t) true h tt
+full-put i t [] h f = both_hold (sets_full t) true h tt
 full-put i t (e ∷ es) h f =
-    let others : EntriesFull es = second (sets_full e.1) _ f in
+    let others : EntriesFull es = second_holds (sets_full e.1) _ f in
     let more : EntriesFull (entries.put nat_cmp i t es) = full-put i t es h others in
     elim (nat_cmp i e.0) as (λ o. EntriesFull
     (by_order o ((i, t) ∷ e ∷ es) ((e.0, t) ∷ es) (e ∷ entries.put nat_cmp i t es))) [
-      | Less ↦ both (sets_full t) _ h f
-      | Equal ↦ both (sets_full t) _ h others
-      | Greater ↦ both (sets_full e.1) _ (first (sets_full e.1) _ f) more
+      | Less ↦ both_hold (sets_full t) _ h f
+      | Equal ↦ both_hold (sets_full t) _ h others
+      | Greater ↦ both_hold (sets_full e.1) _ (first_holds (sets_full e.1) _ f) more
     ]
 
 -- past the end of a list
@@ -105,12 +105,12 @@ full-outcome None false within h f = f
 full-element_then : (o : Option Tree) (ts : Trees) → MayFull o → T (elements_full ts)
     → T (elements_full (element_then o ts))
 full-element_then None ts h f = f
-full-element_then (Some t) ts h f = both (sets_full t) _ h f
+full-element_then (Some t) ts h f = both_hold (sets_full t) _ h f
 
 full-pair_then : (name : List ℕ) (o : Option Tree) (fs : Fields) → MayFull o → T (fields_full fs)
     → T (fields_full (pair_then name o fs))
 full-pair_then name None fs h f = f
-full-pair_then name (Some t) fs h f = both (sets_full t) _ h f
+full-pair_then name (Some t) fs h f = both_hold (sets_full t) _ h f
 
 mutual
   full-changed : (es : List Edit) (t : Tree) → EditsFull es → T (sets_full t)
@@ -133,8 +133,9 @@ mutual
   full-changed_elements es i no_trees h f = tt
   full-changed_elements es i (tree_then t ts) h f =
       full-element_then (changed (under (Index i) es) t) (changed_elements es (suc i) ts)
-      (full-changed (under (Index i) es) t (full-under (Index i) es h) (first (sets_full t) _ f))
-      (full-changed_elements es (suc i) ts h (second (sets_full t) _ f))
+      (full-changed (under (Index i) es) t (full-under (Index i) es h)
+      (first_holds (sets_full t) _ f))
+      (full-changed_elements es (suc i) ts h (second_holds (sets_full t) _ f))
 
   full-changed_fields : (es : List Edit) (fs : Fields) → EditsFull es → T (fields_full fs)
       → T (fields_full (changed_fields es fs))
@@ -142,7 +143,8 @@ mutual
   full-changed_fields es (field_then name t fs) h f =
       full-pair_then name (changed (under (Name name) es) t) (changed_fields es fs)
       (full-changed (under (Name name) es) t (full-under (Name name) es h)
-      (first (sets_full t) _ f)) (full-changed_fields es fs h (second (sets_full t) _ f))
+      (first_holds (sets_full t) _ f))
+      (full-changed_fields es fs h (second_holds (sets_full t) _ f))
 
 full-after : (es : List Edit) (o : Option Tree) → EditsFull es → MayFull o → MayFull (after es o)
 full-after es None h f = full-put_here es h
@@ -176,5 +178,5 @@ pub full-with_key : (key item : List Pair) → PairsFull key → PairsFull item
     → PairsFull (with_key key item)
 full-with_key [] item h f = f
 full-with_key ((name, t) ∷ key) item h f =
-    full-with_pair name t (with_key key item) (first (sets_full t) _ h)
-    (full-with_key key item (second (sets_full t) _ h) f)
+    full-with_pair name t (with_key key item) (first_holds (sets_full t) _ h)
+    (full-with_key key item (second_holds (sets_full t) _ h) f)

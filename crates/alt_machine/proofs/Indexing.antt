@@ -1,9 +1,12 @@
 -- The items of a table have keys of their own in an index, and those of an index lie by these.
-use Rattle.std.proofs.Common.{◌≡◌, refl, sym, ap, subst, ◌∙◌, ℕ, Bool, true, false, ◌&&◌, List, Option, Some, None, option_map}
+use Rattle.std.proofs.Common.{◌≡◌, refl, sym, ap, subst, ◌∙◌, ℕ, Bool, true, false, List, Option, Some, None, option_map}
 use Rattle.std.proofs.lemmas.Bool.{false≢true}
-use Rattle.std.specs.Prelude.{if◌then◌else◌, option_and_then, unwrap_or}
+use Rattle.std.proofs.lemmas.Option.{none-some, same_Some}
+use Rattle.std.specs.Cmp.{first_so, second_so}
+use Rattle.std.specs.Prelude.{if◌then◌else◌, option_and_then}
 use Rattle.std.specs.Option.{option_map_or}
 use Rattle.std.specs.FinMap as map
+use Rattle.alt_base.proofs.Options.{mapped_some}
 use Rattle.alt_keyorder.specs.Kinds.{IsKeyFor}
 use Rattle.alt_keyorder.specs.Laws.{Lie}
 use Rattle.alt_keyorder.specs.Place.{Place, place_in_table, place_bytes}
@@ -25,27 +28,13 @@ use Rattle.alt_value.specs.Values.{AreFields, IsItemOfValues}
 use Rattle.alt_value.specs.declared.kind.KeyKind.{KeyKind}
 use Rattle.alt_value.specs.declared.kind.KeyKind.TheVariants.{S, N, B}
 
--- options that are equal have equal values
-some : {A : Type 0} (x y : A) → Some x ≡ Some y → x ≡ y
-some x y e = ap (λ o. unwrap_or o x) e
-
--- an option without a value isn't one with a value
-none : {A : Type 0} (x : A) → None ≡ Some x → ⊥
-none x e = let no : None ≡ Some x = e in cc no
-
 -- ---- the values of a key
 
 -- what a HASH value goes on to, where a result is there
 and_then : {A B : Type 0} (f : A → Option B) (o : Option A) (y : B) → option_and_then f o ≡ Some y
     → (x : A) × (o ≡ Some x) × (f x ≡ Some y)
-and_then f None y e = absurd (none y e)
+and_then f None y e = absurd (none-some y e)
 and_then f (Some x) y e = (x, refl, e)
-
--- a mapped option that has a value has it from one that was there
-mapped : {A B : Type 0} (f : A → B) (o : Option A) (y : B) → option_map f o ≡ Some y
-    → (x : A) × (o ≡ Some x) × (f x ≡ y)
-mapped f None y e = absurd (none y e)
-mapped f (Some x) y e = (x, refl, some (f x) y e)
 
 -- they are of the kinds of its attributes
 keys_of_kinds : (item : List Pair) → AreFields (fields_of item) → (hash : KeyAttr)
@@ -59,9 +48,9 @@ keys_of_kinds item fields hash range kv e =
         → values_beside (key_value item) r h ≡ Some kv
         → IsKeyFor hash.kind (option_map (λ r. r.kind) r) kv.hash kv.range
     beside None h k f = subst (λ (v : KeyValues). IsKeyFor hash.kind None v.hash v.range)
-        (some _ kv f) k
+        (same_Some _ kv f) k
     beside (Some r) h k f =
-        let v = mapped (λ (t : Tree). record { hash = h; range = Some t })
+        let v = mapped_some (λ (t : Tree). record { hash = h; range = Some t })
         (key_value item r) kv f in
         subst (λ (v : KeyValues). IsKeyFor hash.kind (Some r.kind) v.hash v.range) v.2
         (k, part_kind item r v.0 fields v.1)
@@ -109,7 +98,7 @@ has_keys d i item p e =
     let a = and_then
     (λ own. option_map (place_of_both own) (values_of (key_value item) d.hash d.range))
     (values_of (key_value item) i.hash i.range) p e in
-    let b = mapped (place_of_both a.0) (values_of (key_value item) d.hash d.range) p a.2 in
+    let b = mapped_some (place_of_both a.0) (values_of (key_value item) d.hash d.range) p a.2 in
     record { own = a.0; key = b.0; owns = a.1; keys = b.1; is = b.2 }
 
 -- the items of an index lie by its keys and then by the table's
@@ -164,7 +153,8 @@ is_entry d i item key row e =
     let a = and_then
     (λ kept. option_map (λ place. (place_bytes place, kept)) (index_place d i item))
     (index_row d item i) (key, row) e in
-    let b = mapped (λ (place : Place). (place_bytes place, a.0)) (index_place d i item) (key, row)
+    let b =
+    mapped_some (λ (place : Place). (place_bytes place, a.0)) (index_place d i item) (key, row)
     a.2 in
     record {
       kept = a.1 ∙ ap (λ (f : List ℕ × List Pair). Some f.1) b.2;
@@ -183,28 +173,18 @@ index_apart d i items stored p q x y key v w at_p at_q is_x is_y =
     let b = stored q y at_q in
     let e = is_entry d i x key v is_x in
     let f = is_entry d i y key w is_y in
-    some p q (sym a.0.stands ∙ one_place d i x y e.place f.place a.1 b.1 e.at f.at
+    same_Some p q (sym a.0.stands ∙ one_place d i x y e.place f.place a.1 b.1 e.at f.at
     (e.bytes ∙ sym f.bytes)
     ∙ b.0.stands)
 
 -- ---- the items that are in an index
 
--- where two tests pass, the first does
-first_true : (a b : Bool) → (a && b) ≡ true → a ≡ true
-first_true true b h = refl
-first_true false b h = absurd (false≢true h)
-
--- and the second
-second_true : (a b : Bool) → (a && b) ≡ true → b ≡ true
-second_true true b h = h
-second_true false b h = absurd (false≢true h)
-
 -- a value that fits in an index can be a key
 can_be : (most : ℕ) (kind : KeyKind) (t : Tree) → is_key_value most kind t ≡ true
     → can_be_key kind t ≡ true
-can_be most S (S_tree s) h = first_true _ _ h
+can_be most S (S_tree s) h = first_so _ _ h
 can_be most N (N_tree z) h = refl
-can_be most B (B_tree b) h = first_true _ _ h
+can_be most B (B_tree b) h = first_so _ _ h
 can_be most kind t h = absurd (false≢true h)
 
 -- so an attribute that is there with such a value has it
@@ -226,8 +206,8 @@ value_there most item key has = by_value (at_name key.name item) refl has
 own_values : (i : IndexSchema) (item : List Pair) → is_in_index i item ≡ true
     → (kv : KeyValues) × (values_of (key_value item) i.hash i.range ≡ Some kv)
 own_values i item inside =
-    let h = value_there longest_hash item i.hash (first_true _ _ inside) in
-    let v = beside i.range h.0 (second_true _ _ inside) in
+    let h = value_there longest_hash item i.hash (first_so _ _ inside) in
+    let v = beside i.range h.0 (second_so _ _ inside) in
     (v.0, ap (option_and_then (values_beside (key_value item) i.range)) h.1 ∙ v.1)
   where
     beside : (r : Option KeyAttr) (h : Tree)
@@ -245,7 +225,7 @@ own_values i item inside =
 table_values : (d : TableSchema) (item : List Pair) (place : List ℕ) → place_of d item ≡ Some place
     → (kv : KeyValues) × (values_of (key_value item) d.hash d.range ≡ Some kv)
 table_values d item place e =
-    let a = mapped (λ (kv : KeyValues). place_bytes (place_in_table kv.hash kv.range))
+    let a = mapped_some (λ (kv : KeyValues). place_bytes (place_in_table kv.hash kv.range))
     (values_of (key_value item) d.hash d.range) place (sym (place-of_values d item) ∙ e) in
     (a.0, a.1)
 
@@ -258,7 +238,7 @@ is_inside d i item row e = by_test (is_in_index i item) refl e
         → (if b then Some (cut d i item) else None) ≡ Some row
         → is_in_index i item ≡ true
     by_test true inside e = inside
-    by_test false inside e = absurd (none row e)
+    by_test false inside e = absurd (none-some row e)
 
 -- An item that is in an index has an entry there.
 pub entry_there : (d : TableSchema) (i : IndexSchema) (place : List ℕ)

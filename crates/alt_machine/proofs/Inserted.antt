@@ -5,35 +5,12 @@ use Rattle.std.specs.Str.{bytes_eq}
 use Rattle.std.proofs.lemmas.List.Elements.{All-cons, All-head, All-tail, All-weaker, All-contains, All-contains_itself}
 use Rattle.std.proofs.lemmas.List.Folds.{list_all-append}
 use Rattle.std.proofs.lemmas.List.Kept.{AllPairs-cons}
+use Rattle.std.proofs.lemmas.Bool.{and_from, or_from, not_from_false, not-true}
+use Rattle.std.specs.Cmp.{first_so, second_so}
+use Rattle.alt_base.proofs.Bools.{neither_first, neither_second}
 use Rattle.alt_schema.specs.Rules.{all_differ}
-use Rattle.alt_schema.proofs.Bools.{both, neither, not_true}
-use Rattle.alt_schema.proofs.NewDescriptions.{left, right}
 
 -- ---- tests
-
--- a test or another passes, where the first does
-pub or_left : (a b : Bool) → a ≡ true → (a || b) ≡ true
-or_left true b h = refl
-or_left false b h = absurd (let f : ⊥ = cc in f)
-
--- and where the second does
-pub or_right : (a b : Bool) → b ≡ true → (a || b) ≡ true
-or_right true b h = refl
-or_right false b h = h
-
--- neither passes where both together don't
-pub first_not : (a b : Bool) → (a || b) ≡ false → a ≡ false
-first_not true b h = h
-first_not false b h = refl
-
-pub second_not : (a b : Bool) → (a || b) ≡ false → b ≡ false
-second_not true b h = absurd (let f : ⊥ = cc in f)
-second_not false b h = h
-
--- what doesn't pass has an opposite that does
-pub not_false : (a : Bool) → a ≡ false → not a ≡ true
-not_false true h = absurd (let f : ⊥ = cc in f)
-not_false false h = refl
 
 module _ {A : Type 0} (p : A → Bool) where
   -- what all of a list pass the last one passes
@@ -43,25 +20,25 @@ module _ {A : Type 0} (p : A → Bool) where
       let behind : (list_all p xs && list_all p (ys ++ x ∷ [])) ≡ true =
       sym (list_all-append p xs (ys ++ x ∷ [])) ∙ h in
       let both_pass : (list_all p ys && list_all p (x ∷ [])) ≡ true =
-      sym (list_all-append p ys (x ∷ [])) ∙ right (list_all p xs) _ behind in
-      left (p x) true (right (list_all p ys) _ both_pass)
+      sym (list_all-append p ys (x ∷ [])) ∙ second_so (list_all p xs) _ behind in
+      first_so (p x) true (second_so (list_all p ys) _ both_pass)
 
   -- one more that passes
   pub push_passes : (xs ys : List A) (x : A) → list_all p (xs ++ ys) ≡ true → p x ≡ true
       → list_all p (xs ++ (ys ++ x ∷ [])) ≡ true
   push_passes [] ys x h is = list_all-append p ys (x ∷ [])
-      ∙ both (list_all p ys) _ h (both (p x) true is refl)
-  push_passes (y ∷ xs) ys x h is = both (p y) _ (left (p y) _ h)
-      (push_passes xs ys x (right (p y) _ h) is)
+      ∙ and_from (list_all p ys) _ h (and_from (p x) true is refl)
+  push_passes (y ∷ xs) ys x h is = and_from (p y) _ (first_so (p y) _ h)
+      (push_passes xs ys x (second_so (p y) _ h) is)
 
   -- where all pass a test, those that are left pass it
   pub filter_passes : (q : A → Bool) (xs : List A) → list_all p xs ≡ true
       → list_all p (filter q xs) ≡ true
   filter_passes q [] h = refl
   filter_passes q (x ∷ xs) h =
-      let rest : list_all p (filter q xs) ≡ true = filter_passes q xs (right (p x) _ h) in
+      let rest : list_all p (filter q xs) ≡ true = filter_passes q xs (second_so (p x) _ h) in
       elim (q x) as (λ c. list_all p (cond c (x ∷ filter q xs) (filter q xs)) ≡ true) [
-        | true ↦ both (p x) _ (left (p x) _ h) rest
+        | true ↦ and_from (p x) _ (first_so (p x) _ h) rest
         | false ↦ rest
       ]
 
@@ -69,15 +46,15 @@ module _ {A : Type 0} (p : A → Bool) where
   pub behind_passes : (q : A → Bool) (xs ys : List A) → list_all p (xs ++ ys) ≡ true
       → list_all p (xs ++ filter q ys) ≡ true
   behind_passes q [] ys h = filter_passes q ys h
-  behind_passes q (x ∷ xs) ys h = both (p x) _ (left (p x) _ h)
-      (behind_passes q xs ys (right (p x) _ h))
+  behind_passes q (x ∷ xs) ys h = and_from (p x) _ (first_so (p x) _ h)
+      (behind_passes q xs ys (second_so (p x) _ h))
 
   -- those that pass pass
   pub filter_pass : (xs : List A) → list_all p (filter p xs) ≡ true
   filter_pass [] = refl
   filter_pass (x ∷ xs) =
       elim (p x) as (λ c. p x ≡ c → list_all p (cond c (x ∷ filter p xs) (filter p xs)) ≡ true) [
-        | true ↦ λ e. both (p x) _ e (filter_pass xs)
+        | true ↦ λ e. and_from (p x) _ e (filter_pass xs)
         | false ↦ λ e. filter_pass xs
       ] refl
 
@@ -87,13 +64,13 @@ module _ {A : Type 0} (p : A → Bool) where
   none_left q [] [] h = refl
   none_left q [] (y ∷ ys) h =
       let rest : list_any p (filter q ys) ≡ false =
-      none_left q [] ys (second_not (p y) _ h) in
+      none_left q [] ys (neither_second (p y) _ h) in
       elim (q y) as (λ c. list_any p (cond c (y ∷ filter q ys) (filter q ys)) ≡ false) [
-        | true ↦ neither (p y) _ (first_not (p y) _ h) rest
+        | true ↦ or_from (p y) _ (neither_first (p y) _ h) rest
         | false ↦ rest
       ]
-  none_left q (x ∷ xs) ys h = neither (p x) _ (first_not (p x) _ h)
-      (none_left q xs ys (second_not (p x) _ h))
+  none_left q (x ∷ xs) ys h = or_from (p x) _ (neither_first (p x) _ h)
+      (none_left q xs ys (neither_second (p x) _ h))
 
   -- there are no more of them
   pub fewer_left : (q : A → Bool) (xs : List A) → length (filter p (filter q xs))
@@ -118,33 +95,26 @@ module _ {A : Type 0} (p : A → Bool) where
       by true h = by_kept (p x) h
       by false h = by_gone (p x) h
 
--- a list isn't longer for what is left out
-pub filter_short : {A : Type 0} (q : A → Bool) (xs : List A) → length (filter q xs) ≤ length xs
-filter_short q [] = omega arith
-filter_short q (x ∷ xs) =
-    elim (q x) as (λ c. length (cond c (x ∷ filter q xs) (filter q xs)) ≤ suc (length xs)) [
-      | true ↦ omega (arith, filter_short q xs)
-      | false ↦ omega (arith, filter_short q xs)
-    ]
-
 -- names that differ differ in what is left
 pub differ_left : {A : Type 0} (name : A → List ℕ) (q : A → Bool) (xs ys : List A)
     → all_differ name (xs ++ ys) ≡ true → all_differ name (xs ++ filter q ys) ≡ true
 differ_left name q [] [] h = refl
 differ_left name q [] (y ∷ ys) h =
     let rest : all_differ name (filter q ys) ≡ true =
-    differ_left name q [] ys (right (not (list_any (λ x. bytes_eq (name x) (name y)) ys)) _ h) in
+    differ_left name q [] ys
+    (second_so (not (list_any (λ x. bytes_eq (name x) (name y)) ys)) _ h) in
     elim (q y) as (λ c. all_differ name (cond c (y ∷ filter q ys) (filter q ys)) ≡ true) [
-      | true ↦ both (not (list_any (λ x. bytes_eq (name x) (name y)) (filter q ys))) _
-          (not_false _ (none_left (λ x. bytes_eq (name x) (name y)) q [] ys (not_true _
-          (left (not (list_any (λ x. bytes_eq (name x) (name y)) ys)) _ h)))) rest
+      | true ↦ and_from (not (list_any (λ x. bytes_eq (name x) (name y)) (filter q ys))) _
+          (not_from_false _ (none_left (λ x. bytes_eq (name x) (name y)) q [] ys (not-true _
+          (first_so (not (list_any (λ x. bytes_eq (name x) (name y)) ys)) _ h)))) rest
       | false ↦ rest
     ]
 differ_left name q (x ∷ xs) ys h =
-    both (not (list_any (λ y. bytes_eq (name y) (name x)) (xs ++ filter q ys))) _
-    (not_false _ (none_left (λ y. bytes_eq (name y) (name x)) q xs ys (not_true _
-    (left (not (list_any (λ y. bytes_eq (name y) (name x)) (xs ++ ys))) _ h))))
-    (differ_left name q xs ys (right (not (list_any (λ y. bytes_eq (name y) (name x)) (xs ++ ys))) _
+    and_from (not (list_any (λ y. bytes_eq (name y) (name x)) (xs ++ filter q ys))) _
+    (not_from_false _ (none_left (λ y. bytes_eq (name y) (name x)) q xs ys (not-true _
+    (first_so (not (list_any (λ y. bytes_eq (name y) (name x)) (xs ++ ys))) _ h))))
+    (differ_left name q xs ys
+    (second_so (not (list_any (λ y. bytes_eq (name y) (name x)) (xs ++ ys))) _
     h))
 
 -- names differ as they stand in a list

@@ -1,8 +1,8 @@
 -- An item with the key attributes of another stands where that one does.
-use Rattle.std.proofs.Common.{◌≡◌, refl, sym, ap, ◌∙◌, ℕ, Bool, true, false, ◌&&◌, ◌||◌, nat_le, List, Option, Some, None, option_map, option_and_then, bytes_eq}
+use Rattle.std.proofs.Common.{◌≡◌, refl, sym, ap, ◌∙◌, ℕ, Bool, true, false, ◌&&◌, ◌||◌, nat_le, List, Option, Some, None, option_map, option_and_then}
 use Rattle.std.specs.Option.{option_map_or}
 use Rattle.std.proofs.Math.Bool.{or-true}
-use Rattle.std.proofs.lemmas.Slice.Eq.{bytes_eq-Decides}
+use Rattle.alt_base.proofs.Lists.{bytes_eq-itself}
 use Rattle.alt_keyorder.specs.Place.{place_in_table, place_bytes}
 use Rattle.alt_machine.specs.Keys.{if_key, key_value, place_beside, key_place, place_of, byte_count, is_within, key_fits}
 use Rattle.alt_schema.specs.Indexes.{is_key, has_key_name, of_range, longest_hash, longest_range}
@@ -19,10 +19,6 @@ Has o = (t : Tree) × (o ≡ Some t)
 abbrev pub KeepsKey : TableSchema → List Pair → List Pair → Type 0
 KeepsKey d old new = (n : List ℕ) (t : Tree) → is_key d.hash d.range n ≡ true
     → at_name n old ≡ Some t → at_name n new ≡ Some t
-
--- a name is its own
-same_name : (name : List ℕ) → bytes_eq name name ≡ true
-same_name name = (bytes_eq-Decides name name).1 refl
 
 module _ (d : TableSchema) (old new : List Pair) (keeps : KeepsKey d old new) (place : List ℕ)
     (stands : place_of d old ≡ Some place) where
@@ -67,12 +63,13 @@ module _ (d : TableSchema) (old new : List Pair) (keeps : KeepsKey d old new) (p
 
   hash_same : at_name d.hash.name new ≡ at_name d.hash.name old
   hash_same = part_same d.hash
-      (ap (λ b. b || of_range (has_key_name d.hash.name) false d.range) (same_name d.hash.name))
+      (ap (λ b. b || of_range (has_key_name d.hash.name) false d.range)
+      (bytes_eq-itself d.hash.name))
       hash_there
 
   range_same : (r : KeyAttr) → d.range ≡ Some r → at_name r.name new ≡ at_name r.name old
   range_same r e = part_same r
-      (ap (is_key_of r.name) e ∙ ap (λ b. has_key_name r.name d.hash || b) (same_name r.name)
+      (ap (is_key_of r.name) e ∙ ap (λ b. has_key_name r.name d.hash || b) (bytes_eq-itself r.name)
       ∙ or-true (has_key_name r.name d.hash)) (range_there r e)
     where
       is_key_of : List ℕ → Option KeyAttr → Bool

@@ -1,19 +1,11 @@
 -- What room there is where a number or a family is not lacked.
 use Rattle.std.proofs.Common.{◌≡◌, refl, ap, ◌∙◌, ℕ, ◌+◌, ◌<◌, ◌≤◌, Bool, true, false, cond, nat_le, nat_lt, List, [], ◌∷◌, Option, Some, None, arith}
 use Rattle.std.specs.Prelude.{if◌then◌else◌}
-use Rattle.std.proofs.lemmas.Bool.{le-leb, leb-true, lt-ltb}
+use Rattle.std.proofs.lemmas.Bool.{le-leb, leb-true, lt-ltb, ltb-false, leb-false}
 use Rattle.alt_machine.specs.declared.TheConstants.{NUMBERS_END, FAMILIES_END, MOST_FAMILIES}
 use Rattle.alt_machine.specs.Outcomes.{Wants}
 use Rattle.alt_machine.specs.State.{State}
 use Rattle.alt_machine.specs.Wanted.{number_lack, numbers_lack, family_lack, table_lack, index_lack, lack_of, lack_among, or_later, Lack}
-
--- a number that doesn't reach a bound is below it
-not_full : (m n : ℕ) → nat_le m n ≡ false → n < m
-not_full m n e = grind arith
-
--- and one that isn't above a bound is the bound or below it
-not_above : (m n : ℕ) → nat_lt m n ≡ false → n ≤ m
-not_above m n e = grind arith
 
 -- what isn't lacked passed its test
 not_lacked : {A : Type 0} (b : Bool) (n : A) (o : Option A) → cond b (Some n) o ≡ None
@@ -23,7 +15,7 @@ not_lacked false n o e = (refl, e)
 
 -- where no number is lacked the next one is below the end
 pub number_room : (s : State) → number_lack s.next_number ≡ None → s.next_number < NUMBERS_END
-number_room s e = not_full NUMBERS_END s.next_number
+number_room s e = leb-false NUMBERS_END s.next_number
     (not_lacked (nat_le NUMBERS_END s.next_number) s.next_number None e).0
 
 -- where a new table lacks nothing there is a number for it, and as many families as a table may take
@@ -32,8 +24,8 @@ pub table_room : (s : State) → table_lack s.next_number s.next_family ≡ None
 table_room s e =
     let tests = not_lacked (nat_le NUMBERS_END s.next_number) s.next_number
     (family_lack s.next_family) e in (
-      not_full NUMBERS_END s.next_number tests.0,
-      not_above FAMILIES_END (s.next_family + MOST_FAMILIES)
+      leb-false NUMBERS_END s.next_number tests.0,
+      ltb-false FAMILIES_END (s.next_family + MOST_FAMILIES)
           (not_lacked (nat_lt FAMILIES_END (s.next_family + MOST_FAMILIES)) s.next_family None
           tests.1).0,
     )
@@ -44,8 +36,8 @@ pub index_room : (s : State) → index_lack s.next_number s.next_family ≡ None
 index_room s e =
     let tests = not_lacked (nat_le NUMBERS_END s.next_number) s.next_number
     (if nat_le FAMILIES_END s.next_family then Some s.next_family else None) e in (
-      not_full NUMBERS_END s.next_number tests.0,
-      not_full FAMILIES_END s.next_family
+      leb-false NUMBERS_END s.next_number tests.0,
+      leb-false FAMILIES_END s.next_family
           (not_lacked (nat_le FAMILIES_END s.next_family) s.next_family None tests.1).0,
     )
 

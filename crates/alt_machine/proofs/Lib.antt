@@ -44,6 +44,7 @@ pub mod Timeless
 pub mod Timing
 pub mod Together
 pub mod Trimming
+pub mod Turned
 pub mod Untouched
 pub mod Updates
 pub mod WholeBuilt

@@ -1,5 +1,6 @@
 -- What is found after a change of a finite map of texts.
 use Rattle.std.proofs.Common.{◌≡◌, refl, sym, ap, ◌∙◌, ℕ, Bool, true, false, cond, List, Some, None, inl, inr, ◌⊎◌, is_eq}
+use Rattle.std.proofs.lemmas.Option.{same_Some}
 use Rattle.std.specs.declared.cmp.Ordering.{Ordering}
 use Rattle.std.specs.declared.cmp.Ordering.TheVariants.{Less, Equal, Greater}
 use Rattle.std.specs.FinMap.{get-insert, get-remove, get-empty}
@@ -7,10 +8,6 @@ use Rattle.std.specs.FinMap as map
 use Rattle.alt_machine.specs.State.{Texts}
 use Rattle.alt_value.specs.Members.{text_order}
 use Rattle.alt_value.proofs.Texts.{text_total, text_apart}
-
--- options that are equal have equal values
-same_Some : {A : Type 0} (x y : A) → Some x ≡ Some y → x ≡ y
-same_Some x y e = cc
 
 module _ {X : Type 0} (m : Texts X) (k q : List ℕ) (x : X) where
   -- what is found after an insertion is what was put there, or was there

@@ -2,11 +2,11 @@
 use Rattle.std.proofs.Common.{◌≡◌, refl, sym, ap, ◌∙◌, ℕ, ◌<◌, true, false, cond, ◌||◌, T, List, [], ◌∷◌, map, length, is_some, Some, None, arith}
 use Rattle.std.specs.List.{list_any}
 use Rattle.std.specs.Option.{option_map_or}
-use Rattle.std.specs.Ordering.{eq_by_cmp, is_lt, is_eq}
-use Rattle.std.specs.declared.cmp.Ordering.{Ordering}
-use Rattle.std.specs.declared.cmp.Ordering.TheVariants.{Less, Equal, Greater}
+use Rattle.std.specs.Ordering.{eq_by_cmp}
 use Rattle.std.specs.FinMap.Entries.{below_all, find-put, is_some-find}
 use Rattle.std.proofs.lemmas.List.Folds.{list_any-append}
+use Rattle.alt_base.proofs.Bools.{first_holds, second_holds}
+use Rattle.alt_base.proofs.Orderings.{is_eq-true}
 use Rattle.alt_expr.specs.Located.{View}
 use Rattle.alt_expr.specs.Updated.{put_name}
 use Rattle.alt_expr.specs.declared.update.Action.{Action}
@@ -16,15 +16,10 @@ use Rattle.alt_value.specs.Item.{IsItem, at_name}
 use Rattle.alt_value.specs.Members.{text_order}
 use Rattle.alt_value.specs.Tree.{Tree, Pair}
 use Rattle.alt_value.proofs.Entries.{IsItem-with_pair}
-use Rattle.alt_value.proofs.Places.{first, second}
+use Rattle.alt_value.proofs.TextTies.{above_empty_holds}
 use Rattle.alt_value.proofs.Texts.{text_total, text_apart}
 
 -- ---- names rise
-
--- a name that isn't below the empty one has bytes
-has_bytes : (name : List ℕ) → T (is_lt (text_order [] name)) → 0 < length name
-has_bytes [] h = absurd h
-has_bytes (c ∷ cs) h = omega arith
 
 -- no attribute has the empty name
 none_empty : (ps : List Pair) → T (below_all text_order [] ps) → at_name [] ps ≡ None
@@ -41,7 +36,7 @@ at_name-has_bytes [] t ps item e =
 at_name-has_bytes (c ∷ cs) t ps item e = omega arith
 
 -- an item stays one when an attribute is put in; under the empty name none is
-IsItem-put_name : (name : List ℕ) (t : Tree) (ps : List Pair) → IsItem ps
+pub IsItem-put_name : (name : List ℕ) (t : Tree) (ps : List Pair) → IsItem ps
     → IsItem (put_name name t ps)
 IsItem-put_name [] t ps h = h
 IsItem-put_name (c ∷ cs) t ps h = IsItem-with_pair (c ∷ cs) t ps (omega arith) h
@@ -62,16 +57,10 @@ pub IsItem-with_key : (key item : List Pair) → T (below_all text_order [] key)
     → IsItem (with_key key item)
 IsItem-with_key [] item h f = f
 IsItem-with_key ((name, t) ∷ key) item h f =
-    IsItem-with_pair name t (with_key key item) (has_bytes name (first _ _ h))
-    (IsItem-with_key key item (second _ _ h) f)
+    IsItem-with_pair name t (with_key key item) (above_empty_holds name (first_holds _ _ h))
+    (IsItem-with_key key item (second_holds _ _ h) f)
 
 -- ---- what stands at a name
-
--- a comparison that ties is `Equal`
-tied : (o : Ordering) → is_eq o ≡ true → o ≡ Equal
-tied Less e = absurd (let f : ⊥ = cc in f)
-tied Equal e = refl
-tied Greater e = absurd (let f : ⊥ = cc in f)
 
 -- what stands at a name once an attribute was put in: its value where it has that name, and else what stood there
 at_name-put_name : (n name : List ℕ) (t : Tree) (ps : List Pair) → 0 < length n
@@ -86,7 +75,7 @@ module _ (view : View) (n : List ℕ) (t : Tree) (some : 0 < length n) (is : vie
       → at_name n (pairs_of view (name ∷ names)) ≡ Some t
   here name names e =
       let rest : List Pair = pairs_of view names in
-      let same : n ≡ name = text_apart n name (tied (text_order n name) e) in
+      let same : n ≡ name = text_apart n name (is_eq-true (text_order n name) e) in
       ap (λ o. at_name n (option_map_or (λ u. put_name name u rest) o rest))
       (sym (ap view same) ∙ is)
       ∙ at_name-put_name n name t rest some

@@ -1,5 +1,5 @@
 -- What is said by members of the older interface, or by texts: an update that changes no part of a key, whose actions put no empty set.
-use Rattle.std.proofs.Common.{◌≡◌, refl, sym, ap, subst, ◌∙◌, ℕ, Bool, true, false, cond, T, ◌&&◌, List, [], ◌∷◌, map, Option, Some, None, Result, Ok, Err, IfOk, IfSome}
+use Rattle.std.proofs.Common.{◌≡◌, refl, sym, ap, subst, ◌∙◌, ℕ, Bool, true, false, cond, T, List, [], ◌∷◌, map, Option, Some, None, Result, Ok, Err, IfOk, IfSome}
 use Rattle.std.specs.Prelude.{unwrap_or, option_map, option_and_then, codes}
 use Rattle.std.specs.Str.{bytes_eq}
 use Rattle.serde_json.specs.Data.{Data, Members, no_members, member}
@@ -8,17 +8,18 @@ use Rattle.alt_codec.specs.Reading.{Answer as ValueAnswer, value_in}
 use Rattle.alt_codec.proofs.Fits.{Fits, value_fits}
 use Rattle.alt_expr.specs.Given.{Given}
 use Rattle.alt_expr.specs.Located.{View}
-use Rattle.alt_expr.specs.UpdateLanguage.{begins_with_name, begin_with_names, target}
+use Rattle.alt_expr.specs.UpdateLanguage.{begin_with_names}
 use Rattle.alt_expr.specs.Updated.{Fault, parent, added, taken}
 use Rattle.alt_expr.specs.Updated as update
 use Rattle.alt_expr.specs.declared.cond.Cond.{Cond}
 use Rattle.alt_expr.specs.declared.path.PathPart.{PathPart}
 use Rattle.alt_expr.specs.declared.path.PathPart.TheVariants.{Name}
 use Rattle.alt_expr.specs.declared.update.Action.{Action}
-use Rattle.alt_legacy.specs.Changes.{Change, put, add, remove, take, NamedChange, put_of, add_of, delete_of, is_set, if_set, change_named, change_by, change_of, named_change, change_then, each_change, changes_in}
+use Rattle.alt_legacy.specs.Changes.{Change, put, add, take, NamedChange, put_of, add_of, delete_of, is_set, if_set, change_named, change_by, change_of, named_change, change_then, each_change, changes_in}
 use Rattle.alt_legacy.specs.Trees.{condition_in, paths_in, path, action_for, action_of, update_in}
 use Rattle.alt_legacy.specs.Values.{sound, value_of}
 use Rattle.alt_legacy.specs.declared.reading.Form.TheVariants.{Filter}
+use Rattle.alt_legacy.proofs.Named.{names_first}
 use Rattle.alt_legacy.proofs.Updating.{given_term}
 use Rattle.alt_machine.specs.declared.Expressions.{Expressions}
 use Rattle.alt_machine.specs.Expressions.{Texts, changes_key, texts_say, text_at, earlier, in_place, of_older, expressions}
@@ -330,17 +331,6 @@ said_full texts d ms g said e view full values =
     (older_has texts.older ms (ActionsFull view) tt (changes_full view full) is.older is.by_older)
     (stated_full view g full values (text_at texts.update ms) is.by_texts.update
     (says_update texts d ms g is.by_texts is.spoken).0)
-
--- an action of an entry is of the attribute of a name
-name_first : (name : List ℕ) (c : Change) → begins_with_name (target (action_for name c)) ≡ true
-name_first name (put v) = refl
-name_first name (add v) = refl
-name_first name remove = refl
-name_first name (take v) = refl
-
-names_first : (cs : List NamedChange) → begin_with_names (map action_of cs) ≡ true
-names_first [] = refl
-names_first (c ∷ cs) = λ i. name_first c.name c.change i && names_first cs i
 
 -- each path of the older interface begins with a name
 pub older_begins : (older : Older) (ms : Members) (e : Expressions) → older_said older ms ≡ Ok e

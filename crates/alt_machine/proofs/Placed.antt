@@ -1,6 +1,8 @@
 -- Items of one table lie by their keys.
-use Rattle.std.proofs.Common.{◌≡◌, refl, sym, subst, ℕ, Bool, true, false, cond, List, [], ◌∷◌, Option, Some, None, option_map, is_eq}
+use Rattle.std.proofs.Common.{◌≡◌, refl, sym, subst, List, Option, Some, None, option_map}
+use Rattle.std.proofs.lemmas.Option.{same_Some}
 use Rattle.std.specs.Prelude.{if◌then◌else◌, option_and_then}
+use Rattle.alt_base.proofs.Options.{some_if}
 use Rattle.alt_keyorder.specs.Kinds.{IsOfKind, IsKeyFor}
 use Rattle.alt_keyorder.specs.Laws.{Lie}
 use Rattle.alt_keyorder.specs.Place.{Place, place_in_table}
@@ -10,39 +12,19 @@ use Rattle.alt_machine.specs.Laws.{PlacesLie}
 use Rattle.alt_schema.specs.declared.schema.KeyAttr.{KeyAttr}
 use Rattle.alt_schema.specs.declared.schema.TableSchema.{TableSchema}
 use Rattle.alt_value.specs.Item.{at_name}
-use Rattle.alt_value.specs.Members.{text_order}
 use Rattle.alt_value.specs.Tree.{Tree, Pair, S_tree, N_tree, B_tree, fields_of}
 use Rattle.alt_value.specs.Values.{IsValue, AreFields}
 use Rattle.alt_value.specs.declared.kind.KeyKind.{KeyKind}
 use Rattle.alt_value.specs.declared.kind.KeyKind.TheVariants.{S, N, B}
-
--- options that are equal have equal values
-same_Some : {A : Type 0} (x y : A) → Some x ≡ Some y → x ≡ y
-same_Some x y e = cc
-
--- what is at a name is a value
-pub field_value : (name : List ℕ) (item : List Pair) (t : Tree) → AreFields (fields_of item)
-    → at_name name item ≡ Some t → IsValue t
-field_value name [] t h e = absurd (let f : ⊥ = cc in f)
-field_value name (p ∷ ps) t h e = by (is_eq (text_order name p.0)) (field_value name ps t h.2) e
-  where
-    by : (b : Bool) → (at_name name ps ≡ Some t → IsValue t)
-        → cond b (Some p.1) (at_name name ps) ≡ Some t → IsValue t
-    by true rest f = subst IsValue (same_Some p.1 t f) h.1
-    by false rest f = rest f
-
--- a value that is taken where a test passes is that value, where one is taken
-some_is : (b : Bool) (u t : Tree) → (if b then Some u else None) ≡ Some t → u ≡ t
-some_is true u t e = same_Some u t e
-some_is false u t e = absurd (let f : ⊥ = cc in f)
+use Rattle.alt_value.proofs.NamedPairs.{value_at}
 
 -- a value that can be a key is of the key's kind
 key_kind : (kind : KeyKind) (u t : Tree) → IsValue u → if_key kind u ≡ Some t → IsOfKind kind t
 key_kind S (S_tree s) t v e = subst (IsOfKind S)
-    (some_is (can_be_key S (S_tree s)) (S_tree s) t e) tt
+    (some_if (can_be_key S (S_tree s)) (S_tree s) t e) tt
 key_kind N (N_tree z) t v e = subst (IsOfKind N) (same_Some (N_tree z) t e) v
 key_kind B (B_tree b) t v e = subst (IsOfKind B)
-    (some_is (can_be_key B (B_tree b)) (B_tree b) t e) tt
+    (some_if (can_be_key B (B_tree b)) (B_tree b) t e) tt
 key_kind kind u t v e = absurd (let f : ⊥ = cc in f)
 
 -- the value of a key attribute is of the attribute's kind
@@ -53,7 +35,7 @@ part_kind item key t h e = by (at_name key.name item) refl e
     by : (o : Option Tree) → at_name key.name item ≡ o
         → option_and_then (if_key key.kind) o ≡ Some t → IsOfKind key.kind t
     by None at f = absurd (let g : ⊥ = cc in g)
-    by (Some u) at f = key_kind key.kind u t (field_value key.name item u h at) f
+    by (Some u) at f = key_kind key.kind u t (value_at key.name item u h at) f
 
 -- the key that a place is of
 record IsPlaceOfKey (d : TableSchema) (p : Place) : Type 0 where

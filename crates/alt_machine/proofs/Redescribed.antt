@@ -8,14 +8,14 @@ use Rattle.std.specs.Option.{option_map_or}
 use Rattle.std.specs.Ordering.{is_le}
 use Rattle.std.specs.Prelude.{◌&&◌, IfSome, if◌then◌else◌, option_and_then}
 use Rattle.std.proofs.lemmas.List.Elements.{All-weaker}
+use Rattle.std.proofs.lemmas.Bool.{and_from}
+use Rattle.std.specs.Cmp.{first_so, second_so}
 use Rattle.alt_keyorder.specs.Place.{place_bytes}
 use Rattle.alt_schema.specs.Indexes.{is_key, longest_hash, longest_range, of_range}
 use Rattle.alt_schema.specs.declared.schema.Built.{Built}
 use Rattle.alt_schema.specs.declared.schema.Built.TheVariants.{Whole, UpTo}
 use Rattle.alt_schema.specs.declared.schema.IndexSchema.{IndexSchema}
 use Rattle.alt_schema.specs.declared.schema.TableSchema.{TableSchema}
-use Rattle.alt_schema.proofs.Bools.{both}
-use Rattle.alt_schema.proofs.NewDescriptions.{left, right}
 use Rattle.alt_value.specs.Members.{text_order}
 use Rattle.alt_value.specs.Tree.{Pair}
 use Rattle.alt_value.proofs.Texts.{text_total}
@@ -65,9 +65,9 @@ module _ (d e : TableSchema) (alike : IsAlike d e) where
   pub keys_alike : (gs : List IndexSchema) → list_all (λ i. is_built_to d i.built) gs ≡ true
       → list_all (λ i. is_built_to e i.built) gs ≡ true
   keys_alike [] h = refl
-  keys_alike (g ∷ gs) h = both (is_built_to e g.built) _
-      (built_to-alike g.built ∙ left (is_built_to d g.built) _ h)
-      (keys_alike gs (right (is_built_to d g.built) _ h))
+  keys_alike (g ∷ gs) h = and_from (is_built_to e g.built) _
+      (built_to-alike g.built ∙ first_so (is_built_to d g.built) _ h)
+      (keys_alike gs (second_so (is_built_to d g.built) _ h))
 
   -- it is built of the same items
   reaches_alike : (b : Built) (place : List ℕ) → reaches e b place ≡ reaches d b place

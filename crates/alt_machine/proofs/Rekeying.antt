@@ -1,19 +1,20 @@
 -- What is found under other keys, before and after an entry changes.
-use Rattle.std.proofs.Common.{◌≡◌, ◌⊎◌, inl, inr, ⊎_elim, ℕ, Bool, true, false, cond, T, ◌&&◌, List, [], ◌∷◌, Option, Some, None, refl, sym, ap, ◌∙◌}
+use Rattle.std.proofs.Common.{◌≡◌, ◌⊎◌, inl, inr, ⊎_elim, ℕ, Bool, true, false, cond, T, List, [], ◌∷◌, Option, Some, None, refl, sym, ap, ◌∙◌}
 use Rattle.std.proofs.lemmas.Bool.{false≢true}
-use Rattle.std.specs.Prelude.{if◌then◌else◌, option_and_then, unwrap_or}
-use Rattle.std.specs.declared.cmp.Ordering.{Ordering}
-use Rattle.std.specs.declared.cmp.Ordering.TheVariants.{Less, Equal, Greater}
-use Rattle.std.specs.Ordering.{eq_by_cmp, is_eq, is_lt}
-use Rattle.std.specs.Cmp.{tied_itself}
+use Rattle.std.proofs.lemmas.Option.{same_Some}
+use Rattle.std.specs.Prelude.{if◌then◌else◌, option_and_then}
+use Rattle.std.specs.Ordering.{eq_by_cmp, is_eq}
 use Rattle.std.specs.FinMap.{entries, entries_sorted, get, get-entries, get-from_entries, get-insert, get-remove}
 use Rattle.std.specs.FinMap.Entries.{find, is_sorted, below_all}
+use Rattle.alt_base.proofs.Bools.{first_holds, second_holds}
+use Rattle.alt_base.proofs.Orderings.{is_lt-holds}
 use Rattle.alt_value.specs.Members.{text_order}
-use Rattle.alt_value.proofs.Texts.{text_total, text_apart}
+use Rattle.alt_value.proofs.Texts.{text_total}
 use Rattle.alt_machine.specs.Rekeyed.{before_those, rekeyed_entries, rekeyed}
 use Rattle.alt_machine.specs.State.{Texts}
 use Rattle.alt_machine.specs.Writes.{with_item}
 use Rattle.alt_value.specs.Tree.{Pair}
+use Rattle.alt_value.proofs.TextTies.{text_itself, one_text}
 
 -- no two values of a map have one key
 abbrev pub AreApart : {X Y : Type 0} → (X → Option (List ℕ × Y)) → Texts X → Type 0
@@ -32,52 +33,13 @@ moved key old None before = unless_at key old before
 moved key old (Some e) before =
     if eq_by_cmp text_order key e.0 then Some e.1 else unless_at key old before
 
--- a test that is true passes
-holds : (b : Bool) → b ≡ true → T b
-holds true h = tt
-holds false h = absurd (cc h)
-
--- a comparison that ties is `Equal`
-equal : (r : Ordering) → T (is_eq r) → r ≡ Equal
-equal Less p = absurd p
-equal Equal p = refl
-equal Greater p = absurd p
-
--- and one that is less is `Less`
-less : (r : Ordering) → T (is_lt r) → r ≡ Less
-less Less p = refl
-less Equal p = absurd p
-less Greater p = absurd p
-
--- where two tests pass, the first does
-first : (a b : Bool) → T (a && b) → T a
-first true b p = tt
-first false b p = p
-
--- and the second
-second : (a b : Bool) → T (a && b) → T b
-second true b p = p
-second false b p = absurd p
-
 -- a key below all isn't found
 find_below : {X : Type 0} (q : List ℕ) (es : List (List ℕ × X)) → T (below_all text_order q es)
     → find text_order q es ≡ None
 find_below q [] h = refl
 find_below q (e ∷ es) h =
-    ap (λ r. cond (is_eq r) (Some e.1) (find text_order q es)) (less _ (first _ _ h))
-    ∙ find_below q es (second _ _ h)
-
--- keys that tie are one key, and each ties with itself
-pub one_key : (q k : List ℕ) → eq_by_cmp text_order q k ≡ true → q ≡ k
-one_key q k e = text_apart q k (equal _ (holds _ e))
-
--- a text equals itself
-pub itself : (q : List ℕ) → eq_by_cmp text_order q q ≡ true
-itself q = ap is_eq (tied_itself text_total q)
-
--- options that are equal have equal values
-some : {A : Type 0} (x y : A) → Some x ≡ Some y → x ≡ y
-some x y e = ap (λ o. unwrap_or o x) e
+    ap (λ r. cond (is_eq r) (Some e.1) (find text_order q es)) (is_lt-holds _ (first_holds _ _ h))
+    ∙ find_below q es (second_holds _ _ h)
 
 -- two options with the same values
 same_values : {A : Type 0} (o p : Option A) → ((a : A) → o ≡ Some a → p ≡ Some a)
@@ -97,7 +59,7 @@ module _ {X Y : Type 0} (g : X → Option (List ℕ × Y)) where
       → Gives (λ p. find text_order p es) key v
   found_from key v [] sorted found = let no : None ≡ Some v = found in cc no
   found_from key v (e ∷ es) sorted found =
-      by_entry (λ there. found_from key v es (second _ _ sorted) there) (g e.1) refl found
+      by_entry (λ there. found_from key v es (second_holds _ _ sorted) there) (g e.1) refl found
     where
       later : Gives (λ p. find text_order p es) key v
           → Gives (λ p. find text_order p (e ∷ es)) key v
@@ -107,8 +69,8 @@ module _ {X Y : Type 0} (g : X → Option (List ℕ × Y)) where
           by_place : (b : Bool) → eq_by_cmp text_order given.0 e.0 ≡ b
               → cond b (Some e.1) (find text_order given.0 es) ≡ Some given.1.0
           by_place true same = let no : None ≡ Some given.1.0 = sym
-              (find_below e.0 es (first _ _ sorted))
-              ∙ ap (λ k. find text_order k es) (sym (one_key given.0 e.0 same))
+              (find_below e.0 es (first_holds _ _ sorted))
+              ∙ ap (λ k. find text_order k es) (sym (one_text given.0 e.0 same))
               ∙ given.1.1.0 in cc no
           by_place false other = given.1.1.0
 
@@ -117,7 +79,7 @@ module _ {X Y : Type 0} (g : X → Option (List ℕ × Y)) where
           → eq_by_cmp text_order key f.0 ≡ b → g e.1 ≡ Some f
           → cond b (Some f.1) (find text_order key (rekeyed_entries g es)) ≡ Some v
           → Gives (λ p. find text_order p (e ∷ es)) key v
-      by_key behind f true same is there = (e.0, (e.1, (ap (λ b. cond b (Some e.1) (find text_order e.0 es)) (itself e.0), is ∙ ap (λ x. Some x) (λ i. (sym (one_key key f.0 same) i, some _ _ there i)))))
+      by_key behind f true same is there = (e.0, (e.1, (ap (λ b. cond b (Some e.1) (find text_order e.0 es)) (text_itself e.0), is ∙ ap (λ x. Some x) (λ i. (sym (one_text key f.0 same) i, same_Some _ _ there i)))))
       by_key behind f false other is there = later (behind there)
 
       by_entry : (find text_order key (rekeyed_entries g es) ≡ Some v
@@ -151,10 +113,10 @@ module _ {X Y : Type 0} (g : X → Option (List ℕ × Y)) where
           → ⊥) → (b : Bool) → cond b (Some e.1) (find text_order p es) ≡ Some x
           → find text_order key (before_those (g e.1) (rekeyed_entries g es)) ≡ None → ⊥
       by_place behind true at none =
-          let here : g e.1 ≡ Some (key, v) = ap g (some _ _ at) ∙ is in
+          let here : g e.1 ≡ Some (key, v) = ap g (same_Some _ _ at) ∙ is in
           let no : Some v
           ≡ None = ap (λ b. cond b (Some v) (find text_order key (rekeyed_entries g es)))
-          (sym (itself key))
+          (sym (text_itself key))
           ∙ ap (λ o. find text_order key (before_those o (rekeyed_entries g es))) (sym here)
           ∙ none in cc no
       by_place behind false at none = behind at (behind_none (g e.1) none)
@@ -180,9 +142,9 @@ module _ {X Y : Type 0} (g : X → Option (List ℕ × Y)) where
             let one : other.0 ≡ given.0 = apart other.0 given.0 other.1.0 given.1.0 key w v
             other.1.1.0 given.1.1.0 other.1.1.1 given.1.1.1 in
             let same : other.1.0 ≡ given.1.0 =
-            some _ _ (sym other.1.1.0 ∙ ap (get m) one ∙ given.1.1.0) in
+            same_Some _ _ (sym other.1.1.0 ∙ ap (get m) one ∙ given.1.1.0) in
             let entry : (key, w) ≡ (key, v) =
-            some _ _ (sym other.1.1.1 ∙ ap g same ∙ given.1.1.1) in
+            same_Some _ _ (sym other.1.1.1 ∙ ap g same ∙ given.1.1.1) in
             ap (λ (e : List ℕ × Y). Some e.1) entry
 
 -- ---- an entry that changes
@@ -193,7 +155,8 @@ module _ {Y : Type 0} (g : List Pair → Option (List ℕ × Y)) where
 
   moved_here : (key : List ℕ) (v : Y) (o : Option (List ℕ × Y)) (before : Option Y)
       → moved key o (Some (key, v)) before ≡ Some v
-  moved_here key v o before = ap (λ b. if b then Some v else unless_at key o before) (itself key)
+  moved_here key v o before =
+      ap (λ b. if b then Some v else unless_at key o before) (text_itself key)
 
   unless_stays : (key : List ℕ) (o : Option (List ℕ × Y)) (before : Option Y) → IsOther key o
       → unless_at key o before ≡ before
@@ -215,7 +178,11 @@ module _ {Y : Type 0} (g : List Pair → Option (List ℕ × Y)) where
       by_key : (b : Bool) → eq_by_cmp text_order key f.0 ≡ b → (if b then None else before) ≡ Some v
           → (before ≡ Some v) × IsOther key (Some f)
       by_key true same is = absurd (let n : None ≡ Some v = is in cc n)
-      by_key false other is = (is, λ e same. ap (λ (k : List ℕ × Y). eq_by_cmp text_order key k.0) (sym (some _ _ same)) ∙ other)
+      by_key false other is = (
+        is,
+        λ e same. ap (λ (k : List ℕ × Y). eq_by_cmp text_order key k.0)
+            (sym (same_Some _ _ same)) ∙ other,
+      )
 
   moved_is : (key : List ℕ) (v : Y) (o n : Option (List ℕ × Y)) (before : Option Y)
       → moved key o n before ≡ Some v → (n ≡ Some (key, v)) ⊎ ((before ≡ Some v) × IsOther key o)
@@ -226,7 +193,7 @@ module _ {Y : Type 0} (g : List Pair → Option (List ℕ × Y)) where
           → (if b then Some f.1 else unless_at key o before) ≡ Some v
           → (Some f ≡ Some (key, v)) ⊎ ((before ≡ Some v) × IsOther key o)
       by_key true same is =
-          inl (ap (λ x. Some x) (λ i. (sym (one_key key f.0 same) i, some _ _ is i)))
+          inl (ap (λ x. Some x) (λ i. (sym (one_text key f.0 same) i, same_Some _ _ is i)))
       by_key false other is = inr (unless_is key v o before is)
 
   entry_of : (o : Option (List Pair)) (e : List ℕ × Y) → option_and_then g o ≡ Some e
@@ -243,7 +210,7 @@ module _ {Y : Type 0} (g : List Pair → Option (List ℕ × Y)) where
   module _ (m : Texts (List Pair)) (p : List ℕ) (new : Option (List Pair)) (apart : AreApart g m)
       (apart_after : AreApart g (with_item m p new)) where
     at_place : get (with_item m p new) p ≡ new
-    at_place = get-with_item m p new p ∙ ap (λ b. cond b new (get m p)) (itself p)
+    at_place = get-with_item m p new p ∙ ap (λ b. cond b new (get m p)) (text_itself p)
 
     elsewhere : (q : List ℕ) → eq_by_cmp text_order q p ≡ false
         → get (with_item m p new) q ≡ get m q
@@ -251,7 +218,7 @@ module _ {Y : Type 0} (g : List Pair → Option (List ℕ × Y)) where
 
     contradicts : (q : List ℕ) → eq_by_cmp text_order q p ≡ false → q ≡ p → ⊥
     contradicts q other same =
-        false≢true (sym other ∙ ap (λ k. eq_by_cmp text_order k p) same ∙ itself p)
+        false≢true (sym other ∙ ap (λ k. eq_by_cmp text_order k p) same ∙ text_itself p)
 
     -- a key that another place gives is neither the one that left nor the one that came
     other_old : (key : List ℕ) (v : Y) (q : List ℕ) (x : List Pair)
@@ -264,7 +231,7 @@ module _ {Y : Type 0} (g : List Pair → Option (List ℕ × Y)) where
         by_key true same =
             let y = entry_of (get m p) e old in
             let entry : g y.0 ≡ Some (key, e.1) = y.1.1
-            ∙ ap (λ x. Some x) (λ i. (sym (one_key key e.0 same) i, e.1)) in
+            ∙ ap (λ x. Some x) (λ i. (sym (one_text key e.0 same) i, e.1)) in
             absurd (contradicts q other (apart q p x y.0 key v e.1 at y.1.0 is entry))
 
     other_new : (key : List ℕ) (v : Y) (q : List ℕ) (x : List Pair)
@@ -277,7 +244,7 @@ module _ {Y : Type 0} (g : List Pair → Option (List ℕ × Y)) where
         by_key true same =
             let y = entry_of new e new_is in
             let entry : g y.0 ≡ Some (key, e.1) = y.1.1
-            ∙ ap (λ x. Some x) (λ i. (sym (one_key key e.0 same) i, e.1)) in
+            ∙ ap (λ x. Some x) (λ i. (sym (one_text key e.0 same) i, e.1)) in
             absurd (contradicts q other
             (apart_after q p x y.0 key v e.1 (elsewhere q other ∙ at)
             (at_place ∙ y.1.0) is entry))
@@ -294,7 +261,7 @@ module _ {Y : Type 0} (g : List Pair → Option (List ℕ × Y)) where
             (get (rekeyed g m) key) ≡ Some v
         by_place given true e =
             let new_is : new ≡ Some given.1.0 = sym at_place
-            ∙ ap (get (with_item m p new)) (sym (one_key given.0 p e)) ∙ given.1.1.0 in
+            ∙ ap (get (with_item m p new)) (sym (one_text given.0 p e)) ∙ given.1.1.0 in
             let came : option_and_then g new ≡ Some (key, v) = ap (option_and_then g) new_is
             ∙ given.1.1.1 in
             ap (λ n. moved key (option_and_then g (get m p)) n (get (rekeyed g m) key)) came
@@ -323,8 +290,8 @@ module _ {Y : Type 0} (g : List Pair → Option (List ℕ × Y)) where
         apart_from key v q x at is other false e = e
         apart_from key v q x at is other true e =
             absurd (false≢true
-            (sym (other (key, v) (ap (option_and_then g) (ap (get m) (sym (one_key q p e)) ∙ at)
-            ∙ is)) ∙ itself key))
+            (sym (other (key, v) (ap (option_and_then g) (ap (get m) (sym (one_text q p e)) ∙ at)
+            ∙ is)) ∙ text_itself key))
 
     -- What stands at each key after the entry at a place changed: what came, not what left, and else what stood there.
     pub get-rekeyed-with_item : (key : List ℕ)

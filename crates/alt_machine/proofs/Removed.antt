@@ -5,28 +5,21 @@ use Rattle.std.specs.Option.{option_map_or}
 use Rattle.std.specs.Str.{bytes_eq}
 use Rattle.std.proofs.lemmas.List.Elements.{All-cons, All-head, All-tail, All-contains, All-contains_itself}
 use Rattle.std.proofs.lemmas.List.Kept.{AllPairs-cons}
-use Rattle.std.proofs.lemmas.Slice.Eq.{bytes_eq-Decides}
+use Rattle.std.proofs.lemmas.Bool.{or_left, or_right, and_from}
+use Rattle.std.specs.Cmp.{first_so, second_so}
+use Rattle.alt_base.proofs.Lists.{length-filter, bytes_eq-true, bytes_eq-itself}
 use Rattle.alt_schema.specs.Described.{is_one_of, keys_defined, same_kind}
 use Rattle.alt_schema.specs.Indexes.{indexes, is_key, is_named, is_used, of_range}
 use Rattle.alt_schema.specs.Rules.{is_name}
 use Rattle.alt_schema.specs.declared.schema.IndexSchema.{IndexSchema}
 use Rattle.alt_schema.specs.declared.schema.KeyAttr.{KeyAttr}
 use Rattle.alt_schema.specs.declared.schema.TableSchema.{TableSchema}
-use Rattle.alt_schema.proofs.Bools.{both}
-use Rattle.alt_schema.proofs.NewDescriptions.{left, right}
 use Rattle.alt_schema.specs.Altered.{without_index, without_named}
 use Rattle.alt_machine.specs.Building.{IsBuilt, is_building, is_built_to}
 use Rattle.alt_machine.specs.State.{families_of}
 use Rattle.alt_machine.specs.Valid.{IsMade, is_pair, names_few}
-use Rattle.alt_machine.proofs.Inserted.{all_left, behind_passes, differ_left, fewer_left, filter_pass, filter_passes, filter_short, head_pairs, or_left, or_right, pairs_left, tail_pairs}
+use Rattle.alt_machine.proofs.Inserted.{all_left, behind_passes, differ_left, fewer_left, filter_pass, filter_passes, head_pairs, pairs_left, tail_pairs}
 use Rattle.alt_machine.proofs.Redescribed.{IsAlike, keys_alike}
-
--- a name that is that of a key attribute
-same_name : (n : List ℕ) → bytes_eq n n ≡ true
-same_name n = grind (arith, bytes_eq-Decides)
-
-one_name : (a b : List ℕ) → bytes_eq a b ≡ true → a ≡ b
-one_name a b e = grind (arith, e, bytes_eq-Decides)
 
 -- ---- definitions that are kept
 
@@ -45,7 +38,7 @@ one_kept used k is (a ∷ ds) h = by (bytes_eq a.name k.name && same_kind a.kind
         → (m || is_one_of ds k) ≡ true → (is_one_of ds k ≡ true → is_one_of (kept used ds) k ≡ true)
         → is_one_of (cond (used a.name) (a ∷ kept used ds) (kept used ds)) k ≡ true
     by true same g rest = ap (λ c. is_one_of (cond c (a ∷ kept used ds) (kept used ds)) k)
-        (ap used (one_name a.name k.name (left (bytes_eq a.name k.name) _ same)) ∙ is)
+        (ap used (bytes_eq-true a.name k.name (first_so (bytes_eq a.name k.name) _ same)) ∙ is)
         ∙ or_left (bytes_eq a.name k.name && same_kind a.kind k.kind) _ same
     by false same g rest =
         elim (used a.name) as (λ c.
@@ -58,17 +51,17 @@ one_kept used k is (a ∷ ds) h = by (bytes_eq a.name k.name && same_kind a.kind
 key_kept : (used : List ℕ → Bool) (ds : List KeyAttr) (hash : KeyAttr) (range : Option KeyAttr)
     → ((name : List ℕ) → is_key hash range name ≡ true → used name ≡ true)
     → keys_defined ds hash range ≡ true → keys_defined (kept used ds) hash range ≡ true
-key_kept used ds hash range are h = both (is_one_of (kept used ds) hash) _
+key_kept used ds hash range are h = and_from (is_one_of (kept used ds) hash) _
     (one_kept used hash (are hash.name (or_left (bytes_eq hash.name hash.name) _
-    (same_name hash.name))) ds (left (is_one_of ds hash) _ h))
-    (beside range are (right (is_one_of ds hash) _ h))
+    (bytes_eq-itself hash.name))) ds (first_so (is_one_of ds hash) _ h))
+    (beside range are (second_so (is_one_of ds hash) _ h))
   where
     beside : (r : Option KeyAttr)
         → ((name : List ℕ) → is_key hash r name ≡ true → used name ≡ true)
         → of_range (is_one_of ds) true r ≡ true → of_range (is_one_of (kept used ds)) true r ≡ true
     beside None are g = refl
     beside (Some r) are g = one_kept used r (are r.name (or_right (bytes_eq hash.name r.name) _
-        (same_name r.name))) ds g
+        (bytes_eq-itself r.name))) ds g
 
 -- and the keys of indexes
 keys_kept : (used : List ℕ → Bool) (ds : List KeyAttr) (is : List IndexSchema)
@@ -77,11 +70,11 @@ keys_kept : (used : List ℕ → Bool) (ds : List KeyAttr) (is : List IndexSchem
     → list_all (λ (x : IndexSchema). keys_defined ds x.hash x.range) is ≡ true
     → list_all (λ (x : IndexSchema). keys_defined (kept used ds) x.hash x.range) is ≡ true
 keys_kept used ds [] are h = refl
-keys_kept used ds (i ∷ is) are h = both (keys_defined (kept used ds) i.hash i.range) _
+keys_kept used ds (i ∷ is) are h = and_from (keys_defined (kept used ds) i.hash i.range) _
     (key_kept used ds i.hash i.range (λ name g. are name (or_left (is_key i.hash i.range name) _ g))
-    (left (keys_defined ds i.hash i.range) _ h))
+    (first_so (keys_defined ds i.hash i.range) _ h))
     (keys_kept used ds is (λ name g. are name (or_right (is_key i.hash i.range name) _ g))
-    (right (keys_defined ds i.hash i.range) _ h))
+    (second_so (keys_defined ds i.hash i.range) _ h))
 
 module _ (d : TableSchema) (name : List ℕ) where
   abbrev u : TableSchema
@@ -144,7 +137,7 @@ module _ (d : TableSchema) (name : List ℕ) where
       projections = behind_passes (λ (x : IndexSchema). names_few x.projection) stays
           d.locals d.globals made.projections;
       locals_few = made.locals_few;
-      globals_few = omega (arith, filter_short stays d.globals, made.globals_few);
+      globals_few = omega (arith, length-filter stays d.globals, made.globals_few);
       built = built_removed;
       whole = record {
         stream = made.whole.stream;

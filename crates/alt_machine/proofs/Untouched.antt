@@ -1,7 +1,8 @@
 -- An update that changes no part of a key leaves the key's attributes as they were.
-use Rattle.std.proofs.Common.{◌≡◌, refl, sym, ap, ◌∙◌, ℕ, suc, Bool, true, false, cond, ◌||◌, List, [], ◌∷◌, ◌++◌, append-nil, Option, Some, None, Ok, IfOk, bytes_eq}
+use Rattle.std.proofs.Common.{◌≡◌, refl, sym, ap, ◌∙◌, ℕ, suc, true, false, cond, List, [], ◌∷◌, ◌++◌, append-nil, Option, Some, None, Ok, IfOk, bytes_eq}
 use Rattle.std.specs.List.{list_any}
 use Rattle.std.proofs.lemmas.Slice.Eq.{bytes_eq-Decides}
+use Rattle.std.proofs.lemmas.Bool.{or_parts}
 use Rattle.alt_expr.specs.Located.{View}
 use Rattle.alt_expr.specs.Projected.{element_then, pair_then}
 use Rattle.alt_expr.specs.UpdateLanguage.{target}
@@ -10,34 +11,26 @@ use Rattle.alt_expr.specs.declared.path.PathPart.{PathPart}
 use Rattle.alt_expr.specs.declared.path.PathPart.TheVariants.{Name, Index}
 use Rattle.alt_expr.specs.declared.update.Action.{Action}
 use Rattle.alt_expr.specs.declared.update.Action.TheVariants.{Set, Remove, Add, Delete}
+use Rattle.alt_legacy.proofs.Updating.{after-none}
 use Rattle.alt_machine.specs.Expressions.{begins_with_key}
 use Rattle.alt_machine.proofs.FullTerms as term
 use Rattle.alt_schema.specs.Indexes.{is_key}
 use Rattle.alt_schema.specs.declared.schema.TableSchema.{TableSchema}
 use Rattle.alt_value.specs.Stands.{tree_of}
 use Rattle.alt_value.specs.Tree.{Tree, L_tree, M_tree, Trees, no_trees, tree_then, Fields, no_fields, field_then, trees_of, fields_of, elements, pairs}
+use Rattle.alt_value.proofs.Trees.{trees_of-elements, fields_of-pairs}
 
 -- ---- without edits a value stays
-
--- the elements of a list make that list
-same_elements : (ts : Trees) → trees_of (elements ts) ≡ ts
-same_elements no_trees = refl
-same_elements (tree_then t ts) = ap (tree_then t) (same_elements ts)
-
--- and the pairs of a map that map
-same_pairs : (fs : Fields) → fields_of (pairs fs) ≡ fs
-same_pairs no_fields = refl
-same_pairs (field_then name t fs) = ap (field_then name t) (same_pairs fs)
 
 mutual
   unchanged : (t : Tree) → changed [] t ≡ Some t
   unchanged (L_tree ts) =
       ap (λ (us : Trees). Some (L_tree (trees_of (elements us ++ [])))) (unchanged_elements 0 ts)
       ∙ ap (λ (us : List Tree). Some (L_tree (trees_of us))) (append-nil (elements ts))
-      ∙ ap (λ (us : Trees). Some (L_tree us)) (same_elements ts)
+      ∙ ap (λ (us : Trees). Some (L_tree us)) (trees_of-elements ts)
   unchanged (M_tree fs) =
       ap (λ (gs : Fields). Some (M_tree (fields_of (pairs gs)))) (unchanged_fields fs)
-      ∙ ap (λ (gs : Fields). Some (M_tree gs)) (same_pairs fs)
+      ∙ ap (λ (gs : Fields). Some (M_tree gs)) (fields_of-pairs fs)
   unchanged t = refl
 
   unchanged_elements : (i : ℕ) (ts : Trees) → changed_elements [] i ts ≡ ts
@@ -51,11 +44,6 @@ mutual
   unchanged_fields (field_then name t fs) =
       ap (λ o. pair_then name o (changed_fields [] fs)) (unchanged t)
       ∙ ap (field_then name t) (unchanged_fields fs)
-
--- what was there is as it was, and what wasn't stays away
-after-none : (o : Option Tree) → after [] o ≡ o
-after-none None = refl
-after-none (Some t) = unchanged t
 
 -- ---- where an action edits
 
@@ -74,11 +62,6 @@ edit_at view (Add name a) = term.behind (λ _. Unit {0}) (λ (e : Edit). e.0 ≡
 edit_at view (Delete name a) = term.behind (λ _. Unit {0}) (λ (e : Edit). e.0 ≡ Name name ∷ [])
     (taken (view name) (tree_of a)) (λ o. Ok (Name name ∷ [], o))
     (term.anything (taken (view name) (tree_of a))) (λ _ _. refl)
-
--- two tests, neither of which passes
-both_fail : (a b : Bool) → (a || b) ≡ false → (a ≡ false) × (b ≡ false)
-both_fail true b e = absurd (let f : ⊥ = cc in f)
-both_fail false b e = (refl, e)
 
 module _ (d : TableSchema) (n : List ℕ) (is : is_key d.hash d.range n ≡ true) where
   -- an edit whose path doesn't begin with a key's name doesn't go on from one
@@ -101,7 +84,7 @@ module _ (d : TableSchema) (n : List ℕ) (is : is_key d.hash d.range n ≡ true
       → IfOk (edits view actions) (λ es. under (Name n) es ≡ [])
   none_under view [] h = refl
   none_under view (a ∷ more) h =
-      let other = both_fail (begins_with_key d (target a)) _ h in
+      let other = or_parts (begins_with_key d (target a)) _ h in
       term.behind (λ (e : Edit). e.0 ≡ target a) (λ (es : List Edit). under (Name n) es ≡ [])
       (edit view a) (λ e. edits view more >>= (λ es. Ok (e ∷ es))) (edit_at view a) (λ e at.
       term.behind (λ (es : List Edit). under (Name n) es ≡ [])

@@ -2,14 +2,14 @@
 use Rattle.std.proofs.Common.{◌≡◌, refl, sym, ◌∙◌, ◌≤◌, Bool, true, false, cond, not, ◌&&◌, List, [], ◌∷◌, length, arith}
 use Rattle.std.specs.List.{filter, list_all}
 use Rattle.std.proofs.lemmas.List.Folds.{list_all-append}
+use Rattle.std.proofs.lemmas.Bool.{and_from}
+use Rattle.std.specs.Cmp.{first_so, second_so}
 use Rattle.alt_schema.specs.Bare.{is_whole}
 use Rattle.alt_schema.specs.Indexes.{indexes}
 use Rattle.alt_schema.specs.declared.schema.Built.{Built}
 use Rattle.alt_schema.specs.declared.schema.Built.TheVariants.{Whole, UpTo}
 use Rattle.alt_schema.specs.declared.schema.IndexSchema.{IndexSchema}
 use Rattle.alt_schema.specs.declared.schema.TableSchema.{TableSchema}
-use Rattle.alt_schema.proofs.Bools.{both}
-use Rattle.alt_schema.proofs.NewDescriptions.{left, right}
 use Rattle.alt_machine.specs.Building.{IsBuilt, is_building, is_built_to}
 
 -- none of those that are whole is being built
@@ -17,8 +17,8 @@ none_building : (is : List IndexSchema) → list_all (λ i. is_whole i.built) is
     → length (filter is_building is) ≤ 1
 none_building [] h = omega arith
 none_building (i ∷ is) h =
-    subst_whole (is_whole i.built) (left (is_whole i.built) _ h)
-    (none_building is (right (is_whole i.built) _ h))
+    subst_whole (is_whole i.built) (first_so (is_whole i.built) _ h)
+    (none_building is (second_so (is_whole i.built) _ h))
   where
     subst_whole : (b : Bool) → b ≡ true → length (filter is_building is) ≤ 1
         → length (cond (not b) (i ∷ filter is_building is) (filter is_building is)) ≤ 1
@@ -30,9 +30,9 @@ module _ (d : TableSchema) where
   all_built : (is : List IndexSchema) → list_all (λ i. is_whole i.built) is ≡ true
       → list_all (λ i. is_built_to d i.built) is ≡ true
   all_built [] h = refl
-  all_built (i ∷ is) h = both (is_built_to d i.built) _
-      (one i.built (left (is_whole i.built) _ h))
-      (all_built is (right (is_whole i.built) _ h))
+  all_built (i ∷ is) h = and_from (is_built_to d i.built) _
+      (one i.built (first_so (is_whole i.built) _ h))
+      (all_built is (second_so (is_whole i.built) _ h))
     where
       one : (b : Built) → is_whole b ≡ true → is_built_to d b ≡ true
       one Whole e = refl
@@ -45,9 +45,9 @@ module _ (d : TableSchema) where
       && list_all (λ (i : IndexSchema). is_whole i.built) d.globals) ≡ true =
       sym (list_all-append (λ (i : IndexSchema). is_whole i.built) d.locals d.globals) ∙ h in
       let globals : list_all (λ (i : IndexSchema). is_whole i.built) d.globals ≡ true =
-      right (list_all (λ (i : IndexSchema). is_whole i.built) d.locals) _ both_whole in
+      second_so (list_all (λ (i : IndexSchema). is_whole i.built) d.locals) _ both_whole in
       record {
-        locals = left (list_all (λ (i : IndexSchema). is_whole i.built) d.locals) _ both_whole;
+        locals = first_so (list_all (λ (i : IndexSchema). is_whole i.built) d.locals) _ both_whole;
         one = none_building d.globals globals;
         keys = all_built d.globals globals;
       }

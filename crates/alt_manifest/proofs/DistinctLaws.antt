@@ -9,6 +9,7 @@ use Rattle.std.specs.Ordering.{nat_cmp}
 use Rattle.alt_fields.proofs.Apart.{all_map}
 use Rattle.alt_manifest.specs.Versions.{AreDistinct, IsIn, RiseFrom}
 use Rattle.alt_manifest.specs.Rules.{Tells}
+use Rattle.alt_manifest.proofs.Among.{rise_distinct}
 use Rattle.alt_manifest.proofs.RuleLaws.{tells_both}
 
 -- a number that isn't among others differs from each of them
@@ -54,12 +55,6 @@ above least (m ∷ ms) n rise below (inl e) = omega (arith, rise.0, below, e)
 above least (m ∷ ms) n rise below (inr h) =
     above (m + 1) ms n rise.1 (omega (arith, rise.0, below)) h
 
--- numbers that rise differ
-rise-differ : (least : ℕ) (ns : List ℕ) → RiseFrom least ns → AreDistinct ns
-rise-differ least [] rise = tt
-rise-differ least (n ∷ ns) rise =
-    (above (n + 1) ns n rise.1 (omega arith), rise-differ (n + 1) ns rise.1)
-
 -- the first of numbers that don't fall is the least
 first_least : (n : ℕ) (ns : List ℕ) → IsNonDecreasing (n ∷ ns) → AllByRecursion (λ m. n ≤ m) ns
 first_least n [] up = tt
@@ -98,6 +93,6 @@ pub sorted_tells : (b : Bool) (xs ys : List ℕ) → IsPermutation xs ys → IsS
     → Tells b (RiseFrom 0 ys) → Tells b (AreDistinct xs)
 sorted_tells b xs ys same sorted =
     tells_both b (RiseFrom 0 ys) (AreDistinct xs)
-    (λ rise. moved ys xs (IsPermutation-sym xs ys same) (rise-differ 0 ys rise))
+    (λ rise. moved ys xs (IsPermutation-sym xs ys same) (rise_distinct 0 ys rise))
     (λ differ. differ-rise 0 ys (IsNonDecreasingBy-from_sort (λ x. x) ys sorted)
     (moved xs ys same differ) (from_zero ys))

@@ -1,3 +1,4 @@
+pub mod Among
 pub mod OneVersion
 pub mod PutLaws
 pub mod ReadLaws

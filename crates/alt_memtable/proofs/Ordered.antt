@@ -9,16 +9,18 @@ use Rattle.std.specs.List.Sorted.{IsStrictlySortedBy}
 use Rattle.std.specs.BTreeMap.Range.{entries_between}
 use Rattle.std.specs.FinMap.{entries, from_sorted, entries-from_sorted}
 use Rattle.std.specs.FinMap.Entries.{is_sorted, below_all}
+use Rattle.alt_base.proofs.Bools.{both_hold}
+use Rattle.alt_base.proofs.Orderings.{less-holds}
 use Rattle.alt_cells.specs.Keys.{key_cmp}
 use Rattle.alt_cells.specs.Walks.{RowMap, RowList, turned, rows_from, first_bound, last_bound}
-use Rattle.alt_cells.proofs.Entries.{both, is_less}
 
 module _ {K X : Type 0} (R : K → K → Ordering) where
   -- a key below all
   below_keys : (k : K) (es : List (K × X)) → AllByRecursion (λ y. R k y ≡ Less) (map (λ e. e.0) es)
       → T (below_all R k es)
   below_keys k [] h = tt
-  below_keys k (e ∷ es) h = both (is_lt (R k e.0)) (below_all R k es) (is_less (R k e.0) h.0)
+  below_keys k (e ∷ es) h =
+      both_hold (is_lt (R k e.0)) (below_all R k es) (less-holds (R k e.0) h.0)
       (below_keys k es h.1)
 
   -- keys that rise, in the words of a tree
@@ -26,7 +28,8 @@ module _ {K X : Type 0} (R : K → K → Ordering) where
       → T (is_sorted R es)
   unfolding IsStrictlySortedBy
   is_sorted_keys [] h = tt
-  is_sorted_keys (e ∷ es) h = both (below_all R e.0 es) (is_sorted R es) (below_keys e.0 es h.0)
+  is_sorted_keys (e ∷ es) h =
+      both_hold (below_all R e.0 es) (is_sorted R es) (below_keys e.0 es h.0)
       (is_sorted_keys es h.1)
 
 -- a range of the map is what a walk gives from the place

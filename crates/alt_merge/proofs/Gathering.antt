@@ -2,11 +2,11 @@
 use Rattle.std.proofs.Common.{◌≡◌, ⊎_elim, ◌<◌, ℕ, suc, Bool, false, T, List, [], ◌∷◌, length, get_or, set, sym, ap, subst, ◌∙◌}
 use Rattle.std.proofs.lemmas.List.{set-get_or}
 use Rattle.std.specs.FinMap.Entries.{is_sorted, below_all}
+use Rattle.alt_base.proofs.Bools.{first_holds, second_holds}
 use Rattle.alt_cells.specs.Joined.{all_joined, joined}
 use Rattle.alt_cells.specs.declared.row.RowCells.{RowCells}
 use Rattle.alt_cells.specs.Rows.{join_row}
 use Rattle.alt_cells.specs.Walks.{RowList, walk_cmp}
-use Rattle.alt_cells.proofs.Entries.{first, second}
 use Rattle.alt_merge.specs.declared.head.Head.{Head}
 use Rattle.alt_merge.specs.declared.head.Head.TheVariants.{Due, Held, End}
 use Rattle.alt_merge.specs.Merges.{with_head, with_heads, Ready}
@@ -18,8 +18,8 @@ module _ (forward : Bool) (key : List ℕ) where
   taken : (more : RowCells) (t : RowList) → Ready forward key (Held key more) t
       → T (below_all (walk_cmp forward) key t) × T (is_sorted (walk_cmp forward) t)
   taken more t r = (
-    first (below_all (walk_cmp forward) key t) (is_sorted (walk_cmp forward) t) r.1,
-    second (below_all (walk_cmp forward) key t) (is_sorted (walk_cmp forward) t) r.1,
+    first_holds (below_all (walk_cmp forward) key t) (is_sorted (walk_cmp forward) t) r.1,
+    second_holds (below_all (walk_cmp forward) key t) (is_sorted (walk_cmp forward) t) r.1,
   )
 
   left_alone : (h : Head) (t : RowList) → tied key h ≡ false → Ready forward key h t

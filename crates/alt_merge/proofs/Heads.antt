@@ -5,11 +5,13 @@ use Rattle.std.specs.declared.cmp.Ordering.{Ordering}
 use Rattle.std.specs.declared.cmp.Ordering.TheVariants.{Less, Equal, Greater}
 use Rattle.std.specs.Ordering.{is_lt}
 use Rattle.std.specs.FinMap.Entries.{is_sorted, below_all}
+use Rattle.alt_base.proofs.Bools.{both_hold, first_holds, second_holds}
+use Rattle.alt_base.proofs.Orderings.{less-holds}
 use Rattle.alt_cells.specs.Joined.{all_joined, joined}
 use Rattle.alt_cells.specs.declared.row.RowCells.{RowCells}
 use Rattle.alt_cells.specs.Rows.{join_row}
 use Rattle.alt_cells.specs.Walks.{RowList, walk_cmp}
-use Rattle.alt_cells.proofs.Entries.{both, first, second, is_less, below_less, below-joined, is_sorted-joined, joined-comm, joined-assoc, joined-one, joined-tied}
+use Rattle.alt_cells.proofs.Entries.{below_less, below-joined, is_sorted-joined, joined-comm, joined-assoc, joined-one, joined-tied}
 use Rattle.alt_cells.proofs.RowLaws.{IsJoin-join_row}
 use Rattle.alt_cells.proofs.WalkLaws.{walk_total, walk_exact}
 use Rattle.alt_merge.specs.declared.head.Head.{Head}
@@ -39,7 +41,7 @@ module _ (forward : Bool) where
   sorted_due (h ∷ heads) [] zero d key row lt e s = tt
   sorted_due (h ∷ heads) [] (suc i) d key row lt e s = tt
   sorted_due (h ∷ heads) (t ∷ tails) zero d key row lt e s = (
-    second (below_all (walk_cmp forward) key t) (is_sorted (walk_cmp forward) t)
+    second_holds (below_all (walk_cmp forward) key t) (is_sorted (walk_cmp forward) t)
         (sorted_tail h key row t e s.0),
     s.1,
   )
@@ -60,8 +62,8 @@ module _ (forward : Bool) where
       let o = walk_total forward in
       let rest = all_joined R join_row (with_heads heads tails) in
       let s0 = sorted_tail h key row t e s.0 in
-      let below = first (below_all R key t) (is_sorted R t) s0 in
-      let st = second (below_all R key t) (is_sorted R t) s0 in
+      let below = first_holds (below_all R key t) (is_sorted R t) s0 in
+      let st = second_holds (below_all R key t) (is_sorted R t) s0 in
       ap (λ x. joined R join_row (with_head x t) rest) e
       ∙ ap (λ l. joined R join_row l rest) (sym
       (joined-one R o join_row (walk_exact forward) IsJoin-join_row (key, row) t below))
@@ -214,8 +216,8 @@ module _ (forward : Bool) where
       let here = subst (λ h. Ready forward key h t) e
       (each2_at (Ready forward key) heads tails each i lt d []) in
       each2_one (Ready forward key) heads tails each i Due [] lt (
-        first (below_all R key t) (is_sorted R t) here.1,
-        second (below_all R key t) (is_sorted R t) here.1,
+        first_holds (below_all R key t) (is_sorted R t) here.1,
+        second_holds (below_all R key t) (is_sorted R t) here.1,
       )
 
   -- where nothing is in hand, nothing is left
@@ -235,9 +237,9 @@ module _ (forward : Bool) where
   passes_other key other row t ne r =
       let R = walk_cmp forward in
       let less : R key other ≡ Less = only_less (R key other) ne r.0 in (
-        both (is_lt (R key other)) (below_all R key t) (is_less (R key other) less)
+        both_hold (is_lt (R key other)) (below_all R key t) (less-holds (R key other) less)
             (below_less R (walk_total forward) key other t less
-            (first (below_all R other t) (is_sorted R t) r.1)),
+            (first_holds (below_all R other t) (is_sorted R t) r.1)),
         r.1,
       )
     where

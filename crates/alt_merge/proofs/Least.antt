@@ -15,13 +15,6 @@ use Rattle.alt_merge.specs.declared.head.Head.TheVariants.{Due, Held, End}
 use Rattle.alt_merge.specs.Merges.{NotAbove, AllNotAbove, IsLeast, IsHeld, NoneHeld}
 use Rattle.alt_merge.specs.Tied.{tied, comes_before, BestTo}
 
--- what stands for no element doesn't matter
-pub get_or_any : {A : Type 0} (xs : List A) (i : ℕ) (d e : A) → i < length xs
-    → get_or xs i d ≡ get_or xs i e
-get_or_any [] i d e lt = absurd (omega arith)
-get_or_any (x ∷ xs) zero d e lt = refl
-get_or_any (x ∷ xs) (suc i) d e lt = get_or_any xs i d e (omega arith)
-
 -- an order is one of three
 not_both : (o : Ordering) → o ≡ Less → o ≡ Greater → ⊥
 not_both o p q = cc

@@ -1,6 +1,7 @@
 -- A merge over its sources.
 use Rattle.std.proofs.Common.{◌≡◌, ℕ, Bool, List, [], ◌∷◌, ◌++◌, length, map, get_or, set, Option, Some, None, refl, sym, ap, subst, ◌∙◌, arith, take, drop, Vec}
 use Rattle.std.proofs.lemmas.Grind.{common_steps}
+use Rattle.std.proofs.lemmas.List.{get_or_default}
 use Rattle.std.specs.Vec.{with_items}
 use Rattle.alt_disk.specs.Disk.{DiskState}
 use Rattle.alt_cells.specs.declared.source.SourceFault.{SourceFault}
@@ -19,7 +20,6 @@ use Rattle.alt_merge.specs.Whole.{merge_reads, merge_holds}
 use Rattle.alt_merge.specs.Merges.{IsLeast}
 use Rattle.alt_merge.proofs.Lists.{each2_length}
 use Rattle.alt_merge.proofs.Heads.{ready_start, take_head, none_left}
-use Rattle.alt_merge.proofs.Least.{get_or_any}
 
 module _ {S : Type 0} (Holds : DiskState → S → RowMap → Type 0) where
   -- what a call keeps of the sources it keeps of the merge
@@ -163,7 +163,7 @@ pub gives_first : (forward : Bool) (heads after : List Head) (tails : List RowLi
     → Gathers key row (set heads at Due) after given
     → GivesFirst forward heads after tails (Some given)
 gives_first forward heads after tails at d key row given filled least len sorted held gathers =
-    let here = sym (get_or_any heads at d Due least.0) ∙ held in
+    let here = sym (get_or_default heads at d Due least.0) ∙ held in
     let not_above = subst (λ h. IsLeast forward h heads) here least.1 in
     let g = gathers forward tails (ready_start forward key row heads tails at d len least.0 held
     filled not_above sorted) in

@@ -29,7 +29,7 @@ use Rattle.alt_hand.specs.DeclaredEngineFault.{EngineFault}
 use Rattle.alt_hand.specs.DeclaredEngineFault.TheVariants.{Spent, Damaged, Failed, NoMemory}
 use Rattle.alt_hand.specs.declared.hand.Hand.{Hand}
 use Rattle.alt_hand.proofs.StillLaws.{still_reads}
-use Rattle.alt_hand.proofs.LeftOutLaws.{in_or_not}
+use Rattle.alt_manifest.proofs.Among.{in_or_not}
 use Rattle.alt_merging.specs.Merged.{AreMerged}
 
 -- ---- files

@@ -7,10 +7,12 @@ use Rattle.std.specs.Option.{option_to_list}
 use Rattle.std.specs.Ordering.{is_le, ordering_reverse}
 use Rattle.std.specs.FinMap.{entries, entries_sorted}
 use Rattle.std.specs.FinMap.Entries.{is_sorted, below_all}
+use Rattle.alt_base.proofs.Bools.{first_holds, second_holds}
+use Rattle.alt_base.proofs.Lists.{length-zero}
+use Rattle.alt_base.proofs.Orderings.{is_lt-holds}
 use Rattle.alt_cells.specs.Changes.{Columns}
 use Rattle.alt_cells.specs.Keys.{key_cmp}
 use Rattle.alt_cells.proofs.CellLaws.{key_total}
-use Rattle.alt_cells.proofs.Entries.{first, second, less}
 use Rattle.alt_layout.specs.Layout.{Layout, shown_rows, rows_between}
 use Rattle.alt_opening.specs.Scans.{IsAhead, IsBelow, IsNextRow}
 use Rattle.alt_opening.proofs.NextRow.{passing, from_on, from_passes, passes_from, next_row_is, below_after, below_append, self_append}
@@ -42,8 +44,8 @@ module _ {X : Type 0} where
   all_pass from key on [] above = refl
   all_pass from key on (e ∷ es) above =
       let high : IsBelow key e.0 =
-      less (key_cmp key e.0) (first _ (below_all key_cmp key es) above) in
-      let rest = all_pass from key on es (second _ (below_all key_cmp key es) above) in
+      is_lt-holds (key_cmp key e.0) (first_holds _ (below_all key_cmp key es) above) in
+      let rest = all_pass from key on es (second_holds _ (below_all key_cmp key es) above) in
       let behind : from_on (key ++ 0 ∷ []) e.0 ≡ true =
       passes_from (key ++ 0 ∷ []) e.0 (above_after key e.0 high) in
       let there : from_on from e.0 ≡ true = passes_from from e.0
@@ -59,14 +61,14 @@ module _ {X : Type 0} where
       → IsBelow key x.0
   first_above p key [] x more above e = absurd (let f : ⊥ = cc in f)
   first_above p key (y ∷ ys) x more above e =
-      by (λ f. first_above p key ys x more (second _ (below_all key_cmp key ys) above) f)
+      by (λ f. first_above p key ys x more (second_holds _ (below_all key_cmp key ys) above) f)
       (p y.0) refl e
     where
       by : (passing p ys ≡ x ∷ more → IsBelow key x.0) → (b : Bool) → p y.0 ≡ b
           → cond b (y ∷ passing p ys) (passing p ys) ≡ x ∷ more → IsBelow key x.0
       by rest true is e = subst (λ (z : List ℕ × X). IsBelow key z.0)
           (let same : y ≡ x = cc in same)
-          (less (key_cmp key y.0) (first _ (below_all key_cmp key ys) above))
+          (is_lt-holds (key_cmp key y.0) (first_holds _ (below_all key_cmp key ys) above))
       by rest false is e = rest e
 
   behind_first : (from : List ℕ) (es : List (List ℕ × X)) (x : List ℕ × X)
@@ -74,11 +76,11 @@ module _ {X : Type 0} where
       → passing (from_on from) es ≡ x ∷ more → passing (from_on (x.0 ++ 0 ∷ [])) es ≡ more
   behind_first from [] x more sorted e = absurd (let f : ⊥ = cc in f)
   behind_first from (y ∷ ys) x more sorted e =
-      by (λ f. behind_first from ys x more (second (below_all key_cmp y.0 ys) _ sorted) f)
+      by (λ f. behind_first from ys x more (second_holds (below_all key_cmp y.0 ys) _ sorted) f)
       (from_on from y.0) refl e
     where
       above : T (below_all key_cmp y.0 ys)
-      above = first _ (is_sorted key_cmp ys) sorted
+      above = first_holds _ (is_sorted key_cmp ys) sorted
 
       at_first : (z : List ℕ × X) → y ≡ z → from_on from y.0 ≡ true
           → passing (from_on (z.0 ++ 0 ∷ [])) (y ∷ ys) ≡ passing (from_on from) ys
@@ -113,17 +115,12 @@ rows_behind l family from x more e = behind_first from (entries (shown_rows l fa
 
 -- ---- rows in hand
 
--- a list of length 0
-no_length : {X : Type 0} (xs : List X) → length xs ≡ 0 → xs ≡ []
-no_length [] none = refl
-no_length (x ∷ xs) none = absurd (omega (arith, none))
-
 -- no rows are
 pub none_ahead : (l : Layout) (family : ℕ) (from : List ℕ) (rows : List (List ℕ × Columns))
     → rows ≡ [] → IsAhead l family from rows
 none_ahead l family from rows none = record {
   rest = rows_between l family from None true;
-  first = ap (λ rs. reverse rs ++ rows_between l family from None true) (sym none);
+  first_holds = ap (λ rs. reverse rs ++ rows_between l family from None true) (sym none);
 }
 
 -- A page that was empty holds what was asked for.
@@ -132,7 +129,7 @@ pub page_is : (l : Layout) (family : ℕ) (asked from : List ℕ) (n : ℕ)
     → page ≡ old ++ take n (rows_between l family asked None true) → asked ≡ from
     → page ≡ take n (rows_between l family from None true)
 page_is l family asked from n old page none came same = came
-    ∙ ap (λ rs. rs ++ take n (rows_between l family asked None true)) (no_length old none)
+    ∙ ap (λ rs. rs ++ take n (rows_between l family asked None true)) (length-zero old none)
     ∙ ap (λ k. take n (rows_between l family k None true)) same
 
 -- the first ones, turned
@@ -143,7 +140,7 @@ some_ahead l family from n page rows are turned =
     let all = rows_between l family from None true in
     record {
       rest = drop n all;
-      first = sym (take-append-drop n all)
+      first_holds = sym (take-append-drop n all)
           ∙ ap (λ rs. rs ++ drop n all)
           (sym are ∙ sym (reverse-reverse page) ∙ ap reverse (sym turned));
     }
@@ -184,7 +181,7 @@ module _ (l : Layout) (family : ℕ) (from : List ℕ) (rows ys : List (List ℕ
   taken_ahead None items = tt
   taken_ahead (Some x) items = record {
     rest = ahead.rest;
-    first = rows_behind l family from x (reverse ys ++ ahead.rest) (shown_then x items);
+    first_holds = rows_behind l family from x (reverse ys ++ ahead.rest) (shown_then x items);
   }
 
 -- they are the first from the key behind a row that was given

@@ -3,6 +3,7 @@
 use Rattle.std.proofs.Common.{◌≡◌, ◌<◌, ◌≤◌, ℕ, Bool, true, false, cond, List, [], ◌∷◌, Option, Some, None, All, refl, sym, ap, subst, ◌∙◌, arith}
 use Rattle.std.proofs.lemmas.Bool.{false≢true}
 use Rattle.std.proofs.lemmas.List.Elements.{All-nil}
+use Rattle.std.proofs.lemmas.Option.{same_Some as some}
 use Rattle.std.specs.Prelude.{if◌then◌else◌, option_and_then, option_map}
 use Rattle.std.specs.Ordering.{eq_by_cmp}
 use Rattle.std.specs.FinMap as map
@@ -10,6 +11,7 @@ use Rattle.alt_cells.specs.Changes.{Columns}
 use Rattle.alt_cells.specs.Keys.{key_cmp}
 use Rattle.alt_cells.specs.Shown.{row_shown}
 use Rattle.alt_cells.proofs.CellLaws.{key_total}
+use Rattle.alt_cells.proofs.SameKeys.{key_itself, one_key}
 use Rattle.alt_layout.specs.Layout.{Layout, shown}
 use Rattle.alt_machine.specs.declared.TheConstants.{NUMBERS_END}
 use Rattle.alt_machine.specs.State.{Change, State, Table, Texts, descriptions}
@@ -23,10 +25,8 @@ use Rattle.alt_tablerows.specs.Good.{IsGood}
 use Rattle.alt_opening.specs.Recovery.{Agrees}
 use Rattle.alt_opening.specs.Scans.{IsItemAt, ItemsRead}
 use Rattle.alt_opening.specs.StateRows.{HasMoment, catalog_family, table_row, next_row}
-use Rattle.alt_tablerows.proofs.Ties.{tied, itself}
 use Rattle.alt_opening.proofs.ChosenLaws.{AllRead, IsRead, map_read}
 use Rattle.alt_opening.proofs.Maps.{same_texts}
-use Rattle.alt_opening.proofs.OneState.{some}
 use Rattle.alt_value.specs.Tree.{Pair}
 
 -- A state whose rows of the catalog and of tables these are, and whose tables are those of the catalog.
@@ -133,7 +133,7 @@ module _ (l : Layout) (family : ℕ) (catalog : Texts TableSchema)
       by true e at = absurd (let none : None ≡ Some row = at in cc none)
       by false e at =
           let (d, is) = read.read name row tt (λ none. false≢true
-          (sym e ∙ ap (λ k. eq_by_cmp key_cmp k []) none ∙ itself [])) at in
+          (sym e ∙ ap (λ k. eq_by_cmp key_cmp k []) none ∙ key_itself [])) at in
           let m = items_of d (items name d is) in
           let c = list name d is in (
             record { description = d; items = m.0; changes = c.1; trimmed = c.0 },
@@ -241,7 +241,7 @@ module _ (l : Layout) (family : ℕ) (catalog : Texts TableSchema)
       by : (b : Bool) → eq_by_cmp key_cmp key [] ≡ b → shown l catalog_family key
           ≡ (if eq_by_cmp key_cmp key [] then next_row family
           else option_map (λ t. table_row t.description) (map.get chosen.0 key))
-      by true e = ap (shown l catalog_family) (tied key [] e) ∙ read.next.row
+      by true e = ap (shown l catalog_family) (one_key key [] e) ∙ read.next.row
           ∙ ap (λ b. if b then next_row family
           else option_map (λ t. table_row t.description) (map.get chosen.0 key)) (sym e)
       by false e = sym (row_of key e) ∙ row _ (chosen.1 key)
@@ -267,10 +267,11 @@ module _ (l : Layout) (family : ℕ) (catalog : Texts TableSchema)
   apart_or_one name other t u at_t at_u not_apart = by (eq_by_cmp key_cmp name other) refl
     where
       by : (b : Bool) → eq_by_cmp key_cmp name other ≡ b → name ≡ other
-      by true e = tied name other e
+      by true e = one_key name other e
       by false e = absurd (not_apart (read.apart name other t.description u.description
           (table_is name t at_t).1 (table_is other u at_u).1
-          (λ same. false≢true (sym e ∙ ap (λ k. eq_by_cmp key_cmp k other) same ∙ itself other))))
+          (λ same. false≢true
+          (sym e ∙ ap (λ k. eq_by_cmp key_cmp k other) same ∙ key_itself other))))
 
   assembled_table : (name : List ℕ) (t : Table) → map.get chosen.0 name ≡ Some t
       → IsTable assembled_state name t

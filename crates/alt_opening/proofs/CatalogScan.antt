@@ -7,6 +7,7 @@ use Rattle.std.specs.FinMap as map
 use Rattle.alt_cells.specs.Changes.{Columns}
 use Rattle.alt_cells.specs.Keys.{key_cmp}
 use Rattle.alt_cells.proofs.CellLaws.{key_total, key_exact}
+use Rattle.alt_cells.proofs.SameKeys.{key_itself}
 use Rattle.alt_layout.specs.Layout.{Layout, shown}
 use Rattle.alt_machine.specs.State.{Texts}
 use Rattle.alt_machine.proofs.Looks.{at_insert, not_there}
@@ -15,7 +16,6 @@ use Rattle.alt_opening.specs.private.Opening.{CatalogWhere, IsCatalog, IsNextFam
 use Rattle.alt_tablerows.specs.Good.{IsGood}
 use Rattle.alt_opening.specs.Scans.{IsBelow, IsFirstFrom, IsNextRow}
 use Rattle.alt_opening.specs.StateRows.{catalog_family, table_row}
-use Rattle.alt_tablerows.proofs.Ties.{itself}
 use Rattle.alt_opening.proofs.NextRow.{below_after, after_below}
 use Rattle.alt_opening.proofs.Scanning.{below_or_not}
 
@@ -98,7 +98,8 @@ module _ (l : Layout) (next : ℕ) (catalog new : Texts TableSchema) (name after
           → (e : TableSchema) × (map.get new other ≡ Some e)
       by true e is_new h = (d, is_new ∙ ap (λ b. cond b (Some d) (map.get catalog other)) e)
       by false e is_new (inl same) = absurd (false≢true (sym e
-          ∙ ap (λ k. eq_by_cmp key_cmp k d.name) (same ∙ sym is.may.good.named) ∙ itself d.name))
+          ∙ ap (λ k. eq_by_cmp key_cmp k d.name) (same ∙ sym is.may.good.named)
+          ∙ key_itself d.name))
       by false e is_new (inr old) = (
         old.0,
         is_new

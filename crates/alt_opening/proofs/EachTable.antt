@@ -8,9 +8,9 @@ use Rattle.std.specs.List.{HoldsAt, list_any}
 use Rattle.std.specs.Ordering.{eq_by_cmp}
 use Rattle.std.proofs.lemmas.Bool.{false≢true}
 use Rattle.std.proofs.lemmas.List.{get_or_default}
+use Rattle.alt_cells.proofs.SameKeys.{one_key}
 use Rattle.alt_schema.specs.declared.schema.TableSchema.{TableSchema}
 use Rattle.alt_opening.specs.private.Opening.{IsLeastAbove, IsNextTable, shares}
-use Rattle.alt_tablerows.proofs.Ties.{tied}
 use Rattle.alt_opening.proofs.Listed.{AreInOrder, pairs, tables, get-found}
 use Rattle.alt_value.specs.Members.{text_order}
 
@@ -35,7 +35,7 @@ found_at (x ∷ xs) name d e =
           at = 0;
           within = omega arith;
           is = one;
-          named = tied name x.name same ∙ ap (λ (y : TableSchema). y.name) one;
+          named = one_key name x.name same ∙ ap (λ (y : TableSchema). y.name) one;
         }
     by behind false other e =
         let rest = behind e in record {

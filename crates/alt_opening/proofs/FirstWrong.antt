@@ -2,12 +2,14 @@
 use Rattle.std.proofs.Common.{◌≡◌, ◌≤◌, ◌<◌, inl, inr, ⊎_elim, ℕ, Bool, true, false, cond, List, [], Option, Some, None, refl, sym, ap, subst, ◌∙◌, arith, Contains, Less, T}
 use Rattle.std.proofs.lemmas.Bool.{false≢true}
 use Rattle.std.proofs.lemmas.Bool.Decides.{nat_tests}
+use Rattle.std.proofs.lemmas.Option.{same_Some}
 use Rattle.std.specs.Prelude.{◌==◌, ◌&&◌, ◌||◌, nat_lt, if◌then◌else◌, option_map}
 use Rattle.std.specs.Ordering.{eq_by_cmp, is_lt}
 use Rattle.std.specs.FinMap as map
+use Rattle.alt_base.proofs.Orderings.{is_lt-holds as less}
 use Rattle.alt_cells.specs.Changes.{Columns}
 use Rattle.alt_cells.specs.Keys.{key_cmp}
-use Rattle.alt_cells.proofs.Entries.{less}
+use Rattle.alt_cells.proofs.SameKeys.{key_itself, one_key}
 use Rattle.alt_layout.specs.Layout.{Layout, shown, IsFirstShown}
 use Rattle.alt_machine.specs.declared.TheConstants.{NUMBERS_END, FAMILIES_END}
 use Rattle.alt_machine.specs.State.{State, Table, Texts, families_of}
@@ -21,9 +23,7 @@ use Rattle.alt_opening.specs.Recovery.{Agrees, IsBefore, IsUpTo, IsFirstWrong}
 use Rattle.alt_opening.specs.Scans.{IsItemAt, IsFirstBad, ItemsRead}
 use Rattle.alt_opening.specs.StateRows.{catalog_family, table_row, next_row}
 use Rattle.alt_opening.proofs.Assembled.{AssembledRows, assembled, not_empty}
-use Rattle.alt_tablerows.proofs.Ties.{tied, itself}
 use Rattle.alt_opening.proofs.Cuts.{cut, shown-cut, shown-here, shown-not}
-use Rattle.alt_opening.proofs.OneState.{some}
 use Rattle.alt_tablerows.proofs.NextFamily.{next_row-one}
 use Rattle.alt_tablerows.specs.Good.{IsGood}
 use Rattle.alt_opening.proofs.Families.{own_family}
@@ -100,7 +100,7 @@ module _ (l : Layout) (Here : ℕ → List ℕ → Type 0) (r : State) (agrees :
           → Some row ≡ option_map (λ t. table_row t.description) o
           → (t : Table) × (map.get r.tables name ≡ Some t) × (row ≡ table_row t.description)
       by None at e = absurd (let no : Some row ≡ None = e in cc no)
-      by (Some t) at e = (t, at, some _ _ e)
+      by (Some t) at e = (t, at, same_Some _ _ e)
 
   -- the one that was described
   pub described_at : (name : List ℕ) (d : TableSchema) → Here catalog_family name
@@ -150,11 +150,11 @@ module _ (l : Layout) (next : ℕ) (catalog : Texts TableSchema) (read : IsCatal
   same_table name other d e at_d at_e same = by (eq_by_cmp key_cmp name other) refl
     where
       by : (b : Bool) → eq_by_cmp key_cmp name other ≡ b → d ≡ e
-      by true one = some d e (sym at_d ∙ ap (map.get catalog) (tied name other one) ∙ at_e)
+      by true one = same_Some d e (sym at_d ∙ ap (map.get catalog) (one_key name other one) ∙ at_e)
       by false differ =
           let apart : AreApart d e = read.apart name other d e at_d at_e
           (λ one. false≢true (sym differ ∙ ap (λ k. eq_by_cmp key_cmp k other) one
-          ∙ itself other)) in
+          ∙ key_itself other)) in
           absurd (apart.families d.family (own_family d)
           (subst (Contains (families_of e)) (sym same) (own_family e)))
 
@@ -257,7 +257,7 @@ module _ (l : Layout) (next : ℕ) (catalog : Texts TableSchema) (read : IsCatal
                   whole = (agrees.held.items.items name key t item there e, stored.full);
                   depth = stored.depth;
                 };
-                row = some _ _ (shows ∙ ap (option_map item_columns) e);
+                row = same_Some _ _ (shows ∙ ap (option_map item_columns) e);
               })
 
   -- a row of a family from the next one on

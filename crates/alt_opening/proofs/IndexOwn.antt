@@ -1,19 +1,19 @@
 -- Whether a row that an index shows is that of an item of its table: the item is found by what the index keeps of it.
-use Rattle.std.proofs.Common.{◌≡◌, sym, ap, subst, ◌∙◌, ℕ, Bool, true, false, List, Option, Some, None, option_map, IsTrue}
-use Rattle.std.specs.Prelude.{◌↔◌, if◌then◌else◌}
+use Rattle.std.proofs.Common.{◌≡◌, sym, ap, subst, ◌∙◌, ℕ, Bool, List, Option, Some, None, option_map, IsTrue}
+use Rattle.std.proofs.lemmas.Option.{same_Some}
+use Rattle.std.specs.Prelude.{◌↔◌}
 use Rattle.alt_cells.specs.Changes.{Columns}
 use Rattle.alt_layout.specs.Layout.{Layout, shown}
 use Rattle.alt_machine.specs.Keys.{place_of}
 use Rattle.alt_machine.specs.Sources.{index_at}
 use Rattle.alt_machine.specs.Valid.{IsMade}
 use Rattle.alt_machine.proofs.Indexing.{is_entry}
-use Rattle.alt_schema.specs.Indexes.{cut, index_row, is_in_index}
 use Rattle.alt_schema.specs.declared.schema.IndexSchema.{IndexSchema}
 use Rattle.alt_schema.specs.declared.schema.TableSchema.{TableSchema}
 use Rattle.alt_opening.specs.private.IndexScans.{HasRow, TellsMissingOf}
 use Rattle.alt_opening.specs.Scans.{ItemsRead}
 use Rattle.alt_opening.proofs.IndexRead.{inside, row_of}
-use Rattle.alt_opening.proofs.OneState.{some}
+use Rattle.alt_schema.proofs.CutRows.{is_cut}
 use Rattle.alt_value.specs.Tree.{Pair}
 use Rattle.alt_tablerows.specs.IndexRows.{built_row}
 use Rattle.alt_tablerows.specs.ItemRows.{IsReadItem, item_columns}
@@ -22,15 +22,6 @@ use Rattle.alt_tablerows.specs.DeclaredIndexRow.{IndexRow}
 use Rattle.alt_tablerows.proofs.Keeping.{kept_at, own_place-cut}
 
 -- ---- the place of what is kept
-
-is_cut : (d : TableSchema) (i : IndexSchema) (item row : List Pair)
-    → index_row d item i ≡ Some row → cut d i item ≡ row
-is_cut d i item row e = by_test (is_in_index i item) e
-  where
-    by_test : (b : Bool) → (if b then Some (cut d i item) else None) ≡ Some row
-        → cut d i item ≡ row
-    by_test true e = some (cut d i item) row e
-    by_test false e = absurd (let no : None ≡ Some row = e in cc no)
 
 module _ (l : Layout) (d : TableSchema) (number : ℕ) (i : IndexSchema) (made : IsMade d)
     (at : index_at d (Some number) ≡ Some i) (key : List ℕ) (columns : Columns) where
@@ -62,7 +53,7 @@ module _ (l : Layout) (d : TableSchema) (number : ℕ) (i : IndexSchema) (made :
         → HasRow l d i key columns → ⊥
     unshown p is none has =
         let no : None ≡ Some (item_columns has.item) = sym none
-        ∙ ap (shown l d.family) (some _ _ (sym is ∙ placed has)) ∙ has.there.shows in cc no
+        ∙ ap (shown l d.family) (same_Some _ _ (sym is ∙ placed has)) ∙ has.there.shows in cc no
 
     -- and else exactly where the item there has it
     pub own_is : ItemsRead l d → (p : List ℕ) → place ≡ Some p → (row : Columns)
@@ -84,7 +75,7 @@ module _ (l : Layout) (d : TableSchema) (number : ℕ) (i : IndexSchema) (made :
             row = (tells item there.read there.row).0 yes;
           },
       λ has. (tells has.item has.there.read
-          (some _ _ (sym shows ∙ ap (shown l d.family) (some _ _ (sym is_p ∙ placed has))
+          (same_Some _ _ (sym shows ∙ ap (shown l d.family) (same_Some _ _ (sym is_p ∙ placed has))
           ∙ has.there.shows))).1 has.row,
     )
 

@@ -1,5 +1,6 @@
 -- What each key of an index shows, and what a state's items give the index there.
 use Rattle.std.proofs.Common.{◌≡◌, refl, sym, ap, ◌∙◌, ℕ, Bool, true, false, cond, List, Option, Some, None, option_map}
+use Rattle.std.proofs.lemmas.Option.{same_Some}
 use Rattle.std.specs.Option.{option_map_or}
 use Rattle.std.specs.Prelude.{if◌then◌else◌}
 use Rattle.std.specs.FinMap as map
@@ -19,7 +20,7 @@ use Rattle.alt_schema.specs.declared.schema.TableSchema.{TableSchema}
 use Rattle.alt_opening.specs.private.IndexScans.{HasRow, IsItemThere, IsRightAt}
 use Rattle.alt_opening.specs.Recovery.{AgreesWhole}
 use Rattle.alt_opening.specs.StateRows.{index_rows}
-use Rattle.alt_opening.proofs.OneState.{has_whole, some}
+use Rattle.alt_opening.proofs.OneState.{has_whole}
 use Rattle.alt_value.specs.Tree.{Pair}
 use Rattle.alt_tablerows.specs.IndexRows.{KeyedRow, built_row, index_columns, row_in_index}
 use Rattle.alt_tablerows.specs.ItemRows.{item_columns}
@@ -44,7 +45,7 @@ row_of d i item key columns has = by (index_entry d i item) refl has
         → IsRowOf d i item key columns
     by None is has = absurd (let no : None ≡ Some (key, columns) = has in cc no)
     by (Some e) is has =
-        let one : (e.0, index_columns d i e.1) ≡ (key, columns) = some _ _ has in
+        let one : (e.0, index_columns d i e.1) ≡ (key, columns) = same_Some _ _ has in
         record {
           kept = e.1;
           entry = is ∙ ap (λ (r : List ℕ × Columns). Some (r.0, e.1)) one;
@@ -96,7 +97,8 @@ module _ (l : Layout) (s : State) (agrees : AgreesWhole l s) (name : List ℕ) (
           cc no)
       by (Some x) e = ap (λ y. Some y) (item_columns-one x item (item_there place x e).read.whole
           there.read.whole
-          (some _ _ (sym (agrees.rows.items name t at place tt ∙ ap (option_map item_columns) e)
+          (same_Some _ _
+          (sym (agrees.rows.items name t at place tt ∙ ap (option_map item_columns) e)
           ∙ there.shows)))
 
   -- ---- an index of it
@@ -168,7 +170,7 @@ module _ (l : Layout) (s : State) (agrees : AgreesWhole l s) (name : List ℕ) (
                   (reached_at t.description i.built g.1.0 g.0 there.stored.stands ∙ of.1)
                   ∙ ap (option_map {U = List ℕ × Columns}
                   (λ e. (e.0, index_columns t.description i e.1))) g.1.1.1
-                  ∙ ap (λ c. Some (key, c)) (some _ _ is);
+                  ∙ ap (λ c. Some (key, c)) (same_Some _ _ is);
             }
 
     -- So a key is right exactly where the index shows what the items give.

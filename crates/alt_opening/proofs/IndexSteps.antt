@@ -1,6 +1,7 @@
 -- The rows of an index and of the items beside it, read one after the other.
-use Rattle.std.proofs.Common.{◌≡◌, ◌⊎◌, ◌<◌, ◌≤◌, ◌+◌, ⊎_elim, refl, sym, ap, subst, ◌∙◌, ◌++◌, ◌∷◌, [], ℕ, zero, suc, List, length, Option, Some, None, IfSome, slice_get, arith}
-use Rattle.std.proofs.lemmas.Option.{slice_get_within}
+use Rattle.std.proofs.Common.{◌≡◌, ◌⊎◌, ◌<◌, ◌≤◌, ◌+◌, ⊎_elim, refl, sym, ap, subst, ◌∙◌, ◌++◌, ◌∷◌, [], ℕ, List, length, Option, Some, None, IfSome, arith}
+use Rattle.std.proofs.lemmas.Option.{slice_get_within, same_Some as some}
+use Rattle.alt_base.proofs.Lists.{get-within}
 use Rattle.alt_cells.specs.Changes.{Columns}
 use Rattle.alt_layout.specs.Layout.{Layout, shown}
 use Rattle.alt_machine.specs.Sources.{index_at}
@@ -12,7 +13,6 @@ use Rattle.alt_opening.specs.Scans.{IsBelow, IsFirstFrom, IsNextRow, ItemsRead, 
 use Rattle.alt_opening.specs.declared.faults.OpenFault.{OpenFault}
 use Rattle.alt_opening.specs.declared.faults.OpenFault.TheVariants.{Damaged, DigestDiffers, BadRow, Failed, NoMemory}
 use Rattle.alt_opening.proofs.IndexKeys.{ahead_first, ahead_second, not_itself, of_lesser}
-use Rattle.alt_opening.proofs.OneState.{some}
 use Rattle.alt_opening.proofs.Scanning.{rows_all, rows_more, rows_next, rows_none}
 use Rattle.alt_value.specs.Tree.{Pair}
 use Rattle.alt_tablerows.specs.ItemRows.{item_columns}
@@ -150,12 +150,6 @@ module _ (l : Layout) (d : TableSchema) (i : IndexSchema) where
 
 -- ---- the indexes of a table
 
--- there is one of each lesser number
-there_is : {A : Type 0} (xs : List A) (n : ℕ) → n < length xs → (x : A) × (slice_get xs n ≡ Some x)
-there_is [] n within = absurd (omega (arith, within))
-there_is (x ∷ xs) zero within = (x, refl)
-there_is (x ∷ xs) (suc n) within = there_is xs n (omega (arith, within))
-
 before_or_at : (n k : ℕ) → n < k + 1 → (n < k) ⊎ (n ≡ k)
 before_or_at n k within = grind arith
 
@@ -186,11 +180,11 @@ module _ (l : Layout) (d : TableSchema) where
       → ((i : IndexSchema) → index_at d (Some number) ≡ Some i → IsIndexFault l d i fault)
       → IsOwnFault l d fault
   own_wrong number within so_far (Damaged file at) wrong =
-      let (i, at) = there_is (indexes d) number within in wrong i at
+      let (i, at) = get-within (indexes d) number within in wrong i at
   own_wrong number within so_far (DigestDiffers file kept found) wrong =
-      let (i, at) = there_is (indexes d) number within in wrong i at
+      let (i, at) = get-within (indexes d) number within in wrong i at
   own_wrong number within so_far (BadRow family key) wrong =
-      let (i, at) = there_is (indexes d) number within in
+      let (i, at) = get-within (indexes d) number within in
       let is = wrong i at in
       record {
         number = number;

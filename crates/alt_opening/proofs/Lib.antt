@@ -43,4 +43,4 @@ pub use Rattle.alt_engine.proofs.HandSegmentFiles as HandSegmentFiles
 pub use Rattle.alt_tablerows.proofs.OneColumn
 pub use Rattle.alt_tablerows.proofs.OneIndex
 pub use Rattle.alt_tablerows.proofs.TableRow
-pub use Rattle.alt_tablerows.proofs.Ties
+pub use Rattle.alt_engine.proofs.EngineLaws

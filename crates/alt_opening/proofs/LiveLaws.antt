@@ -4,6 +4,8 @@ use Rattle.std.specs.Prelude.{◌⊎◌, ◌≢◌}
 use Rattle.std.specs.FinMap as map
 use Rattle.std.specs.Ordering.{eq_by_cmp}
 use Rattle.std.proofs.lemmas.Bool.{false≢true}
+use Rattle.std.proofs.lemmas.Option.{same_Some}
+use Rattle.alt_cells.proofs.SameKeys.{key_itself, one_key}
 use Rattle.alt_machine.specs.State.{Texts, families_of}
 use Rattle.alt_manifest.specs.Versions.{IsIn}
 use Rattle.alt_schema.specs.declared.schema.TableSchema.{TableSchema}
@@ -13,8 +15,6 @@ use Rattle.alt_opening.proofs.EachTable.{at_name, stands_at}
 use Rattle.alt_opening.proofs.Listed.{AreInOrder, tables}
 use Rattle.alt_opening.proofs.LiveLists.{all_in, contained_in, in_all, in_contained, in_without, without_in}
 use Rattle.alt_opening.proofs.Maps.{same_texts}
-use Rattle.alt_opening.proofs.OneState.{some}
-use Rattle.alt_tablerows.proofs.Ties.{itself, tied}
 use Rattle.alt_value.specs.Members.{text_order}
 use Rattle.alt_value.proofs.Texts.{text_total}
 
@@ -111,7 +111,7 @@ module _ (catalog : Texts TableSchema) (live : List ℕ) (are : AreLiveIn catalo
       name = d.name;
       description = d;
       there = map.get-insert text_total catalog d.name d d.name
-          ∙ ap (λ b. cond b (Some d) (map.get catalog d.name)) (itself d.name);
+          ∙ ap (λ b. cond b (Some d) (map.get catalog d.name)) (key_itself d.name);
       has = in_contained (families_of d) f new;
     }))
         (λ (old : IsIn live f). ⊎_elim (λ (own : f ≡ catalog_family). inl own)
@@ -130,7 +130,7 @@ module _ (catalog : Texts TableSchema) (live : List ℕ) (are : AreLiveIn catalo
           → cond b (Some d) (map.get catalog of.name) ≡ Some of.description
           → IsIn (families_of d) f ⊎ IsIn live f
       each f of true at = inl (contained_in (families_of d) f
-          (subst (λ (t : TableSchema). Contains (families_of t) f) (sym (some _ _ at)) of.has))
+          (subst (λ (t : TableSchema). Contains (families_of t) f) (sym (same_Some _ _ at)) of.has))
       each f of false at = inr (are.each f (record {
         name = of.name;
         description = of.description;
@@ -142,7 +142,7 @@ module _ (catalog : Texts TableSchema) (live : List ℕ) (are : AreLiveIn catalo
           → eq_by_cmp text_order name d.name ≡ b
           → cond b (Some d) (map.get catalog name) ≡ Some e
       there_still name e at true same = absurd (let no : None ≡ Some e =
-          sym absent ∙ ap (map.get catalog) (sym (tied name d.name same)) ∙ at in
+          sym absent ∙ ap (map.get catalog) (sym (one_key name d.name same)) ∙ at in
           let g : ⊥ = cc in g)
       there_still name e at false other = at
 
@@ -168,7 +168,8 @@ module _ (catalog : Texts TableSchema) (live : List ℕ) (are : AreLiveIn catalo
         description = d;
         there = here;
         has = subst (λ fs. Contains fs f) same
-            (subst (λ (t : TableSchema). Contains (families_of t) f) (sym (some _ _ at)) of.has);
+            (subst (λ (t : TableSchema). Contains (families_of t) f)
+            (sym (same_Some _ _ at)) of.has);
       }
       was f of false tie at =
           record { name = of.name; description = of.description; there = at; has = of.has }
@@ -182,7 +183,8 @@ module _ (catalog : Texts TableSchema) (live : List ℕ) (are : AreLiveIn catalo
         there = at;
         has = subst (λ fs. Contains fs f) (sym same)
             (subst (λ (t : TableSchema). Contains (families_of t) f)
-            (some _ _ (sym of.there ∙ ap (map.get catalog) (tied of.name name tie) ∙ here)) of.has);
+            (same_Some _ _ (sym of.there ∙ ap (map.get catalog) (one_key of.name name tie) ∙ here))
+            of.has);
       }
       is f of false tie at = record {
         name = of.name;
@@ -223,7 +225,7 @@ module _ (catalog : Texts TableSchema) (live : List ℕ) (are : AreLiveIn catalo
           }))
           (inr (λ own. apart of.name of.description f at
           (λ same. false≢true (sym other ∙ ap (λ k. eq_by_cmp text_order k name) same
-          ∙ itself name)) of.has (in_contained (families_of d) f own)))
+          ∙ key_itself name)) of.has (in_contained (families_of d) f own)))
 
       only : (f : ℕ) (of : IsOfTable catalog f)
           → (f ≡ catalog_family) ⊎ (IsIn (families_of d) f → ⊥) → (b : Bool)
@@ -232,7 +234,7 @@ module _ (catalog : Texts TableSchema) (live : List ℕ) (are : AreLiveIn catalo
       only f of kept true same = ⊎_elim (λ (own : f ≡ catalog_family). inl own)
           (λ (none : IsIn (families_of d) f → ⊥). absurd (none (contained_in (families_of d) f
           (subst (λ (t : TableSchema). Contains (families_of t) f)
-          (some _ _ (sym of.there ∙ ap (map.get catalog) (tied of.name name same) ∙ here))
+          (same_Some _ _ (sym of.there ∙ ap (map.get catalog) (one_key of.name name same) ∙ here))
           of.has)))) kept
       only f of kept false other = inr (record {
         name = of.name;
@@ -255,7 +257,7 @@ module _ (catalog : Texts TableSchema) (live : List ℕ) (are : AreLiveIn catalo
   absent : map.get (map.remove catalog name) e.name ≡ None
   absent = ap (map.get (map.remove catalog name)) named
       ∙ map.get-remove text_total catalog name name
-      ∙ ap (λ b. cond b None (map.get catalog name)) (itself name)
+      ∙ ap (λ b. cond b None (map.get catalog name)) (key_itself name)
 
   same : (q : List ℕ) → map.get (map.insert (map.remove catalog name) e.name e) q
       ≡ map.get (map.insert catalog name e) q

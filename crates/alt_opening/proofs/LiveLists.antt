@@ -2,9 +2,10 @@
 use Rattle.std.proofs.Common.{◌≡◌, ◌≤◌, ◌<◌, ◌+◌, ◌==◌, ◌||◌, ⊎_elim, inl, inr, refl, sym, ap, subst, ◌∙◌, ℕ, zero, suc, Bool, true, false, not, nat_lt, List, [], ◌∷◌, length, get_or, Contains, arith}
 use Rattle.std.specs.Prelude.{◌⊎◌, ◌≢◌, if◌then◌else◌}
 use Rattle.std.specs.List.{list_any}
-use Rattle.std.proofs.lemmas.Bool.{eqb-true, eq-eqb, false≢true, ltb-false, ltb-true}
+use Rattle.std.proofs.lemmas.Bool.{eqb-true, eq-eqb, false≢true, ltb-false, ltb-true, not-false}
 use Rattle.alt_engine.specs.HandWorking.{AreLive}
 use Rattle.alt_manifest.specs.Versions.{IsIn, RiseFrom}
+use Rattle.alt_manifest.proofs.Among.{rise_lower}
 use Rattle.alt_opening.specs.Live.{with_all, with_first, with_one, without_all}
 use Rattle.alt_opening.specs.StateRows.{catalog_family}
 use Rattle.alt_tablerows.proofs.GoodLaws.{found_is}
@@ -39,11 +40,6 @@ past m n low other = ⊎_elim (λ (e : n ≡ m). absurd (other e))
     either (suc m) zero low = absurd (omega (arith, low))
     either (suc m) (suc n) low = ⊎_elim (λ (e : n ≡ m). inl (ap suc e))
         (λ (above : m + 1 ≤ n). inr (omega (arith, above))) (either m n (omega (arith, low)))
-
--- numbers that rise from one on rise from a lesser one on
-rise_earlier : (m n : ℕ) (xs : List ℕ) → m ≤ n → RiseFrom n xs → RiseFrom m xs
-rise_earlier m n [] low rise = tt
-rise_earlier m n (x ∷ xs) low rise = (let first = rise.0 in omega (arith, low, first), rise.1)
 
 -- ---- one more
 
@@ -151,10 +147,6 @@ live_all fs live are = record {
 abbrev stays : List ℕ → ℕ → Bool
 stays fs g = g == catalog_family || not (list_any (λ f. f == g) fs)
 
-not_false : (b : Bool) → not b ≡ false → b ≡ true
-not_false true e = refl
-not_false false e = absurd (false≢true (sym e))
-
 -- what stays is that of the catalog, or none of those that go
 stays_is : (fs : List ℕ) (g : ℕ) → stays fs g ≡ true → (g ≡ catalog_family) ⊎ (IsIn fs g → ⊥)
 stays_is fs g passes = by (g == catalog_family) refl passes
@@ -174,7 +166,7 @@ goes_is fs g fails = by (g == catalog_family) refl fails
     by true e fails = absurd (false≢true (sym fails))
     by false e fails = (
       λ same. false≢true (sym e ∙ eq-eqb g catalog_family same),
-      contained_in fs g ((found_is g fs).0 (not_false (list_any (λ f. f == g) fs) fails)),
+      contained_in fs g ((found_is g fs).0 (not-false (list_any (λ f. f == g) fs) fails)),
     )
 
 -- what is in the list without several was in it, and is that of the catalog or none of them
@@ -223,7 +215,7 @@ rises_without n fs (g ∷ gs) rise =
     by : RiseFrom (g + 1) (without_all fs gs) → (b : Bool)
         → RiseFrom n (if b then g ∷ without_all fs gs else without_all fs gs)
     by rest true = (rise.0, rest)
-    by rest false = rise_earlier n (g + 1) (without_all fs gs)
+    by rest false = rise_lower n (g + 1) (without_all fs gs)
         (let low = rise.0 in omega (arith, low)) rest
 
 -- they are live still

@@ -9,8 +9,11 @@ use Rattle.std.specs.declared.cmp.Ordering.TheVariants.{Less, Equal, Greater}
 use Rattle.std.specs.Ordering.{eq_by_cmp, is_lt}
 use Rattle.std.specs.Cmp.{tied_itself}
 use Rattle.std.specs.FinMap.Entries.{find, put, where_key, below_all, is_sorted}
+use Rattle.alt_base.proofs.Bools.{first_holds, second_holds}
+use Rattle.alt_base.proofs.Orderings.{is_lt-holds}
 use Rattle.alt_value.specs.Members.{text_order}
-use Rattle.alt_value.proofs.Places.{first, second, less, turned, Rises, Before, After, before_tied}
+use Rattle.alt_value.proofs.Places.{turned, Rises, Before, After, before_tied}
+use Rattle.alt_value.proofs.TextTies.{same_text}
 use Rattle.alt_value.proofs.Texts.{text_total, text_apart}
 
 -- a name against another, and the other way round
@@ -19,9 +22,6 @@ name_after name other h = turned text_order text_total other name Less h
 
 name_before : (name other : List ℕ) → text_order other name ≡ Greater → text_order name other ≡ Less
 name_before name other h = turned text_order text_total other name Greater h
-
-name_itself : (name other : List ℕ) → other ≡ name → text_order name other ≡ Equal
-name_itself name other e = rw e (tied_itself text_total name)
 
 module _ {E X : Type 0} (name_of : E → List ℕ) (seen : E → X) where
   -- an entry as a pair of its name and what it stands for
@@ -45,16 +45,16 @@ module _ {E X : Type 0} (name_of : E → List ℕ) (seen : E → X) where
       → k < length es
       → text_order x (name_of (get_or es k d)) ≡ Less
   below_at x [] k d h within = absurd (omega arith)
-  below_at x (e ∷ es) zero d h within = less _ (first _ _ h)
-  below_at x (e ∷ es) (suc k) d h within = below_at x es k d (second _ _ h) (omega arith)
+  below_at x (e ∷ es) zero d h within = is_lt-holds _ (first_holds _ _ h)
+  below_at x (e ∷ es) (suc k) d h within = below_at x es k d (second_holds _ _ h) (omega arith)
 
   rises : (es : List E) → IsInOrder es → Rises text_order text_total name_of es
   rises [] h i j d below within = absurd (omega arith)
   rises (e ∷ es) h i zero d below within = absurd (omega arith)
   rises (e ∷ es) h zero (suc j) d below within =
-      below_at (name_of e) es j d (first _ _ h) (omega arith)
+      below_at (name_of e) es j d (first_holds _ _ h) (omega arith)
   rises (e ∷ es) h (suc i) (suc j) d below within =
-      rises es (second _ _ h) i j d (omega arith) (omega arith)
+      rises es (second_holds _ _ h) i j d (omega arith) (omega arith)
 
   -- where the name is above an entry, it is above those before it too
   pub below_more : (name : List ℕ) (es : List E) (i : ℕ) (e : E) → IsInOrder es → i < length es
@@ -154,9 +154,9 @@ module _ {E X : Type 0} (name_of : E → List ℕ) (seen : E → X) where
       → where_key text_order (λ x. not (eq_by_cmp text_order name x)) (map entry es) ≡ map entry es
   where_key-above name other [] e h = refl
   where_key-above name other (f ∷ fs) e h =
-      let p : text_order name (name_of f) ≡ Less = rw (← e) (less _ (first _ _ h)) in
+      let p : text_order name (name_of f) ≡ Less = rw (← e) (is_lt-holds _ (first_holds _ _ h)) in
       rw p (ap (λ (ps : List (List ℕ × X)). entry f ∷ ps)
-      (where_key-above name other fs e (second _ _ h)))
+      (where_key-above name other fs e (second_holds _ _ h)))
 
   -- ---- a name that stands there
 
@@ -164,7 +164,7 @@ module _ {E X : Type 0} (name_of : E → List ℕ) (seen : E → X) where
   pub find-stands : (name : List ℕ) (es : List E) (i : ℕ) (d : E) → Stands name es i
       → find text_order name (map entry es) ≡ Some (seen (get_or es i d))
   find-stands name [] i d s = let w : i < 0 = s.within in absurd (omega arith)
-  find-stands name (e ∷ es) zero d s = rw (name_itself name (name_of e) (s.same e)) refl
+  find-stands name (e ∷ es) zero d s = rw (same_text name (name_of e) (s.same e)) refl
   find-stands name (e ∷ es) (suc i) d s =
       rw (name_after name (name_of e) (s.before 0 e (omega arith)))
       (find-stands name es i d (later_stands name e es i s))
@@ -175,7 +175,7 @@ module _ {E X : Type 0} (name_of : E → List ℕ) (seen : E → X) where
       → put text_order name (seen f) (map entry es) ≡ map entry (set es i f)
   put-stands name [] i f n s = let w : i < 0 = s.within in absurd (omega arith)
   put-stands name (e ∷ es) zero f n s =
-      rw (name_itself name (name_of e) (s.same e))
+      rw (same_text name (name_of e) (s.same e))
       (ap (λ (x : List ℕ). (x, seen f) ∷ map entry es) (s.same e ∙ sym n))
   put-stands name (e ∷ es) (suc i) f n s =
       rw (name_after name (name_of e) (s.before 0 e (omega arith)))
@@ -188,12 +188,12 @@ module _ {E X : Type 0} (name_of : E → List ℕ) (seen : E → X) where
       ≡ map entry (remove es i)
   where_key-stands name [] i sorted s = let w : i < 0 = s.within in absurd (omega arith)
   where_key-stands name (e ∷ es) zero sorted s =
-      rw (name_itself name (name_of e) (s.same e))
-      (where_key-above name (name_of e) es (s.same e) (first _ _ sorted))
+      rw (same_text name (name_of e) (s.same e))
+      (where_key-above name (name_of e) es (s.same e) (first_holds _ _ sorted))
   where_key-stands name (e ∷ es) (suc i) sorted s =
       rw (name_after name (name_of e) (s.before 0 e (omega arith)))
       (ap (λ (ps : List (List ℕ × X)). entry e ∷ ps)
-      (where_key-stands name es i (second _ _ sorted) (later_stands name e es i s)))
+      (where_key-stands name es i (second_holds _ _ sorted) (later_stands name e es i s)))
 
   -- ---- a name that isn't there
 
@@ -256,7 +256,7 @@ module _ {E X : Type 0} (name_of : E → List ℕ) (seen : E → X) where
       ≡ option_map entry (slice_get es 0)
   next_above name other [] e h = refl
   next_above name other (f ∷ fs) e h = let p : text_order name (name_of f) ≡ Less =
-      rw (← e) (less _ (first _ _ h)) in rw p refl
+      rw (← e) (is_lt-holds _ (first_holds _ _ h)) in rw p refl
 
   -- the first entry above the name is the one behind it
   pub next_stands : (name : List ℕ) (es : List E) (i : ℕ) → IsInOrder es → Stands name es i
@@ -264,11 +264,11 @@ module _ {E X : Type 0} (name_of : E → List ℕ) (seen : E → X) where
       ≡ option_map entry (slice_get es (suc i))
   next_stands name [] i sorted s = let w : i < 0 = s.within in absurd (omega arith)
   next_stands name (e ∷ es) zero sorted s =
-      rw (name_itself name (name_of e) (s.same e))
-      (next_above name (name_of e) es (s.same e) (first _ _ sorted))
+      rw (same_text name (name_of e) (s.same e))
+      (next_above name (name_of e) es (s.same e) (first_holds _ _ sorted))
   next_stands name (e ∷ es) (suc i) sorted s =
       rw (name_after name (name_of e) (s.before 0 e (omega arith)))
-      (next_stands name es i (second _ _ sorted) (later_stands name e es i s))
+      (next_stands name es i (second_holds _ _ sorted) (later_stands name e es i s))
 
   -- the value that was found is what the entry that was found stands for
   value_of : (o : Option E) → option_map (λ (p : List ℕ × X). p.1) (option_map entry o)

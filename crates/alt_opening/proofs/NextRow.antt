@@ -9,17 +9,18 @@ use Rattle.std.specs.declared.ops.Bound.TheVariants.{Included, Unbounded}
 use Rattle.std.specs.Ordering.{nat_cmp, eq_by_cmp, is_eq, is_le, ordering_reverse, ordering_then}
 use Rattle.std.specs.Cmp.{tied_itself, nat_cmp_is}
 use Rattle.std.proofs.lemmas.Cmp.{nat_cmp_total}
+use Rattle.std.proofs.lemmas.Option.{same_Some}
 use Rattle.std.specs.FinMap.{nat_cmp-IsAntisymmetric, entries, entries_sorted, get-entries}
 use Rattle.std.specs.FinMap.Entries.{find, is_sorted, below_all}
+use Rattle.alt_base.proofs.Bools.{first_holds, second_holds}
 use Rattle.alt_cells.specs.Changes.{Columns}
 use Rattle.alt_cells.specs.Keys.{key_cmp}
 use Rattle.alt_cells.proofs.CellLaws.{key_total}
-use Rattle.alt_cells.proofs.Entries.{first, second, below_less, find_below}
+use Rattle.alt_cells.proofs.Entries.{below_less, find_below}
+use Rattle.alt_cells.proofs.SameKeys.{key_itself, one_key}
 use Rattle.alt_layout.specs.Layout.{Layout, shown_rows, rows_between}
+use Rattle.alt_layout.proofs.ShownLaws.{get-shown_rows}
 use Rattle.alt_opening.specs.Scans.{IsBelow, IsNextRow}
-use Rattle.alt_tablerows.proofs.Ties.{tied, itself}
-use Rattle.alt_opening.proofs.OverEngine.{finds_shown}
-use Rattle.alt_opening.proofs.OneState.{some}
 
 -- the first entry whose key passes a test
 module _ {X : Type 0} (p : List ℕ → Bool) where
@@ -41,7 +42,7 @@ module _ {X : Type 0} (p : List ℕ → Bool) where
           key : (b : Bool) → eq_by_cmp key_cmp k x.0 ≡ b
               → cond b (Some x.1) (find key_cmp k xs) ≡ None
           key true same = absurd (false≢true
-              (sym is ∙ ap p (sym (tied k x.0 same)) ∙ passes))
+              (sym is ∙ ap p (sym (one_key k x.0 same)) ∙ passes))
           key false other = rest e
 
   -- what comes of one
@@ -54,15 +55,15 @@ module _ {X : Type 0} (p : List ℕ → Bool) where
       → slice_get (passing es) 0 ≡ Some x → IsFirst es x
   some_first [] x sorted e = absurd (let no : None ≡ Some x = e in cc no)
   some_first (y ∷ ys) x sorted e =
-      by (λ f. some_first ys x (second (below_all key_cmp y.0 ys) _ sorted) f) (p y.0) refl e
+      by (λ f. some_first ys x (second_holds (below_all key_cmp y.0 ys) _ sorted) f) (p y.0) refl e
     where
       below : T (below_all key_cmp y.0 ys)
-      below = first _ (is_sorted key_cmp ys) sorted
+      below = first_holds _ (is_sorted key_cmp ys) sorted
 
       by : (slice_get (passing ys) 0 ≡ Some x → IsFirst ys x) → (b : Bool) → p y.0 ≡ b
           → slice_get (cond b (y ∷ passing ys) (passing ys)) 0 ≡ Some x → IsFirst (y ∷ ys) x
-      by behind true is e = subst (IsFirst (y ∷ ys)) (some y x e) (record {
-        there = ap (λ b. cond b (Some y.1) (find key_cmp y.0 ys)) (itself y.0);
+      by behind true is e = subst (IsFirst (y ∷ ys)) (same_Some y x e) (record {
+        there = ap (λ b. cond b (Some y.1) (find key_cmp y.0 ys)) (key_itself y.0);
         passes = is;
         before = λ k passes low. ap (λ b. cond b (Some y.1) (find key_cmp k ys)) (ap is_eq low)
             ∙ find_below key_cmp key_total k ys
@@ -82,7 +83,7 @@ module _ {X : Type 0} (p : List ℕ → Bool) where
               key : (b : Bool) → eq_by_cmp key_cmp k y.0 ≡ b
                   → cond b (Some y.1) (find key_cmp k ys) ≡ find key_cmp k ys
               key true same = absurd (false≢true
-                  (sym is ∙ ap p (sym (tied k y.0 same)) ∙ passes))
+                  (sym is ∙ ap p (sym (one_key k y.0 same)) ∙ passes))
               key false differs = refl
 
 -- ---- from a key on
@@ -108,7 +109,7 @@ from_passes from k passes low = false≢true (sym (ap (λ r. is_le r && true)
 -- The first of the rows from a key on is the next one.
 pub next_row_is : (l : Layout) (family : ℕ) (from : List ℕ) (o : Option (List ℕ × Columns))
     → o ≡ slice_get (rows_between l family from None true) 0 → IsNextRow l family from o
-next_row_is l family from None e = λ k above. sym (finds_shown l family k)
+next_row_is l family from None e = λ k above. sym (get-shown_rows l family k)
     ∙ get-entries (shown_rows l family) k
     ∙ none_first (from_on from) (entries (shown_rows l family)) (sym e) k
     (passes_from from k above)
@@ -116,9 +117,9 @@ next_row_is l family from (Some x) e =
     let is = some_first (from_on from) (entries (shown_rows l family)) x
     (entries_sorted (shown_rows l family)) (sym e) in
     record {
-      shows = sym (finds_shown l family x.0) ∙ get-entries (shown_rows l family) x.0 ∙ is.there;
+      shows = sym (get-shown_rows l family x.0) ∙ get-entries (shown_rows l family) x.0 ∙ is.there;
       later = from_passes from x.0 is.passes;
-      between = λ k above low. sym (finds_shown l family k)
+      between = λ k above low. sym (get-shown_rows l family k)
           ∙ get-entries (shown_rows l family) k
           ∙ is.before k (passes_from from k above) low;
     }

@@ -2,6 +2,7 @@
 use Rattle.std.proofs.Common.{subst, arith, ◌≡◌, ◌<◌, ◌^◌, ℕ, Bool, true, List, [], ◌∷◌, Option, Some, None, refl, sym, ap, ◌∙◌}
 use Rattle.std.specs.Prelude.{option_map}
 use Rattle.std.proofs.lemmas.Bool.{false≢true}
+use Rattle.std.proofs.lemmas.Option.{same_Some}
 use Rattle.std.specs.Ordering.{eq_by_cmp}
 use Rattle.std.specs.FinMap as map
 use Rattle.alt_cells.specs.Keys.{key_cmp}
@@ -10,17 +11,16 @@ use Rattle.alt_layout.specs.Layout.{Layout, shown}
 use Rattle.alt_layout.proofs.OneLayout.{one_layout}
 use Rattle.alt_machine.specs.State.{State, Table}
 use Rattle.alt_machine.specs.Valid.{IsTable, IsValid}
+use Rattle.alt_machine.proofs.Trimming.{Above}
 use Rattle.alt_schema.specs.Rules.{is_name}
 use Rattle.alt_schema.specs.declared.schema.TableSchema.{TableSchema}
 use Rattle.alt_opening.specs.Images.{StandsFor}
 use Rattle.alt_opening.specs.Recovery.{Agrees, AgreesWhole}
 use Rattle.alt_tablerows.specs.ItemRows.{item_columns}
 use Rattle.alt_opening.proofs.OneStream.{ShowsStream, one_stream, one_trimmed}
-use Rattle.alt_opening.proofs.StreamKeys.{Above}
 use Rattle.alt_opening.proofs.KeptChanges.{are_kept, are_small, trimmed_small}
 use Rattle.alt_tablerows.proofs.NextFamily.{next_row-one}
 use Rattle.alt_tablerows.proofs.OneDescription.{one_table_row}
-pub use Rattle.alt_tablerows.proofs.There.{some}
 use Rattle.alt_opening.specs.StateRows.{Shows, IsHeldWhole, item_rows, table_row}
 use Rattle.alt_tablerows.proofs.ItemRowLaws.{item_columns-one}
 use Rattle.alt_value.specs.Tree.{Pair}
@@ -44,7 +44,7 @@ items-one t u held_t held_u same = map.same_map key_total key_exact _ _ (λ key.
     at_key None (Some b) h k e = let no : None ≡ Some (item_columns b) = e in cc no
     at_key (Some a) None h k e = let no : Some (item_columns a) ≡ None = e in cc no
     at_key (Some a) (Some b) h k e =
-        ap (λ x. Some x) (item_columns-one a b (h a refl) (k b refl) (some _ _ e))
+        ap (λ x. Some x) (item_columns-one a b (h a refl) (k b refl) (same_Some _ _ e))
 
 -- so is each item of a valid state that is held
 pub has_whole : (s : State) → IsValid s → IsHeldWhole s → (name : List ℕ) (t : Table)
@@ -126,7 +126,7 @@ module _ (l : Layout) (s r : State) (agrees_s : AgreesWhole l s) (agrees_r : Agr
   at_name name (Some t) None e f same =
       let no : Some (table_row t.description) ≡ None = same in cc no
   at_name name (Some t) (Some u) e f same = ap (λ x. Some x)
-      (one_table name t u e f (some _ _ same))
+      (one_table name t u e f (same_Some _ _ same))
 
   by_name : (name : List ℕ) (b : Bool) → eq_by_cmp key_cmp name [] ≡ b
       → map.get s.tables name ≡ map.get r.tables name

@@ -1,6 +1,6 @@
 -- The rows of a stream tell the number of the last change that was trimmed, and the changes that are kept, whatever is left over.
-use Rattle.std.proofs.Common.{◌≡◌, ◌<◌, ◌≤◌, ◌^◌, ◌⊎◌, inl, inr, refl, sym, ap, subst, ◌∙◌, ℕ, Bool, true, false, cond, List, Option, Some, None, option_map, All, arith}
-use Rattle.std.proofs.lemmas.Bool.{eqb-true, false≢true}
+use Rattle.std.proofs.Common.{◌≡◌, ◌<◌, ◌^◌, ◌⊎◌, inl, inr, refl, sym, ap, subst, ◌∙◌, ℕ, Bool, true, false, cond, List, Option, Some, None, option_map, All, arith}
+use Rattle.std.proofs.lemmas.Bool.{eqb-true, false≢true, lt-leb as above, leb-true, le-leb}
 use Rattle.std.proofs.lemmas.Nat.{from_be_bytes-to_be_bytes_8}
 use Rattle.std.specs.Cmp.{tied_itself}
 use Rattle.std.specs.FinMap as finite
@@ -11,12 +11,13 @@ use Rattle.std.specs.Prelude.{◌==◌, if◌then◌else◌, nat_le, codes}
 use Rattle.alt_cells.specs.Changes.{Columns}
 use Rattle.alt_cells.specs.Keys.{key_cmp}
 use Rattle.alt_cells.proofs.CellLaws.{key_total}
+use Rattle.alt_cells.proofs.SameKeys.{key_itself, one_key}
 use Rattle.alt_tablerows.specs.ChangeRows.{change_columns, row_key}
 use Rattle.alt_tablerows.specs.TrimRows.{number_told, trimmed_columns, trimmed_row, trimmed_told}
 use Rattle.alt_machine.specs.State.{Change}
+use Rattle.alt_machine.proofs.Trimming.{Above, Rise}
 use Rattle.alt_opening.specs.StateRows.{IsLeftover, keyed_changes, stream_row}
-use Rattle.alt_tablerows.proofs.Ties.{itself, tied}
-use Rattle.alt_opening.proofs.StreamKeys.{Above, IsKept, IsSmall, Rise, above, changes-one, found_keyed, get_keyed, key_one, keys_differ, low_of, up_to}
+use Rattle.alt_opening.proofs.StreamKeys.{IsKept, IsSmall, changes-one, found_keyed, get_keyed, key_one, keys_differ}
 
 -- what a row shows of a stream
 abbrev pub ShowsStream : (List ℕ → Option Columns) → ℕ → List Change → Type 0
@@ -53,14 +54,14 @@ leftover_by trimmed small key n only = by (eq_by_cmp key_cmp key (row_key n)) (n
     by : (a b c : Bool) → eq_by_cmp key_cmp key (row_key n) ≡ a → nat_le 1 n ≡ b
         → nat_le n trimmed ≡ c → IsLeftover trimmed key ⊎ (IsLeftover trimmed key → ⊥)
     by true true true ea eb ec =
-        inl (n, low_of 1 n eb, low_of n trimmed ec, tied key (row_key n) ea)
+        inl (n, leb-true 1 n eb, leb-true n trimmed ec, one_key key (row_key n) ea)
     by false b c ea eb ec = inr (λ left. false≢true (sym ea
         ∙ ap (λ m. eq_by_cmp key_cmp key (row_key m)) (told left)
-        ∙ ap (eq_by_cmp key_cmp key) (sym left.3) ∙ itself key))
+        ∙ ap (eq_by_cmp key_cmp key) (sym left.3) ∙ key_itself key))
     by true false c ea eb ec = inr (λ left. false≢true (sym eb ∙ ap (nat_le 1) (told left)
-        ∙ up_to 1 left.0 left.1))
+        ∙ le-leb 1 left.0 left.1))
     by true true false ea eb ec = inr (λ left. false≢true (sym ec
-        ∙ ap (λ m. nat_le m trimmed) (told left) ∙ up_to left.0 trimmed left.2))
+        ∙ ap (λ m. nat_le m trimmed) (told left) ∙ le-leb left.0 trimmed left.2))
 
 -- so it can be told
 pub leftover_or_not : (trimmed : ℕ) → trimmed < 2 ^ 64 → (key : List ℕ)
@@ -69,15 +70,6 @@ leftover_or_not trimmed small key = leftover_by trimmed small key (from_be_bytes
     (λ m fits at. ap (from_be_bytes w64) at ∙ from_be_bytes-to_be_bytes_8 m fits)
 
 -- ---- what the row of number 0 tells
-
--- a row that tells a number
-pub row-some : (n : ℕ) → 1 ≤ n → trimmed_row n ≡ Some (trimmed_columns n)
-row-some n low = by (n == 0) refl
-  where
-    by : (b : Bool) → (n == 0) ≡ b
-        → (if b then None else Some (trimmed_columns n)) ≡ Some (trimmed_columns n)
-    by true e = absurd (let none : n ≡ 0 = eqb-true n 0 e in omega (arith, none, low))
-    by false e = refl
 
 -- is read as that number
 pub told-columns : (n : ℕ) → n < 2 ^ 64 → trimmed_told (Some (trimmed_columns n)) ≡ n
@@ -104,7 +96,8 @@ at_zero : (rows : List ℕ → Option Columns) (trimmed : ℕ) (cs : List Change
     → ShowsStream rows trimmed cs → rows (row_key 0) ≡ trimmed_row trimmed
 at_zero rows trimmed cs small shows = shows (row_key 0) (zero_counts trimmed small)
     ∙ ap (λ b. if b then trimmed_row trimmed
-    else option_map change_columns (finite.get (keyed_changes cs) (row_key 0))) (itself (row_key 0))
+    else option_map change_columns (finite.get (keyed_changes cs) (row_key 0)))
+    (key_itself (row_key 0))
 
 -- so the rows tell it
 pub told_shown : (rows : List ℕ → Option Columns) (trimmed : ℕ) (cs : List Change)

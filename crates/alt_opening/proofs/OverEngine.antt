@@ -1,15 +1,12 @@
 -- What is known of an engine in hand.
 use Rattle.std.proofs.Common.{◌≡◌, ℕ, List, Option}
-use Rattle.std.specs.FinMap.{get}
 use Rattle.alt_disk.specs.Disk.{DiskState, IsImage}
-use Rattle.alt_disk.specs.Runs.{Quiet}
 use Rattle.alt_engine.proofs.HandHandLaws as laws
 use Rattle.alt_layout.proofs.OneLayout.{one_layout}
-use Rattle.alt_layout.proofs.ShownLaws.{get-shown_rows}
 use Rattle.alt_layout.specs.Files.{IsLayout}
 use Rattle.alt_engine.specs.InHand.{Reads, Stands, hand_of}
 use Rattle.alt_engine.proofs.EngineLaws as engine
-use Rattle.alt_layout.specs.Layout.{Layout, IsPast, shown, shown_rows}
+use Rattle.alt_layout.specs.Layout.{Layout, IsPast}
 use Rattle.alt_engine.specs.declared.engine.Engine.{Engine}
 
 -- whatever a stop leaves holds its rows
@@ -25,18 +22,8 @@ files_hold s e l reads = laws.files_hold s (hand_of e) l reads
 pub stands_past : (s : DiskState) (e : Engine) (l : Layout) → Stands s e l → IsPast l
 stands_past s e l stands = laws.reads_past s (hand_of e) l stands.hand.reads
 
--- calls that leave every file leave what it stands for
-pub stays_quiet : (old new : DiskState) (e : Engine) (l : Layout) → Stands old e l → Quiet old new
-    → Stands new e l
-stays_quiet old new e l stands quiet = engine.stays_quiet old new e l stands quiet
-
--- it has one layout
+-- an engine has one layout
 pub one_layout_in_hand : (s : DiskState) (e : Engine) (l m : Layout) → Stands s e l → Stands s e m
     → l ≡ m
 one_layout_in_hand s e l m a b = one_layout s.file l m (files_hold s e l a.hand.reads)
     (files_hold s e m b.hand.reads)
-
--- the rows shown are found by their keys
-pub finds_shown : (l : Layout) (family : ℕ) (key : List ℕ)
-    → get (shown_rows l family) key ≡ shown l family key
-finds_shown l family key = get-shown_rows l family key

@@ -1,5 +1,6 @@
 -- Rows that are read one after the other.
 use Rattle.std.proofs.Common.{◌≡◌, ◌⊎◌, inl, inr, ⊎_elim, refl, sym, ap, subst, ◌∙◌, ℕ, List, [], ◌∷◌, ◌++◌, Some, None, IsTrue, Less, Equal, Greater}
+use Rattle.std.proofs.lemmas.Option.{same_Some}
 use Rattle.std.specs.declared.cmp.Ordering.{Ordering}
 use Rattle.alt_cells.specs.Changes.{Columns}
 use Rattle.alt_cells.specs.Keys.{key_cmp}
@@ -58,9 +59,6 @@ stands_on a b e f l walked tells stands = (walked.same tells).stands l stands
 
 -- ---- rows of a family
 
-some : {A : Type 0} (x y : A) → Some x ≡ Some y → x ≡ y
-some x y e = cc
-
 -- a key is below another, or it isn't
 pub below_or_not : (k from : List ℕ) → IsBelow k from ⊎ (IsBelow k from → ⊥)
 below_or_not k from = by (key_cmp k from) refl
@@ -97,7 +95,7 @@ module _ (l : Layout) (family : ℕ) (P : List ℕ → Columns → Type 0) where
       (λ (below : IsBelow k key). so_far k c below there)
       (λ (same : k ≡ key). subst (λ q. P q c) (sym same)
       (subst (P key)
-      (some row c (sym shows ∙ ap (shown l family) (sym same) ∙ there)) is))
+      (same_Some row c (sym shows ∙ ap (shown l family) (sym same) ∙ there)) is))
       (below_after k key (subst (IsBelow k) at low))
 
   -- where no key is below the first, none was read

@@ -1,23 +1,15 @@
 -- Whether a table has one of some families, part by part.
-use Rattle.std.proofs.Common.{◌≡◌, refl, ap, ◌∙◌, ℕ, Bool, true, false, ◌||◌, List, [], ◌∷◌, ◌++◌, map, Option, Some, None}
+use Rattle.std.proofs.Common.{◌≡◌, refl, ap, ◌∙◌, ℕ, Bool, false, ◌||◌, List, [], ◌∷◌, ◌++◌, map, Option, Some, None}
 use Rattle.std.specs.Prelude.{◌==◌}
 use Rattle.std.specs.List.{list_any}
 use Rattle.std.specs.Option.{option_map_or}
 use Rattle.std.proofs.lemmas.List.Folds.{list_any-append}
+use Rattle.std.proofs.Math.Bool.{or-false}
+use Rattle.alt_base.proofs.Bools.{or_grouped_four}
 use Rattle.alt_schema.specs.Indexes.{indexes}
 use Rattle.alt_schema.specs.declared.schema.IndexSchema.{IndexSchema}
 use Rattle.alt_schema.specs.declared.schema.TableSchema.{TableSchema}
 use Rattle.alt_opening.specs.private.Opening.{shares}
-
-or_false : (b : Bool) → (b || false) ≡ b
-or_false true = refl
-or_false false = refl
-
--- where the last two of four pass, in any of both groupings
-or_last : (a b c d : Bool) → (a || ((b || c) || d)) ≡ (((a || b) || c) || d)
-or_last true b c d = refl
-or_last false true c d = refl
-or_last false false c d = refl
 
 module _ (test : ℕ → Bool) where
   any_index : (is : List IndexSchema) → list_any test (map (λ i. i.family) is)
@@ -28,7 +20,7 @@ module _ (test : ℕ → Bool) where
   any_stream : (o : Option ℕ) → list_any test (option_map_or (λ f. f ∷ []) o [])
       ≡ option_map_or test o false
   any_stream None = refl
-  any_stream (Some f) = or_false (test f)
+  any_stream (Some f) = or-false (test f)
 
   any_parts : (d : TableSchema) → list_any test (map (λ i. i.family) (indexes d)
       ++ option_map_or (λ f. f ∷ []) d.stream_family [])
@@ -49,7 +41,7 @@ pub shares_parts : (families : List ℕ) (d : TableSchema) → shares families d
 shares_parts families d =
     ap (λ b. list_any (λ g. g == d.family) families || b)
     (any_parts (λ f. list_any (λ g. g == f) families) d)
-    ∙ or_last (list_any (λ g. g == d.family) families)
+    ∙ or_grouped_four (list_any (λ g. g == d.family) families)
     (list_any (λ i. list_any (λ g. g == i.family) families) d.locals)
     (list_any (λ i. list_any (λ g. g == i.family) families) d.globals)
     (option_map_or (λ f. list_any (λ g. g == f) families) d.stream_family false)

@@ -1,7 +1,6 @@
 -- The changes of a stream by the keys of their rows, which lie as the numbers do.
-use Rattle.std.proofs.Common.{◌≡◌, ◌≢◌, ◌<◌, ◌≤◌, ◌^◌, refl, sym, ap, subst, ◌∙◌, ℕ, suc, Bool, true, false, cond, T, List, [], ◌∷◌, ◌++◌, map, Option, Some, None, All, inl, inr, append-nil, arith}
-use Rattle.std.proofs.lemmas.Bool.{cases_order}
-use Rattle.std.proofs.lemmas.Bool.Decides.{nat_tests}
+use Rattle.std.proofs.Common.{◌≡◌, ◌≢◌, ◌<◌, ◌^◌, refl, sym, ap, subst, ◌∙◌, ℕ, suc, Bool, true, false, cond, T, List, [], ◌∷◌, ◌++◌, map, Option, Some, None, All, inl, inr, append-nil, arith}
+use Rattle.std.proofs.lemmas.Bool.{cases_order, lt-leb as above, le-leb}
 use Rattle.std.proofs.lemmas.List.{map-append}
 use Rattle.std.proofs.lemmas.List.Elements.{All-head, All-tail}
 use Rattle.std.specs.BTreeMap.Range.{range_contains}
@@ -9,21 +8,23 @@ use Rattle.std.specs.FinMap as finite
 use Rattle.std.specs.FinMap.Entries.{below_all, find, find-append, is_sorted}
 use Rattle.std.specs.List.{filter}
 use Rattle.std.specs.Ordering.{eq_by_cmp, is_eq, is_le, is_lt, nat_cmp, ordering_then}
-use Rattle.std.specs.Prelude.{◌&&◌, nat_le, option_map, AllPairs}
+use Rattle.std.specs.Prelude.{◌&&◌, nat_le, option_map}
 use Rattle.std.specs.declared.cmp.Ordering.{Ordering}
 use Rattle.std.specs.declared.cmp.Ordering.TheVariants.{Less, Equal, Greater}
 use Rattle.std.specs.declared.ops.Bound.TheVariants.{Included, Unbounded}
+use Rattle.alt_base.proofs.Bools.{both_hold}
+use Rattle.alt_base.proofs.Orderings.{nat_cmp-equal, nat_cmp-greater, nat_cmp-less}
 use Rattle.alt_cells.specs.Keys.{key_cmp}
 use Rattle.alt_cells.proofs.CellLaws.{key_total, key_exact}
+use Rattle.alt_cells.proofs.SameKeys.{one_key}
 use Rattle.alt_tablerows.specs.ChangeRows.{IsReadChange, change_columns, row_key}
 use Rattle.alt_tablerows.proofs.RowLaws.{change_columns-one}
 use Rattle.alt_keyorder.specs.Place.{Place}
-use Rattle.alt_keyorder.proofs.Parts.{nat_cmp-less, nat_cmp-equal, nat_cmp-greater}
 use Rattle.alt_keyorder.proofs.Places.{keys-lie}
 use Rattle.alt_machine.specs.State.{Change}
+use Rattle.alt_machine.proofs.Trimming.{Rise, rise_rest}
 use Rattle.alt_opening.specs.StateRows.{keyed_changes}
 pub use Rattle.alt_tablerows.proofs.NumberKeys.{key_one}
-use Rattle.alt_tablerows.proofs.Ties.{tied}
 use Rattle.alt_value.specs.Members.{text_order}
 
 -- ---- keys
@@ -53,7 +54,8 @@ pub keys_differ : (m n : ℕ) → m < 2 ^ 64 → n < 2 ^ 64 → m ≢ n
 keys_differ m n small_m small_n differ = by (eq_by_cmp key_cmp (row_key m) (row_key n)) refl
   where
     by : (b : Bool) → eq_by_cmp key_cmp (row_key m) (row_key n) ≡ b → b ≡ false
-    by true same = absurd (differ (key_one m n small_m small_n (tied (row_key m) (row_key n) same)))
+    by true same =
+        absurd (differ (key_one m n small_m small_n (one_key (row_key m) (row_key n) same)))
     by false same = refl
 
 -- ---- changes at their keys
@@ -66,23 +68,6 @@ keyed c = (row_key c.number, c)
 abbrev pub IsSmall : Change → Type 0
 IsSmall c = c.number < 2 ^ 64
 
--- the numbers are above another one
-abbrev pub Above : ℕ → List Change → Type 0
-Above n changes = All (λ (c : Change). n < c.number) changes
-
--- the numbers rise
-abbrev pub Rise : List Change → Type 0
-Rise changes = AllPairs (λ (a b : Change). a.number < b.number) changes
-
--- two that hold, hold both
-both : (a b : Bool) → T a → T b → T (a && b)
-both true b p q = q
-both false b p q = absurd p
-
-rise_rest : (c : Change) (cs : List Change) → Rise (c ∷ cs) → Rise cs
-rise_rest c cs rise a b x below within =
-    rise (suc a) (suc b) x (omega (arith, below)) (omega (arith, within))
-
 rise_first : (c : Change) (cs : List Change) → Rise (c ∷ cs)
     → All (λ (b : Change). c.number < b.number) cs
 rise_first c cs rise k x within = rise 0 (suc k) x (omega arith) (omega (arith, within))
@@ -94,7 +79,7 @@ below_keys c [] small all above = tt
 below_keys c (d ∷ ds) small all above =
     let next : d.number < 2 ^ 64 = All-head IsSmall d ds all in
     let less : c.number < d.number = All-head (λ (b : Change). c.number < b.number) d ds above in
-    both _ _ (subst (λ o. T (is_lt o))
+    both_hold _ _ (subst (λ o. T (is_lt o))
     (sym (key_order c.number d.number small next ∙ nat_cmp-less c.number d.number less)) tt)
     (below_keys c ds small (All-tail IsSmall d ds all)
     (All-tail (λ (b : Change). c.number < b.number) d ds above))
@@ -103,7 +88,7 @@ below_keys c (d ∷ ds) small all above =
 pub sorted_keys : (cs : List Change) → All IsSmall cs → Rise cs
     → T (is_sorted key_cmp (map keyed cs))
 sorted_keys [] small rise = tt
-sorted_keys (c ∷ cs) small rise = both _ _
+sorted_keys (c ∷ cs) small rise = both_hold _ _
     (below_keys c cs (All-head IsSmall c cs small) (All-tail IsSmall c cs small)
     (rise_first c cs rise))
     (sorted_keys cs (All-tail IsSmall c cs small) (rise_rest c cs rise))
@@ -164,7 +149,7 @@ found_keyed P (d ∷ ds) key c all found =
     by true same behind found =
         let found_here : Some d ≡ Some c = found in
         let one : d ≡ c = cc found_here in (
-          tied key (row_key d.number) same ∙ ap (λ (x : Change). row_key x.number) one,
+          one_key key (row_key d.number) same ∙ ap (λ (x : Change). row_key x.number) one,
           subst P one (All-head P d ds all),
         )
     by false differs behind found = behind found
@@ -212,25 +197,12 @@ changes-one es fs small_a small_b rise_a rise_b kept_a kept_b same =
 
 -- ---- the changes from a number on
 
-pub up_to : (m n : ℕ) → m ≤ n → nat_le m n ≡ true
-up_to m n h = grind (arith, nat_tests)
-
-pub above : (m n : ℕ) → n < m → nat_le m n ≡ false
-above m n h = grind (arith, nat_tests)
-
--- and what the tests tell
-pub low_of : (m n : ℕ) → nat_le m n ≡ true → m ≤ n
-low_of m n h = grind (arith, nat_tests, h)
-
-pub late_of : (m n : ℕ) → nat_le m n ≡ false → n < m
-late_of m n h = grind (arith, nat_tests, h)
-
 -- the order of numbers says which are up to another
 pub is_le-nat : (m n : ℕ) → is_le (nat_cmp m n) ≡ nat_le m n
 is_le-nat m n = elim (cases_order m n) [
-  | inl same ↦ ap is_le (nat_cmp-equal m n same) ∙ sym (up_to m n (omega (arith, same)))
+  | inl same ↦ ap is_le (nat_cmp-equal m n same) ∙ sym (le-leb m n (omega (arith, same)))
   | inr other ↦ elim other [
-    | inl less ↦ ap is_le (nat_cmp-less m n less) ∙ sym (up_to m n (omega (arith, less)))
+    | inl less ↦ ap is_le (nat_cmp-less m n less) ∙ sym (le-leb m n (omega (arith, less)))
     | inr more ↦ ap is_le (nat_cmp-greater m n more) ∙ sym (above m n more)
   ]
 ]

@@ -3,33 +3,36 @@ use Rattle.std.proofs.Common.{◌≡◌, ◌<◌, ◌≤◌, ◌^◌, refl, sym,
 use Rattle.std.proofs.lemmas.Bool.{cases_order, false≢true}
 use Rattle.std.proofs.lemmas.List.Elements.{All-cons, All-head, All-map, All-nil, All-tail}
 use Rattle.std.proofs.lemmas.List.Kept.{AllPairs-cons}
+use Rattle.std.proofs.lemmas.Option.{same_Some}
 use Rattle.std.specs.FinMap as finite
 use Rattle.std.specs.FinMap.Entries.{below_all, find, find-where_key, is_sorted, is_sorted-where_key, where_key}
 use Rattle.std.specs.Option.{option_map_or}
 use Rattle.std.specs.Ordering.{eq_by_cmp, is_gt, is_lt, nat_cmp}
 use Rattle.std.specs.Prelude.{Bool, true, false, cond, if◌then◌else◌, option_and_then, IfSome}
+use Rattle.alt_base.proofs.Bools.{first_holds, second_holds}
+use Rattle.alt_base.proofs.Orderings.{nat_cmp-equal, nat_cmp-greater, nat_cmp-less}
 use Rattle.alt_cells.specs.Changes.{Columns}
 use Rattle.alt_cells.specs.Keys.{key_cmp}
 use Rattle.alt_cells.specs.Shown.{row_shown}
 use Rattle.alt_cells.specs.declared.row.RowCells.{RowCells}
 use Rattle.alt_cells.proofs.CellLaws.{key_exact, key_total}
-use Rattle.alt_cells.proofs.Entries.{first, second, find_below}
+use Rattle.alt_cells.proofs.Entries.{find_below}
+use Rattle.alt_cells.proofs.SameKeys.{key_itself, one_key}
 use Rattle.alt_tablerows.specs.ChangeRows.{IsReadItem, change_columns, row_key}
 use Rattle.alt_tablerows.specs.TrimRows.{trimmed_row, trimmed_told}
 use Rattle.alt_layout.specs.Layout.{Layout, shown}
-use Rattle.alt_keyorder.proofs.Parts.{nat_cmp-equal, nat_cmp-greater, nat_cmp-less}
 use Rattle.alt_machine.specs.State.{Change, Texts}
 use Rattle.alt_machine.specs.Valid.{IsChange, IsHeldChange}
 use Rattle.alt_machine.specs.declared.TheConstants.{NUMBERS_END}
+use Rattle.alt_machine.proofs.Trimming.{Rise}
 use Rattle.alt_schema.specs.declared.schema.TableSchema.{TableSchema}
 use Rattle.alt_opening.specs.StateRows.{HasMoment, IsLeftover, keyed_changes}
 use Rattle.alt_opening.specs.StreamScans.{ChangesRead, ChangesWhere, IsChangeAt, IsStreamRow, stream_trimmed, trimmed_in}
 use Rattle.alt_opening.proofs.Assembled.{MayHave, none_had}
-use Rattle.alt_tablerows.proofs.Ties.{tied, itself}
 use Rattle.alt_opening.proofs.ChosenLaws.{IsRead, map_read}
-use Rattle.alt_opening.proofs.OneState.{some}
-use Rattle.alt_opening.proofs.OneStream.{ShowsStream, row-some, told-columns, zero_counts}
-use Rattle.alt_opening.proofs.StreamKeys.{IsSmall, Rise, entries_keyed, key_one, key_order, keyed}
+use Rattle.alt_opening.proofs.OneStream.{ShowsStream, told-columns, zero_counts}
+use Rattle.alt_opening.proofs.StreamKeys.{IsSmall, entries_keyed, key_one, key_order, keyed}
+use Rattle.alt_tablerows.proofs.TrimLaws.{row_there}
 use Rattle.alt_value.specs.Tree.{Pair}
 use Rattle.alt_value.specs.Values.{IsItemOfValues}
 
@@ -41,15 +44,15 @@ each_entry : {X : Type 0} (P : List ℕ → X → Type 0) (es : List (List ℕ �
     → All (λ (e : List ℕ × X). P e.0 e.1) es
 each_entry {X} P [] sorted all = All-nil (λ (e : List ℕ × X). P e.0 e.1)
 each_entry {X} P (e ∷ es) sorted all = All-cons (λ (e : List ℕ × X). P e.0 e.1) e es
-    (all e.0 e.1 (ap (λ b. cond b (Some e.1) (find key_cmp e.0 es)) (itself e.0)))
-    (each_entry P es (second _ _ sorted)
+    (all e.0 e.1 (ap (λ b. cond b (Some e.1) (find key_cmp e.0 es)) (key_itself e.0)))
+    (each_entry P es (second_holds _ _ sorted)
     (λ key x at. all key x (behind key x at (eq_by_cmp key_cmp key e.0) refl)))
   where
     behind : (key : List ℕ) (x : X) → find key_cmp key es ≡ Some x → (b : Bool)
         → eq_by_cmp key_cmp key e.0 ≡ b → cond b (Some e.1) (find key_cmp key es) ≡ Some x
     behind key x at true same = absurd (let no : None ≡ Some x =
-        sym (find_below key_cmp key_total e.0 es (first _ _ sorted))
-        ∙ ap (λ k. find key_cmp k es) (sym (tied key e.0 same)) ∙ at in cc no)
+        sym (find_below key_cmp key_total e.0 es (first_holds _ _ sorted))
+        ∙ ap (λ k. find key_cmp k es) (sym (one_key key e.0 same)) ∙ at in cc no)
     behind key x at false other = at
 
 -- an entry is a change at its own key, of a number that fits
@@ -92,11 +95,11 @@ numbers_above c small [] below own = All-nil (λ (x : Change). c.number < x.numb
 numbers_above c small (e ∷ es) below own =
     let here : IsOwn e.0 e.1 = All-head (λ (e : List ℕ × Change). IsOwn e.0 e.1) e es own in
     let low : T (is_lt (key_cmp (row_key c.number) (row_key e.1.number))) =
-    subst (λ k. T (is_lt (key_cmp (row_key c.number) k))) here.0 (first _ _ below) in
+    subst (λ k. T (is_lt (key_cmp (row_key c.number) k))) here.0 (first_holds _ _ below) in
     All-cons (λ (x : Change). c.number < x.number) e.1 (changes_in es)
     (number_below c.number e.1.number
     (subst (λ o. T (is_lt o)) (key_order c.number e.1.number small here.1) low))
-    (numbers_above c small es (second _ _ below)
+    (numbers_above c small es (second_holds _ _ below)
     (All-tail (λ (e : List ℕ × Change). IsOwn e.0 e.1) e es own))
 
 -- so the numbers rise
@@ -108,8 +111,8 @@ rise_in (e ∷ es) sorted own =
     let rest : AreOwn es = All-tail (λ (e : List ℕ × Change). IsOwn e.0 e.1) e es own in
     AllPairs-cons (λ (a b : Change). a.number < b.number) e.1 (changes_in es)
     (numbers_above e.1 here.1 es
-    (subst (λ k. T (below_all key_cmp k es)) here.0 (first _ _ sorted)) rest)
-    (rise_in es (second _ _ sorted) rest)
+    (subst (λ k. T (below_all key_cmp k es)) here.0 (first_holds _ _ sorted)) rest)
+    (rise_in es (second_holds _ _ sorted) rest)
 
 -- ---- the list of a map
 
@@ -170,7 +173,7 @@ module _ (l : Layout) (d : TableSchema)
       let told : z ≡ n = ap trimmed_told e ∙ ap (λ r. trimmed_told (Some r)) same
       ∙ told-columns n (omega (arith, high, number.1)) in (
         omega (arith, told, high),
-        e ∙ ap (λ r. Some r) same ∙ sym (row-some n low) ∙ ap trimmed_row (sym told),
+        e ∙ ap (λ r. Some r) same ∙ sym (row_there n low) ∙ ap trimmed_row (sym told),
       )
   zero_told row e (inr (inl left)) = absurd (zero_counts z
       (omega (arith, left.0, number.1)) left.1)
@@ -284,7 +287,7 @@ module _ (l : Layout) (d : TableSchema)
       → (columns : Columns) × IsRow key columns x
   of_row key None o is x at = absurd (let none : None ≡ Some x = sym is ∙ at in cc none)
   of_row key (Some c) o is x at =
-      (c, subst (IsRow key c) (some _ _ (sym is.1.0 ∙ at)) is.1.1)
+      (c, subst (IsRow key c) (same_Some _ _ (sym is.1.0 ∙ at)) is.1.1)
 
   is_row : (key : List ℕ) (c : Change) → finite.get rows.0 key ≡ Some c
       → (columns : Columns) × IsRow key columns c
@@ -337,9 +340,9 @@ module _ (l : Layout) (d : TableSchema)
       by : (b : Bool) → eq_by_cmp key_cmp key (row_key 0) ≡ b → shown l family key
           ≡ (if b then trimmed_row z
           else option_map change_columns (finite.get (keyed_changes kept) key))
-      by true same = ap (shown l family) (tied key (row_key 0) same) ∙ zero_read.1
+      by true same = ap (shown l family) (one_key key (row_key 0) same) ∙ zero_read.1
       by false other = all_past (λ same. false≢true (sym other
-          ∙ ap (λ k. eq_by_cmp key_cmp k (row_key 0)) same ∙ itself (row_key 0)))
+          ∙ ap (λ k. eq_by_cmp key_cmp k (row_key 0)) same ∙ key_itself (row_key 0)))
           (past key) refl
           ∙ row_read key (shown_past key) (finite.get rows.0 key) (rows.1 key)
           ∙ ap (λ n. option_map change_columns (finite.get n key))
@@ -352,7 +355,7 @@ module _ (l : Layout) (d : TableSchema)
     kept,
     may_have,
     (
-      λ other same key counts. ap (λ f. shown l f key) (some other family (sym same ∙ stream))
+      λ other same key counts. ap (λ f. shown l f key) (same_Some other family (sym same ∙ stream))
           ∙ kept_shown key counts,
       sym (ap (λ o. option_map_or (trimmed_in l) o 0) stream),
     ),

@@ -1,11 +1,13 @@
 -- A state whose rows of the catalog and of tables were read, with the changes of its streams.
 use Rattle.std.proofs.Common.{◌≡◌, ◌≤◌, ◌<◌, ⊎_elim, inl, inr, refl, sym, ap, subst, ◌∙◌, ℕ, zero, suc, Bool, true, false, List, [], ◌∷◌, Option, Some, None, option_map, All, arith}
 use Rattle.std.proofs.lemmas.Bool.{false≢true}
+use Rattle.std.proofs.lemmas.Option.{same_Some}
 use Rattle.std.specs.FinMap as map
 use Rattle.std.specs.Ordering.{eq_by_cmp}
 use Rattle.std.specs.Prelude.{◌==◌, if◌then◌else◌}
 use Rattle.alt_cells.specs.Changes.{Columns}
 use Rattle.alt_cells.specs.Keys.{key_cmp}
+use Rattle.alt_cells.proofs.SameKeys.{one_key}
 use Rattle.alt_tablerows.specs.ChangeRows.{change_columns, row_key}
 use Rattle.alt_tablerows.specs.TrimRows.{trimmed_columns, trimmed_row}
 use Rattle.alt_layout.specs.Layout.{Layout, shown}
@@ -23,11 +25,9 @@ use Rattle.alt_opening.specs.declared.faults.OpenFault.{OpenFault}
 use Rattle.alt_opening.specs.declared.faults.OpenFault.TheVariants.{Damaged, DigestDiffers, BadRow, Failed, NoMemory}
 use Rattle.alt_opening.proofs.Assembled.{assembled, assembled_with}
 use Rattle.alt_opening.proofs.FirstWrong.{described_at}
-use Rattle.alt_opening.proofs.OneState.{some}
 use Rattle.alt_opening.proofs.StreamKeys.{IsKept, found_keyed, get_keyed}
 use Rattle.alt_opening.proofs.OneStream.{leftover_or_not, told_shown}
 use Rattle.alt_opening.proofs.StreamList.{IsListed, list_read}
-use Rattle.alt_tablerows.proofs.Ties.{tied}
 use Rattle.alt_opening.proofs.KeptChanges.{are_kept, are_small, trimmed_small}
 
 -- A state whose rows these are with those of streams, whose tables are those of the catalog, and of whose changes so much was trimmed
@@ -61,7 +61,7 @@ module _ (known : Texts TableSchema) (s : State) (same : descriptions s.tables �
       by None e is = absurd (let no : None ≡ Some d =
           ap (option_map (λ (t : Table). t.description)) (sym e) ∙ is in cc no)
       by (Some t) e is =
-          (t, e, some _ _ (ap (option_map (λ (t : Table). t.description)) (sym e) ∙ is))
+          (t, e, same_Some _ _ (ap (option_map (λ (t : Table). t.description)) (sym e) ∙ is))
 
 -- ---- what was read
 
@@ -170,7 +170,7 @@ module _ (l : Layout) (s : State) (agrees : AgreesWhole l s) where
                 number = found.1.0.0;
                 place = found.0;
                 read = found.1.0.1;
-                row = some _ _ (sym is ∙ ap (option_map change_columns) e);
+                row = same_Some _ _ (sym is ∙ ap (option_map change_columns) e);
               },
               found.1.1,
               found.1.2,
@@ -191,7 +191,7 @@ module _ (l : Layout) (s : State) (agrees : AgreesWhole l s) where
             t.trimmed,
             positive t.trimmed e,
             (agrees.rows.valid.tables name t at).changes.trimmed_before,
-            sym (some _ _ is),
+            sym (same_Some _ _ is),
           ),
         )
 
@@ -204,7 +204,7 @@ module _ (l : Layout) (s : State) (agrees : AgreesWhole l s) where
             → (if b then trimmed_row t.trimmed
             else option_map change_columns (map.get (keyed_changes t.changes) key)) ≡ Some row
             → IsStreamRow t.description s.next_number t.trimmed key row
-        by true same is = inl (zero_right (tied key (row_key 0) same) is)
+        by true same is = inl (zero_right (one_key key (row_key 0) same) is)
         by false other is = inr (inr (change_right is))
 
   -- each row of its streams is one that they may have

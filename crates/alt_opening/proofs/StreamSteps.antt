@@ -1,5 +1,6 @@
 -- What the rows of a stream tell of it.
 use Rattle.std.proofs.Common.{◌≡◌, sym, ap, subst, ◌∙◌, ℕ, Some, None}
+use Rattle.std.proofs.lemmas.Option.{same_Some}
 use Rattle.std.specs.Option.{option_map_or}
 use Rattle.alt_layout.specs.Layout.{Layout}
 use Rattle.alt_schema.specs.declared.schema.TableSchema.{TableSchema}
@@ -7,7 +8,6 @@ use Rattle.alt_opening.specs.StreamScans.{ChangesRead, ChangesWhere, IsChangeFau
 use Rattle.alt_opening.specs.declared.faults.OpenFault.{OpenFault}
 use Rattle.alt_opening.specs.declared.faults.OpenFault.TheVariants.{Damaged, DigestDiffers, BadRow, Failed, NoMemory}
 pub use Rattle.alt_tablerows.proofs.StreamTests.{one_change_at}
-use Rattle.alt_tablerows.proofs.There.{some}
 
 -- ---- the rows of a family are those of the stream
 
@@ -17,7 +17,7 @@ module _ (l : Layout) (d : TableSchema) (family : ℕ) (stream : d.stream_family
   pub stream_read : ChangesWhere (λ key. Unit {0}) l d next trimmed family → ChangesRead l d
   stream_read read other is =
       subst (λ f. ChangesWhere (λ key. Unit {0}) l d l.next_number (trimmed_in l f) f)
-      (some family other (sym stream ∙ is))
+      (same_Some family other (sym stream ∙ is))
       (λ key row here shows. subst (λ z. IsStreamRow d l.next_number z key row) told
       (subst (λ n. IsStreamRow d n trimmed key row) same (read key row here shows)))
 

@@ -8,10 +8,10 @@ use Rattle.std.specs.Option.{option_map_or}
 use Rattle.std.specs.Ordering.{eq_by_cmp}
 use Rattle.std.specs.Prelude.{◌==◌, if◌then◌else◌, not}
 use Rattle.std.specs.Str.{bytes_eq}
+use Rattle.alt_cells.proofs.SameKeys.{key_itself, one_key}
 use Rattle.alt_machine.specs.State.{Table, Texts}
 use Rattle.alt_opening.specs.Trimmed.{AreTrimmedOf, IsRenumbered, number_at, with_number, without}
 use Rattle.alt_opening.specs.declared.trimmed.Trimmed.{Trimmed}
-use Rattle.alt_tablerows.proofs.Ties.{itself, tied}
 use Rattle.alt_value.specs.Members.{text_order}
 use Rattle.alt_value.proofs.Texts.{text_total}
 
@@ -133,7 +133,7 @@ module _ (tables : Texts Table) (name : List ℕ) (known : List Trimmed)
     where
       by : (b : Bool) → eq_by_cmp text_order q name ≡ b
           → at tables q ≡ at (map.insert tables name u) q
-      by true e = ap (at tables) (tied q name e)
+      by true e = ap (at tables) (one_key q name e)
           ∙ ap (λ o. option_map_or (λ (t : Table). t.trimmed) o 0) there ∙ sym same
           ∙ sym (with_one u q true e)
       by false e = sym (with_one u q false e)
@@ -148,9 +148,9 @@ module _ (tables : Texts Table) (name : List ℕ) (known : List Trimmed)
       by true e true f = sym (with_one u q true f)
       by false e false f = are q ∙ sym (with_one u q false f)
       by true e false f = absurd (false≢true (sym f
-          ∙ ap (λ n. eq_by_cmp text_order q n) ((bytes_eq-Decides name q).0 e) ∙ itself q))
+          ∙ ap (λ n. eq_by_cmp text_order q n) ((bytes_eq-Decides name q).0 e) ∙ key_itself q))
       by false e true f = absurd (false≢true (sym e
-          ∙ (bytes_eq-Decides name q).1 (sym (tied q name f))))
+          ∙ (bytes_eq-Decides name q).1 (sym (one_key q name f))))
 
   -- a new one, of which nothing was
   pub trimmed-new : (u : Table) → map.get tables name ≡ None → u.trimmed ≡ 0
@@ -159,7 +159,7 @@ module _ (tables : Texts Table) (name : List ℕ) (known : List Trimmed)
     where
       by : (b : Bool) → eq_by_cmp text_order q name ≡ b
           → at tables q ≡ at (map.insert tables name u) q
-      by true e = ap (at tables) (tied q name e)
+      by true e = ap (at tables) (one_key q name e)
           ∙ ap (λ o. option_map_or (λ (t : Table). t.trimmed) o 0) free ∙ sym none
           ∙ sym (with_one u q true e)
       by false e = sym (with_one u q false e)
@@ -181,11 +181,11 @@ module _ (tables : Texts Table) (name : List ℕ) (known : List Trimmed)
 
       other : bytes_eq name q ≡ false → (b : Bool) → eq_by_cmp text_order q name ≡ b → b ≡ false
       other differ true e = absurd (false≢true (sym differ
-          ∙ (bytes_eq-Decides name q).1 (sym (tied q name e))))
+          ∙ (bytes_eq-Decides name q).1 (sym (one_key q name e))))
       other differ false e = refl
 
       by : (b : Bool) → bytes_eq name q ≡ b
           → (if b then 0 else number_at q known) ≡ at (map.remove tables name) q
       by true e = sym (gone true (ap (λ n. eq_by_cmp text_order q n)
-          ((bytes_eq-Decides name q).0 e) ∙ itself q))
+          ((bytes_eq-Decides name q).0 e) ∙ key_itself q))
       by false e = are q ∙ sym (gone false (other e (eq_by_cmp text_order q name) refl))

@@ -1,6 +1,6 @@
 -- What is known of trimmed changes, read table after table in the order of their families.
 use Rattle.std.proofs.Common.{◌≡◌, ◌⊎◌, ◌≤◌, ◌<◌, ⊎_elim, refl, sym, ap, ◌∙◌, ℕ, Bool, true, false, List, [], Option, Some, None, option_map, arith}
-use Rattle.std.proofs.lemmas.Bool.{false≢true}
+use Rattle.std.proofs.lemmas.Bool.{false≢true, lt-leb, le-leb}
 use Rattle.std.proofs.lemmas.Slice.Eq.{bytes_eq-Decides}
 use Rattle.std.specs.FinMap as map
 use Rattle.std.specs.Option.{option_map_or}
@@ -16,7 +16,6 @@ use Rattle.alt_opening.specs.StreamScans.{stream_trimmed}
 use Rattle.alt_opening.specs.Trimmed.{AreTrimmedOf, number_at, with_number}
 use Rattle.alt_opening.specs.declared.trimmed.Trimmed.{Trimmed}
 use Rattle.alt_opening.proofs.FirstWrong.{known_family, same_table}
-use Rattle.alt_opening.proofs.StreamKeys.{above, up_to}
 use Rattle.alt_opening.proofs.TableSteps.{up_to_or_above}
 use Rattle.alt_opening.proofs.TrimmedLaws.{number-with}
 
@@ -33,11 +32,11 @@ module _ (l : Layout) (next : ℕ) (catalog : Texts TableSchema) (read : IsCatal
   known_up : (family : ℕ) (d : TableSchema) → d.family ≤ family
       → known_to family d ≡ stream_trimmed l d
   known_up family d low =
-      ap (λ b. if b then stream_trimmed l d else 0) (up_to d.family family low)
+      ap (λ b. if b then stream_trimmed l d else 0) (le-leb d.family family low)
 
   not_known : (family : ℕ) (d : TableSchema) → family < d.family → known_to family d ≡ 0
   not_known family d high =
-      ap (λ b. if b then stream_trimmed l d else 0) (above d.family family high)
+      ap (λ b. if b then stream_trimmed l d else 0) (lt-leb d.family family high)
 
   -- nothing yet
   pub none_known : AreTrimmedUpTo l catalog 0 []

@@ -4,10 +4,12 @@ use Rattle.std.proofs.lemmas.Bool.{false≢true}
 use Rattle.std.specs.Ordering.{eq_by_cmp, is_eq}
 use Rattle.std.specs.FinMap as map
 use Rattle.std.specs.FinMap.Entries.{below_all, find, is_sorted}
+use Rattle.alt_base.proofs.Bools.{first_holds, second_holds}
 use Rattle.alt_cells.specs.Changes.{Columns}
 use Rattle.alt_cells.specs.Keys.{key_cmp}
 use Rattle.alt_cells.proofs.CellLaws.{key_total}
-use Rattle.alt_cells.proofs.Entries.{first, second, find_below}
+use Rattle.alt_cells.proofs.Entries.{find_below}
+use Rattle.alt_cells.proofs.SameKeys.{key_itself, one_key}
 use Rattle.alt_layout.specs.Layout.{Layout, shown}
 use Rattle.alt_machine.specs.declared.TheConstants.{NUMBERS_END, FAMILIES_END}
 use Rattle.alt_machine.specs.State.{State, Table, Texts, families_of, start}
@@ -21,7 +23,6 @@ use Rattle.alt_opening.specs.Recovery.{Agrees, IsBefore, IsUpTo, IsFirstWrong}
 use Rattle.alt_opening.specs.Scans.{IsBelow}
 use Rattle.alt_opening.specs.StateRows.{catalog_family, next_row, table_row}
 use Rattle.alt_opening.proofs.Assembled.{assembled, not_empty}
-use Rattle.alt_tablerows.proofs.Ties.{tied, itself}
 use Rattle.alt_opening.proofs.Cuts.{cut, shown-here, shown-not}
 use Rattle.alt_opening.proofs.Families.{own_family}
 use Rattle.alt_opening.proofs.FirstWrong.{before_row, is_before, before_is, not_before, agrees_before, same_next, table_at, described_at}
@@ -35,12 +36,15 @@ sub_len : {X Y : Type 0} (es : List (List ℕ × X)) (n : Texts Y) → T (is_sor
 sub_len [] n sorted all = omega arith
 sub_len {X} {Y} (e ∷ es) n sorted all =
     let there : map.contains_key n e.0 ≡ true = all e.0 e.1
-    (ap (λ b. cond b (Some e.1) (find key_cmp e.0 es)) (itself e.0)) in
+    (ap (λ b. cond b (Some e.1) (find key_cmp e.0 es)) (key_itself e.0)) in
     let some : 1 ≤ map.len n = has_one (map.len n) refl there in
     let less : map.len (map.remove n e.0) ≡ map.len n - 1 = map.len-remove key_total n e.0
     ∙ ap (λ b. cond b (map.len n - 1) (map.len n)) there in
-    let below : T (below_all key_cmp e.0 es) × T (is_sorted key_cmp es) =
-    (first _ (is_sorted key_cmp es) sorted, second (below_all key_cmp e.0 es) _ sorted) in
+    let below : T (below_all key_cmp e.0 es) × T (is_sorted key_cmp es) = (
+      first_holds _ (is_sorted key_cmp es) sorted,
+      second_holds (below_all key_cmp e.0 es) _
+          sorted,
+    ) in
     let rest : length es ≤ map.len (map.remove n e.0) = sub_len es (map.remove n e.0)
     below.1 (λ k x at. by k x at (eq_by_cmp key_cmp k e.0) refl) in
     omega (arith, some, less, rest)
@@ -54,8 +58,8 @@ sub_len {X} {Y} (e ∷ es) n sorted all =
     by : (k : List ℕ) (x : X) → find key_cmp k es ≡ Some x → (b : Bool)
         → eq_by_cmp key_cmp k e.0 ≡ b → map.contains_key (map.remove n e.0) k ≡ true
     by k x at true same = absurd (let no : None ≡ Some x =
-        sym (find_below key_cmp key_total e.0 es (first _ _ sorted))
-        ∙ ap (λ q. find key_cmp q es) (sym (tied k e.0 same)) ∙ at in cc no)
+        sym (find_below key_cmp key_total e.0 es (first_holds _ _ sorted))
+        ∙ ap (λ q. find key_cmp q es) (sym (one_key k e.0 same)) ∙ at in cc no)
     by k x at false differ = ap is_some (map.get-remove key_total n e.0 k
         ∙ ap (λ b. cond b None (map.get n k)) differ)
         ∙ all k x (ap (λ b. cond b (Some e.1) (find key_cmp k es)) differ ∙ at)
@@ -76,7 +80,7 @@ more_len {X} m n k x none there all =
   where
     by : (q : List ℕ) (y : X) (b : Bool) → eq_by_cmp key_cmp q k ≡ b
         → cond b (Some x) (map.get m q) ≡ Some y → map.contains_key n q ≡ true
-    by q y true same at = ap (map.contains_key n) (tied q k same) ∙ there
+    by q y true same at = ap (map.contains_key n) (one_key q k same) ∙ there
     by q y false differ at = all q y at
 
 -- ---- the next family
@@ -210,7 +214,7 @@ module _ (l : Layout) (next : ℕ) (catalog : Texts TableSchema) (name : List �
         → other ≡ name → ⊥
     other_name other e at same =
         let low : IsBelow name name = subst (λ k. IsBelow k name) same (read.stands other e at).0 in
-        let f : ⊥ = false≢true (sym (ap (λ o. is_eq o) low) ∙ itself name) in f
+        let f : ⊥ = false≢true (sym (ap (λ o. is_eq o) low) ∙ key_itself name) in f
 
     absent : (o : Option TableSchema) → map.get catalog name ≡ o → o ≡ None
     absent None at = refl

@@ -1,9 +1,10 @@
 -- A batch of writes that was read ahead: what the machine makes of its body is what it makes of the writes that were read.
-use Rattle.std.proofs.Common.{◌≡◌, ◌<◌, refl, sym, ap, ◌∙◌, ℕ, zero, suc, ◌+◌, ◌&&◌, Bool, true, false, List, [], ◌∷◌, ◌++◌, map, length, drop, get_or, Option, Some, None, Result, Ok, add-one, arith}
+use Rattle.std.proofs.Common.{◌≡◌, ◌<◌, refl, sym, ap, ◌∙◌, ℕ, zero, suc, ◌+◌, ◌&&◌, Bool, true, List, [], ◌∷◌, ◌++◌, map, length, drop, get_or, Option, Some, None, Result, Ok, add-one, arith}
 use Rattle.std.specs.Prelude.{⊤}
 use Rattle.std.specs.FinMap as finite
 use Rattle.std.specs.List.{list_all}
 use Rattle.std.proofs.lemmas.List.{length-append, length-map}
+use Rattle.std.proofs.Math.Bool.{and-true}
 use Rattle.serde_json.specs.Data.{Data, Items, no_items, item, Members, no_members, member}
 use Rattle.serde_json.specs.Find.{as_object}
 use Rattle.alt_machine.specs.declared.BatchMember.{BatchMember}
@@ -184,10 +185,6 @@ all_named p (member name d ms) (t ∷ ts) h =
 
 -- ---- the whole
 
-and_true : (b : Bool) → (b && true) ≡ b
-and_true true = refl
-and_true false = refl
-
 module _ (catalog : Texts TableSchema) (ms : Members) (ts : List TableWrites)
     (ahead : IsBatchAhead ms ts) where
   tables_are : tables_asked ms ≡ pairs_in ahead.tables
@@ -216,7 +213,7 @@ module _ (catalog : Texts TableSchema) (ms : Members) (ts : List TableWrites)
       let good : are_writes (requests ms) ≡ is_sized MOST_WRITES (length (members_of ts)) =
       (λ i. is_sized MOST_WRITES (read_count (requests ms) (members_of ts) reads i)
       && read_one (requests ms) (members_of ts) reads i)
-      ∙ and_true (is_sized MOST_WRITES (length (members_of ts))) in
+      ∙ and-true (is_sized MOST_WRITES (length (members_of ts))) in
       let named = ap (list_all (λ q. is_name q.0)) tables_are
       ∙ all_named is_name ahead.tables ts ahead.say in
       λ i. of_shape (unbroken i) ∷ None ∷ refuse_unless (good i) bad_batch ∷

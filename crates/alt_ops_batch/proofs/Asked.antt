@@ -1,5 +1,6 @@
 -- What is known of the members of a BatchWriteItem that nothing refuses: what they leave may be written, and at different places.
-use Rattle.std.proofs.Common.{◌≡◌, refl, ◌&&◌, ◌||◌, Bool, true, false, List, [], ◌∷◌, map, Ok}
+use Rattle.std.proofs.Common.{◌≡◌, refl, ◌&&◌, Bool, true, false, List, [], ◌∷◌, map, Ok}
+use Rattle.std.proofs.lemmas.Bool.{or_parts}
 use Rattle.std.specs.List.{list_any}
 use Rattle.std.specs.FinMap as finite
 use Rattle.std.specs.Str.{bytes_eq}
@@ -31,11 +32,6 @@ pub asked_may_write : (catalog : Texts TableSchema) (ms : Members) (there : List
 asked_may_write catalog ms there e = may_all catalog there (asked_may catalog ms there e)
     (asked_named catalog ms there e)
 
--- what doesn't hold of the first of two, and of neither
-neither : (a b : Bool) → (a || b) ≡ false → (a ≡ false) × (b ≡ false)
-neither true b e = absurd (let f : ⊥ = cc in f)
-neither false b e = (refl, e)
-
 -- members of different keys are at different places
 one_key : (m n : PlacedMember) → is_same_key m n ≡ false → AreApart (written_by m) (written_by n)
 one_key m n e table place = by (bytes_eq m.table n.table) refl e
@@ -49,12 +45,12 @@ apart_from : (m : PlacedMember) (ms : List PlacedMember) → list_any (is_same_k
     → Every (AreApart (written_by m)) (map written_by ms)
 apart_from m [] e = tt
 apart_from m (n ∷ ns) e =
-    let both = neither (is_same_key m n) (list_any (is_same_key m) ns) e in
+    let both = or_parts (is_same_key m n) (list_any (is_same_key m) ns) e in
     (one_key m n both.0, apart_from m ns both.1)
 
 -- and so are all of them, where no key stands twice
 pub all_apart : (ms : List PlacedMember) → has_repeat ms ≡ false → AreAllApart (map written_by ms)
 all_apart [] e = tt
 all_apart (m ∷ ms) e =
-    let both = neither (list_any (is_same_key m) ms) (has_repeat ms) e in
+    let both = or_parts (list_any (is_same_key m) ms) (has_repeat ms) e in
     (apart_from m ms both.0, all_apart ms both.1)

@@ -10,13 +10,8 @@ use Rattle.alt_request.specs.TablesSeveral.{Every, written_at, MayWrite, IsFound
 use Rattle.alt_request.specs.TablesDeclaredItemChange.{ItemChange}
 use Rattle.alt_request.specs.TablesStands.{KeepsCatalog, Reads, Stands, catalog_of}
 use Rattle.alt_request.specs.TablesDeclaredTables.{Tables}
+use Rattle.alt_request.proofs.TablesEach.{every_more}
 use Rattle.alt_request.proofs.TablesLeft.{reads_then}
-
--- what holds of a list holds of it with one more
-pub every_more : {A : Type 0} (P : A → Type 0) (xs : List A) (x : A) → Every P xs → P x
-    → Every P (xs ++ x ∷ [])
-every_more P [] x h p = (p, tt)
-every_more P (y ∷ ys) x h p = (h.0, every_more P ys x h.1 p)
 
 -- The first of the members are looked up.
 pub record AreFound (before : DiskState) (old : Tables) (after : DiskState) (now : Tables)

@@ -1,5 +1,6 @@
 -- What stands at a key is what was found there, and values without a float.
 use Rattle.std.proofs.Common.{◌≡◌, refl, sym, ap, ◌∙◌, ℕ, ◌≤◌, ◌||◌, Bool, true, false, List, [], ◌∷◌, ◌++◌, is_some, Option, Some, None}
+use Rattle.std.proofs.lemmas.Bool.{or_from}
 use Rattle.std.specs.Prelude.{option_and_then}
 use Rattle.std.specs.FinMap as finite
 use Rattle.serde_json.specs.View.{view, items_view}
@@ -11,7 +12,6 @@ use Rattle.alt_machine.specs.declared.TheConstants.{LARGEST_ITEM}
 use Rattle.alt_machine.specs.Ops.BatchGetItem.{found_at}
 use Rattle.alt_machine.specs.State.{State, Table}
 use Rattle.alt_machine.proofs.Descriptions.{there-descriptions}
-use Rattle.alt_shape.proofs.Plain.{no_float_either}
 use Rattle.alt_request.specs.TablesFound.{IsFoundIn}
 use Rattle.alt_request.specs.TablesStands.{Stands, catalog_of}
 use Rattle.alt_request.specs.TablesDeclaredFound.{Found}
@@ -55,7 +55,7 @@ module _ (disk : DiskState) (tables : Tables) (s : State) (stands : Stands disk 
 -- with one more
 pub plain_more : (vs : List Value) (v : Value) → items_have_float (items_view vs) ≡ false
     → has_float (view v) ≡ false → items_have_float (items_view (vs ++ v ∷ [])) ≡ false
-plain_more [] v h e = no_float_either (has_float (view v)) false e refl
+plain_more [] v h e = or_from (has_float (view v)) false e refl
 plain_more (w ∷ vs) v h e = by (has_float (view w)) h (plain_more vs v)
   where
     by : (b : Bool) → (b || items_have_float (items_view vs)) ≡ false

@@ -1,13 +1,14 @@
 -- Changes that are made one after another leave what the machine has at the names that may be there.
-use Rattle.std.proofs.Common.{◌≡◌, refl, sym, ap, ◌∙◌, ℕ, ◌<◌, Bool, true, false, cond, not, ◌||◌, List, [], ◌∷◌, ◌++◌, map, length, is_some, Option, Some, None, Result, Ok, Err, bytes_eq, arith}
+use Rattle.std.proofs.Common.{◌≡◌, refl, sym, ap, ◌∙◌, ℕ, ◌<◌, Bool, true, false, cond, not, List, [], ◌∷◌, ◌++◌, map, length, is_some, Option, Some, None, Result, Ok, Err, bytes_eq, arith}
 use Rattle.std.specs.Prelude.{unwrap_or, option_map, if◌then◌else◌}
 use Rattle.std.specs.List.{list_any}
 use Rattle.std.specs.Option.{option_map_or}
 use Rattle.std.specs.Ordering.{eq_by_cmp}
-use Rattle.std.specs.Cmp.Lexicographic.{texts_ties, nat_list_eq_equiv}
+use Rattle.std.specs.Cmp.Lexicographic.{nat_list_eq_equiv}
 use Rattle.std.specs.FinMap.Entries.{find-put, find-where_key, is_some-find, same_entries}
 use Rattle.std.proofs.lemmas.List.Folds.{list_any-append}
 use Rattle.std.proofs.lemmas.Slice.Eq.{bytes_eq-Decides}
+use Rattle.std.proofs.lemmas.Bool.{or_parts}
 use Rattle.alt_expr.specs.Located.{View}
 use Rattle.alt_expr.specs.UpdateLanguage.{target}
 use Rattle.alt_expr.specs.Updated.{Edit, Fault, edit, edits, sum_of, parent, added, taken, behind, under, after, put_name, updated, ◌>>=◌}
@@ -16,7 +17,7 @@ use Rattle.alt_expr.specs.declared.update.Action.{Action}
 use Rattle.alt_expr.specs.declared.update.Action.TheVariants.{Set, Remove, Add, Delete}
 use Rattle.alt_machine.specs.Conditional.{seen}
 use Rattle.alt_machine.specs.Ops.UpdateItem.{name_of, names_of, pairs_of}
-use Rattle.alt_machine.proofs.Names.{IsItem-pairs_of, at_name-pairs_of, at_name-has_bytes}
+use Rattle.alt_machine.proofs.Names.{IsItem-pairs_of, at_name-pairs_of, at_name-has_bytes, IsItem-put_name}
 use Rattle.alt_ops_item.specs.private.Updates.{with_change, with_changes}
 use Rattle.alt_updeval.specs.Changes.{changed_by}
 use Rattle.alt_updeval.specs.declared.update.AttrChange.{AttrChange}
@@ -24,14 +25,11 @@ use Rattle.alt_value.specs.Item.{IsItem, at_name, without}
 use Rattle.alt_value.specs.Members.{text_order}
 use Rattle.alt_value.specs.Stands.{tree_of}
 use Rattle.alt_value.specs.Tree.{Tree, Pair}
-use Rattle.alt_value.proofs.Entries.{IsItem-with_pair, IsItem-without}
+use Rattle.alt_value.proofs.Entries.{IsItem-without}
+use Rattle.alt_value.proofs.TextTies.{text_ties}
 use Rattle.alt_value.proofs.Texts.{text_total, text_apart}
 
 -- ---- what stands at a name
-
--- two names tie where they are one
-same_text : (m n : List ℕ) → eq_by_cmp text_order m n ≡ bytes_eq m n
-same_text m n = sym (texts_ties m n)
 
 at_name-put_name : (q n : List ℕ) (t : Tree) (ps : List Pair) → 0 < length q
     → at_name q (put_name n t ps) ≡ cond (bytes_eq q n) (Some t) (at_name q ps)
@@ -39,7 +37,7 @@ at_name-put_name [] n t ps some = absurd (omega arith)
 at_name-put_name (c ∷ cs) [] t ps some = refl
 at_name-put_name (c ∷ cs) (d ∷ ds) t ps some =
     find-put text_order text_total (c ∷ cs) (d ∷ ds) t ps
-    ∙ ap (λ b. cond b (Some t) (at_name (c ∷ cs) ps)) (same_text (c ∷ cs) (d ∷ ds))
+    ∙ ap (λ b. cond b (Some t) (at_name (c ∷ cs) ps)) (text_ties (c ∷ cs) (d ∷ ds))
 
 turned : (b : Bool) (o : Option Tree) → cond (not b) o None ≡ cond b None o
 turned true o = refl
@@ -51,7 +49,7 @@ at_name-without q n ps =
     find-where_key text_order (λ other. not (eq_by_cmp text_order n other)) q
     (λ x e. ap (λ other. not (eq_by_cmp text_order n other)) (sym (text_apart q x e))) ps
     ∙ turned (eq_by_cmp text_order n q) (at_name q ps)
-    ∙ ap (λ b. cond b None (at_name q ps)) (same_text n q ∙ nat_list_eq_equiv.symm n q)
+    ∙ ap (λ b. cond b None (at_name q ps)) (text_ties n q ∙ nat_list_eq_equiv.symm n q)
 
 -- one change sets what stands at its name alone
 at_name-change : (q : List ℕ) (c : AttrChange) (item : List Pair) → 0 < length q
@@ -74,10 +72,6 @@ at_name-changes (c ∷ cs) item view h q some =
     (λ n. if bytes_eq n c.name then option_map tree_of c.value else view n)
     (λ n more. at_name-change n c item more
     ∙ ap (cond (bytes_eq n c.name) (option_map tree_of c.value)) (h n more)) q some
-
-IsItem-put_name : (n : List ℕ) (t : Tree) (ps : List Pair) → IsItem ps → IsItem (put_name n t ps)
-IsItem-put_name [] t ps h = h
-IsItem-put_name (c ∷ cs) t ps h = IsItem-with_pair (c ∷ cs) t ps (omega arith) h
 
 IsItem-change : (c : AttrChange) (item : List Pair) → IsItem item → IsItem (with_change c item)
 IsItem-change c item h = elim c.value as (λ o. IsItem
@@ -145,12 +139,8 @@ behind_none : (q : List ℕ) (e : Edit) → eq_by_cmp text_order q (name_of e.0)
     → behind (Name q) e ≡ []
 behind_none q ([], v) h = refl
 behind_none q (Name m ∷ ps, v) h =
-    ap (λ b. if b then (ps, v) ∷ [] else []) (sym (same_text q m) ∙ h)
+    ap (λ b. if b then (ps, v) ∷ [] else []) (sym (text_ties q m) ∙ h)
 behind_none q (Index i ∷ ps, v) h = refl
-
-either_false : (a b : Bool) → (a || b) ≡ false → (a ≡ false) × (b ≡ false)
-either_false true b e = absurd (let f : ⊥ = cc in f)
-either_false false b e = (refl, e)
 
 -- the names of the attributes that actions change
 abbrev changed_names : List Action → List (List ℕ)
@@ -163,7 +153,7 @@ under_none view [] es h q none = ap (under (Name q)) (sym (same_Ok [] es h))
 under_none view (a ∷ more) es h q none =
     let one = found_first (edit view a) (λ e. edits view more >>= (λ rest. Ok (e ∷ rest))) es h in
     let two = found_first (edits view more) (λ rest. Ok (one.0 ∷ rest)) es one.2 in
-    let apart = either_false (eq_by_cmp text_order q (name_of (target a)))
+    let apart = or_parts (eq_by_cmp text_order q (name_of (target a)))
     (list_any (eq_by_cmp text_order q) (changed_names more)) none in
     ap (under (Name q)) (sym (same_Ok (one.0 ∷ two.0) es two.2))
     ∙ (λ i. behind_none q one.0
@@ -192,7 +182,7 @@ module _ (old : Option (List Pair)) (update : List Action) (view : View)
       let before : List Pair = unwrap_or old [] in
       let one = found_first (edits (seen old) update)
       (λ es. Ok (λ name. after (under (Name name) es) (seen old name))) view is in
-      let apart = either_false (list_any (eq_by_cmp text_order q) (map (λ p. p.0) before))
+      let apart = or_parts (list_any (eq_by_cmp text_order q) (map (λ p. p.0) before))
       (list_any (eq_by_cmp text_order q) (changed_names update))
       (sym (list_any-append (eq_by_cmp text_order q) (map (λ p. p.0) before)
       (changed_names update)) ∙ none) in

@@ -3,8 +3,8 @@ use Rattle.std.proofs.Common.{◌≡◌, refl, sym, ap, subst, ◌∙◌, ℕ, z
 use Rattle.std.specs.Prelude.{slice_get, unwrap_or}
 use Rattle.std.specs.FinMap as map
 use Rattle.std.specs.FinMap.Entries.{below_all}
-use Rattle.std.specs.Ordering.{is_lt}
 use Rattle.std.proofs.lemmas.Bool.{leb-true, leb-false, lt-leb}
+use Rattle.alt_base.proofs.Bools.{first_holds, second_holds}
 use Rattle.serde_json.specs.Data.{Members}
 use Rattle.alt_expr.specs.Faults.{Parsed}
 use Rattle.alt_expr.specs.Given.{Given}
@@ -36,7 +36,7 @@ use Rattle.alt_value.specs.Members.{text_order}
 use Rattle.alt_value.specs.Size.{depth, fields_depth}
 use Rattle.alt_value.specs.Tree.{Pair, fields_of}
 use Rattle.alt_value.proofs.Depths.{value_depth}
-use Rattle.alt_value.proofs.Places.{first, second}
+use Rattle.alt_value.proofs.TextTies.{above_empty_holds}
 
 -- ---- the key
 
@@ -63,18 +63,14 @@ part_put key item new i = by (slice_get key i) refl
     by (Some p) e h = ap (with_key (take i key)) h ∙ sym (with_key-take key item i p e)
         ∙ ap (λ n. with_key (take n key) item) (let f : suc i ≡ i + 1 = omega arith in f)
 
--- a name above the empty one has bytes
-has_bytes : (name : List ℕ) → T (is_lt (text_order [] name)) → 0 < length name
-has_bytes [] h = absurd h
-has_bytes (c ∷ cs) h = omega arith
-
 -- each attribute of an item has a name with bytes
 below_get : (ps : List Pair) (i : ℕ) (p : Pair) → T (below_all text_order [] ps)
     → slice_get ps i ≡ Some p → 0 < length p.0
 below_get [] i p h e = absurd (let f : ⊥ = cc in f)
 below_get (q ∷ ps) zero p h e =
-    subst (λ (r : Pair). 0 < length r.0) (same_pair q p e) (has_bytes q.0 (first _ _ h))
-below_get (q ∷ ps) (suc i) p h e = below_get ps i p (second _ _ h) e
+    subst (λ (r : Pair). 0 < length r.0) (same_pair q p e)
+    (above_empty_holds q.0 (first_holds _ _ h))
+below_get (q ∷ ps) (suc i) p h e = below_get ps i p (second_holds _ _ h) e
 
 -- each name of an item has bytes
 pub part_named : (ps : List Pair) (i : ℕ) (p : Pair) → IsItem ps → slice_get ps i ≡ Some p

@@ -5,6 +5,7 @@ use Rattle.std.specs.List.{list_all, list_any}
 use Rattle.std.specs.Option.{option_map_or}
 use Rattle.std.specs.Ordering.{eq_by_cmp}
 use Rattle.std.proofs.lemmas.Bool.{leb-false, lt-leb}
+use Rattle.std.proofs.Math.Bool.{and-false}
 use Rattle.alt_expr.specs.Located.{View}
 use Rattle.alt_expr.specs.Updated.{put_name, updated}
 use Rattle.alt_expr.specs.declared.update.Action.{Action}
@@ -116,16 +117,12 @@ left_alike said key None ps qs h = elim (makes_none said.update) as (λ (b : Boo
 
 -- ---- keys
 
-and_false : (b : Bool) → (b && false) ≡ false
-and_false true = refl
-and_false false = refl
-
 -- what is longer than the longest key is no key
 too_long : (most n : ℕ) → most ≤ longest_key → nat_le n longest_key ≡ false
     → is_key_length most n ≡ false
 too_long most n h e =
     let long : longest_key < n = leb-false n longest_key e in
-    ap (λ b. nat_lt 0 n && b) (lt-leb n most (omega (arith, long, h))) ∙ and_false (nat_lt 0 n)
+    ap (λ b. nat_lt 0 n && b) (lt-leb n most (omega (arith, long, h))) ∙ and-false (nat_lt 0 n)
 
 -- whether a value that may be a key is one of that kind
 abbrev key_by : ℕ → KeyKind → Option Tree → Bool

@@ -1,5 +1,6 @@
 -- The page that was filled is answered as that of the list.
-use Rattle.std.proofs.Common.{◌≡◌, refl, sym, ap, subst, ◌∙◌, ℕ, Bool, true, false, List, [], length, map, Option, Some, None, Result, Ok, Err, IfOk, IfErr, IfSome, OnOk, option_map}
+use Rattle.std.proofs.Common.{◌≡◌, refl, sym, ap, subst, ◌∙◌, ℕ, Bool, true, false, List, [], length, map, Option, Some, None, Result, Ok, Err, IfOk, IfErr, IfSome, option_map}
+use Rattle.std.proofs.lemmas.Option.{same_Some}
 use Rattle.std.specs.Prelude.{if◌then◌else◌, codes}
 use Rattle.std.specs.FinMap as finite
 use Rattle.std.specs.List.{last_or}
@@ -160,15 +161,6 @@ page_asks d x ms said list ask is limit =
     ap (λ (a : Asked). page_answer d x ms (pages.page_of a list) (last_examined a list))
     (asked_is ms said ask is limit)
 
--- what holds at each Ok holds where it is that
-pub on_ok : {A E P : Type 0} (r : Result A E) → P → OnOk r P
-on_ok (Ok x) h = h
-on_ok (Err e) h = tt
-
--- options that are equal have equal descriptions
-some_same : (d x : TableSchema) → Some d ≡ Some x → d ≡ x
-some_same d x same = cc
-
 -- the description of a table is the one that was found
 pub told_of : (found : Option TableSchema) (index : Option ℕ) (ms : Members) (pager : Pager)
     (r : Result Reply Stop) (d : TableSchema) → Some d ≡ found
@@ -177,7 +169,7 @@ pub told_of : (found : Option TableSchema) (index : Option ℕ) (ms : Members) (
     → AnswersPage x (index_at x index) ms pager (answer_of reply))
 told_of found index ms pager (Ok reply) d is h =
     λ x at. subst (λ y. AnswersPage y (index_at y index) ms pager (answer_of reply))
-    (some_same d x (is ∙ at)) h
+    (same_Some d x (is ∙ at)) h
 told_of found index ms pager (Err stop) d is h = tt
 
 -- and so is what holds of each description that is there
@@ -186,7 +178,7 @@ pub within_of : (catalog : Texts TableSchema) (name : List ℕ) (index : Option 
     → (x : TableSchema) → finite.get catalog name ≡ Some x
     → IfSome index (λ n. CanRead x n)
 within_of catalog name index d is h x at = subst (λ y. IfSome index (λ n. CanRead y n))
-    (some_same d x (sym is ∙ at)) h
+    (same_Some d x (sym is ∙ at)) h
 
 -- the reply is that of the description at hand
 pub told_at : (catalog : Texts TableSchema) (name : List ℕ) (index : Option ℕ) (ms : Members)

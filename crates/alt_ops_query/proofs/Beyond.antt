@@ -4,24 +4,14 @@ use Rattle.std.specs.declared.cmp.Ordering.{Ordering}
 use Rattle.std.specs.declared.cmp.Ordering.TheVariants.{Less, Equal, Greater}
 use Rattle.std.specs.Ordering.{is_gt, is_lt, ordering_reverse}
 use Rattle.std.specs.Cmp.Lexicographic.{nat_list_cmp_total}
+use Rattle.alt_base.proofs.Orderings.{is_gt-false, less-not_greater, less-is_lt, is_lt-true}
 use Rattle.alt_keyorder.specs.Range.{IsBelow, IsUpTo}
+use Rattle.alt_keyorder.proofs.Bounds.{up_to_below, up_to_not_above}
 use Rattle.alt_ops_query.specs.private.Ranges.{IsBeyond, IsLesser}
 use Rattle.alt_request.proofs.TablesOpeningNextRow.{below_after, after_below}
 use Rattle.alt_value.specs.Members.{text_order}
 
 -- ---- orders of bytes
-
--- an order that is `Less` is told to be below
-less_true : (o : Ordering) → o ≡ Less → is_lt o ≡ true
-less_true Less e = refl
-less_true Equal e = absurd (let f : ⊥ = cc in f)
-less_true Greater e = absurd (let f : ⊥ = cc in f)
-
--- and one that is told to be is `Less`
-true_less : (o : Ordering) → is_lt o ≡ true → o ≡ Less
-true_less Less e = refl
-true_less Equal e = absurd (let f : ⊥ = cc in f)
-true_less Greater e = absurd (let f : ⊥ = cc in f)
 
 -- one that is told to be above is `Greater`
 gt_is : (o : Ordering) → is_gt o ≡ true → o ≡ Greater
@@ -29,32 +19,11 @@ gt_is Less e = absurd (let f : ⊥ = cc in f)
 gt_is Equal e = absurd (let f : ⊥ = cc in f)
 gt_is Greater e = refl
 
--- and one that isn't told to be isn't
-gt_not : (o : Ordering) → is_gt o ≡ false → o ≢ Greater
-gt_not Less e = λ f. cc
-gt_not Equal e = λ f. cc
-gt_not Greater e = absurd (let f : ⊥ = cc in f)
-
 -- what isn't less isn't greater the other way round
 lt_not : (o : Ordering) → is_lt o ≡ false → ordering_reverse o ≢ Greater
 lt_not Less e = absurd (let f : ⊥ = cc in f)
 lt_not Equal e = λ f. cc
 lt_not Greater e = λ f. cc
-
--- what is less isn't greater
-less_not : (o : Ordering) → o ≡ Less → o ≢ Greater
-less_not Less e = λ f. cc
-less_not Equal e = absurd (let f : ⊥ = cc in f)
-less_not Greater e = absurd (let f : ⊥ = cc in f)
-
--- bytes up to some that are below others are below these
-up_to_below : (a b c : List ℕ) → IsUpTo a b → IsBelow b c → IsBelow a c
-up_to_below a b c p q = by (text_order a b) refl p
-  where
-    by : (o : Ordering) → text_order a b ≡ o → o ≢ Greater → text_order a c ≡ Less
-    by Less is h = nat_list_cmp_total.trans a b c is q
-    by Equal is h = nat_list_cmp_total.congr a b c is ∙ q
-    by Greater is h = absurd (h refl)
 
 -- bytes below some that are up to others are below these
 below_up_to : (a b c : List ℕ) → IsBelow a b → IsUpTo b c → IsBelow a c
@@ -67,13 +36,9 @@ below_up_to a b c p q = by (text_order b c) refl q
         ∙ sym (nat_list_cmp_total.antisymm a b) ∙ p
     by Greater is h = absurd (h refl)
 
--- no bytes are below others and not up to them
-apart : (a b : List ℕ) → IsUpTo a b → IsBelow b a → ⊥
-apart a b p q = p (nat_list_cmp_total.antisymm a b ∙ ap ordering_reverse q)
-
 -- none are below themselves
 not_itself : (a : List ℕ) → IsBelow a a → ⊥
-not_itself a p = apart a a (less_not (text_order a a) p) p
+not_itself a p = up_to_not_above a a (less-not_greater (text_order a a) p) p
 
 -- bytes that others are above are below these
 above_is : (a b : List ℕ) → text_order a b ≡ Greater → IsBelow b a
@@ -87,7 +52,7 @@ pub beyond_above : (from : List ℕ) (to : Option (List ℕ)) (place : List ℕ)
 beyond_above from to place above key = (
   λ h. (
     h,
-    less_true (text_order place key) (below_up_to place from key
+    less-is_lt (text_order place key) (below_up_to place from key
         (above_is from place (gt_is (text_order from place) above)) h.0),
   ),
   λ h. h.0,
@@ -110,13 +75,13 @@ beyond_after from to place reaches key = (
       let above = below_up_to place (place ++ 0 ∷ []) key
       (after_below place place (inr refl)) h.0 in (
         (
-          less_not (text_order from key)
-              (up_to_below from place key (gt_not (text_order from place) reaches) above),
+          less-not_greater (text_order from key)
+              (up_to_below from place key (is_gt-false (text_order from place) reaches) above),
           h.1,
         ),
-        less_true (text_order place key) above,
+        less-is_lt (text_order place key) above,
       ),
-  λ h. (after_up_to place key (true_less (text_order place key) h.1), h.0.1),
+  λ h. (after_up_to place key (is_lt-true (text_order place key) h.1), h.0.1),
 )
 
 -- ---- backward
@@ -125,7 +90,7 @@ beyond_after from to place reaches key = (
 pub lesser_end : (end place : List ℕ) → is_lt (text_order end place) ≡ true
     → IsLesser (Some end) place end
 lesser_end end place low key = (
-  λ h. (h, nat_list_cmp_total.trans key end place h (true_less (text_order end place) low)),
+  λ h. (h, nat_list_cmp_total.trans key end place h (is_lt-true (text_order end place) low)),
   λ h. h.0,
 )
 
@@ -151,8 +116,8 @@ pub beyond_end : (from : List ℕ) (to : Option (List ℕ)) (place end : List �
 beyond_end from to place end lesser key = (
   λ h.
       let both = (lesser key).0 h.1 in
-      ((h.0, both.0), less_true (text_order key place) both.1),
-  λ h. (h.0.0, (lesser key).1 (h.0.1, true_less (text_order key place) h.1)),
+      ((h.0, both.0), less-is_lt (text_order key place) both.1),
+  λ h. (h.0.0, (lesser key).1 (h.0.1, is_lt-true (text_order key place) h.1)),
 )
 
 -- ---- without a place

@@ -1,5 +1,6 @@
 -- The table that is walked: its items stand at their places, what is walked is no larger than they are, and its description is the one at hand.
 use Rattle.std.proofs.Common.{◌≡◌, ◌<◌, ◌≤◌, refl, sym, ap, subst, ◌∙◌, ℕ, Bool, true, false, List, length, slice_get, Option, Some, None, option_map, IfSome, arith}
+use Rattle.std.proofs.lemmas.Option.{same_Some}
 use Rattle.std.specs.Prelude.{if◌then◌else◌}
 use Rattle.std.specs.FinMap as finite
 use Rattle.alt_disk.specs.Disk.{DiskState}
@@ -21,10 +22,6 @@ use Rattle.alt_views.proofs.Keeping.{entry_place}
 use Rattle.alt_views.proofs.Parts.{size-where}
 use Rattle.alt_views.specs.Readable.{CanRead}
 
--- options that are equal have equal values
-same_some : {A : Type 0} (x y : A) → Some x ≡ Some y → x ≡ y
-same_some x y e = cc
-
 -- what an index keeps of an item is no larger than the item
 cut_size : (d : TableSchema) (i : IndexSchema) (item row : List Pair)
     → index_row d item i ≡ Some row → item_size row ≤ item_size item
@@ -32,7 +29,7 @@ cut_size d i item row e = by (is_in_index i item) e
   where
     by : (b : Bool) → (if b then Some (cut d i item) else None) ≡ Some row
         → item_size row ≤ item_size item
-    by true e = subst (λ r. item_size r ≤ item_size item) (same_some (cut d i item) row e)
+    by true e = subst (λ r. item_size r ≤ item_size item) (same_Some (cut d i item) row e)
         (size-where (is_projected d i) item)
     by false e = absurd (let no : None ≡ Some row = e in cc no)
 
@@ -118,4 +115,4 @@ module _ (disk : DiskState) (tables : Tables) (s : State) (stands : Stands disk 
   described now d keeps e =
       let (found, there, is) = table_found s (catalog_of tables) (sym stands.catalog) name d
       (sym (e ∙ ap (λ m. finite.get m name) keeps.catalog)) in
-      sym (ap (λ (x : Table). x.description) (same_some t found (sym at ∙ there)) ∙ is)
+      sym (ap (λ (x : Table). x.description) (same_Some t found (sym at ∙ there)) ∙ is)

@@ -1,9 +1,7 @@
 -- The key of an item, put together from its attributes.
 use Rattle.std.proofs.Common.{◌≡◌, refl, sym, ap, ◌∙◌, cond, ℕ, Bool, true, false, ◌||◌, T, List, [], ◌∷◌, Option, Some, None}
 use Rattle.std.specs.FinMap.Entries.{find, is_sorted, where_key, find-put, find-where_key, is_sorted-put, is_sorted-where_key, same_entries}
-use Rattle.std.specs.Ordering.{eq_by_cmp}
 use Rattle.std.specs.Str.{bytes_eq}
-use Rattle.std.specs.Cmp.Lexicographic.{texts_ties, nat_list_eq_equiv}
 use Rattle.alt_cells.proofs.CellLaws.{key_total, key_exact}
 use Rattle.alt_machine.specs.Lists.{key_attributes}
 use Rattle.alt_machine.specs.Sources.{is_key_there}
@@ -13,18 +11,11 @@ use Rattle.alt_schema.specs.declared.schema.IndexSchema.{IndexSchema}
 use Rattle.alt_schema.specs.declared.schema.KeyAttr.{KeyAttr}
 use Rattle.alt_schema.specs.declared.schema.TableSchema.{TableSchema}
 use Rattle.std.proofs.lemmas.Slice.Eq.{bytes_eq-Decides}
-use Rattle.alt_cells.proofs.Entries.{find_below}
 use Rattle.alt_value.specs.Item.{IsItem, at_name}
 use Rattle.alt_value.specs.Members.{text_order}
 use Rattle.alt_value.specs.Tree.{Tree, Pair}
-
--- two ways to tell that a name is another
-same_name : (m n : List ℕ) → eq_by_cmp text_order n m ≡ bytes_eq m n
-same_name m n = sym (texts_ties n m) ∙ nat_list_eq_equiv.symm n m
-
--- no attribute has the empty name
-no_empty : (item : List Pair) → IsItem item → find text_order [] item ≡ None
-no_empty item h = find_below text_order key_total [] item h.1
+use Rattle.alt_value.proofs.NamedPairs.{none_at_empty}
+use Rattle.alt_value.proofs.TextTies.{text_ties_turned}
 
 -- ---- one attribute more
 
@@ -60,14 +51,14 @@ module _ (item : List Pair) (is_item : IsItem item) where
       by [] is o at = (
         keeps.0,
         λ q. without q (ap (λ n. find text_order n item) is
-            ∙ no_empty item is_item),
+            ∙ none_at_empty item is_item),
       )
       by (b ∷ bs) is None at = (keeps.0, λ q. without q at)
       by (b ∷ bs) is (Some t) at = (
         is_sorted-put text_order key_total (b ∷ bs) t key keeps.0,
         λ q. find-put text_order key_total q (b ∷ bs) t key
             ∙ ap (λ c. cond c (Some t) (find text_order q key))
-            (same_name (b ∷ bs) q ∙ ap (λ n. bytes_eq n q) (sym is))
+            (text_ties_turned (b ∷ bs) q ∙ ap (λ n. bytes_eq n q) (sym is))
             ∙ two q (bytes_eq name q) refl,
       )
         where

@@ -1,6 +1,8 @@
 -- The values that a key condition asks for have the kinds of the key attributes.
 use Rattle.std.proofs.Common.{◌≡◌, refl, sym, ap, subst, ◌∙◌, Bool, true, false, List, [], ◌∷◌, Option, Some, None, option_map}
+use Rattle.std.proofs.lemmas.Option.{same_Some}
 use Rattle.std.specs.Prelude.{if◌then◌else◌}
+use Rattle.alt_base.proofs.Options.{some_of_if}
 use Rattle.alt_value.specs.declared.attr.Attr.{Attr}
 use Rattle.alt_value.specs.declared.attr.Attr.TheVariants as a
 use Rattle.alt_value.specs.declared.kind.KeyKind.{KeyKind}
@@ -14,13 +16,13 @@ use Rattle.alt_expr.specs.declared.cond.Operand.TheVariants as o
 use Rattle.alt_expr.specs.declared.cond.Cond.{Cond, out-Cond}
 use Rattle.alt_expr.specs.declared.cond.Cond.TheOpen.{Cond-F}
 use Rattle.alt_expr.specs.KeyForm as f
-use Rattle.alt_expr.specs.KeyForm.{Key, Ask, RangeTest, ask_of}
-use Rattle.alt_expr.proofs.Seen.{some_is, some_pair}
+use Rattle.alt_expr.specs.KeyForm.{Key, Ask, ask_of}
 use Rattle.alt_keycond.specs.Asked.{test_of, asks}
 use Rattle.alt_keycond.specs.KeysAsked.{AsksOfKind}
 use Rattle.alt_keycond.specs.declared.ask.KeyAsk.{KeyAsk}
 use Rattle.alt_keycond.specs.declared.ask.RangeAsk.{RangeAsk}
 use Rattle.alt_keycond.specs.declared.ask.RangeAsk.TheVariants as r
+use Rattle.alt_keycond.proofs.KeysAskedLaws.{both_parts, equal_is, valued}
 use Rattle.alt_keyorder.specs.Kinds.{IsOfKind}
 use Rattle.alt_ops_query.specs.private.Asked.{AreHeld}
 
@@ -80,14 +82,8 @@ found_kind key (o.Value w) v e = by (f.has_kind key.kind w) refl e
   where
     by : (b : Bool) → f.has_kind key.kind w ≡ b → (if b then Some w else None) ≡ Some v
         → Has key.kind v
-    by true is e = ap (f.has_kind key.kind) (sym (some_is w v e)) ∙ is
+    by true is e = ap (f.has_kind key.kind) (sym (same_Some w v e)) ∙ is
     by false is e = absurd (let no : ⊥ = cc in no)
-
--- the value of a comparison is the one that was there
-valued : (by : Comparison) (w : Option Attr) (c : Comparison) (v : Attr)
-    → f.with_value by w ≡ Some (c, v) → w ≡ Some v
-valued by None c v e = absurd (let no : ⊥ = cc in no)
-valued by (Some u) c v e = ap Some (some_pair (by, u) (c, v) e).1
 
 -- the value that a key is compared with, on either side, is of the key's kind
 tested_kind : (key : Key) (by : Comparison) (x y : Operand) (c : Comparison) (v : Attr)
@@ -104,13 +100,6 @@ tested_kind key by x y c v e = at (f.is_key key x) e
         → Has key.kind v
     at true e = found_kind key y v (valued by (f.value_for key y) c v e)
     at false e = behind (f.is_key key y) e
-
--- a value that is to be equalled stands in a comparison with `=`
-equal_is : (t : Option (Comparison × Attr)) (v : Attr) → f.equal_value t ≡ Some v
-    → t ≡ Some (c.Equal, v)
-equal_is None v e = absurd (let no : ⊥ = cc in no)
-equal_is (Some (c.Equal, w)) v e = ap (λ u. Some (c.Equal, u)) (some_is w v e)
-equal_is (Some (_, w)) v e = absurd (let no : ⊥ = cc in no)
 
 -- the value that the HASH attribute is to equal is of its kind
 hash_kind : (key : Key) (top : Cond-F Cond) (v : Attr) → f.hash_at key top ≡ Some v → Has key.kind v
@@ -169,22 +158,22 @@ comparison_kind : (key : Key) (by : Comparison) (x y : Operand) (ask : RangeAsk)
 comparison_kind key by x y ask None is e = absurd (let no : ⊥ = cc in no)
 comparison_kind key by x y ask (Some (c.NotEqual, v)) is e = absurd (let no : ⊥ = cc in no)
 comparison_kind key by x y ask (Some (c.Equal, v)) is e = compared_kind key.kind c.Equal v ask
-    (tested_kind key by x y c.Equal v is) (some_is _ _ e)
+    (tested_kind key by x y c.Equal v is) (same_Some _ _ e)
 comparison_kind key by x y ask (Some (c.Less, v)) is e = compared_kind key.kind c.Less v ask
-    (tested_kind key by x y c.Less v is) (some_is _ _ e)
+    (tested_kind key by x y c.Less v is) (same_Some _ _ e)
 comparison_kind key by x y ask (Some (c.LessEqual, v)) is e = compared_kind key.kind c.LessEqual v
-    ask (tested_kind key by x y c.LessEqual v is) (some_is _ _ e)
+    ask (tested_kind key by x y c.LessEqual v is) (same_Some _ _ e)
 comparison_kind key by x y ask (Some (c.Greater, v)) is e = compared_kind key.kind c.Greater v ask
-    (tested_kind key by x y c.Greater v is) (some_is _ _ e)
+    (tested_kind key by x y c.Greater v is) (same_Some _ _ e)
 comparison_kind key by x y ask (Some (c.GreaterEqual, v)) is e = compared_kind key.kind
-    c.GreaterEqual v ask (tested_kind key by x y c.GreaterEqual v is) (some_is _ _ e)
+    c.GreaterEqual v ask (tested_kind key by x y c.GreaterEqual v is) (same_Some _ _ e)
 
 -- so are the bounds of a BETWEEN
 bound_kind : (key : Key) (low high : Operand) (ask : RangeAsk) (l h : Option Attr)
     → f.value_for key low ≡ l → f.value_for key high ≡ h
     → f.range_between l h ≡ Some (test_of ask) → AreOf (Some key.kind) ask
 bound_kind key low high ask (Some l) (Some h) is_low is_high e = between_kind key.kind l h ask
-    (found_kind key low l is_low) (found_kind key high h is_high) (some_is _ _ e)
+    (found_kind key low l is_low) (found_kind key high h is_high) (same_Some _ _ e)
 bound_kind key low high ask None h is_low is_high e = absurd (let no : ⊥ = cc in no)
 bound_kind key low high ask (Some l) None is_low is_high e = absurd (let no : ⊥ = cc in no)
 
@@ -194,17 +183,11 @@ front_kind : (key : Key) (y : Operand) (ask : RangeAsk) (k : KeyKind) (v : Optio
     → AreOf (Some key.kind) ask
 front_kind key y ask kind.N v same is e = absurd (let no : ⊥ = cc in no)
 front_kind key y ask kind.S (Some v) same is e =
-    fronted_kind key.kind v ask (found_kind key y v is) (some_is _ _ e)
+    fronted_kind key.kind v ask (found_kind key y v is) (same_Some _ _ e)
 front_kind key y ask kind.B (Some v) same is e =
-    fronted_kind key.kind v ask (found_kind key y v is) (some_is _ _ e)
+    fronted_kind key.kind v ask (found_kind key y v is) (same_Some _ _ e)
 front_kind key y ask kind.S None same is e = absurd (let no : ⊥ = cc in no)
 front_kind key y ask kind.B None same is e = absurd (let no : ⊥ = cc in no)
-
--- what is asked for where a test passes is asked for without it
-first_alone : (b : Bool) (q : Option RangeTest) (t : RangeTest)
-    → (if b then q else None) ≡ Some t → q ≡ Some t
-first_alone true q t e = e
-first_alone false q t e = absurd (let no : ⊥ = cc in no)
 
 -- whatever is asked of the RANGE attribute, it is of the attribute's kind
 range_kind : (key : Key) (top : Cond-F Cond) (ask : RangeAsk)
@@ -213,22 +196,14 @@ range_kind key (Cond-F.Compare by x y) ask e =
     comparison_kind key by x y ask (f.key_test key by x y) refl e
 range_kind key (Cond-F.Between x low high) ask e =
     bound_kind key low high ask (f.value_for key low) (f.value_for key high) refl refl
-    (first_alone (f.is_key key x) (f.range_between (f.value_for key low) (f.value_for key high))
+    (some_of_if (f.is_key key x) (f.range_between (f.value_for key low) (f.value_for key high))
     (test_of ask) e)
 range_kind key (Cond-F.BeginsWith x y) ask e =
     front_kind key y ask key.kind (f.value_for key y) refl refl
-    (first_alone (f.is_key key x) (f.range_front key.kind (f.value_for key y)) (test_of ask) e)
+    (some_of_if (f.is_key key x) (f.range_front key.kind (f.value_for key y)) (test_of ask) e)
 range_kind key _ ask e = absurd (let no : ⊥ = cc in no)
 
 -- ---- the whole
-
--- what is asked for as a whole is what both parts ask for
-both_parts : (v : Option Attr) (t : Option RangeTest) (ask : Ask) → f.asked v t ≡ Some ask
-    → (v ≡ Some ask.hash) × (t ≡ Some ask.range)
-both_parts (Some v) (Some t) ask e =
-    let is = some_is _ ask e in (ap (λ q. Some q.hash) is, ap (λ q. Some q.range) is)
-both_parts None t ask e = absurd (let no : ⊥ = cc in no)
-both_parts (Some v) None ask e = absurd (let no : ⊥ = cc in no)
 
 -- both attributes
 abbrev BothOf : Key → Option Key → KeyAsk → Type 0
@@ -277,7 +252,7 @@ top_kinds hash range (Cond-F.Compare by x y) ask e =
     let parts = both_parts (f.hash_at hash (Cond-F.Compare by x y)) (Some f.anything) (asks ask) e
     in (
       hash_kind hash (Cond-F.Compare by x y) ask.hash parts.0,
-      nothing_kind _ ask.range (some_is _ _ parts.1),
+      nothing_kind _ ask.range (same_Some _ _ parts.1),
     )
 top_kinds hash range _ ask e = absurd (let no : ⊥ = cc in no)
 

@@ -1,5 +1,7 @@
 -- The range of a key condition holds the items of which it holds.
-use Rattle.std.proofs.Common.{◌≡◌, refl, sym, ap, subst, ◌∙◌, ℕ, Bool, true, false, ◌&&◌, List, ◌++◌, Option, Some, None, Result, Ok, Err, option_map}
+use Rattle.std.proofs.Common.{◌≡◌, refl, sym, ap, subst, ◌∙◌, ℕ, Bool, ◌&&◌, List, ◌++◌, Option, Some, None, Result, Ok, Err, option_map}
+use Rattle.std.proofs.Math.Bool.{and_comm}
+use Rattle.std.proofs.lemmas.Bool.{and_parts, and_from}
 use Rattle.std.specs.Cmp.{both_ways}
 use Rattle.alt_expr.specs.Holds.{equal, same}
 use Rattle.alt_expr.specs.KeyForm.{Key, Ask, ask_of, in_range, meets, range_meets}
@@ -39,23 +41,6 @@ use Rattle.alt_value.specs.Item.{at_name}
 use Rattle.alt_value.specs.Stands.{tree_of}
 use Rattle.alt_value.specs.Tree.{Tree, Pair}
 use Rattle.alt_value.specs.Values.{IsValue}
-
--- where two tests pass together each does
-both_true : (a b : Bool) → (a && b) ≡ true → (a ≡ true) × (b ≡ true)
-both_true true b e = (refl, e)
-both_true false b e = absurd (let f : ⊥ = cc in f)
-
--- where each of two tests passes they pass together
-true_both : (a b : Bool) → a ≡ true → b ≡ true → (a && b) ≡ true
-true_both true b e f = f
-true_both false b e f = e
-
--- two tests pass together in either order
-and_turned : (a b : Bool) → (a && b) ≡ (b && a)
-and_turned true true = refl
-and_turned true false = refl
-and_turned false true = refl
-and_turned false false = refl
 
 -- the kinds of a key
 kinds_of : (item : List Pair) (h : KeyAttr) (hash : Tree) (k : Option KeyAttr) (range : Option Tree)
@@ -119,12 +104,12 @@ module _ (d : TableSchema) (i : Option IndexSchema) (condition : Option Cond) (a
       ∙ ap (λ b. b && is_beyond forward place key) (both_ways _ _
       (λ e.
       let so = both.0 (subst (IsInRange from to) (sym whole) (contains_so from to key e)) in
-      test ∙ true_both _ _ ((same_decides keys.hash (tree_of ask.hash)).1 so.0) so.1)
+      test ∙ and_from _ _ ((same_decides keys.hash (tree_of ask.hash)).1 so.0) so.1)
       (λ e.
-      let tests = both_true _ _ (sym test ∙ e) in
+      let tests = and_parts _ _ (sym test ∙ e) in
       so_contains from to key (subst (IsInRange from to) whole
       (both.1 ((same_decides keys.hash (tree_of ask.hash)).0 tests.0, tests.1)))))
-      ∙ and_turned (passes condition item) (is_beyond forward place key)
+      ∙ and_comm (passes condition item) (is_beyond forward place key)
 
 -- ---- what is asked, and what stops it
 

@@ -1,5 +1,5 @@
 -- A body that breaks no demand has a limit of 1 to 2^31 - 1, or none.
-use Rattle.std.proofs.Common.{◌≡◌, refl, sym, ap, ◌∙◌, ℕ, zero, suc, ◌&&◌, ◌||◌, ◌^◌, nat_lt, nat_le, Bool, true, false, List, [], ◌∷◌, Option, Some, None, option_and_then, arith}
+use Rattle.std.proofs.Common.{◌≡◌, refl, sym, ap, ◌∙◌, ℕ, zero, suc, ◌&&◌, ◌^◌, nat_lt, nat_le, Bool, true, false, List, [], ◌∷◌, Option, Some, None, option_and_then, arith}
 use Rattle.std.specs.Prelude.{if◌then◌else◌, codes, slice_get}
 use Rattle.serde_json.specs.Data.{Data, Members, null, boolean, number, unsigned, negative, float, string, array, object}
 use Rattle.alt_machine.specs.Body.{Rules, paired_refusals}
@@ -7,21 +7,12 @@ use Rattle.alt_machine.specs.Refusals.{first_answer}
 use Rattle.alt_ops_query.specs.private.Paged.{HasLimit, limit_in}
 use Rattle.alt_shape.specs.Bodies as bodies
 use Rattle.alt_shape.specs.Bodies.{required, optional, selections, first_of, condition_entry, in_entries, in_names, operator_demand, key_condition_demand, own_of_query}
-use Rattle.alt_shape.specs.Shape.{Demand, a_text, a_whole, a_truth, an_object, an_array, a_word, fault_of, given, natural_of, first_unmet, or_next, unmet_by}
+use Rattle.alt_shape.specs.Shape.{Demand, a_text, a_whole, a_truth, an_object, an_array, a_word, fault_of, given, natural_of, first_unmet, unmet_by}
 use Rattle.alt_shape.specs.declared.rule.Broken.{Broken}
 use Rattle.alt_shape.specs.declared.rule.Broken.TheVariants.{OutOfRange}
+use Rattle.alt_shape.proofs.Places.{or_next_first, or_next_second}
 
 -- ---- demands that are met
-
--- where neither of two demands is broken the first isn't
-first_none : (a b : Option Broken) → or_next a b ≡ None → a ≡ None
-first_none None b e = refl
-first_none (Some x) b e = e
-
--- nor is the second
-next_none : (a b : Option Broken) → or_next a b ≡ None → b ≡ None
-next_none None b e = e
-next_none (Some x) b e = let no : Some x ≡ None = e in absurd (let f : ⊥ = cc in f)
 
 -- each demand of a list is met
 met_at : (n : ℕ) (demands : List Demand) (ms : Members) → first_unmet demands ms ≡ None
@@ -29,9 +20,9 @@ met_at : (n : ℕ) (demands : List Demand) (ms : Members) → first_unmet demand
 met_at n [] ms e d at = absurd (let no : None ≡ Some d = at in cc no)
 met_at zero (x ∷ demands) ms e d at =
     let same : x ≡ d = cc in
-    ap (unmet_by ms) (sym same) ∙ first_none (unmet_by ms x) (first_unmet demands ms) e
+    ap (unmet_by ms) (sym same) ∙ or_next_first (unmet_by ms x) (first_unmet demands ms) e
 met_at (suc n) (x ∷ demands) ms e d at =
-    met_at n demands ms (next_none (unmet_by ms x) (first_unmet demands ms) e) d at
+    met_at n demands ms (or_next_second (unmet_by ms x) (first_unmet demands ms) e) d at
 
 -- ---- the limit
 
@@ -99,14 +90,14 @@ scan_inside ms =
 pub query_limit : (ms : Members) → bodies.query ms ≡ None → HasLimit ms
 unfolding bodies.query
 query_limit ms e = limited_at (given (codes "Limit") ms)
-    (met_at 7 (query_demands ms) ms (first_none (own_of_query ms) (query_inside ms) e)
+    (met_at 7 (query_demands ms) ms (or_next_first (own_of_query ms) (query_inside ms) e)
     (optional (codes "Limit") (a_whole 1 2147483647)) refl)
 
 -- and so has a Scan
 pub scan_limit : (ms : Members) → bodies.scan ms ≡ None → HasLimit ms
 unfolding bodies.scan
 scan_limit ms e = limited_at (given (codes "Limit") ms)
-    (met_at 6 scan_demands ms (first_none (first_unmet scan_demands ms) (scan_inside ms) e)
+    (met_at 6 scan_demands ms (or_next_first (first_unmet scan_demands ms) (scan_inside ms) e)
     (optional (codes "Limit") (a_whole 1 2147483647)) refl)
 
 -- ---- behind the tests of a body
@@ -131,8 +122,3 @@ module _ (broken : Option Broken) (mismatched : Bool) (rules : Rules) (ms : Memb
       by None false e = refl
       by None true e = absurd (let f : ⊥ = cc in f)
       by (Some b) m e = absurd (let f : ⊥ = cc in f)
-
--- neither holds where not one of two does
-pub second_false : (a b : Bool) → (a || b) ≡ false → b ≡ false
-second_false false b e = e
-second_false true b e = absurd (let f : ⊥ = cc in f)

@@ -8,15 +8,16 @@ use Rattle.std.specs.Ordering.{eq_by_cmp}
 use Rattle.std.specs.declared.ops.Bound.TheVariants.{Included}
 use Rattle.std.proofs.lemmas.List.{reverse-append}
 use Rattle.std.proofs.lemmas.List.Elements.{All-nil, All-cons, All-head, All-tail, filter-append}
+use Rattle.alt_base.proofs.Bools.{first_holds, second_holds}
 use Rattle.alt_cells.proofs.CellLaws.{key_total}
-use Rattle.alt_cells.proofs.Entries.{first, second, find_below}
+use Rattle.alt_cells.proofs.Entries.{find_below}
+use Rattle.alt_cells.proofs.SameKeys.{key_itself, one_key}
 use Rattle.alt_machine.specs.Lists.{listed}
 use Rattle.alt_machine.specs.Sources.{items_of}
 use Rattle.alt_machine.specs.State.{Table}
 use Rattle.alt_machine.specs.Walks.{end_bound, is_beyond, items_between, placed_items, turned}
 use Rattle.alt_ops_query.specs.Places.{HoldsListed, MayStand}
 use Rattle.alt_schema.specs.declared.schema.IndexSchema.{IndexSchema}
-use Rattle.alt_request.proofs.TablesOpeningTies.{tied, itself}
 use Rattle.alt_value.specs.Members.{text_order}
 use Rattle.alt_value.specs.Tree.{Pair}
 
@@ -83,15 +84,16 @@ pub each_entry : (P : List ℕ × List Pair → Type 0) (es : List (List ℕ × 
     → P (place, item)) → All P es
 each_entry P [] sorted found = All-nil P
 each_entry P (e ∷ es) sorted found = All-cons P e es
-    (found e.0 e.1 (ap (λ b. cond b (Some e.1) (find text_order e.0 es)) (itself e.0)))
-    (each_entry P es (second (below_all text_order e.0 es) _ sorted)
+    (found e.0 e.1 (ap (λ b. cond b (Some e.1) (find text_order e.0 es)) (key_itself e.0)))
+    (each_entry P es (second_holds (below_all text_order e.0 es) _ sorted)
     (λ place item at. found place item (later place item at (eq_by_cmp text_order place e.0) refl)))
   where
     later : (place : List ℕ) (item : List Pair) → find text_order place es ≡ Some item → (b : Bool)
         → eq_by_cmp text_order place e.0 ≡ b → find text_order place (e ∷ es) ≡ Some item
     later place item at true same = absurd (let no : None ≡ Some item =
-        sym (find_below text_order key_total e.0 es (first _ (is_sorted text_order es) sorted))
-        ∙ ap (λ q. find text_order q es) (sym (tied place e.0 same)) ∙ at in cc no)
+        sym (find_below text_order key_total e.0 es
+        (first_holds _ (is_sorted text_order es) sorted))
+        ∙ ap (λ q. find text_order q es) (sym (one_key place e.0 same)) ∙ at in cc no)
     later place item at false differs =
         ap (λ b. cond b (Some e.1) (find text_order place es)) differs ∙ at
 

@@ -1,12 +1,12 @@
 -- The places that a page passes step by step, and what it pays for them.
 use Rattle.std.proofs.Common.{◌≡◌, ◌≤◌, ◌<◌, ◌+◌, ◌*◌, refl, sym, ap, subst, ◌∙◌, ℕ, zero, suc, Bool, true, false, not, ◌&&◌, cond, List, [], ◌∷◌, take, length, Option, Some, None, IfSome, arith}
 use Rattle.std.proofs.Math.Nat.{mul-add, mul-le-mul_left}
+use Rattle.std.specs.Cmp.{second_so}
 use Rattle.std.specs.Cmp.Lexicographic.{nat_list_cmp_total}
 use Rattle.std.specs.FinMap.{entries}
 use Rattle.std.specs.List.{last_or}
 use Rattle.std.specs.Ordering.{is_lt}
-use Rattle.std.specs.declared.cmp.Ordering.{Ordering}
-use Rattle.std.specs.declared.cmp.Ordering.TheVariants.{Less, Equal, Greater}
+use Rattle.alt_base.proofs.Orderings.{is_lt-true}
 use Rattle.alt_cells.specs.Walks.{RowList, RowMap}
 use Rattle.alt_families.specs.Reads.{passed_of, versions_of}
 use Rattle.alt_machine.specs.Walks.{is_beyond}
@@ -61,26 +61,15 @@ module _ (p q r : List ℕ → Bool) (fit : (key : List ℕ) → fits (p key) (q
 
 -- ---- places in the order of a walk
 
--- an order that is told to be below is `Less`
-less_so : (o : Ordering) → is_lt o ≡ true → o ≡ Less
-less_so Less e = refl
-less_so Equal e = absurd (let f : ⊥ = cc in f)
-less_so Greater e = absurd (let f : ⊥ = cc in f)
-
 -- what lies beyond a place that lies beyond another lies beyond that one
 pub beyond_trans : (forward : Bool) (first : Option (List ℕ)) (last key : List ℕ)
     → is_beyond forward first last ≡ true → is_beyond forward (Some last) key ≡ true
     → is_beyond forward first key ≡ true
 beyond_trans forward None last key h k = refl
 beyond_trans true (Some first) last key h k = ap is_lt (nat_list_cmp_total.trans first last key
-    (less_so (text_order first last) h) (less_so (text_order last key) k))
+    (is_lt-true (text_order first last) h) (is_lt-true (text_order last key) k))
 beyond_trans false (Some first) last key h k = ap is_lt (nat_list_cmp_total.trans key last first
-    (less_so (text_order key last) k) (less_so (text_order last first) h))
-
--- where two tests pass together the second does
-second_of : (a b : Bool) → (a && b) ≡ true → b ≡ true
-second_of true b e = e
-second_of false b e = absurd (let f : ⊥ = cc in f)
+    (is_lt-true (text_order key last) k) (is_lt-true (text_order last first) h))
 
 -- ---- a walk over a range, that goes on beyond a place
 
@@ -90,7 +79,7 @@ module _ (forward : Bool) (place : Option (List ℕ)) (from : List ℕ) (to : Op
     -- what lies in the rest lies beyond the place
     pub within_beyond : (key : List ℕ) → is_within first last key ≡ true
         → is_beyond forward place key ≡ true
-    within_beyond key h = second_of (is_within from to key) (is_beyond forward place key)
+    within_beyond key h = second_so (is_within from to key) (is_beyond forward place key)
         (sym (contains_beyond forward place from to first last beyond key) ∙ h)
 
     module _ (end : List ℕ) (within : is_within first last end ≡ true) where

@@ -2,6 +2,7 @@
 use Rattle.std.proofs.Common.{◌≡◌, refl, sym, ap, subst, ◌∙◌, ℕ, zero, suc, ◌+◌, ◌<◌, ◌≤◌, ◌/◌, ◌%◌, ◌==◌, cond, ltb, Bool, true, false, ◌&&◌, ⊎_elim, List, [], ◌∷◌, ◌++◌, length, Option, Some, None, ℤ, pos, nat_abs, arith}
 use Rattle.std.proofs.Math.Utf8.{scalar, scalars, encode, encodes, scalar_cases}
 use Rattle.std.proofs.lemmas.Int.Digits.{all_below_base_digits_of, length-digits_of-le}
+use Rattle.std.proofs.lemmas.Option.{same_Some}
 use Rattle.std.specs.Int.{w64, to_be_bytes, is_negative}
 use Rattle.std.specs.Int.Digits.{digits_of, AllBelowBase}
 use Rattle.std.specs.List.{AllByRecursion, flat_map}
@@ -14,12 +15,13 @@ use Rattle.alt_keyorder.specs.Place.{key_values, place_bytes, place_in_table}
 use Rattle.alt_keyorder.specs.Range.{AreBytes}
 use Rattle.alt_keyorder.specs.Token.{token_of}
 use Rattle.alt_ops_query.specs.Places.{MayStand}
-use Rattle.alt_ops_query.proofs.Stored.{IsBeside, field_value, has_both, keyed, same_Some}
+use Rattle.alt_ops_query.proofs.Stored.{IsBeside, has_both, keyed}
 use Rattle.alt_schema.specs.declared.schema.IndexSchema.{IndexSchema}
 use Rattle.alt_schema.specs.declared.schema.KeyAttr.{KeyAttr}
 use Rattle.alt_schema.specs.declared.schema.TableSchema.{TableSchema}
 use Rattle.alt_value.specs.Tree.{Tree, S_tree, N_tree, B_tree, BOOL_tree, NULL_tree, SS_tree, NS_tree, BS_tree, L_tree, M_tree, Pair, fields_of}
 use Rattle.alt_value.specs.Values.{IsValue, AreFields}
+use Rattle.alt_value.proofs.NamedPairs.{value_at}
 
 -- bytes behind bytes are bytes
 both_bytes : (a b : List ℕ) → AreBytes a → AreBytes b → AreBytes (a ++ b)
@@ -182,7 +184,7 @@ beside_value item None None h beside t e = absurd (let f : ⊥ = cc in f)
 beside_value item None (Some u) h beside t e = absurd beside
 beside_value item (Some key) None h beside t e = absurd beside
 beside_value item (Some key) (Some u) h beside t e =
-    subst IsValue (same_Some u t e) (field_value key.name item u h beside.at)
+    subst IsValue (same_Some u t e) (value_at key.name item u h beside.at)
 
 -- the parts of a key
 values_bytes : (hash : Tree) (range : Option Tree) → IsValue hash
@@ -200,7 +202,7 @@ bytes_there d None key item may =
     subst AreBytes (sym keys.is)
     (both_bytes (place_bytes (place_in_table keys.hash keys.range)) keys.behind
     (values_place keys.hash keys.range
-    (field_value d.hash.name item keys.hash may.1.fields keys.has_hash.at)
+    (value_at d.hash.name item keys.hash may.1.fields keys.has_hash.at)
     (beside_value item d.range keys.range may.1.fields keys.has_range))
     (subst AreBytes (sym none) tt))
 bytes_there d (Some i) key row may =
@@ -209,8 +211,8 @@ bytes_there d (Some i) key row may =
     (both_bytes (place_bytes (place_in_table both.own.hash both.own.range))
     (flat_map key_bytes (key_values both.of_table.hash both.of_table.range))
     (values_place both.own.hash both.own.range
-    (field_value i.hash.name row both.own.hash both.fields both.owns.0.at)
+    (value_at i.hash.name row both.own.hash both.fields both.owns.0.at)
     (beside_value row i.range both.own.range both.fields both.owns.1))
     (values_bytes both.of_table.hash both.of_table.range
-    (field_value d.hash.name row both.of_table.hash both.fields both.keys.0.at)
+    (value_at d.hash.name row both.of_table.hash both.fields both.keys.0.at)
     (beside_value row d.range both.of_table.range both.fields both.keys.1)))

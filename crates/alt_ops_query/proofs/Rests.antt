@@ -1,11 +1,11 @@
 -- The items of a range beyond the last of those that a step gave are the others.
-use Rattle.std.proofs.Common.{◌≡◌, ◌≢◌, refl, sym, ap, subst, ◌∙◌, cond, ℕ, zero, suc, ◌<◌, Bool, true, false, not, ◌&&◌, T, List, [], ◌∷◌, ◌++◌, map, reverse, take, drop, length, Option, Some, None, All, append_assoc, take-append-drop, arith}
+use Rattle.std.proofs.Common.{◌≡◌, ◌≢◌, refl, sym, ap, subst, ◌∙◌, cond, ℕ, ◌<◌, Bool, true, false, not, ◌&&◌, T, List, [], ◌∷◌, ◌++◌, map, reverse, take, drop, length, Option, Some, None, All, append_assoc, take-append-drop, arith}
 use Rattle.std.specs.BTreeMap.Range.{entries_between, range_contains}
 use Rattle.std.specs.Cmp.{both_ways}
 use Rattle.std.specs.Cmp.Lexicographic.{nat_list_cmp_total}
 use Rattle.std.specs.FinMap as finite
 use Rattle.std.specs.FinMap.Entries.{below_all, is_sorted}
-use Rattle.std.specs.List.{filter}
+use Rattle.std.specs.List.{filter, drop-map}
 use Rattle.std.specs.declared.cmp.Ordering.{Ordering}
 use Rattle.std.specs.declared.cmp.Ordering.TheVariants.{Less, Equal, Greater}
 use Rattle.std.specs.declared.ops.Bound.TheVariants.{Included}
@@ -13,7 +13,9 @@ use Rattle.std.specs.Ordering.{is_lt, is_le, ordering_reverse}
 use Rattle.std.proofs.lemmas.List.{reverse-append}
 use Rattle.std.proofs.lemmas.List.Elements.{All-nil, All-cons, All-head, All-tail, All-append, All-filter}
 use Rattle.std.proofs.lemmas.List.Sorted.{All-permutation, IsPermutation-reverse}
-use Rattle.alt_cells.proofs.Entries.{first, second}
+use Rattle.std.proofs.lemmas.Bool.{and_parts, and_from}
+use Rattle.alt_base.proofs.Bools.{first_holds as first, second_holds}
+use Rattle.alt_base.proofs.Lists.{filter-all}
 use Rattle.alt_keyorder.specs.Range.{IsInRange}
 use Rattle.alt_machine.specs.Sources.{items_of}
 use Rattle.alt_machine.specs.State.{Table}
@@ -54,22 +56,12 @@ less_over Less e = absurd (let f : ⊥ = cc in f)
 less_over Equal e = absurd (let f : ⊥ = cc in f)
 less_over Greater e = refl
 
--- where two tests pass together each does
-both_true : (a b : Bool) → (a && b) ≡ true → (a ≡ true) × (b ≡ true)
-both_true true b e = (refl, e)
-both_true false b e = absurd (let f : ⊥ = cc in f)
-
--- where each of two tests passes they pass together
-true_both : (a b : Bool) → a ≡ true → b ≡ true → (a && b) ≡ true
-true_both true b e f = f
-true_both false b e f = e
-
 -- a key that a range is told to contain is in it
 pub contains_so : (from : List ℕ) (to : Option (List ℕ)) (key : List ℕ)
     → range_contains text_order (Included from) (end_bound to) key ≡ true → IsInRange from to key
-contains_so from None key e = (le_not (text_order from key) (both_true _ _ e).0, tt)
+contains_so from None key e = (le_not (text_order from key) (and_parts _ _ e).0, tt)
 contains_so from (Some to) key e =
-    let both = both_true (is_le (text_order from key)) (not (is_le (text_order to key))) e in (
+    let both = and_parts (is_le (text_order from key)) (not (is_le (text_order to key))) e in (
       le_not (text_order from key) both.0,
       nat_list_cmp_total.antisymm key to ∙ over_less (text_order to key) both.1,
     )
@@ -77,10 +69,10 @@ contains_so from (Some to) key e =
 -- and a range is told to contain each key that is in it
 pub so_contains : (from : List ℕ) (to : Option (List ℕ)) (key : List ℕ) → IsInRange from to key
     → range_contains text_order (Included from) (end_bound to) key ≡ true
-so_contains from None key h = true_both (is_le (text_order from key)) true
+so_contains from None key h = and_from (is_le (text_order from key)) true
     (not_le (text_order from key) h.0) refl
 so_contains from (Some to) key h =
-    true_both (is_le (text_order from key)) (not (is_le (text_order to key)))
+    and_from (is_le (text_order from key)) (not (is_le (text_order to key)))
     (not_le (text_order from key) h.0)
     (less_over (text_order to key) (sym (nat_list_cmp_total.antisymm key to) ∙ h.1))
 
@@ -93,9 +85,9 @@ pub contains_beyond : (forward : Bool) (place : Option (List ℕ)) (from : List 
 contains_beyond forward place from to first last beyond key = both_ways _ _
     (λ e.
     let both = (beyond key).0 (contains_so first last key e) in
-    true_both _ _ (so_contains from to key both.0) both.1)
+    and_from _ _ (so_contains from to key both.0) both.1)
     (λ e.
-    let both = both_true _ _ e in
+    let both = and_parts _ _ e in
     so_contains first last key ((beyond key).1 (contains_so from to key both.0, both.1)))
 
 -- ---- places in the order of a walk
@@ -115,7 +107,7 @@ all_below : (key : List ℕ) (es : List Entry) → T (below_all text_order key e
 all_below key [] h = All-nil (λ (x : Entry). is_lt (text_order key x.0) ≡ true)
 all_below key (e ∷ es) h = All-cons (λ (x : Entry). is_lt (text_order key x.0) ≡ true) e es
     (is_so (is_lt (text_order key e.0)) (first _ _ h))
-    (all_below key es (second (is_lt (text_order key e.0)) _ h))
+    (all_below key es (second_holds (is_lt (text_order key e.0)) _ h))
   where
     is_so : (b : Bool) → T b → b ≡ true
     is_so true t = refl
@@ -127,7 +119,7 @@ unfolding AreOrdered
 sorted_ordered [] h = tt
 sorted_ordered (e ∷ es) h = (
   all_below e.0 es (first _ (is_sorted text_order es) h),
-  sorted_ordered es (second (below_all text_order e.0 es) _ h),
+  sorted_ordered es (second_holds (below_all text_order e.0 es) _ h),
 )
 
 -- entries in order stay so with one more that is beyond all of them
@@ -170,13 +162,7 @@ ordered_filter forward p (e ∷ es) h = by (p e) (ordered_filter forward p es h.
 
 -- ---- what is beyond one of them
 
--- an order that is told to be below is `Less`
-is_less : (o : Ordering) → is_lt o ≡ true → o ≡ Less
-is_less Less e = refl
-is_less Equal e = absurd (let f : ⊥ = cc in f)
-is_less Greater e = absurd (let f : ⊥ = cc in f)
-
--- and isn't below the other way round
+-- an order that is told to be below isn't the other way round
 reverse_not : (o : Ordering) → is_lt o ≡ true → is_lt (ordering_reverse o) ≡ false
 reverse_not Less e = refl
 reverse_not Equal e = absurd (let f : ⊥ = cc in f)
@@ -201,14 +187,6 @@ not_self : (forward : Bool) (e : Entry) → is_beyond forward (Some e.0) e.0 ≡
 not_self true e = self_not (text_order e.0 e.0) (nat_list_cmp_total.antisymm e.0 e.0)
 not_self false e = self_not (text_order e.0 e.0) (nat_list_cmp_total.antisymm e.0 e.0)
 
--- where each element passes a test all of them stay
-filter_all : {A : Type 0} (p : A → Bool) (xs : List A) → All (λ x. p x ≡ true) xs
-    → filter p xs ≡ xs
-filter_all p [] all = refl
-filter_all p (x ∷ xs) all =
-    ap (λ b. cond b (x ∷ filter p xs) (filter p xs)) (All-head (λ y. p y ≡ true) x xs all)
-    ∙ ap (λ l. x ∷ l) (filter_all p xs (All-tail (λ y. p y ≡ true) x xs all))
-
 -- an entry of a list is beyond one that all of the list are beyond
 middle : (forward : Bool) (x : Entry) (xs : List Entry) (e : Entry) (ys : List Entry)
     → All (After forward x) (xs ++ e ∷ ys) → After forward x e
@@ -224,7 +202,7 @@ unfolding AreOrdered
 beyond_is forward [] e ys h =
     ap (λ b. cond b (e ∷ filter (λ x. is_beyond forward (Some e.0) x.0) ys)
     (filter (λ x. is_beyond forward (Some e.0) x.0) ys)) (not_self forward e)
-    ∙ filter_all (λ x. is_beyond forward (Some e.0) x.0) ys h.0
+    ∙ filter-all (λ x. is_beyond forward (Some e.0) x.0) ys h.0
 beyond_is forward (x ∷ xs) e ys h =
     ap (λ b. cond b (x ∷ filter (λ z. is_beyond forward (Some e.0) z.0) (xs ++ e ∷ ys))
     (filter (λ z. is_beyond forward (Some e.0) z.0) (xs ++ e ∷ ys)))
@@ -246,12 +224,6 @@ has_last (x ∷ []) h = record { front = []; last = x; is = refl }
 has_last (x ∷ y ∷ ys) h =
     let rest = has_last (y ∷ ys) (omega arith) in
     record { front = x ∷ rest.front; last = rest.last; is = ap (λ l. x ∷ l) rest.is }
-
--- dropping from a mapped list is mapping what is left
-drop-map : {A B : Type 0} (f : A → B) (n : ℕ) (xs : List A) → drop n (map f xs) ≡ map f (drop n xs)
-drop-map f zero xs = refl
-drop-map f (suc n) [] = refl
-drop-map f (suc n) (x ∷ xs) = drop-map f n xs
 
 -- the entries of a range, in the order of a walk
 unfoldable pub walked : Table → Option IndexSchema → List ℕ → Option (List ℕ) → Bool → List Entry

@@ -1,6 +1,7 @@
 -- The range of a segment holds the places whose tokens are in it.
-use Rattle.std.proofs.Common.{◌≡◌, refl, sym, ap, ◌∙◌, ℕ, ◌+◌, ◌-◌, ◌*◌, ◌/◌, ◌^◌, ◌<◌, ◌≤◌, Bool, true, false, not, ◌&&◌, nat_le, nat_lt, ◌==◌, List, [], ◌∷◌, ◌++◌, Option, Some, None, append-nil, arith, append_assoc}
+use Rattle.std.proofs.Common.{◌≡◌, refl, sym, ap, ◌∙◌, ℕ, ◌+◌, ◌-◌, ◌*◌, ◌/◌, ◌^◌, ◌<◌, ◌≤◌, Bool, true, false, not, ◌&&◌, nat_le, nat_lt, ◌==◌, List, [], ◌++◌, Option, Some, None, append-nil, arith, append_assoc}
 use Rattle.std.proofs.Math.Nat.{le-div_iff_mul-le, div-lt_iff_lt-mul}
+use Rattle.std.proofs.Math.Bool.{and_comm}
 use Rattle.std.specs.Prelude.{if◌then◌else◌}
 use Rattle.std.specs.BTreeMap.Range.{is_past_end, range_contains}
 use Rattle.std.specs.Cmp.{both_ways}
@@ -14,7 +15,7 @@ use Rattle.std.specs.Ordering.{is_le, nat_cmp, ordering_then}
 use Rattle.alt_keyorder.specs.KeyBytes.{key_bytes}
 use Rattle.alt_keyorder.specs.Place.{Place, key_values}
 use Rattle.alt_keyorder.specs.Token.{token_of}
-use Rattle.alt_keyorder.proofs.Places.{keys-lie}
+use Rattle.alt_keyorder.proofs.Places.{token-order}
 use Rattle.alt_keyorder.proofs.Tokens.{token_fits}
 use Rattle.alt_machine.specs.Ops.Scan as machine
 use Rattle.alt_machine.specs.Walks.{end_bound, is_beyond}
@@ -27,6 +28,7 @@ use Rattle.alt_machine.specs.Sources.{hash_of}
 use Rattle.alt_schema.specs.declared.schema.IndexSchema.{IndexSchema}
 use Rattle.alt_schema.specs.declared.schema.TableSchema.{TableSchema}
 use Rattle.alt_value.specs.Members.{text_order}
+use Rattle.alt_value.proofs.TextTies.{empty_up_to}
 
 -- ---- tokens as bytes
 
@@ -34,37 +36,16 @@ use Rattle.alt_value.specs.Members.{text_order}
 abbrev at_token : ℕ → Place
 at_token token = record { token = token; parts = [] }
 
--- bytes behind tokens lie as the tokens do, and then as the bytes
-tokens_lie : (m n : ℕ) (x y : List ℕ) → m < 2 ^ 64 → n < 2 ^ 64
-    → text_order (to_be_bytes w64 m ++ x) (to_be_bytes w64 n ++ y)
-    ≡ ordering_then (nat_cmp m n) (text_order x y)
-tokens_lie m n x y hm hn =
-    (λ i. text_order (sym (append-nil (to_be_bytes w64 m)) i ++ x)
-    (sym (append-nil (to_be_bytes w64 n)) i ++ y))
-    ∙ keys-lie (at_token m) (at_token n) (ordering_then (nat_cmp m n) Equal) x y
-    (record { token = hm; parts = tt }) (record { token = hn; parts = tt }) refl
-    ∙ ap (λ o. ordering_then o (text_order x y)) (by (nat_cmp m n))
-  where
-    by : (o : Ordering) → ordering_then o Equal ≡ o
-    by Less = refl
-    by Equal = refl
-    by Greater = refl
-
--- no bytes are above none
-none_first : (y : List ℕ) → is_le (text_order [] y) ≡ true
-none_first [] = refl
-none_first (b ∷ y) = refl
-
 -- bytes that begin with a token are up to others where the token is
 token_up_to : (m n : ℕ) (y : List ℕ) → m < 2 ^ 64 → n < 2 ^ 64
     → is_le (text_order (to_be_bytes w64 m) (to_be_bytes w64 n ++ y)) ≡ nat_le m n
 token_up_to m n y hm hn =
     ap (λ l. is_le (text_order l (to_be_bytes w64 n ++ y))) (sym (append-nil (to_be_bytes w64 m)))
-    ∙ ap is_le (tokens_lie m n [] y hm hn) ∙ by (nat_cmp m n) refl
+    ∙ ap is_le (token-order m n [] y hm hn) ∙ by (nat_cmp m n) refl
   where
     by : (o : Ordering) → nat_cmp m n ≡ o → is_le (ordering_then o (text_order [] y)) ≡ nat_le m n
     by Less e = grind (arith, e)
-    by Equal e = none_first y ∙ grind (arith, e)
+    by Equal e = empty_up_to y ∙ grind (arith, e)
     by Greater e = grind (arith, e)
 
 -- ---- numbers
@@ -153,13 +134,6 @@ module _ (number total token : ℕ) (y : List ℕ) (below : number < total) (few
       && not (first_reached (number + 1) total token (omega (arith, below)) i))
       ∙ sym (in_segment number total token)
 
--- two tests pass together in either order
-and_turned : (a b : Bool) → (a && b) ≡ (b && a)
-and_turned true true = refl
-and_turned true false = refl
-and_turned false true = refl
-and_turned false false = refl
-
 -- The range of a segment's tokens, beyond a place, holds the items of the segment.
 pub segment_holds : (d : TableSchema) (i : Option IndexSchema) (number total : ℕ) → number < total
     → total ≤ 2 ^ 64
@@ -182,7 +156,7 @@ segment_holds d i number total below few place first last beyond key item may =
     ∙ ap (λ o. option_map_or
     (machine.has_token (record { number = number; total = total })) o false)
     (sym keys.has_hash.at))
-    ∙ and_turned
+    ∙ and_comm
     (machine.is_in (hash_of d i) (Some (record { number = number; total = total })) item)
     (is_beyond true place key)
 
@@ -193,5 +167,5 @@ pub whole_holds : (d : TableSchema) (i : Option IndexSchema) (place : Option (Li
     → HoldsListed true place (machine.is_in (hash_of d i) None) d i first last
 whole_holds d i place first last beyond key item may =
     contains_beyond true place [] None first last beyond key
-    ∙ ap (λ b. (b && true) && is_beyond true place key) (none_first key)
-    ∙ and_turned true (is_beyond true place key)
+    ∙ ap (λ b. (b && true) && is_beyond true place key) (empty_up_to key)
+    ∙ and_comm true (is_beyond true place key)

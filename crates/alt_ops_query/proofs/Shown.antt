@@ -1,5 +1,6 @@
 -- A page as JSON.
 use Rattle.std.proofs.Common.{◌≡◌, refl, sym, ap, ◌∙◌, ℕ, Bool, true, false, List, [], ◌∷◌, ◌++◌, Option, Some, None, option_map}
+use Rattle.std.proofs.lemmas.Bool.{or_from}
 use Rattle.std.specs.Prelude.{if◌then◌else◌, codes}
 use Rattle.serde_json.specs.Data.{Data, number, unsigned, array, Members, no_members, member}
 use Rattle.serde_json.specs.Written.{has_float, members_have_float}
@@ -15,7 +16,7 @@ use Rattle.alt_schema.specs.declared.schema.TableSchema.{TableSchema}
 use Rattle.alt_shape.specs.Body.{items_json, members_json, part_json}
 use Rattle.alt_shape.specs.declared.body.Member.{Member}
 use Rattle.alt_shape.specs.Refusals.{answered}
-use Rattle.alt_shape.proofs.Plain.{items_plain, no_float_either}
+use Rattle.alt_shape.proofs.Plain.{items_plain}
 use Rattle.alt_value.specs.Tree.{Pair}
 
 -- ---- the members stand in the order of their names
@@ -100,12 +101,12 @@ members_plain : (items last : Option Data) (count scanned : ℕ)
     (member_if (codes "Items") items (member_if (codes "LastEvaluatedKey") last
     (member (codes "ScannedCount") (number (unsigned scanned)) no_members)))) ≡ false
 members_plain None None count scanned h k = refl
-members_plain (Some i) None count scanned h k = no_float_either (has_float i) false (h i refl) refl
-members_plain None (Some l) count scanned h k = no_float_either (has_float l) false (k l refl) refl
-members_plain (Some i) (Some l) count scanned h k = no_float_either (has_float i)
+members_plain (Some i) None count scanned h k = or_from (has_float i) false (h i refl) refl
+members_plain None (Some l) count scanned h k = or_from (has_float l) false (k l refl) refl
+members_plain (Some i) (Some l) count scanned h k = or_from (has_float i)
     (members_have_float (member (codes "LastEvaluatedKey") l
     (member (codes "ScannedCount") (number (unsigned scanned)) no_members)))
-    (h i refl) (no_float_either (has_float l) false (k l refl) refl)
+    (h i refl) (or_from (has_float l) false (k l refl) refl)
 
 -- nor have the items that are shown
 shown_plain : (ms : Members) (items : List (List Pair)) (d : Data)

@@ -1,5 +1,5 @@
 -- One step of a walk: what its last item leaves of the range, where it ends the page, and what it pays.
-use Rattle.std.proofs.Common.{◌≡◌, ◌≢◌, ◌≤◌, ◌+◌, ◌*◌, refl, sym, ap, subst, ◌∙◌, ℕ, ◌<◌, Bool, true, false, not, ◌&&◌, List, [], ◌∷◌, ◌++◌, map, reverse, take, drop, length, Option, Some, None, IfSome, All, append_assoc, append-nil, take-append-drop, length-append, length-take, is_some, arith}
+use Rattle.std.proofs.Common.{◌≡◌, ◌≢◌, ◌≤◌, ◌+◌, ◌*◌, refl, sym, ap, subst, ◌∙◌, ℕ, ◌<◌, Bool, true, false, not, ◌&&◌, List, [], ◌∷◌, ◌++◌, map, take, drop, length, Option, Some, None, IfSome, All, append_assoc, append-nil, take-append-drop, length-append, length-take, is_some, arith}
 use Rattle.std.proofs.Math.Nat.{lt_of_not-le}
 use Rattle.std.specs.Prelude.{if◌then◌else◌, option_and_then}
 use Rattle.std.specs.BTreeMap.Range.{range_contains}
@@ -8,7 +8,7 @@ use Rattle.std.specs.List.{last_or}
 use Rattle.std.specs.declared.ops.Bound.TheVariants.{Included}
 use Rattle.std.proofs.lemmas.List.{map-append, take-map, take_all, length-map}
 use Rattle.std.proofs.lemmas.List.Elements.{All-filter, All-map, All-take, All-head, All-tail, filter_passes}
-use Rattle.std.proofs.lemmas.List.Sorted.{All-permutation, IsPermutation-reverse}
+use Rattle.alt_base.proofs.Lists.{All-front, last_push}
 use Rattle.alt_cells.specs.Walks.{RowMap}
 use Rattle.alt_disk.specs.Disk.{DiskState}
 use Rattle.alt_expr.specs.Pages as pages
@@ -16,8 +16,9 @@ use Rattle.alt_expr.specs.Pages.{ends_early}
 use Rattle.alt_families.specs.Reads.{versions_of}
 use Rattle.alt_machine.specs.Sources.{items_of}
 use Rattle.alt_machine.specs.State.{Table}
-use Rattle.alt_machine.specs.Walks.{end_bound, is_beyond, items_between, placed_items, turned}
+use Rattle.alt_machine.specs.Walks.{end_bound, is_beyond, items_between, placed_items}
 use Rattle.alt_keyorder.specs.declared.range.KeyRange.{KeyRange}
+use Rattle.alt_machine.proofs.Turned.{All-turned}
 use Rattle.alt_ops_query.specs.PageReads.{is_passed, page_end}
 use Rattle.alt_ops_query.specs.Places.{place_in}
 use Rattle.alt_ops_query.specs.private.Filled.{EndsPage, Examines, GoesOn, is_behind, paid_for}
@@ -30,7 +31,7 @@ use Rattle.alt_ops_query.proofs.Passing.{reached_all, reached_last}
 use Rattle.alt_ops_query.proofs.Rests.{HasLast, has_last, walked, items_walked, rest_is}
 use Rattle.alt_paging.specs.Offered.{WasOffered, asked_of}
 use Rattle.alt_paging.specs.declared.ask.PageAsk.{PageAsk}
-use Rattle.alt_paging.proofs.PageLaws.{examined-ended, full_prefix-ended, last_push}
+use Rattle.alt_paging.proofs.PageLaws.{examined-ended, full_prefix-ended}
 use Rattle.alt_request.specs.Steps.{IsMemory}
 use Rattle.alt_request.specs.declared.stop.Stop.{Stop}
 use Rattle.alt_schema.specs.declared.schema.IndexSchema.{IndexSchema}
@@ -39,26 +40,10 @@ use Rattle.alt_value.specs.Members.{text_order}
 use Rattle.alt_value.specs.Size.{item_size}
 use Rattle.alt_value.specs.Tree.{Pair}
 
--- what holds of all holds of them either way
-All-turned : {A : Type 0} (P : A → Type 0) (forward : Bool) (xs : List A) → All P xs
-    → All P (turned forward xs)
-All-turned P true xs all = all
-All-turned P false xs all = All-permutation P xs (reverse xs) (IsPermutation-reverse xs) all
-
--- and of the last
+-- what holds of all holds of the last
 All-last : {A : Type 0} (P : A → Type 0) (front : List A) (x : A) → All P (front ++ x ∷ []) → P x
 All-last P [] x all = All-head P x [] all
 All-last P (y ∷ ys) x all = All-last P ys x (All-tail P y (ys ++ x ∷ []) all)
-
--- what holds of all holds of a front
-All-front : {A : Type 0} (P : A → Type 0) (front rest : List A) → All P (front ++ rest)
-    → All P front
-All-front P front rest all = subst (All P) (front_taken front rest)
-    (All-take P (length front) (front ++ rest) all)
-  where
-    front_taken : {A : Type 0} (xs ys : List A) → take (length xs) (xs ++ ys) ≡ xs
-    front_taken [] ys = refl
-    front_taken (x ∷ xs) ys = ap (λ l. x ∷ l) (front_taken xs ys)
 
 -- a front that isn't shorter is the whole
 front_all : {A : Type 0} (xs front rest : List A) → xs ≡ front ++ rest → length xs ≤ length front

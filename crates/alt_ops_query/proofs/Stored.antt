@@ -1,12 +1,14 @@
 -- The key of an item that stands in a table or in an index: its values, their kinds, and its place.
-use Rattle.std.proofs.Common.{◌≡◌, refl, sym, ap, subst, ◌∙◌, ℕ, Bool, true, false, cond, List, [], ◌∷◌, ◌++◌, append-nil, append_assoc, Option, Some, None, option_map, is_eq}
+use Rattle.std.proofs.Common.{◌≡◌, refl, sym, ap, subst, ◌∙◌, ℕ, List, [], ◌++◌, append-nil, append_assoc, Option, Some, None, option_map}
 use Rattle.std.proofs.lemmas.Grind.{flat_map-append}
+use Rattle.std.proofs.lemmas.Option.{same_Some}
 use Rattle.std.specs.Prelude.{if◌then◌else◌, option_and_then}
 use Rattle.alt_keyorder.specs.Kinds.{IsOfKind}
 use Rattle.alt_keyorder.specs.Place.{Place, place_in_table, place_bytes, key_values}
 use Rattle.alt_machine.specs.Keys.{can_be_key, if_key, key_value, place_beside, place_of}
 use Rattle.std.specs.Int.{w64, to_be_bytes}
 use Rattle.std.specs.List.{flat_map}
+use Rattle.alt_base.proofs.Options.{some_if}
 use Rattle.alt_keyorder.specs.KeyBytes.{key_bytes}
 use Rattle.alt_keyorder.specs.Token.{token_of}
 use Rattle.alt_machine.specs.Indexed.{KeyValues, values_beside, values_of, place_of_both, index_place, index_entry}
@@ -17,32 +19,12 @@ use Rattle.alt_schema.specs.declared.schema.IndexSchema.{IndexSchema}
 use Rattle.alt_schema.specs.declared.schema.KeyAttr.{KeyAttr}
 use Rattle.alt_schema.specs.declared.schema.TableSchema.{TableSchema}
 use Rattle.alt_value.specs.Item.{at_name}
-use Rattle.alt_value.specs.Members.{text_order}
 use Rattle.alt_value.specs.Tree.{Tree, Pair, S_tree, N_tree, B_tree, fields_of}
 use Rattle.alt_value.specs.Values.{IsValue, AreFields, IsItemOfValues}
 use Rattle.alt_views.proofs.Keeping.{entry_place, kept_values}
 use Rattle.alt_value.specs.declared.kind.KeyKind.{KeyKind}
 use Rattle.alt_value.specs.declared.kind.KeyKind.TheVariants.{S, N, B}
-
--- options that are equal have equal values
-pub same_Some : {A : Type 0} (x y : A) → Some x ≡ Some y → x ≡ y
-same_Some x y e = cc
-
--- what is at a name is a value
-pub field_value : (name : List ℕ) (item : List Pair) (t : Tree) → AreFields (fields_of item)
-    → at_name name item ≡ Some t → IsValue t
-field_value name [] t h e = absurd (let f : ⊥ = cc in f)
-field_value name (p ∷ ps) t h e = by (is_eq (text_order name p.0)) (field_value name ps t h.2) e
-  where
-    by : (b : Bool) → (at_name name ps ≡ Some t → IsValue t)
-        → cond b (Some p.1) (at_name name ps) ≡ Some t → IsValue t
-    by true rest f = subst IsValue (same_Some p.1 t f) h.1
-    by false rest f = rest f
-
--- a value that is taken where a test passes is that value, where one is taken
-some_is : (b : Bool) (u t : Tree) → (if b then Some u else None) ≡ Some t → u ≡ t
-some_is true u t e = same_Some u t e
-some_is false u t e = absurd (let f : ⊥ = cc in f)
+use Rattle.alt_value.proofs.NamedPairs.{value_at}
 
 -- the value of a key attribute is what the item has there, of the attribute's kind
 pub record IsPart (item : List Pair) (key : KeyAttr) (t : Tree) : Type 0 where
@@ -53,12 +35,12 @@ pub record IsPart (item : List Pair) (key : KeyAttr) (t : Tree) : Type 0 where
 kept : (kind : KeyKind) (u t : Tree) → IsValue u → if_key kind u ≡ Some t
     → (u ≡ t) × IsOfKind kind t
 kept S (S_tree s) t v e =
-    let same = some_is (can_be_key S (S_tree s)) (S_tree s) t e in
+    let same = some_if (can_be_key S (S_tree s)) (S_tree s) t e in
     (same, subst (IsOfKind S) same tt)
 kept N (N_tree z) t v e =
     let same = same_Some (N_tree z) t e in (same, subst (IsOfKind N) same v)
 kept B (B_tree b) t v e =
-    let same = some_is (can_be_key B (B_tree b)) (B_tree b) t e in
+    let same = some_if (can_be_key B (B_tree b)) (B_tree b) t e in
     (same, subst (IsOfKind B) same tt)
 kept kind u t v e = absurd (let f : ⊥ = cc in f)
 
@@ -71,7 +53,7 @@ part_is item key t h e = by (at_name key.name item) refl e
         → option_and_then (if_key key.kind) o ≡ Some t → IsPart item key t
     by None at f = absurd (let g : ⊥ = cc in g)
     by (Some u) at f =
-        let both = kept key.kind u t (field_value key.name item u h at) f in
+        let both = kept key.kind u t (value_at key.name item u h at) f in
         record { at = at ∙ ap (λ x. Some x) both.0; kind = both.1 }
 
 -- the RANGE value, where the table has a RANGE key

@@ -1,7 +1,7 @@
 -- A walk: what was examined so far, and what is ahead.
 use Rattle.std.proofs.Common.{◌≡◌, ◌≢◌, ◌≤◌, ◌+◌, refl, sym, ap, subst, ◌∙◌, ℕ, Bool, true, false, not, List, [], ◌∷◌, ◌++◌, length, Option, Some, None, All, append_assoc, append-nil, length-append, arith}
 use Rattle.std.proofs.Math.Nat.{le-add_right}
-use Rattle.std.proofs.lemmas.List.Elements.{All-head, All-tail}
+use Rattle.alt_base.proofs.Lists.{All-ahead}
 use Rattle.alt_cells.specs.Walks.{RowMap}
 use Rattle.alt_disk.specs.Disk.{DiskState}
 use Rattle.alt_expr.specs.Pages as pages
@@ -37,13 +37,6 @@ none_yet pager items ask seen h = record {
   is = refl;
   examined = subst (WasOffered pager ask) (sym (append-nil seen)) h;
 }
-
--- no item ahead is empty where none is
-All-ahead : {A : Type 0} (P : A → Type 0) (front : List A) (x : A) (ahead : List A)
-    → All P (front ++ x ∷ ahead) → P x
-All-ahead P [] x ahead all = All-head P x ahead all
-All-ahead P (y ∷ ys) x ahead all =
-    All-ahead P ys x ahead (All-tail P y (ys ++ x ∷ ahead) all)
 
 -- the next item isn't empty where none of the step's is
 pub next_some : (before now : Pager) (items ahead : List (List Pair)) (item : List Pair)

@@ -1,7 +1,7 @@
 -- The refusals of a CreateTable, step by step, and what it comes to.
 use Rattle.std.proofs.Common.{◌≡◌, inl, inr, refl, sym, ap, subst, ◌∙◌, ℕ, ◌+◌, ◌<◌, ◌≤◌, Err, Bool, true, false, cond, not, nat_le, [], ◌∷◌, Option, Some, None, option_map, is_some, arith}
 use Rattle.std.specs.Prelude.{IsSome}
-use Rattle.std.proofs.lemmas.Bool.{le-leb}
+use Rattle.std.proofs.lemmas.Bool.{le-leb, lt-leb}
 use Rattle.std.specs.FinMap as map
 use Rattle.serde_json.specs.Data.{Members}
 use Rattle.alt_disk.specs.Disk.{DiskState}
@@ -84,13 +84,6 @@ family-described ms moment number family d e = ap (λ (x : TableSchema). x.famil
 
 -- ---- what a CreateTable comes to
 
-not_above : (m n : ℕ) → n < m → nat_le m n ≡ false
-not_above m n h = by (nat_le m n) refl
-  where
-    by : (b : Bool) → nat_le m n ≡ b → b ≡ false
-    by true e = absurd (let l : m ≤ n = grind arith in omega arith)
-    by false e = refl
-
 module _ (s : State) (moment : ℕ) (ms : Members) where
   -- what is made where nothing is refused
   abbrev made : Outcome
@@ -140,7 +133,7 @@ module _ (s : State) (moment : ℕ) (ms : Members) where
       pub create-made : map.contains_key catalog (table_name ms) ≡ false
           → map.len catalog < MOST_TABLES → create_table s moment ms ≡ made
       create-made e h = of_body_on ∙ passed (of_tables s ms) made
-          (tests false false e (not_above MOST_TABLES (map.len catalog) h))
+          (tests false false e (lt-leb MOST_TABLES (map.len catalog) h))
 
 -- ---- whether a name is there
 

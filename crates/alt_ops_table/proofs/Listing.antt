@@ -1,10 +1,9 @@
 -- What a ListTables comes to.
-use Rattle.std.proofs.Common.{◌≡◌, refl, sym, ap, ◌∙◌, ℕ, Bool, false, nat_lt, take, length, List, [], ◌∷◌, Option, Some, None, Result, Ok, Err, IfOk}
-use Rattle.std.specs.Prelude.{◌||◌, if◌then◌else◌}
+use Rattle.std.proofs.Common.{◌≡◌, sym, ap, ◌∙◌, ℕ, Bool, false, nat_lt, take, length, List, Option, Some, None, Result, Ok, Err, IfOk}
+use Rattle.std.specs.Prelude.{if◌then◌else◌}
 use Rattle.std.specs.List.{last_or}
 use Rattle.serde_json.specs.Data.{Members}
-use Rattle.serde_json.specs.Written.{has_float, items_have_float}
-use Rattle.alt_codec.specs.Writing.{strings}
+use Rattle.serde_json.specs.Written.{has_float}
 use Rattle.alt_machine.specs.Ops.ListTables.{of_body, start_name, page_length, names_after, listed, page_of, list_tables}
 use Rattle.alt_machine.specs.Outcomes.{says, refuses}
 use Rattle.alt_machine.specs.Refusals.{first_answer}
@@ -19,6 +18,8 @@ use Rattle.alt_shape.specs.declared.refusal.Reply.{Reply}
 use Rattle.std.specs.FinMap as map
 use Rattle.std.specs.List.{filter}
 use Rattle.std.specs.Ordering.{is_lt}
+use Rattle.alt_base.proofs.Bools.{or_nothing}
+use Rattle.alt_codec.proofs.Plain.{strings_plain}
 use Rattle.alt_value.specs.Members.{text_order}
 
 -- a body that is unfit is refused as its first test says
@@ -45,17 +46,10 @@ page-listed more names all most e f = λ i. listed (if f i then last_or None (e 
 
 -- ---- no float stands in it
 
-strings_plain : (ss : List (List ℕ)) → items_have_float (strings ss) ≡ false
-strings_plain [] = refl
-strings_plain (s ∷ ss) = strings_plain ss
-
-or_false : (b : Bool) → b ≡ false → (b || false) ≡ false
-or_false b e = rw e refl
-
 listed_plain : (last : Option (List ℕ)) (names : List (List ℕ))
     → has_float (listed last names).body ≡ false
-listed_plain None names = or_false _ (strings_plain names)
-listed_plain (Some l) names = or_false _ (strings_plain names)
+listed_plain None names = or_nothing _ (strings_plain names)
+listed_plain (Some l) names = or_nothing _ (strings_plain names)
 
 -- a reply that lists names has no float in it
 pub reply_plain : (reply : Reply) (last : Option (List ℕ)) (names : List (List ℕ))
@@ -68,9 +62,3 @@ pub page_plain : {E : Type 0} (r : Result Reply E) (last : Option (List ℕ)) (n
     → IfOk r (λ reply. has_float (body_json reply.body) ≡ false)
 page_plain (Ok reply) last names h = reply_plain reply last names h
 page_plain (Err e) last names h = tt
-
--- a reply that has one answer has every answer that is equal to it
-pub page_said : {E : Type 0} (r : Result Reply E) (a b : Answer) → a ≡ b
-    → IfOk r (λ reply. answer_of reply ≡ a) → IfOk r (λ reply. answer_of reply ≡ b)
-page_said (Ok reply) a b e h = h ∙ e
-page_said (Err x) a b e h = tt

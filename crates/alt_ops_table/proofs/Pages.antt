@@ -1,37 +1,27 @@
 -- Pages of names: each name from the one before, and what is left after the last.
-use Rattle.std.proofs.Common.{◌≡◌, refl, sym, ap, subst, ◌∙◌, ℕ, zero, suc, ◌-◌, ◌≤◌, Bool, true, false, cond, nat_lt, T, List, [], ◌∷◌, ◌++◌, map, take, length, Option, Some, None, option_map, slice_get, arith}
+use Rattle.std.proofs.Common.{◌≡◌, refl, sym, ap, subst, ◌∙◌, ℕ, ◌-◌, ◌≤◌, Bool, true, false, cond, nat_lt, T, List, [], ◌∷◌, ◌++◌, map, take, length, Option, Some, None, option_map, slice_get, arith}
 use Rattle.std.specs.Prelude.{is_some}
-use Rattle.std.specs.List.{filter, last_or}
+use Rattle.std.specs.List.{filter}
 use Rattle.std.specs.Ordering.{is_lt}
-use Rattle.std.specs.declared.cmp.Ordering.{Ordering}
-use Rattle.std.specs.declared.cmp.Ordering.TheVariants.{Less, Equal, Greater}
+use Rattle.std.specs.declared.cmp.Ordering.TheVariants.{Less}
 use Rattle.std.specs.Cmp.{tied_itself}
 use Rattle.std.specs.FinMap as map
 use Rattle.std.specs.FinMap.{entries_sorted}
 use Rattle.std.specs.FinMap.Entries.{below_all, is_sorted}
 use Rattle.std.proofs.Math.Seq.{take-append_seam}
-use Rattle.std.proofs.lemmas.Bool.{lt-ltb, ltb_from_iff}
 use Rattle.std.proofs.lemmas.List.{length-append, append_assoc}
+use Rattle.std.specs.Bool.{passes}
+use Rattle.alt_base.proofs.Bools.{first_holds, second_holds}
+use Rattle.alt_base.proofs.Lists.{take_whole_and_nothing}
+use Rattle.alt_base.proofs.Numbers.{from_is_found, below_is_found}
+use Rattle.alt_base.proofs.Orderings.{is_lt-holds, not_lt_either}
 use Rattle.serde_json.specs.Data.{string, item}
 use Rattle.alt_codec.specs.Writing.{strings}
 use Rattle.alt_schema.specs.Json.{items_by}
 use Rattle.alt_machine.specs.Ops.ListTables.{names_after}
 use Rattle.alt_machine.specs.State.{Texts}
 use Rattle.alt_value.specs.Members.{text_order}
-use Rattle.alt_value.proofs.Places.{first, second, less}
 use Rattle.alt_value.proofs.Texts.{text_total}
-
--- ---- the last of a list
-
-last_from : {A : Type 0} (x : A) (xs : List A)
-    → last_or (Some x) xs ≡ slice_get (x ∷ xs) (length xs)
-last_from x [] = refl
-last_from x (y ∷ ys) = last_from y ys
-
--- the last of a list stands at its length less one
-pub last_get : {A : Type 0} (xs : List A) → slice_get xs (length xs - 1) ≡ last_or None xs
-last_get [] = refl
-last_get (x ∷ xs) = ap (slice_get (x ∷ xs)) (omega arith) ∙ sym (last_from x xs)
 
 -- ---- texts as strings
 
@@ -42,17 +32,8 @@ items_by-string (s ∷ ss) = ap (λ ds. item (string s) ds) (items_by-string ss)
 
 -- ---- the names after a name
 
-not_less : (r s : Ordering) → (r ≡ Less → s ≡ Less) → is_lt s ≡ false → is_lt r ≡ false
-not_less Less s h e = sym (ap is_lt (h refl)) ∙ e
-not_less Equal s h e = refl
-not_less Greater s h e = refl
-
 same_Some : (x k : List ℕ) → Some x ≡ Some k → x ≡ k
 same_Some x k e = cc
-
-holds : (b : Bool) → b ≡ true → T b
-holds true e = tt
-holds false e = absurd (let f : ⊥ = cc in f)
 
 module _ {X : Type 0} where
   abbrev names : List (List ℕ × X) → List (List ℕ)
@@ -65,15 +46,15 @@ module _ {X : Type 0} where
   after-above : (name : List ℕ) (ps : List (List ℕ × X)) → T (below_all text_order name ps)
       → after name ps ≡ names ps
   after-above name [] h = refl
-  after-above name (p ∷ ps) h = rw (less (text_order name p.0) (first _ _ h))
-      (ap (λ ks. p.0 ∷ ks) (after-above name ps (second _ _ h)))
+  after-above name (p ∷ ps) h = rw (is_lt-holds (text_order name p.0) (first_holds _ _ h))
+      (ap (λ ks. p.0 ∷ ks) (after-above name ps (second_holds _ _ h)))
 
   above_all : (name k : List ℕ) (ps : List (List ℕ × X)) → text_order name k ≡ Less
       → T (below_all text_order k ps) → after name ps ≡ names ps
   above_all name k [] l h = refl
   above_all name k (p ∷ ps) l h =
-      rw (text_total.trans name k p.0 l (less (text_order k p.0) (first _ _ h)))
-      (ap (λ ks. p.0 ∷ ks) (above_all name k ps l (second _ _ h)))
+      rw (text_total.trans name k p.0 l (is_lt-holds (text_order k p.0) (first_holds _ _ h)))
+      (ap (λ ks. p.0 ∷ ks) (above_all name k ps l (second_holds _ _ h)))
 
   -- the first of them, and then those after it
   abbrev Next : List ℕ → List ℕ → List (List ℕ × X) → Type 0
@@ -84,14 +65,15 @@ module _ {X : Type 0} where
   here name p ps s l = (
     l,
     rw (l, tied_itself text_total p.0) (ap (λ ks. p.0 ∷ ks)
-        (above_all name p.0 ps l (first _ _ s) ∙ sym (after-above p.0 ps (first _ _ s)))),
+        (above_all name p.0 ps l (first_holds _ _ s)
+        ∙ sym (after-above p.0 ps (first_holds _ _ s)))),
   )
 
   later : (name k : List ℕ) (p : List ℕ × X) (ps : List (List ℕ × X))
       → is_lt (text_order name p.0) ≡ false → Next name k ps → Next name k (p ∷ ps)
   later name k p ps t n =
       let below : is_lt (text_order k p.0) ≡ false =
-      not_less _ _ (λ l. text_total.trans name k p.0 n.0 l) t in
+      not_lt_either _ _ (λ l. text_total.trans name k p.0 n.0 l) t in
       (n.0, rw (t, below) n.1)
 
   by_test : (b : Bool) (name k : List ℕ) (p : List ℕ × X) (ps : List (List ℕ × X))
@@ -101,7 +83,7 @@ module _ {X : Type 0} where
   by_test true name k p ps t s h more =
       subst (λ x. Next name x (p ∷ ps)) (same_Some p.0 k
       (sym (ap (λ b. slice_get (cond b (p.0 ∷ after name ps) (after name ps)) 0) t) ∙ h))
-      (here name p ps s (less _ (holds _ t)))
+      (here name p ps s (is_lt-holds _ (passes _ t)))
   by_test false name k p ps t s h more =
       later name k p ps t (more (sym (ap (λ b. slice_get
       (cond b (p.0 ∷ after name ps) (after name ps)) 0) t) ∙ h))
@@ -110,7 +92,7 @@ module _ {X : Type 0} where
       → slice_get (after name ps) 0 ≡ Some k → Next name k ps
   next name k [] s h = absurd (let f : ⊥ = cc in f)
   next name k (p ∷ ps) s h = by_test (is_lt (text_order name p.0)) name k p ps refl s h
-      (λ e. next name k ps (second _ _ s) e)
+      (λ e. next name k ps (second_holds _ _ s) e)
 
 -- the names after one begin with the next, and go on with those after that
 pub names-next : {X : Type 0} (last k : List ℕ) (m : Texts X)
@@ -133,42 +115,29 @@ pub data Ends (most : ℕ) (ns rest : List (List ℕ)) : Type 0 where
   is_full : length ns ≡ most → Ends most ns rest
   is_last : None ≡ slice_get rest 0 → length ns ≤ most → Ends most ns rest
 
--- taking at least as many as there are takes all
-take_all : {A : Type 0} (xs : List A) (i : ℕ) → length xs ≤ i → take i (xs ++ []) ≡ xs
-take_all [] zero h = refl
-take_all [] (suc i) h = refl
-take_all (x ∷ xs) zero h = absurd (omega arith)
-take_all (x ∷ xs) (suc i) h = ap (λ zs. x ∷ zs) (take_all xs i (omega arith))
-
 -- names that end so are the first ones, as many as a page takes
 pub page-names : (most : ℕ) (ns rest all : List (List ℕ)) → Ends most ns rest → ns ++ rest ≡ all
     → ns ≡ take most all
 page-names most ns rest all (is_full l) e = sym
     (ap (take most) (sym e) ∙ ap (λ n. take n (ns ++ rest)) (sym l) ∙ take-append_seam ns rest)
-page-names most ns [] all (is_last n l) e = sym (ap (take most) (sym e) ∙ take_all ns most l)
+page-names most ns [] all (is_last n l) e =
+    sym (ap (take most) (sym e) ∙ take_whole_and_nothing ns most l)
 page-names most ns (k ∷ rest) all (is_last n l) e = absurd (let f : ⊥ = cc in f)
-
--- a number below another is told to be so
-lt-true : (m n : ℕ) → suc m ≤ n → true ≡ nat_lt m n
-lt-true m n h = sym (lt-ltb m n h)
-
-lt-false : (m n : ℕ) → n ≤ m → false ≡ nat_lt m n
-lt-false m n h = ltb_from_iff ((λ e. absurd (let f : ⊥ = cc in f)), (λ l. absurd (omega arith)))
 
 -- where names end so there is one behind them exactly if there are more than a page takes
 pub page-more : {A : Type 0} (f : A → List ℕ) (o : Option A) (most : ℕ)
     (ns rest all : List (List ℕ)) → Ends most ns rest → ns ++ rest ≡ all
     → option_map f o ≡ slice_get rest 0 → is_some o ≡ nat_lt most (length all)
 page-more f None most ns [] all (is_full l) e at =
-    lt-false _ _ (let m : length (ns ++ []) ≡ length all = ap length e in
+    from_is_found _ _ (let m : length (ns ++ []) ≡ length all = ap length e in
     omega (arith, length-append ns [], m, l))
 page-more f None most ns (k ∷ rest) all (is_full l) e at = absurd (let f : ⊥ = cc in f)
 page-more f (Some x) most ns [] all (is_full l) e at = absurd (let f : ⊥ = cc in f)
 page-more f (Some x) most ns (k ∷ rest) all (is_full l) e at =
-    lt-true _ _ (let m : length (ns ++ k ∷ rest) ≡ length all = ap length e in
+    below_is_found _ _ (let m : length (ns ++ k ∷ rest) ≡ length all = ap length e in
     omega (arith, length-append ns (k ∷ rest), m, l))
 page-more f None most ns [] all (is_last n l) e at =
-    lt-false _ _ (let m : length (ns ++ []) ≡ length all = ap length e in
+    from_is_found _ _ (let m : length (ns ++ []) ≡ length all = ap length e in
     omega (arith, length-append ns [], m, l))
 page-more f (Some x) most ns [] all (is_last n l) e at = absurd (let f : ⊥ = cc in f)
 page-more f o most ns (k ∷ rest) all (is_last n l) e at = absurd (let f : ⊥ = cc in f)

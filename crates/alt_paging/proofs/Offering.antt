@@ -5,13 +5,14 @@ use Rattle.std.specs.List.{last_or}
 use Rattle.std.proofs.lemmas.List.{map-append}
 use Rattle.std.proofs.lemmas.List.Elements.{filter-append}
 use Rattle.std.proofs.lemmas.List.Sums.{sum_by_push}
+use Rattle.alt_base.proofs.Lists.{last_push}
 use Rattle.alt_expr.specs.Pages.{page_bytes, reaches, fills, examined, ends_early, passes, parts, passed}
 use Rattle.alt_paging.specs.Counted.{reached}
 use Rattle.alt_paging.specs.Offered.{WasOffered, IsPage, Grows, asked_of, last_of, shown_of, unless_counts}
 use Rattle.alt_paging.specs.declared.ask.Page.{Page}
 use Rattle.alt_paging.specs.declared.ask.PageAsk.{PageAsk}
 use Rattle.alt_paging.specs.declared.pager.Pager.{Pager}
-use Rattle.alt_paging.proofs.PageLaws.{ends_early_push, examined_push, last_push}
+use Rattle.alt_paging.proofs.PageLaws.{ends_early_push, examined_push}
 use Rattle.alt_value.specs.Size.{item_size}
 use Rattle.alt_value.specs.Tree.{Pair}
 

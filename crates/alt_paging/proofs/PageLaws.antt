@@ -1,48 +1,14 @@
 -- How the page of a list grows with the list: up to its end every item is examined, and from then on none.
 use Rattle.std.proofs.Common.{◌≡◌, ◌⊎◌, inl, inr, refl, sym, ap, ◌∙◌, cond, ℕ, ◌+◌, ◌*◌, ◌<◌, ◌≤◌, Bool, true, false, ◌||◌, List, [], ◌∷◌, ◌++◌, length, map, Option, Some, None, is_some, IfSome, unwrap_or, nat_le, sum_by, All, arith, append_assoc, append-nil, length-append}
-use Rattle.std.specs.List.{find, last_or}
+use Rattle.std.specs.List.{find}
 use Rattle.std.specs.Option.{option_or}
-use Rattle.std.proofs.lemmas.List.{map-append}
 use Rattle.std.proofs.lemmas.List.Elements.{All-head, All-tail}
 use Rattle.std.proofs.lemmas.List.Folds.{find-append}
 use Rattle.std.proofs.lemmas.List.Sums.{sum_by-cons, sum_by_push}
 use Rattle.alt_expr.specs.Pages.{Asked, Page, page_bytes, reaches, fills, prefixes, full_prefix, examined, ends_early, parts, passed, page_of}
+use Rattle.alt_expr.proofs.Prefixes.{beyond, beyond_one, prefixes-append}
 use Rattle.alt_value.specs.Size.{item_size}
 use Rattle.alt_value.specs.Tree.{Pair}
-
--- ---- the last of a list
-
--- the last of a list with one more
-pub last_push : {A : Type 0} (o : Option A) (xs : List A) (x : A)
-    → last_or o (xs ++ x ∷ []) ≡ Some x
-last_push o [] x = refl
-last_push o (y ∷ ys) x = last_push (Some y) ys x
-
--- ---- prefixes
-
--- the prefixes of a longer list that aren't prefixes of its front
-longer : {A : Type 0} → List A → List (List A)
-longer [] = []
-longer (y ∷ ys) = map (λ front. y ∷ front) (prefixes ys)
-
--- those of a front and of what stands behind it
-beyond : {A : Type 0} → List A → List A → List (List A)
-beyond [] ys = longer ys
-beyond (x ∷ xs) ys = map (λ front. x ∷ front) (beyond xs ys)
-
--- the prefixes of a list begin with those of its front
-prefixes-append : {A : Type 0} (xs ys : List A) → prefixes (xs ++ ys) ≡ prefixes xs ++ beyond xs ys
-unfolding longer beyond
-prefixes-append [] [] = refl
-prefixes-append [] (y ∷ ys) = refl
-prefixes-append (x ∷ xs) ys = ap (λ fs. [] ∷ map (λ front. x ∷ front) fs) (prefixes-append xs ys)
-    ∙ ap (λ fs. [] ∷ fs) (map-append (λ front. x ∷ front) (prefixes xs) (beyond xs ys))
-
--- one more prefix of a list with one more element: the whole list
-beyond_one : {A : Type 0} (xs : List A) (y : A) → beyond xs (y ∷ []) ≡ (xs ++ y ∷ []) ∷ []
-unfolding longer beyond
-beyond_one [] y = refl
-beyond_one (x ∷ xs) y = ap (map (λ front. x ∷ front)) (beyond_one xs y)
 
 -- ---- where a page ends
 

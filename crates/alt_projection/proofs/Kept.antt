@@ -1,8 +1,9 @@
 -- A list or a map with something in it is given.
 use Rattle.std.proofs.Common.{◌≡◌, refl, sym, ap, ◌∙◌, ◌≢◌, false, cond, List, [], ◌∷◌, length, Option, Some}
-use Rattle.alt_value.specs.Tree.{Tree, Pair, L_tree, M_tree, Trees, no_trees, tree_then, Fields, no_fields, field_then, trees_of, fields_of, elements, pairs}
+use Rattle.alt_value.specs.Tree.{Tree, Pair, L_tree, M_tree, trees_of, fields_of, elements}
 use Rattle.alt_expr.specs.declared.path.PathPart.{PathPart}
 use Rattle.alt_expr.specs.Projected.{is_whole, chosen, chosen_elements, chosen_fields, projected, some_list, some_map}
+use Rattle.alt_value.proofs.Trees.{fields_of-pairs, trees_of-elements}
 
 -- a list with elements and a map with pairs are kept
 pub some_list-is : (ts : List Tree) → (length ts ≢ 0)
@@ -15,16 +16,6 @@ pub some_map-is : (ps : List Pair) → (length ps ≢ 0)
     → Some (M_tree (fields_of ps)) ≡ some_map (fields_of ps)
 some_map-is [] h = absurd (h refl)
 some_map-is (p ∷ ps) h = refl
-
--- the elements of a list, and the pairs of a map, are what it is made of
-pub trees_of-elements : (ts : Trees) → trees_of (elements ts) ≡ ts
-trees_of-elements no_trees = refl
-trees_of-elements (tree_then t ts) = ap (tree_then t) (trees_of-elements ts)
-
--- a map is what its pairs make
-pub fields_of-pairs : (fs : Fields) → fields_of (pairs fs) ≡ fs
-fields_of-pairs no_fields = refl
-fields_of-pairs (field_then name t fs) = ap (field_then name t) (fields_of-pairs fs)
 
 -- where no path ends, it is chosen part by part
 pub chosen-list : (paths : List (List PathPart)) (ts : List Tree) (given : List Tree)

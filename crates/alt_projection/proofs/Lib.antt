@@ -1,6 +1,5 @@
 pub mod Chosen
 pub mod Kept
-pub mod Smaller
 pub mod Order
 pub mod Range
 pub mod Sameness

@@ -1,36 +1,19 @@
 -- What paths choose of a list, element by element.
-use Rattle.std.proofs.Common.{◌≡◌, refl, sym, ap, ◌∙◌, ℕ, zero, suc, ◌+◌, ◌<◌, ◌≤◌, List, [], ◌∷◌, ◌++◌, take, length, Option, Some, None, add-one, arith}
+use Rattle.std.proofs.Common.{◌≡◌, refl, sym, ap, ◌∙◌, ℕ, suc, ◌+◌, ◌<◌, ◌≤◌, List, [], ◌∷◌, ◌++◌, take, length, Some, arith}
 use Rattle.std.specs.Prelude.{option_to_list, slice_get}
 use Rattle.std.proofs.lemmas.List.{append_assoc, append-nil, take_all}
-use Rattle.std.proofs.lemmas.Option.{same_Some}
-use Rattle.alt_value.specs.Tree.{Tree, Trees, trees_of, elements}
+use Rattle.alt_base.proofs.Lists.{length-front, take_one_more}
+use Rattle.alt_value.specs.Tree.{Tree, trees_of, elements}
 use Rattle.alt_expr.specs.declared.path.PathPart.{PathPart}
 use Rattle.alt_expr.specs.declared.path.PathPart.TheVariants.{Index}
-use Rattle.alt_expr.specs.Projected.{under, chosen, chosen_elements, element_then}
-
--- one element more is taken
-next : {X : Type 0} (xs : List X) (i : ℕ) (x : X) → Some x ≡ slice_get xs i
-    → take (suc i) xs ≡ take i xs ++ x ∷ []
-next [] i x e = cc
-next (y ∷ ys) zero x e = ap (λ z. z ∷ []) (sym (same_Some x y e))
-next {X} (y ∷ ys) (suc i) x e = ap (λ (l : List X). y ∷ l) (next ys i x e)
-
--- the same, as a loop counts
-pub take-one_more : {X : Type 0} (xs : List X) (i : ℕ) (x : X) → Some x ≡ slice_get xs i
-    → take (i + 1) xs ≡ take i xs ++ x ∷ []
-take-one_more xs i x e = ap (λ n. take n xs) (add-one i) ∙ next xs i x e
+use Rattle.alt_expr.specs.Projected.{under, chosen, chosen_elements}
+use Rattle.alt_expr.proofs.Picked.{elements-then}
 
 -- what is chosen of elements from i on
 abbrev pub walked : List (List PathPart) → ℕ → List Tree → List Tree
 walked paths i [] = []
 walked paths i (t ∷ ts) =
     option_to_list (chosen (under (Index i) paths) t) ++ walked paths (suc i) ts
-
--- an element that may be there comes before the rest
-elements-then : (o : Option Tree) (ts : Trees)
-    → elements (element_then o ts) ≡ option_to_list o ++ elements ts
-elements-then None ts = refl
-elements-then (Some t) ts = refl
 
 -- the walk gives what the paths choose
 walked-elements : (paths : List (List PathPart)) (i : ℕ) (ts : List Tree)
@@ -58,11 +41,6 @@ walked-append paths i n (s ∷ ts) t e =
     ∙ sym (append_assoc (option_to_list (chosen (under (Index i) paths) s))
     (walked paths (suc i) ts) (option_to_list (chosen (under (Index n) paths) t)))
 
-length-upto : (xs : List Tree) (i : ℕ) → i ≤ length xs → length (take i xs) ≡ i
-length-upto xs zero le = refl
-length-upto [] (suc i) le = absurd (omega arith)
-length-upto (x ∷ xs) (suc i) le = ap suc (length-upto xs i (omega arith))
-
 -- a turn of the loop: one element more was looked at
 pub list_more : (paths : List (List PathPart)) (ts : List Tree) (i : ℕ) (t : Tree)
     (before now : List Tree) → i < length ts → Some t ≡ slice_get ts i
@@ -70,9 +48,9 @@ pub list_more : (paths : List (List PathPart)) (ts : List Tree) (i : ℕ) (t : T
     → now ≡ before ++ option_to_list (chosen (under (Index i) paths) t)
     → now ≡ walked paths 0 (take (i + 1) ts)
 list_more paths ts i t before now lt stands was put =
-    let place : i ≡ 0 + length (take i ts) = omega (arith, length-upto ts i (omega (arith, lt))) in
+    let place : i ≡ 0 + length (take i ts) = omega (arith, length-front ts i (omega (arith, lt))) in
     put ∙ ap (λ (l : List Tree). l ++ option_to_list (chosen (under (Index i) paths) t)) was
-    ∙ sym (ap (walked paths 0) (take-one_more ts i t stands)
+    ∙ sym (ap (walked paths 0) (take_one_more ts i t stands)
     ∙ walked-append paths 0 i (take i ts) t place)
 
 -- behind the last element it is what the paths choose of the list

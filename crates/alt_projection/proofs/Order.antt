@@ -1,23 +1,17 @@
 -- Where paths in rising order stand to a step.
 use Rattle.std.proofs.Common.{◌≡◌, refl, sym, ap, ◌∙◌, ℕ, zero, suc, ◌<◌, ◌≤◌, Bool, true, false, ◌||◌, List, [], ◌∷◌, drop, length, get_or, nat_le, arith}
+use Rattle.std.proofs.lemmas.Bool.{lt-leb as no, le-leb}
 use Rattle.std.specs.List.{list_any}
 use Rattle.std.specs.declared.cmp.Ordering.{Ordering}
 use Rattle.std.specs.declared.cmp.Ordering.TheVariants.{Less, Equal, Greater}
 use Rattle.std.specs.Ordering.{is_lt, is_le, ordering_then, ordering_reverse}
+use Rattle.alt_base.proofs.Orderings.{is_lt-true, less-is_lt}
 use Rattle.alt_value.proofs.Places.{less_tied}
 use Rattle.alt_expr.specs.PathOrder.{part_cmp}
 use Rattle.alt_expr.specs.PartOrder.{parts_total}
 use Rattle.alt_expr.specs.Projected.{ends, is_whole}
 use Rattle.alt_expr.specs.declared.path.PathPart.{PathPart}
 use Rattle.alt_projection.specs.Ways.{path_cmp, side, tails, Rise}
-
-below : (r : Ordering) → is_lt r ≡ true → r ≡ Less
-below Less e = refl
-below Equal e = cc
-below Greater e = cc
-
-not_below : (r : Ordering) → r ≡ Less → is_lt r ≡ true
-not_below r e = ap is_lt e
 
 -- a step that isn't above another is below it, or the same
 upto : (p q : PathPart) (ps qs : List PathPart) {P : Type 0}
@@ -40,10 +34,10 @@ pub side_lt : (s : PathPart) (a b : List PathPart) → is_lt (path_cmp b a) ≡ 
 side_lt s [] b rise e = refl
 side_lt s (p ∷ ps) [] rise e = cc
 side_lt s (p ∷ ps) (q ∷ qs) rise e =
-    let qs' : part_cmp q s ≡ Less = below (part_cmp q s) e in
+    let qs' : part_cmp q s ≡ Less = is_lt-true (part_cmp q s) e in
     upto p q ps qs rise
-    (λ lt. not_below (part_cmp p s) (parts_total.trans p q s lt qs'))
-    (λ eq. not_below (part_cmp p s) (parts_total.congr p q s eq ∙ qs'))
+    (λ lt. less-is_lt (part_cmp p s) (parts_total.trans p q s lt qs'))
+    (λ eq. less-is_lt (part_cmp p s) (parts_total.congr p q s eq ∙ qs'))
 
 -- the same of one that doesn't stand above it
 pub side_le : (s : PathPart) (a b : List PathPart) → is_lt (path_cmp b a) ≡ false
@@ -117,12 +111,6 @@ goes_on zero (p ∷ w) e = omega arith
 goes_on (suc depth) [] e = cc
 goes_on (suc depth) (p ∷ w) e = let lt : depth < length w = goes_on depth w e in omega (arith, lt)
 
-yes : (m n : ℕ) → m ≤ n → nat_le m n ≡ true
-yes m n le = grind arith
-
-no : (m n : ℕ) → n < m → nat_le m n ≡ false
-no m n lt = grind arith
-
 -- whether one ends is told by the first
 pub whole_first : (depth : ℕ) (ways : List (List PathPart)) (w : List PathPart) → 0 < length ways
     → w ≡ get_or ways 0 w → Rise depth ways → nat_le (length w) depth ≡ is_whole (tails depth ways)
@@ -132,7 +120,7 @@ whole_first depth (v ∷ vs) w some is rise =
   where
     by : (b : Bool) → ends (drop depth v) ≡ b
         → nat_le (length v) depth ≡ (b || list_any ends (tails depth vs))
-    by true e = yes (length v) depth (fits depth v e)
+    by true e = le-leb (length v) depth (fits depth v e)
     by false e = no (length v) depth (goes_on depth v e)
         ∙ sym (all_go_on depth (drop depth v) vs e
         (λ k d less. rise 0 (suc k) d (omega arith) (omega (arith, less))))

@@ -1,6 +1,6 @@
 -- What each token, array and object of a value is read as.
 use Rattle.std.proofs.Common.{◌≡◌, refl, sym, ap, ◌∙◌, ℕ, suc, ◌-◌, ◌<◌, Bool, true, false, cond, List, [], ◌∷◌, length, Some, None, Result, Ok, Err, IfOk, arith}
-use Rattle.std.specs.Prelude.{ℤ, ⊤, codes, ◌==◌}
+use Rattle.std.specs.Prelude.{ℤ, ⊤, codes}
 use Rattle.std.specs.Str.{bytes_eq}
 use Rattle.std.specs.declared.cmp.Ordering.{Ordering}
 use Rattle.base64.specs.Engines.{standard}
@@ -18,11 +18,12 @@ use Rattle.alt_value.specs.Stands.{tree_of}
 use Rattle.alt_value.specs.Tree.{Tree, BOOL_tree, NULL_tree, L_tree, M_tree, Pair, trees_of, fields_of}
 use Rattle.alt_codec.specs.declared.fault.ValueFault.{ValueFault}
 use Rattle.alt_codec.specs.Numbers.{number_of}
-use Rattle.alt_codec.specs.Reading.{Answer, if_room, value_in, list_in, map_in, payload_in, elements_in, fields_in}
+use Rattle.alt_codec.specs.Reading.{Answer, value_in, list_in, map_in, payload_in, elements_in, fields_in}
 use Rattle.alt_codec.specs.Scalars.{text_in, number_in, binary_in, truth_in, null_in, or_bad_number, or_bad_base64}
 use Rattle.alt_codec.specs.Sets.{sound, first_fault, told, members_in}
 use Rattle.alt_codec.specs.Steps.{and_then, map_ok}
 use Rattle.alt_codec.proofs.Numbers.{reads-number_of}
+use Rattle.alt_codec.proofs.ReadBack.{some_room}
 use Rattle.alt_readahead.specs.Direct.{ReadsItem}
 use Rattle.alt_readahead.specs.Payloads.{ReadsBy, ReadsFlat, AreReadBy, ReadsElements, ReadsFields}
 
@@ -154,10 +155,6 @@ elements_read room (item d ds) (t ∷ ts) h =
     ap (and_then (λ t. map_ok (λ ts. t ∷ ts) (elements_in room ds))) h.0
     ∙ ap (map_ok (λ ts. t ∷ ts)) (elements_read room ds ts h.1)
 
--- where there is room, the answer is the answer
-with_room : {A : Type 0} (room : ℕ) (r : Result A ValueFault) → 0 < room → if_room room r ≡ r
-with_room room r some = let e : (room == 0) ≡ false = grind arith in rw e refl
-
 -- a list, with room for its elements
 pub reads_list : (depth room : ℕ) (before rest after : List Token) (ts : List Tree) → 0 < depth
     → 0 < room → before ≡ Token.begin_array ∷ rest
@@ -166,7 +163,7 @@ pub reads_list : (depth room : ℕ) (before rest after : List Token) (ts : List 
 reads_list depth room before rest after ts deep some e r = (
   array r.0,
   reads_array depth before rest after r.0 deep e r.1,
-  with_room room (map_ok (λ ts. L_tree (trees_of ts)) (elements_in (room - 1) r.0)) some
+  some_room room (map_ok (λ ts. L_tree (trees_of ts)) (elements_in (room - 1) r.0)) some
       ∙ ap (map_ok (λ ts. L_tree (trees_of ts))) (elements_read (room - 1) r.0 ts r.2),
 )
 
@@ -192,7 +189,7 @@ pub reads_map : (depth room : ℕ) (before rest after : List Token) (i : List Pa
 reads_map depth room before rest after i deep some e r = (
   object r.0,
   reads_object depth before rest after r.0 deep e r.1,
-  with_room room (map_ok (λ ps. M_tree (fields_of ps)) (fields_in (room - 1) [] r.0)) some
+  some_room room (map_ok (λ ps. M_tree (fields_of ps)) (fields_in (room - 1) [] r.0)) some
       ∙ ap (map_ok (λ ps. M_tree (fields_of ps))) r.2,
 )
 

@@ -8,11 +8,13 @@ use Rattle.std.specs.declared.cmp.Ordering.TheVariants.{Less, Equal, Greater}
 use Rattle.std.specs.Ordering.{is_lt, match_ordering}
 use Rattle.std.specs.Cmp.{tied_itself}
 use Rattle.std.specs.FinMap.Entries.{by_order}
+use Rattle.alt_base.proofs.Bools.{both_hold, first_holds, second_holds}
+use Rattle.alt_base.proofs.Orderings.{less-holds, is_lt-holds}
 use Rattle.serde_json.specs.Data.{Data, Members, no_members, member, put}
 use Rattle.alt_value.specs.Item.{with_pair}
 use Rattle.alt_value.specs.Members.{text_order}
 use Rattle.alt_value.specs.Tree.{Tree, Pair}
-use Rattle.alt_value.proofs.Places.{first, second, both, less, is_less, less_tied, turned}
+use Rattle.alt_value.proofs.Places.{less_tied, turned}
 use Rattle.alt_value.proofs.Texts.{text_total, text_apart}
 use Rattle.alt_codec.specs.declared.fault.ValueFault.{ValueFault}
 use Rattle.alt_codec.specs.declared.fault.ValueFault.TheVariants as fault
@@ -40,19 +42,19 @@ below_lower : (x y : List ℕ) (ms : Members) → text_order x y ≡ Less → T 
     → T (is_below_members x ms)
 below_lower x y no_members p h = tt
 below_lower x y (member l e ms) p h =
-    both _ _ (is_less _ (text_total.trans x y l p (less _ (first _ _ h))))
-    (below_lower x y ms p (second _ _ h))
+    both_hold _ _ (less-holds _ (text_total.trans x y l p (is_lt-holds _ (first_holds _ _ h))))
+    (below_lower x y ms p (second_holds _ _ h))
 
 -- and below each of them after a put above it
 below_put : (x k : List ℕ) (d : Data) (ms : Members) → text_order x k ≡ Less
     → T (is_below_members x ms) → T (is_below_members x (put k d ms))
-below_put x k d no_members p h = both _ _ (is_less _ p) tt
+below_put x k d no_members p h = both_hold _ _ (less-holds _ p) tt
 below_put x k d (member l e ms) p h =
     elim (text_order k l) as (λ o. T (is_below_members x
     (match_ordering o (member k d (member l e ms)) (member l d ms) (member l e (put k d ms))))) [
-      | Less ↦ both _ _ (is_less _ p) h
+      | Less ↦ both_hold _ _ (less-holds _ p) h
       | Equal ↦ h
-      | Greater ↦ both _ _ (first _ _ h) (below_put x k d ms p (second _ _ h))
+      | Greater ↦ both_hold _ _ (first_holds _ _ h) (below_put x k d ms p (second_holds _ _ h))
     ]
 
 -- an object without members
@@ -65,11 +67,12 @@ rising_put k d no_members h = tt
 rising_put k d (member l e ms) h =
     elim (text_order k l) as (λ o. text_order k l ≡ o → IsRising
     (match_ordering o (member k d (member l e ms)) (member l d ms) (member l e (put k d ms)))) [
-      | Less ↦ λ p. both _ _ (both _ _ (is_less _ p) (below_lower k l ms p (first _ _ h))) h
+      | Less ↦ λ p. both_hold _ _
+          (both_hold _ _ (less-holds _ p) (below_lower k l ms p (first_holds _ _ h))) h
       | Equal ↦ λ p. h
-      | Greater ↦ λ p. both _ _
-          (below_put l k d ms (turned text_order text_total k l Greater p) (first _ _ h))
-          (rising_put k d ms (second _ _ h))
+      | Greater ↦ λ p. both_hold _ _
+          (below_put l k d ms (turned text_order text_total k l Greater p) (first_holds _ _ h))
+          (rising_put k d ms (second_holds _ _ h))
     ] refl
 
 -- ---- two pairs put in
@@ -149,8 +152,8 @@ fields_above room found no_members k t i below h =
 fields_above room found (member l e ms) k t i below h =
     let f = is_field room found l e ms i h in
     let there : fields_in room (with_pair k t (with_pair l f.u found)) ms ≡ Ok (with_pair k t i) =
-    fields_above room (with_pair l f.u found) ms k t i (second _ _ below) f.behind in
-    let lower : text_order k l ≡ Less = less _ (first _ _ below) in
+    fields_above room (with_pair l f.u found) ms k t i (second_holds _ _ below) f.behind in
+    let lower : text_order k l ≡ Less = is_lt-holds _ (first_holds _ _ below) in
     rw (f.named, f.value, put_lower k l t f.u found lower) there
 
 -- one member more among pairs that were found before
@@ -165,14 +168,15 @@ fields_put_behind room found (member l e ms) k d t i rising some v h =
     (match_ordering o (member k d (member l e ms)) (member l d ms) (member l e (put k d ms)))
     ≡ Ok (with_pair k t i)) [
       | Less ↦ λ p. rw (some, v) (fields_above room found (member l e ms) k t i
-          (both _ _ (is_less _ p) (below_lower k l ms p (first _ _ rising))) h)
+          (both_hold _ _ (less-holds _ p) (below_lower k l ms p (first_holds _ _ rising))) h)
       | Equal ↦ λ p.
           let there : fields_in room (with_pair l t (with_pair l f.u found)) ms
           ≡ Ok (with_pair l t i) =
-          fields_above room (with_pair l f.u found) ms l t i (first _ _ rising) f.behind in
+          fields_above room (with_pair l f.u found) ms l t i (first_holds _ _ rising) f.behind in
           rw (f.named, v, ← put_twice l t f.u found, text_apart k l p) there
       | Greater ↦ λ p. rw (f.named, f.value)
-          (fields_put_behind room (with_pair l f.u found) ms k d t i (second _ _ rising) some v
+          (fields_put_behind room (with_pair l f.u found) ms k d t i
+          (second_holds _ _ rising) some v
           f.behind)
     ] refl
 

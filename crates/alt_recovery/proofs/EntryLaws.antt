@@ -6,8 +6,7 @@ use Rattle.alt_gatelog.specs.declared.fault.LogFault.TheVariants.{Damaged, Faile
 use Rattle.alt_gatelog.specs.declared.form.Form.{Form}
 use Rattle.alt_gatelog.specs.declared.form.Form.TheVariants.{One, Two}
 use Rattle.alt_layout.specs.Entries.{IsNoEntry}
-use Rattle.alt_writes.specs.Reading.{IsNoGroup, IsNoWrite, IsNone}
-use Rattle.alt_writes.specs.declared.read.Stop.{Stop}
+use Rattle.alt_writes.specs.Reading.{IsNoGroup, IsNoWrite}
 use Rattle.alt_writes.specs.declared.read.Stop.TheVariants as stop
 use Rattle.alt_recovery.specs.Entries.{ExplainsEntry}
 
@@ -27,8 +26,3 @@ none_alone least entry non (w ∷ v ∷ ws) is rising = is
 -- and those that are no group are none of the second
 pub none_group : (least : ℕ) (entry : List ℕ) → IsNoGroup least entry → IsNoEntry Two least entry
 none_group least entry non ws is rising = non ws is.1 rising is.0
-
--- where the bytes are bad the one follows from the other
-pub none_map : (P Q : Type 0) (s : Stop) → (P → Q) → IsNone P s → IsNone Q s
-none_map P Q stop.Bad f h = f h
-none_map P Q stop.NoMemory f h = tt

@@ -1,23 +1,25 @@
 -- Which rows the files of families hold, put together family by family.
-use Rattle.std.proofs.Common.{◌≡◌, ◌==◌, ◌++◌, ◌∷◌, inl, inr, ℕ, Bool, true, false, cond, List, [], Option, Some, refl, sym, ap, subst, ◌∙◌, eqb-true, eq-eqb}
+use Rattle.std.proofs.Common.{◌≡◌, ◌==◌, ◌++◌, ◌∷◌, inl, inr, ℕ, Bool, true, false, cond, List, [], Option, Some, refl, sym, ap, subst, ◌∙◌, eqb-true}
 use Rattle.std.specs.Prelude.{if◌then◌else◌}
 use Rattle.std.specs.BTreeMap.{get}
 use Rattle.std.specs.FinMap.{empty, entries}
 use Rattle.std.specs.List.{AllByRecursion}
 use Rattle.std.specs.Ordering.{nat_cmp, is_eq}
+use Rattle.alt_base.proofs.Orderings.{is_eq-nat_cmp}
 use Rattle.alt_disk.specs.Disk.{DiskState}
 use Rattle.alt_disk.specs.Runs.{Quiet}
-use Rattle.alt_families.proofs.MemoryLaws.{same_test}
 use Rattle.alt_families.specs.Families.{Families, files_in, rows_in}
 use Rattle.alt_families.specs.declared.family.Family.{Family}
 use Rattle.alt_layout.specs.Families.{Held, files_of}
 use Rattle.alt_layout.specs.Files.{AreRowFiles, HoldsRows, Image}
 use Rattle.alt_layout.specs.Flushes.{with_rows}
 use Rattle.alt_layout.specs.Layout.{RowMap}
-use Rattle.alt_layout.proofs.FileLaws.{in_back, in_either, in_front, row_files_on}
+use Rattle.alt_layout.proofs.FileLaws.{in_either, row_files_on}
+use Rattle.alt_layout.proofs.FlushLaws.{own_rows}
 use Rattle.alt_layout.proofs.OneLayout.{same_file}
 use Rattle.alt_manifest.specs.Versions.{IsIn, row_files}
 use Rattle.alt_manifest.specs.declared.version.FamilyVersion.{FamilyVersion}
+use Rattle.alt_manifest.proofs.Among.{in_back, in_front}
 use Rattle.alt_rowfile.specs.InHand.{Reads, file_of}
 use Rattle.alt_rowfile.specs.declared.fault.RowFileFault.{RowFileFault}
 use Rattle.alt_rowfile.specs.declared.fault.RowFileFault.TheVariants.{Damaged, DigestDiffers, Failed, NoMemory}
@@ -53,10 +55,6 @@ with_rows-same image held g h x y m this that = by_test (h == g) refl
         (subst (λ (n : ℕ). HoldsRows m x (image n)) (sym (eqb-true h g is)) this) that
     by_test false is = refl
 
--- and it holds its own
-with_rows-own : (held : Held) (g : ℕ) (m : RowMap) → with_rows held g m g ≡ m
-with_rows-own held g m = ap (λ t. if t then m else held g) (eq-eqb g g refl)
-
 -- the rows of several files more
 abbrev pub with_all : Held → List ℕ → List RowMap → Held
 with_all held [] ms = held
@@ -90,7 +88,7 @@ with_all-hold s held flushed (g ∷ gs) [] ms are = absurd are
 with_all-hold s held flushed (g ∷ gs) (f ∷ fs) [] are = absurd are
 with_all-hold s held flushed (g ∷ gs) (f ∷ fs) (m ∷ ms) are =
     let this : HoldsRows m flushed (s.file g) = opened_holds s flushed g f m are.0 in
-    let own : with_rows held g m g ≡ m = with_rows-own held g m in
+    let own : with_rows held g m g ≡ m = own_rows held g m in
     let there : with_all (with_rows held g m) gs ms g ≡ m =
     with_all-same s (with_rows held g m) flushed gs fs ms g flushed are.1
     (subst (λ (n : RowMap). HoldsRows n flushed (s.file g)) (sym own) this) ∙ own in
@@ -216,7 +214,7 @@ families_more s held fs f old new family ms are opened bare put =
         with_all-same s held f.flushed f.files family.files.items ms g some.flushed opened some.holds
 
     found : (q : ℕ) → get nat_cmp new q ≡ cond (f.family == q) (Some family) (get nat_cmp old q)
-    found q = put q ∙ ap (λ b. cond b (Some family) (get nat_cmp old q)) (same_test f.family q)
+    found q = put q ∙ ap (λ b. cond b (Some family) (get nat_cmp old q)) (is_eq-nat_cmp f.family q)
 
     by_open : (q : ℕ) (t : Bool) → get nat_cmp new q ≡ cond t (Some family) (get nat_cmp old q)
         → AreInHand s (with_all held f.files ms) f.files family.files.items

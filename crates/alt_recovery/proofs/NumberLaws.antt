@@ -1,33 +1,13 @@
 -- Flushed numbers, put into a map from the last family back.
-use Rattle.std.proofs.Common.{◌≡◌, ◌<◌, ◌+◌, ◌-◌, ◌==◌, ◌∷◌, ◌++◌, ℕ, suc, Bool, true, false, cond, eqb-true, eq-eqb, List, [], drop, drop-cons, take, take-append-drop, length, get_or, Some, None, refl, sym, ap, ◌∙◌, arith}
+use Rattle.std.proofs.Common.{◌≡◌, ◌<◌, ◌+◌, ◌-◌, ◌==◌, ◌∷◌, ◌++◌, ℕ, suc, Bool, true, false, cond, List, [], drop, drop-cons, take, take-append-drop, length, get_or, Some, None, refl, sym, ap, ◌∙◌, arith}
 use Rattle.std.specs.Prelude.{if◌then◌else◌}
 use Rattle.std.specs.BTreeMap.{BTreeMap, get, is_at}
-use Rattle.std.specs.Cmp.{ranked}
 use Rattle.std.specs.Map.{lookup}
 use Rattle.std.specs.Ordering.{nat_cmp, is_eq}
-use Rattle.std.specs.declared.cmp.Ordering.{Ordering}
-use Rattle.std.specs.declared.cmp.Ordering.TheVariants.{Less, Equal, Greater}
+use Rattle.alt_base.proofs.Orderings.{is_eq-nat_cmp}
 use Rattle.alt_layout.specs.Families.{flushed_of}
 use Rattle.alt_manifest.specs.declared.version.FamilyVersion.{FamilyVersion}
 use Rattle.alt_recovery.specs.Flushed.{flushed_in, or_zero}
-
--- two tests of numbers
-pub same_test : (m n : ℕ) → is_eq (nat_cmp m n) ≡ (m == n)
-same_test m n = by_test (m == n) refl
-  where
-    tied : (o : Ordering) → o ≡ nat_cmp m n → (b : Bool) → (m == n) ≡ b → is_eq o ≡ b
-    tied Less is true told = let r = ranked m n Less is in let same = eqb-true m n told in
-        absurd (omega (arith, r, same))
-    tied Less is false told = refl
-    tied Equal is true told = refl
-    tied Equal is false told = let r = ranked m n Equal is in
-        let no : true ≡ false = sym (eq-eqb m n r) ∙ told in cc no
-    tied Greater is true told = let r = ranked m n Greater is in
-        let same = eqb-true m n told in absurd (omega (arith, r, same))
-    tied Greater is false told = refl
-
-    by_test : (b : Bool) → (m == n) ≡ b → is_eq (nat_cmp m n) ≡ (m == n)
-    by_test b is = tied (nat_cmp m n) refl b is ∙ sym is
 
 -- an empty map has nothing
 pub get_empty : {X : Type 0} (m : BTreeMap ℕ X) → m.entries ≡ [] → (q : ℕ)
@@ -52,7 +32,7 @@ pub numbers_more : (old new : BTreeMap ℕ ℕ) (fs : List FamilyVersion) (f : F
     → (family : ℕ) → flushed_in new family ≡ flushed_of (f ∷ fs) family
 numbers_more old new fs f before put family =
     ap or_zero (put family ∙ ap (λ b. cond b (Some f.flushed) (get nat_cmp old family))
-    (same_test f.family family))
+    (is_eq-nat_cmp f.family family))
     ∙ by_test (f.family == family) (before family)
   where
     by_test : (t : Bool) → flushed_in old family ≡ flushed_of fs family

@@ -1,6 +1,6 @@
 -- Row files that were opened, and why one wasn't.
 use Rattle.std.specs.FinMap.Entries.{is_sorted}
-use Rattle.std.proofs.Common.{T, ◌≡◌, ◌<◌, ◌≤◌, ◌+◌, ◌∷◌, ◌++◌, inl, inr, ℕ, zero, suc, List, [], length, take, get_or, Option, Some, refl, sym, ap, subst, ◌∙◌, arith}
+use Rattle.std.proofs.Common.{T, ◌≡◌, ◌<◌, ◌≤◌, ◌+◌, ◌∷◌, ◌++◌, inr, ℕ, List, [], length, take, get_or, Option, Some, refl, sym, ap, subst, ◌∙◌, arith}
 use Rattle.std.proofs.lemmas.List.{take_more}
 use Rattle.std.specs.FinMap.{entries, from_sorted, entries-from_sorted}
 use Rattle.alt_cells.specs.Keys.{key_cmp}
@@ -8,7 +8,7 @@ use Rattle.alt_cells.specs.Walks.{RowMap}
 use Rattle.alt_disk.specs.Disk.{DiskState}
 use Rattle.alt_disk.specs.Runs.{Quiet}
 use Rattle.alt_layout.specs.Files.{Image}
-use Rattle.alt_manifest.specs.Versions.{IsIn}
+use Rattle.alt_manifest.proofs.Among.{in_at}
 use Rattle.alt_rowfile.specs.Format.{Entry}
 use Rattle.alt_rowfile.specs.InHand.{Reads, file_of}
 use Rattle.alt_rowfile.specs.Summaries.{latest_of}
@@ -124,12 +124,6 @@ opened_more a b flushed i g gs fs f within at quiet so_far one = record {
       (opened_push b flushed (take i gs) fs so_far.maps g f one.0
       (opened_quiet a b flushed (take i gs) fs so_far.maps quiet so_far.are) one.1);
 }
-
--- what stands in a list is in it
-pub in_at : (xs : List ℕ) (i : ℕ) → i < length xs → IsIn xs (get_or xs i 0)
-in_at [] i within = absurd (omega (arith, within))
-in_at (x ∷ xs) zero within = inl refl
-in_at (x ∷ xs) (suc i) within = inr (in_at xs i (omega (arith, within)))
 
 -- a file that wasn't opened is one of them
 pub opening_explained : (image other : Image) (files : List ℕ) (flushed i : ℕ) (fault : RowFileFault)

@@ -15,12 +15,12 @@ use Rattle.alt_gatelog.specs.declared.fault.LogFault.TheVariants.{Damaged, Faile
 use Rattle.alt_gatelog.specs.declared.form.Form.{Form}
 use Rattle.alt_gatelog.specs.declared.gatelog.GateLog.{GateLog}
 use Rattle.alt_layout.specs.Entries.{HoldWrites, IsEntry, IsNoEntry}
-use Rattle.alt_layout.specs.Families.{next_after, with_later, with_one}
+use Rattle.alt_layout.specs.Families.{next_after, with_later}
 use Rattle.alt_layout.specs.Files.{AreSegments, Image, IsSegment, all_of}
-use Rattle.alt_layout.specs.Layout.{RowMap}
 use Rattle.alt_layout.specs.Sizes.{AreSized, IsSized, bytes_in}
 use Rattle.alt_layout.proofs.EntryLaws.{holds_none, holds_push}
-use Rattle.alt_layout.proofs.FileLaws.{segments_on, segments_with}
+use Rattle.alt_layout.proofs.FileLaws.{segments_on, segments_with, rising-join}
+use Rattle.alt_layout.proofs.RowLaws.{with_later-append}
 use Rattle.alt_layout.proofs.SizeLaws.{bytes_in-push, sized_on, sized_with}
 use Rattle.alt_memtable.specs.Rows.{most_bytes}
 use Rattle.alt_writes.specs.Bytes.{AllHeld, IsHeldWrite}
@@ -31,30 +31,14 @@ use Rattle.alt_recovery.specs.Entries.{ExplainsEntry}
 use Rattle.alt_recovery.specs.Flushed.{flushed_in}
 use Rattle.alt_recovery.specs.Replays.{ExplainsLog, ExplainsSegment, ExplainsSegments, IsBadSegment, IsJoinedTo, Replays, ReplaysLast}
 use Rattle.alt_recovery.specs.declared.replay.Replay.{Replay}
+use Rattle.alt_writes.proofs.PushLaws.{held-join}
 
 -- ---- lists of writes
-
-pub held-append : (xs ys : List Write) → AllHeld xs → AllHeld ys → AllHeld (xs ++ ys)
-held-append [] ys a b = b
-held-append (x ∷ xs) ys a b = (a.0, held-append xs ys a.1 b)
-
--- numbers that rise, and behind them others that go on
-pub rising-append : (first next : ℕ) (xs ys : List Write) → first ≤ next → AreRising first xs
-    → AreRising (next_after next xs) ys → AreRising first (xs ++ ys)
-rising-append first next [] [] le a b = tt
-rising-append first next [] (y ∷ ys) le a b = (let low = b.0 in omega (arith, low, le), b.1)
-rising-append first next (x ∷ xs) ys le a b =
-    (a.0, rising-append (x.number + 1) (max next (x.number + 1)) xs ys (omega arith) a.1 b)
 
 pub next_after-append : (next : ℕ) (xs ys : List Write)
     → next_after next (xs ++ ys) ≡ next_after (next_after next xs) ys
 next_after-append next [] ys = refl
 next_after-append next (x ∷ xs) ys = next_after-append (max next (x.number + 1)) xs ys
-
-with_later-append : (flushed f : ℕ) (m : RowMap) (xs ys : List Write)
-    → with_later flushed f m (xs ++ ys) ≡ with_later flushed f (with_later flushed f m xs) ys
-with_later-append flushed f m [] ys = refl
-with_later-append flushed f m (x ∷ xs) ys = with_later-append flushed f (with_one flushed f m x) xs ys
 
 -- ---- replays
 
@@ -74,8 +58,8 @@ replays_none r = record {
 pub replays_then : (a b c : Replay) (xs ys : List Write) (m n : ℕ) → Replays a b xs m
     → Replays b c ys n → Replays a c (xs ++ ys) (m + n)
 replays_then a b c xs ys m n first later = record {
-  held = held-append xs ys first.held later.held;
-  rising = rising-append a.least a.least xs ys (omega arith) first.rising
+  held = held-join xs ys first.held later.held;
+  rising = rising-join a.least a.least xs ys (omega arith) first.rising
       (subst (λ (n : ℕ). AreRising n ys) first.least later.rising);
   least = later.least ∙ ap (λ (n : ℕ). next_after n ys) first.least
       ∙ sym (next_after-append a.least xs ys);

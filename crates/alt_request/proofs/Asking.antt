@@ -1,5 +1,6 @@
 -- What is at hand of a request is what the request says: it stops at the same step, and comes to the same behind its item.
 use Rattle.std.proofs.Common.{◌≡◌, refl, sym, ap, subst, ◌∙◌, ℕ, List, Option, Some, None, Result, Ok, Err}
+use Rattle.std.proofs.lemmas.Option.{same_Some}
 use Rattle.std.specs.Prelude.{IfSome}
 use Rattle.std.specs.FinMap as map
 use Rattle.serde_json.specs.Data.{Members}
@@ -43,9 +44,6 @@ all_asked w ms = record {
   };
   changed = λ s moment said item t place. refl;
 }
-
-same_Some : {A : Type 0} (x y : A) → Some x ≡ Some y → x ≡ y
-same_Some x y e = cc
 
 -- The shape, the rules and so on, as the calls of the operation gave them.
 module _ (w : Writer) (moment : ℕ) (ms bs : Members) (ahead : Option (List Pair))

@@ -1,5 +1,6 @@
 -- What a write comes to is what was decided, once it is known what is at its place.
 use Rattle.std.proofs.Common.{◌≡◌, refl, sym, ap, subst, ◌∙◌, ℕ, Bool, true, false, List, Option, Some, None, Result, Ok, Err}
+use Rattle.std.proofs.lemmas.Option.{same_Some}
 use Rattle.std.specs.Prelude.{codes, if◌then◌else◌}
 use Rattle.std.specs.FinMap as map
 use Rattle.serde_json.specs.Data.{Members}
@@ -135,9 +136,6 @@ decides_left d r answer is new e a told =
     is ∙ ap (λ x. left_or_told x answer) e ∙ ap (leaves new) (sym told)
 
 -- ---- behind the look-up
-
-same_Some : {A : Type 0} (x y : A) → Some x ≡ Some y → x ≡ y
-same_Some x y e = cc
 
 -- what was decided of what was found in a table that stands is what the write comes to
 pub comes_decided : (w : Writer) (s : State) (moment : ℕ) (ms : Members) (said : Expressions)

@@ -13,5 +13,6 @@ pub use Rattle.alt_said.proofs.TablesLeft
 pub use Rattle.alt_said.proofs.TablesOpeningNextRow
 pub use Rattle.alt_said.proofs.TablesOpeningOneColumn
 pub use Rattle.alt_said.proofs.TablesOpeningOneState
-pub use Rattle.alt_said.proofs.TablesOpeningTies
 pub use Rattle.alt_said.proofs.TablesStanding
+pub use Rattle.alt_said.proofs.TablesAlterLaws
+pub use Rattle.alt_said.proofs.TablesEach

@@ -13,6 +13,7 @@ use Rattle.alt_machine.specs.Outcomes.{Outcome}
 use Rattle.alt_machine.specs.Refusals.{first_answer, or_refused}
 use Rattle.alt_machine.specs.Sources.{index_asked}
 use Rattle.alt_machine.specs.State.{State, Table, Texts}
+use Rattle.alt_machine.proofs.Chains.{found_is}
 use Rattle.alt_machine.proofs.Lists.{list-refused, list-no_words, list-no_start, list-no_table, list-no_index, list-unsaid, list-target}
 use Rattle.alt_request.specs.Carried.{Carries, IfFailed}
 use Rattle.alt_request.specs.Steps.{Comes, Tested}
@@ -24,7 +25,7 @@ use Rattle.alt_said.specs.declared.stop.Stop.{Stop}
 use Rattle.alt_said.specs.declared.stop.Stop.TheVariants.{Refused, Fault}
 use Rattle.alt_request.proofs.Carrying.{refused_so, faulted}
 use Rattle.alt_request.proofs.Moving.{unfailed_fault}
-use Rattle.alt_request.proofs.Named.{some_found, none_found, table_found, table_missed}
+use Rattle.alt_request.proofs.Named.{none_found, table_found, table_missed}
 use Rattle.alt_request.proofs.Reaching.{err_is}
 use Rattle.alt_schema.specs.declared.schema.TableSchema.{TableSchema}
 use Rattle.alt_shape.specs.Refusals.{Answer, refused, not_found}
@@ -88,7 +89,7 @@ module _ (tests : List (Option Answer)) (texts : machine.Texts) (catalog : Texts
         h.1,
         λ s go same.
             let found = table_found s catalog same (table_name ms) d
-            (some_found not_found (map.get catalog (table_name ms)) d there) in
+            (found_is not_found (map.get catalog (table_name ms)) d there) in
             list-no_index tests texts s ms go free g words start read found.0 found.1
             (refused q) (ap (λ (x : TableSchema). index_asked x ms) found.2 ∙ h.0),
       )
@@ -103,7 +104,7 @@ module _ (tests : List (Option Answer)) (texts : machine.Texts) (catalog : Texts
         h.1,
         λ s go same.
             let found = table_found s catalog same (table_name ms) d
-            (some_found not_found (map.get catalog (table_name ms)) d there) in
+            (found_is not_found (map.get catalog (table_name ms)) d there) in
             list-unsaid tests texts s ms go free g words start read found.0 found.1 index
             (ap (λ (x : TableSchema). index_asked x ms) found.2 ∙ asks) (refused q)
             (ap (λ (x : TableSchema). machine.expressions texts x ms g) found.2 ∙ h.0),

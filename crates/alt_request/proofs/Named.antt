@@ -1,5 +1,5 @@
 -- The table that is named, in each state that has the tables of a catalog.
-use Rattle.std.proofs.Common.{◌≡◌, refl, ap, ◌∙◌, ℕ, List, Option, Some, None, Ok, Err}
+use Rattle.std.proofs.Common.{◌≡◌, refl, ap, ◌∙◌, ℕ, List, Option, Some, None, Err}
 use Rattle.std.specs.FinMap as map
 use Rattle.alt_machine.specs.Refusals.{or_refused}
 use Rattle.alt_machine.specs.State.{State, Table, Texts, descriptions}
@@ -7,12 +7,6 @@ use Rattle.alt_machine.proofs.Descriptions.{table_of_description, no_description
 use Rattle.alt_schema.specs.declared.schema.TableSchema.{TableSchema}
 use Rattle.alt_shape.specs.Refusals.{Answer, refused}
 use Rattle.alt_shape.specs.declared.refusal.Refusal.{Refusal}
-
--- what a look-up found, or that it found nothing
-pub some_found : {A : Type 0} (r : Refusal) (o : Option A) (x : A) → or_refused r o ≡ Ok x
-    → o ≡ Some x
-some_found r None x e = absurd (let f : ⊥ = cc in f)
-some_found r (Some y) x e = ap Some (let f : y ≡ x = cc in f)
 
 -- what was refused wasn't there, and the refusal is the one that stands for it
 pub none_found : {A : Type 0} (r : Refusal) (o : Option A) (answer : Answer)

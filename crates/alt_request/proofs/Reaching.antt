@@ -13,6 +13,7 @@ use Rattle.alt_machine.specs.Outcomes.{Outcome, says, answer_or, unless_refused,
 use Rattle.alt_machine.specs.Refusals.{first_answer, or_refused, refuse_unless, unless_answer, ◌>>=◌}
 use Rattle.alt_machine.specs.State.{State, Table, Texts, descriptions}
 use Rattle.alt_machine.specs.Targets.{on_item, member_of, of_length, place_in}
+use Rattle.alt_machine.proofs.Chains.{found_is}
 use Rattle.alt_machine.proofs.Targets.{table-missed, item-refused, item-unread, item-no_words, item-no_table, item-unsaid, item-said}
 use Rattle.alt_request.specs.Steps.{Comes, Tested}
 use Rattle.alt_request.specs.Targets.{OnTable, OnItem, place_that_fits}
@@ -22,7 +23,7 @@ use Rattle.alt_said.specs.declared.words.Given.{Given}
 use Rattle.alt_said.specs.declared.stop.Stop.{Stop}
 use Rattle.alt_request.specs.declared.targets.Target.{Target}
 use Rattle.alt_said.specs.declared.stop.Stop.TheVariants.{Refused, Fault}
-use Rattle.alt_request.proofs.Named.{some_found, none_found, table_found, table_missed}
+use Rattle.alt_request.proofs.Named.{none_found, table_found, table_missed}
 use Rattle.alt_schema.specs.declared.schema.TableSchema.{TableSchema}
 use Rattle.alt_shape.specs.Refusals.{Answer, refused, not_found, bad_key, key_too_long}
 use Rattle.alt_value.specs.Tree.{Pair}
@@ -129,7 +130,7 @@ module _ (tests : List (Option Answer)) (sought : Sought) (texts : machine.Texts
       at_table : (s : State) → descriptions s.tables ≡ catalog
           → (t : Table) × (map.get s.tables (table_name ms) ≡ Some t) × (t.description ≡ d)
       at_table s same = table_found s catalog same (table_name ms) d
-          (some_found not_found (map.get catalog (table_name ms)) d there)
+          (found_is not_found (map.get catalog (table_name ms)) d there)
 
       pub unsaid : (e : Stop)
           → Comes {X = Expressions} (λ x. x) (machine.expressions texts d ms g) (Err e)
@@ -166,7 +167,7 @@ pub unnamed : (tests : List (Option Answer)) (catalog : Texts TableSchema) (ms :
     (or_refused not_found (map.get catalog (table_name ms))) r → OnTable tests catalog ms r
 unnamed tests catalog ms free (Ok d) h = (
   free,
-  some_found not_found (map.get catalog (table_name ms)) d.now h,
+  found_is not_found (map.get catalog (table_name ms)) d.now h,
 )
 unnamed tests catalog ms free (Err (Refused q)) h = (
   h.1,

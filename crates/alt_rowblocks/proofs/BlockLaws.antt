@@ -9,10 +9,13 @@ use Rattle.std.specs.FinMap.Entries.{is_sorted, below_all}
 use native.Mathlib.Numerals.{unary_clauses}
 use Rattle.std.proofs.lemmas.List.{append-nil}
 use Rattle.std.proofs.lemmas.Grind.{flat_map-append}
+use Rattle.alt_base.proofs.Bools.{both_hold, first_holds as first, second_holds}
+use Rattle.alt_base.proofs.Numbers.{above_zero_is_told, above_zero_from_test}
+use Rattle.alt_base.proofs.Orderings.{less-holds, is_lt-holds}
 use Rattle.alt_fields.specs.Field.{field}
 use Rattle.alt_cells.specs.Keys.{key_cmp}
 use Rattle.alt_cells.proofs.CellLaws.{key_total}
-use Rattle.alt_cells.proofs.Entries.{both, first, second, less, is_less, below_less}
+use Rattle.alt_cells.proofs.Entries.{below_less}
 use Rattle.alt_cells.proofs.Rising.{sorted_front}
 use Rattle.alt_fields.proofs.Apart.{field-apart, all_append, all_back, flat_map_snoc}
 use Rattle.alt_rowblocks.specs.Format.{Entry, Mark, entry_bytes, rows_bytes, block_bytes, front, rows_of, first_key, marks_from, IsBlock, IsFull, AreBlocks, IsHeldEntry, IsHeldBlock}
@@ -25,8 +28,8 @@ use Rattle.alt_rowblocks.specs.declared.summary.Summary.{Summary}
 use Rattle.alt_rowblocks.proofs.FilterLaws.{filters-push}
 use Rattle.alt_rowblocks.proofs.SummaryLaws.{summary-append}
 use Rattle.alt_rowblocks.proofs.OneFile.{one_block, block-apart, block_some, length-block, length-entry}
-use Rattle.alt_rowblocks.proofs.PushLaws.{rows_of-push, front-push, length-front, marks-push, is_some}
-use Rattle.alt_rowblocks.proofs.DecodeLaws.{rest_of, some_left}
+use Rattle.alt_rowblocks.proofs.PushLaws.{rows_of-push, front-push, length-front, marks-push}
+use Rattle.alt_rowblocks.proofs.DecodeLaws.{rest_of}
 
 -- a test for less tells whether an order is Less
 pub less_tested : (b : Bool) (r : Ordering) → b ≡ is_lt r → (IsTrue b → r ≡ Less)
@@ -70,15 +73,16 @@ pub sorted_join : {X : Type 0} (xs : List (List ℕ × X)) (y : List ℕ × X)
     → T (is_sorted key_cmp (xs ++ y ∷ ys))
 sorted_join [] y ys h k above = k
 sorted_join (x ∷ []) y ys h k above =
-    both (below_all key_cmp x.0 (y ∷ ys)) (is_sorted key_cmp (y ∷ ys))
-    (both (is_lt (key_cmp x.0 y.0)) (below_all key_cmp x.0 ys) (is_less (key_cmp x.0 y.0) above)
+    both_hold (below_all key_cmp x.0 (y ∷ ys)) (is_sorted key_cmp (y ∷ ys))
+    (both_hold (is_lt (key_cmp x.0 y.0)) (below_all key_cmp x.0 ys)
+    (less-holds (key_cmp x.0 y.0) above)
     (below_less key_cmp key_total x.0 y.0 ys above (first _ _ k))) k
 sorted_join (x ∷ z ∷ xs) y ys h k above =
-    let rest = sorted_join (z ∷ xs) y ys (second _ _ h) k above in
-    let next : key_cmp x.0 z.0 ≡ Less = less _ (first _ _ (first _ _ h)) in
-    both (below_all key_cmp x.0 (z ∷ (xs ++ y ∷ ys))) (is_sorted key_cmp (z ∷ (xs ++ y ∷ ys)))
-    (both (is_lt (key_cmp x.0 z.0)) (below_all key_cmp x.0 (xs ++ y ∷ ys))
-    (is_less (key_cmp x.0 z.0) next)
+    let rest = sorted_join (z ∷ xs) y ys (second_holds _ _ h) k above in
+    let next : key_cmp x.0 z.0 ≡ Less = is_lt-holds _ (first _ _ (first _ _ h)) in
+    both_hold (below_all key_cmp x.0 (z ∷ (xs ++ y ∷ ys))) (is_sorted key_cmp (z ∷ (xs ++ y ∷ ys)))
+    (both_hold (is_lt (key_cmp x.0 z.0)) (below_all key_cmp x.0 (xs ++ y ∷ ys))
+    (less-holds (key_cmp x.0 z.0) next)
     (below_less key_cmp key_total x.0 z.0 (xs ++ y ∷ ys) next (first _ _ rest))) rest
 
 -- and what goes on rising is above the last one
@@ -86,13 +90,13 @@ pub above_join : {X : Type 0} (xs : List (List ℕ × X)) (y : List ℕ × X)
     (ys : List (List ℕ × X))
     → T (is_sorted key_cmp (xs ++ y ∷ ys)) → IsAbove (last_key xs) y.0
 above_join [] y ys h = tt
-above_join (x ∷ []) y ys h = less _ (first _ _ (first _ _ h))
-above_join (x ∷ z ∷ xs) y ys h = above_join (z ∷ xs) y ys (second _ _ h)
+above_join (x ∷ []) y ys h = is_lt-holds _ (first _ _ (first _ _ h))
+above_join (x ∷ z ∷ xs) y ys h = above_join (z ∷ xs) y ys (second_holds _ _ h)
 
 -- the rows behind others rise, where all do
 pub sorted_back : (xs ys : List Entry) → T (is_sorted key_cmp (xs ++ ys)) → T (is_sorted key_cmp ys)
 sorted_back [] ys h = h
-sorted_back (x ∷ xs) ys h = sorted_back xs ys (second _ _ h)
+sorted_back (x ∷ xs) ys h = sorted_back xs ys (second_holds _ _ h)
 
 -- ---- a block
 
@@ -223,7 +227,7 @@ pub next_whole : (after : Option (List ℕ)) (is_last : Bool) (bytes block behin
 unfolding block_bytes
 next_whole after is_last bytes block behind b last is n = record {
   block = n.block;
-  full = λ some. n.full (last ∙ is_some (length behind) some);
+  full = λ some. n.full (last ∙ above_zero_is_told (length behind) some);
   held = n.held;
   rising = n.rising;
   above = n.above;
@@ -241,7 +245,11 @@ no_next_block after is_last bytes block behind last small is none b x n =
     none b (record {
       block = n.block;
       full = λ not_last. n.full
-          (omega (arith, some_left (length behind) (sym not_last ∙ last), ap length same.1));
+          (omega (
+            arith,
+            above_zero_from_test (length behind) (sym not_last ∙ last),
+            ap length same.1,
+          ));
       held = n.held;
       rising = n.rising;
       above = n.above;

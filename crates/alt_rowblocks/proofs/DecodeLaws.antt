@@ -1,5 +1,5 @@
 -- Rows read from bytes, one after another.
-use Rattle.std.proofs.Common.{◌≡◌, refl, sym, ap, subst, ◌∙◌, ℕ, ◌-◌, ◌<◌, ◌^◌, List, [], ◌∷◌, ◌++◌, length, None, T, arith, append_assoc, length-append, false, ◌==◌}
+use Rattle.std.proofs.Common.{◌≡◌, refl, sym, ap, subst, ◌∙◌, ℕ, ◌-◌, ◌<◌, ◌^◌, List, [], ◌∷◌, ◌++◌, length, None, T, arith, append_assoc, length-append}
 use Rattle.std.specs.List.{AllByRecursion, flat_map}
 use Rattle.std.specs.FinMap.{empty}
 use Rattle.std.specs.FinMap.Entries.{is_sorted}
@@ -181,7 +181,3 @@ left_shorter rest behind key row is =
       length-append (entry_bytes (key, row)) behind,
       length-entry (key, row),
     )
-
--- what isn't told to be 0 is above 0
-pub some_left : (n : ℕ) → false ≡ (n == 0) → 0 < n
-some_left n e = grind arith

@@ -1,10 +1,11 @@
 -- The rows of a block where they stand in its bytes.
-use Rattle.std.proofs.Common.{◌≡◌, refl, sym, ap, subst, ◌∙◌, ℕ, zero, suc, ◌+◌, ◌-◌, ◌<◌, ◌≤◌, ◌^◌, List, [], ◌∷◌, ◌++◌, length, take, drop, get_or, reverse, Option, Some, None, T, Bool, true, false, ◌==◌, arith, append_assoc, length-append, map}
+use Rattle.std.proofs.Common.{◌≡◌, refl, sym, ap, subst, ◌∙◌, ℕ, zero, suc, ◌+◌, ◌-◌, ◌<◌, ◌≤◌, ◌^◌, List, [], ◌∷◌, ◌++◌, length, take, drop, get_or, reverse, Option, Some, None, T, Bool, true, false, arith, append_assoc, length-append, map}
 use Rattle.std.specs.Prelude.{Result, Ok, Err, IfOk, IfSome}
 use Rattle.std.specs.List.{AllByRecursion, flat_map}
 use Rattle.std.specs.Int.{w64, to_be_bytes}
 use Rattle.std.specs.FinMap.Entries.{is_sorted}
 use Rattle.std.proofs.lemmas.List.{append-nil, drop_at, drop_all, length-drop, reverse-append, reverse-reverse}
+use Rattle.alt_base.proofs.Lists.{length-zero}
 use Rattle.alt_fields.specs.Field.{field}
 use Rattle.alt_fields.proofs.Apart.{all_append, all_back, all_front, flat_map_snoc}
 use Rattle.alt_cells.specs.Keys.{key_cmp}
@@ -79,11 +80,6 @@ no_rows (e ∷ rows) none =
       ap length none,
       length-append (entry_bytes e) (rows_bytes rows),
     ))
-
--- a list of no length is empty
-pub nil_of : (l : List ℕ) → length l ≡ 0 → l ≡ []
-nil_of [] e = refl
-nil_of (x ∷ l) e = absurd (omega (arith, e))
 
 -- ---- the rows that a walk passes
 
@@ -288,7 +284,7 @@ module _ (bytes all rest : List ℕ) (to : Option (List ℕ)) (places : List ℕ
       → IsCutIn bytes places place to false rows
   cut_end front rows place are is whole none at =
       let q = parts rows are is in
-      let end : rest ≡ [] = nil_of rest none in
+      let end : rest ≡ [] = length-zero rest none in
       let last : q.back ≡ [] = no_rows q.back (sym q.rest_is ∙ end) in
       record {
         front = q.front;
@@ -330,9 +326,9 @@ module _ (bytes all rest : List ℕ) (to : Option (List ℕ)) (places : List ℕ
     short = so.short;
     is = so.is;
     passed = so.passed;
-    ahead = at_end (nil_of rest none);
+    ahead = at_end (length-zero rest none);
     before = so.at front whole;
-    behind = drop_all place bytes (omega (arith, at)) ∙ sym (nil_of rest none);
+    behind = drop_all place bytes (omega (arith, at)) ∙ sym (length-zero rest none);
   }
 
 -- ---- a block
@@ -405,10 +401,6 @@ some_either (Ok (Some v)) places place bytes key forward b c =
     cut_either bytes (places v) (place v) key forward b c
 some_either (Ok None) places place bytes key forward b c = c
 some_either (Err e) places place bytes key forward b c = c
-
--- what is told to be 0 is 0
-pub none_left : (n : ℕ) → true ≡ (n == 0) → n ≡ 0
-none_left n e = grind arith
 
 -- ---- what is in hand
 

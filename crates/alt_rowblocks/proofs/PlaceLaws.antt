@@ -1,10 +1,8 @@
 -- Where a block stands.
-use Rattle.std.proofs.Common.{◌≡◌, ◌≢◌, ⊎_elim, refl, sym, ap, subst, ◌∙◌, ℕ, zero, suc, ◌+◌, ◌-◌, ◌==◌, ◌<◌, ◌≤◌, ◌^◌, List, [], ◌∷◌, ◌++◌, length, take, drop, get_or, arith, append_assoc, length-append, T}
-use Rattle.std.specs.Prelude.{if◌then◌else◌, Option, Some, None, IfNone, is_some, true}
+use Rattle.std.proofs.Common.{◌≡◌, refl, sym, ap, subst, ◌∙◌, ℕ, zero, suc, ◌+◌, ◌-◌, ◌<◌, ◌≤◌, ◌^◌, List, [], ◌∷◌, ◌++◌, length, take, drop, get_or, arith, append_assoc, length-append, T}
+use Rattle.std.specs.Prelude.{Option, Some, None, IfNone, is_some, true}
 use Rattle.std.specs.List.{flat_map}
 use Rattle.std.proofs.lemmas.Grind.{flat_map-append}
-use Rattle.std.proofs.lemmas.Bool.{cases_eq}
-use Rattle.std.proofs.lemmas.Bool.Decides.{nat_tests}
 use Rattle.std.proofs.lemmas.List.{get_or_at, take_at, drop_at, length-take, length-drop, append-nil}
 use Rattle.alt_rowblocks.specs.Format.{Entry, Mark, block_bytes, rows_bytes, IsHeldBlock, header, front, rows_of, first_key, marks_from, tail_bytes, body, IsFileOf}
 use Rattle.alt_rowblocks.specs.Loading.{place_at, next_place, LoadedAt}
@@ -17,6 +15,7 @@ use Rattle.alt_fields.proofs.Apart.{field-apart}
 use Rattle.alt_cells.specs.Keys.{key_cmp}
 use Rattle.alt_fields.specs.Field.{field}
 use Rattle.std.specs.FinMap.Entries.{is_sorted}
+use Rattle.alt_base.proofs.Numbers.{choice_by_equal}
 use Rattle.sha2.specs.Sha256.{sha256}
 
 -- blocks before one, that one, and those behind it
@@ -83,15 +82,6 @@ place_is blocks i xs b ys is size =
     (get_or_at marks (8 + length (flat_map block_bytes xs), first_key b) rest (0, []) i
     (length-marks 8 xs ∙ size)) ∙ sym (length-front xs)
 
--- what a test of two numbers picks, by whether they are equal
-by_test : (a b x y z : ℕ) → (a ≡ b → x ≡ z) → (a ≢ b → y ≡ z) → (if a == b then x else y) ≡ z
-by_test a b x y z same other = ⊎_elim
-    (λ (is : a ≡ b). (let chosen : (if a == b then x else y) ≡ x = grind (arith, nat_tests, is) in
-    chosen) ∙ same is)
-    (λ (is : a ≢ b). (let chosen : (if a == b then x else y) ≡ y = grind (arith, nat_tests, is) in
-    chosen) ∙ other is)
-    (cases_eq a b)
-
 front_split : (xs : List (List Entry)) (b : List Entry) (ys : List (List Entry))
     → front (xs ++ b ∷ ys) ≡ front xs ++ (block_bytes b ++ flat_map block_bytes ys)
 front_split xs b ys = ap (λ (l : List ℕ). header ++ l) (flat_map-append block_bytes xs (b ∷ ys))
@@ -102,7 +92,8 @@ pub next_is : (blocks : List (List Entry)) (i end : ℕ) (xs : List (List Entry)
     (ys : List (List Entry)) → blocks ≡ xs ++ b ∷ ys → length xs ≡ i → end ≡ length (front blocks)
     → next_place (marks_from 8 blocks) end i ≡ length (front xs) + length (block_bytes b)
 next_is blocks i end xs b [] is size is_end =
-    by_test (i + 1) (length (marks_from 8 blocks)) end (place_at (marks_from 8 blocks) (i + 1))
+    choice_by_equal (i + 1) (length (marks_from 8 blocks)) end
+    (place_at (marks_from 8 blocks) (i + 1))
     (length (front xs) + length (block_bytes b))
     (λ last. omega (
       arith,
@@ -122,7 +113,8 @@ next_is blocks i end xs b [] is size is_end =
       size,
     )))
 next_is blocks i end xs b (y ∷ ys) is size is_end =
-    by_test (i + 1) (length (marks_from 8 blocks)) end (place_at (marks_from 8 blocks) (i + 1))
+    choice_by_equal (i + 1) (length (marks_from 8 blocks)) end
+    (place_at (marks_from 8 blocks) (i + 1))
     (length (front xs) + length (block_bytes b))
     (λ last. absurd
     (omega (

@@ -1,5 +1,5 @@
 -- What one row more and one block more make of the bytes of a row file.
-use Rattle.std.proofs.Common.{◌≡◌, ℕ, ◌+◌, ◌<◌, List, [], ◌∷◌, ◌++◌, length, sym, ap, true, false, ◌==◌, ◌∙◌, arith, append_assoc, length-append}
+use Rattle.std.proofs.Common.{◌≡◌, ℕ, ◌+◌, List, [], ◌∷◌, ◌++◌, length, sym, ap, ◌∙◌, arith, append_assoc, length-append}
 use Rattle.std.specs.List.{flat_map}
 use Rattle.std.proofs.lemmas.List.{append-nil}
 use Rattle.std.proofs.lemmas.Grind.{flat_map-append}
@@ -47,19 +47,3 @@ marks-push at (c ∷ blocks) b =
     ap (λ (l : List Mark). (at, first_key c) ∷ l) (marks-push (at + length (block_bytes c)) blocks b
     ∙ ap (λ (n : ℕ). marks_from (at + length (block_bytes c)) blocks ++ (n, first_key b) ∷ [])
     size)
-
--- a number that is 0 is told to be
-pub is_zero : (n : ℕ) → n ≡ 0 → (n == 0) ≡ true
-is_zero n e = grind arith
-
--- a number above 0 isn't
-pub is_some : (n : ℕ) → 0 < n → (n == 0) ≡ false
-is_some n e = grind arith
-
--- a number that is told to be 0 is
-pub zero_from : (n : ℕ) → true ≡ (n == 0) → n ≡ 0
-zero_from n e = grind arith
-
--- a number that isn't told so is above 0
-pub some_from : (n : ℕ) → false ≡ (n == 0) → 0 < n
-some_from n e = grind arith

@@ -7,13 +7,15 @@ use Rattle.std.specs.declared.cmp.Ordering.TheVariants.{Less, Equal, Greater}
 use Rattle.std.specs.Ordering.{is_gt, is_eq, eq_by_cmp}
 use Rattle.std.specs.FinMap.Entries.{find, is_sorted, below_all}
 use Rattle.std.proofs.lemmas.List.{get_or_at}
+use Rattle.alt_base.proofs.Bools.{both_hold, first_holds, second_holds}
+use Rattle.alt_base.proofs.Orderings.{less-holds, is_lt-holds as less}
 use Rattle.alt_cells.specs.Keys.{key_cmp}
 use Rattle.alt_cells.proofs.CellLaws.{key_total, key_exact}
-use Rattle.alt_cells.proofs.Entries.{both, first, second, less, is_less, turned_less, turned_greater, find_below, below_less}
+use Rattle.alt_cells.proofs.Entries.{turned_less, turned_greater, find_below, below_less}
 use Rattle.alt_rowblocks.specs.Format.{Entry, Mark, block_bytes, rows_of, first_key, marks_from, IsBlock, AreBlocks}
 use Rattle.alt_rowblocks.specs.Searching.{key_at, EndsAt, EndsBelow}
 use Rattle.alt_rowblocks.specs.Summaries.{last_key}
-use Rattle.alt_rowblocks.proofs.BlockLaws.{rows_of-append, no_block, block_within}
+use Rattle.alt_rowblocks.proofs.BlockLaws.{rows_of-append, block_within, block_key, sorted_back}
 use Rattle.alt_rowblocks.proofs.PlaceLaws.{length-marks, marks-append}
 
 -- ---- halving
@@ -73,10 +75,10 @@ at_or_above x y q lower up = by_cases (key_cmp y q) refl up
 pub first_below : {X : Type 0} (x : List ℕ × X) (xs : List (List ℕ × X)) (y : List ℕ × X)
     (ys : List (List ℕ × X))
     → T (is_sorted key_cmp (x ∷ (xs ++ y ∷ ys))) → key_cmp x.0 y.0 ≡ Less
-first_below x [] y ys h = less _ (first _ _ (first _ _ h))
+first_below x [] y ys h = less _ (first_holds _ _ (first_holds _ _ h))
 first_below x (z ∷ xs) y ys h =
-    key_total.trans x.0 z.0 y.0 (less _ (first _ _ (first _ _ h)))
-    (first_below z xs y ys (second _ _ h))
+    key_total.trans x.0 z.0 y.0 (less _ (first_holds _ _ (first_holds _ _ h)))
+    (first_below z xs y ys (second_holds _ _ h))
 
 -- rows before one at or below the key don't count
 pub find_front : {X : Type 0} (xs : List (List ℕ × X)) (y : List ℕ × X) (ys : List (List ℕ × X))
@@ -86,7 +88,7 @@ pub find_front : {X : Type 0} (xs : List (List ℕ × X)) (y : List ℕ × X) (y
 find_front [] y ys q h up = refl
 find_front (x ∷ xs) y ys q h up =
     find_past x (xs ++ y ∷ ys) q (at_or_above x.0 y.0 q (first_below x xs y ys h) up)
-    ∙ find_front xs y ys q (second _ _ h) up
+    ∙ find_front xs y ys q (second_holds _ _ h) up
 
 -- nor do rows above it
 pub find_back : {X : Type 0} (xs ys : List (List ℕ × X)) (q : List ℕ) → find key_cmp q ys ≡ None
@@ -102,8 +104,9 @@ find_above y ys q h up =
     let lower : key_cmp q y.0 ≡ Less =
     turned_less key_cmp key_total y.0 q (greater (key_cmp y.0 q) up) in
     find_below key_cmp key_total q (y ∷ ys)
-    (both (Rattle.std.specs.Ordering.is_lt (key_cmp q y.0)) (below_all key_cmp q ys)
-    (is_less (key_cmp q y.0) lower) (below_less key_cmp key_total q y.0 ys lower (first _ _ h)))
+    (both_hold (Rattle.std.specs.Ordering.is_lt (key_cmp q y.0)) (below_all key_cmp q ys)
+    (less-holds (key_cmp q y.0) lower)
+    (below_less key_cmp key_total q y.0 ys lower (first_holds _ _ h)))
   where
     greater : (r : Ordering) → is_gt r ≡ true → r ≡ Greater
     greater Less e = absurd (let f : false ≡ true = e in cc f)
@@ -126,17 +129,6 @@ key_is blocks i xs b ys is size =
     (get_or_at marks (8 + length (flat_map block_bytes xs), first_key b) rest (0, []) i
     (length-marks 8 xs ∙ size))
 
--- a block has a first row
-pub open_block : (b : List Entry) → IsBlock b → (e : Entry) × (es : List Entry) × (b ≡ e ∷ es)
-open_block [] is = absurd (no_block [] is refl)
-open_block (e ∷ es) is = (e, es, refl)
-
--- the rows behind others rise, where all do
-pub sorted_behind : (xs ys : List Entry) → T (is_sorted key_cmp (xs ++ ys))
-    → T (is_sorted key_cmp ys)
-sorted_behind [] ys h = h
-sorted_behind (x ∷ xs) ys h = sorted_behind xs ys (second _ _ h)
-
 -- what stands behind the block is above the key
 pub none_behind : (ys : List (List Entry)) (q : List ℕ) → AreBlocks ys
     → T (is_sorted key_cmp (rows_of ys))
@@ -144,7 +136,7 @@ pub none_behind : (ys : List (List Entry)) (q : List ℕ) → AreBlocks ys
     → is_gt (key_cmp (first_key y) q) ≡ true) → find key_cmp q (rows_of ys) ≡ None
 none_behind [] q cut h up = refl
 none_behind (y ∷ ys) q cut h up =
-    let k = open_block y (block_within [] y ys cut) in
+    let k = block_key y (block_within [] y ys cut) in
     let same : rows_of (y ∷ ys) ≡ k.0 ∷ (k.1 ++ rows_of ys) =
     ap (λ (l : List Entry). l ++ rows_of ys) k.2 in
     ap (find key_cmp q) same
@@ -160,7 +152,7 @@ pub in_block : (xs : List (List Entry)) (b : List Entry) (ys : List (List Entry)
     → is_gt (key_cmp (first_key y) q) ≡ true)
     → find key_cmp q (rows_of (xs ++ b ∷ ys)) ≡ find key_cmp q b
 in_block xs b ys q block cut h low high =
-    let k = open_block b block in
+    let k = block_key b block in
     let whole : rows_of (xs ++ b ∷ ys) ≡ rows_of xs ++ (b ++ rows_of ys) =
     rows_of-append xs (b ∷ ys) in
     let opened : rows_of xs ++ (b ++ rows_of ys) ≡ rows_of xs ++ k.0 ∷ (k.1 ++ rows_of ys) =
@@ -172,7 +164,7 @@ in_block xs b ys q block cut h low high =
     (subst (λ (l : List Entry). is_gt (key_cmp (first_key l) q) ≡ false) k.2 low) in
     let behind =
     none_behind ys q cut
-    (sorted_behind b (rows_of ys) (sorted_behind (rows_of xs) (b ++ rows_of ys) sorted)) high in
+    (sorted_back b (rows_of ys) (sorted_back (rows_of xs) (b ++ rows_of ys) sorted)) high in
     ap (find key_cmp q) (whole ∙ opened) ∙ front
     ∙ ap (λ (l : List Entry). find key_cmp q (l ++ rows_of ys)) (sym k.2)
     ∙ find_back b (rows_of ys) q behind
@@ -195,8 +187,8 @@ all_below (x ∷ []) last key h is low =
     let same : x.0 ≡ last = cc is in
     (ap (λ (k : List ℕ). key_cmp k key) same ∙ low, tt)
 all_below (x ∷ y ∷ rows) last key h is low =
-    let rest = all_below (y ∷ rows) last key (second _ _ h) is low in
-    (key_total.trans x.0 y.0 key (less _ (first _ _ (first _ _ h))) rest.0, rest)
+    let rest = all_below (y ∷ rows) last key (second_holds _ _ h) is low in
+    (key_total.trans x.0 y.0 key (less _ (first_holds _ _ (first_holds _ _ h))) rest.0, rest)
 
 -- and none of them is at it
 none_below : (rows : List Entry) (key : List ℕ)

@@ -1,36 +1,20 @@
 -- Bytes up to a place, read in pieces.
-use Rattle.std.proofs.Common.{◌≡◌, refl, sym, ap, subst, ◌∙◌, ℕ, zero, suc, ◌+◌, ◌-◌, ◌==◌, ◌<◌, ◌≤◌, ◌^◌, List, ◌++◌, length, take, drop, true, false, Bool, IsTrue, arith, append_assoc, length-append}
-use Rattle.std.specs.Prelude.{Ok}
-use Rattle.std.specs.Result.{IsErrOf}
+use Rattle.std.proofs.Common.{◌≡◌, refl, sym, ap, ◌∙◌, ℕ, zero, suc, ◌+◌, ◌-◌, ◌==◌, ◌<◌, ◌≤◌, ◌^◌, List, ◌++◌, length, take, drop, false, arith, append_assoc, length-append}
 use Rattle.std.specs.Int.{w64, to_be_bytes}
 use Rattle.std.proofs.lemmas.List.{drop-take, take-take, drop-drop, take-append-drop, length-take-le, length-drop}
 use Rattle.std.proofs.Math.Seq.{take-add}
+use Rattle.alt_base.proofs.Numbers.{equal_is_told, above_zero_is_told}
 use Rattle.alt_fields.specs.Field.{field}
 use Rattle.alt_fields.proofs.Apart.{number-apart, length-field}
-use Rattle.alt_disk.specs.Disk.{DiskState, Goes, contents, bytes_or_none}
+use Rattle.alt_disk.specs.Disk.{DiskState, contents, bytes_or_none}
 use Rattle.alt_disk.specs.Runs.{Quiet}
 
 -- what calls that change nothing leave of a file
 pub same_bytes : (a b : DiskState) (f : ℕ) → Quiet a b → contents b f ≡ contents a f
 same_bytes a b f quiet = ap bytes_or_none (quiet.file f)
 
--- a disk that goes on tells what it told
-pub told_on : (a b : DiskState) → Goes a b → IsTrue a.tells → IsTrue b.tells
-told_on a b goes told = subst (λ (v : Bool). IsTrue v) (sym goes.tells) told
-
--- an Ok is no error
-pub ok_is_none : {T E : Type 0} (x : T) (e : E) → IsErrOf {T = T} {E = E} (Ok x) e → ⊥
-ok_is_none x e is = cc is
-
--- equal numbers are told to be equal
-same_test : (m n : ℕ) → m ≡ n → (m == n) ≡ true
-same_test m n e = grind arith
-
 less_test : (m n : ℕ) → m < n → (m == n) ≡ false
 less_test m n e = grind arith
-
-some_test : (k : ℕ) → 0 < k → (k == 0) ≡ false
-some_test k e = grind arith
 
 -- a place is the end exactly where nothing is left behind it
 pub at_end : (m end k : ℕ) → m ≤ end → k ≡ end - m → (m == end) ≡ (k == 0)
@@ -38,10 +22,10 @@ at_end m end k within is = at_end_of m end k within is (end - m) refl
   where
     at_end_of : (m end k : ℕ) → m ≤ end → k ≡ end - m → (d : ℕ) → d ≡ end - m
         → (m == end) ≡ (k == 0)
-    at_end_of m end k within is zero e = same_test m end (omega (arith, e, within))
-        ∙ sym (same_test k 0 (omega (arith, is, e)))
+    at_end_of m end k within is zero e = equal_is_told m end (omega (arith, e, within))
+        ∙ sym (equal_is_told k 0 (omega (arith, is, e)))
     at_end_of m end k within is (suc d) e = less_test m end (omega (arith, e, within))
-        ∙ sym (some_test k (omega (arith, is, e)))
+        ∙ sym (above_zero_is_told k (omega (arith, is, e)))
 
 module _ (bytes : List ℕ) where
   -- all that stands from a place on, up to another

@@ -1,11 +1,13 @@
 -- The rows of a state in which a table has a global index more or less, and the write that leads there.
 use Rattle.std.proofs.Common.{◌≡◌, ◌≢◌, ◌≤◌, ◌<◌, ◌+◌, ◌⊎◌, ℕ, zero, suc, Bool, true, false, cond, List, [], ◌∷◌, ◌++◌, length, Some, None, refl, sym, ap, subst, ◌∙◌, inl, inr, slice_get, append_assoc, arith, All}
-use Rattle.std.proofs.lemmas.Bool.Decides.{nat_tests}
 use Rattle.std.proofs.lemmas.List.Elements.{All-weaker}
-use Rattle.std.specs.Prelude.{if◌then◌else◌, nat_lt, not, option_map}
+use Rattle.std.proofs.lemmas.Bool.{le-ltb, lt-ltb}
+use Rattle.std.proofs.lemmas.Option.{same_Some}
+use Rattle.std.specs.Prelude.{if◌then◌else◌, not, option_map}
 use Rattle.std.specs.List.{filter}
 use Rattle.std.specs.Ordering.{eq_by_cmp}
 use Rattle.std.specs.FinMap as map
+use Rattle.alt_base.proofs.Lists.{length-filter, length-one_more}
 use Rattle.alt_cells.specs.declared.batch.RowChange.{RowChange}
 use Rattle.alt_cells.specs.Changes.{change_between}
 use Rattle.alt_cells.specs.Keys.{key_cmp}
@@ -14,6 +16,7 @@ use Rattle.alt_opening.specs.HandInHand.{batch_write}
 use Rattle.alt_layout.specs.Layout.{Layout, shown, shown_by}
 use Rattle.alt_layout.specs.Writes.{with_write}
 use Rattle.alt_layout.proofs.BatchLaws.{shows_batch}
+use Rattle.alt_layout.proofs.FirstChange.{ShowsWrite}
 use Rattle.alt_writes.specs.Writes.{Write}
 use Rattle.alt_machine.specs.Building.{built_part}
 use Rattle.alt_machine.specs.Indexed.{index_entry, index_items}
@@ -25,7 +28,6 @@ use Rattle.alt_machine.specs.Valid.{IsHeldChange, IsMade, IsTable, IsValid}
 use Rattle.alt_machine.specs.Wanted.{lack_of}
 use Rattle.alt_machine.proofs.Added.{alike_added, differ_added, families_added, own_added}
 use Rattle.alt_machine.proofs.Building.{get-built_part}
-use Rattle.alt_machine.proofs.Inserted.{filter_short}
 use Rattle.alt_machine.proofs.Looks.{at_insert}
 use Rattle.alt_machine.proofs.Lacks.{index_room, number_room}
 use Rattle.alt_machine.proofs.Redescribed.{IsAlike, built_part-alike, with_description_valid}
@@ -43,11 +45,10 @@ use Rattle.alt_value.specs.Tree.{Pair}
 use Rattle.alt_views.specs.IndexRows.{index_columns}
 use Rattle.alt_opening.specs.StateRows.{HasMoment, IsHeldWhole, Shows, catalog_family, index_rows, next_row}
 use Rattle.alt_opening.proofs.Maps.{same_texts}
-use Rattle.alt_opening.proofs.OneState.{some}
 use Rattle.alt_rowchanges.specs.Altering.{MayAlter, alter_wants, family_left, has_more}
 use Rattle.alt_rowchanges.specs.RowChanges.{Turns, alter_changes}
 use Rattle.alt_rowchanges.proofs.CatalogLaws.{next_can_show, no_items, none_rekeyed, off_catalog, table_named}
-use Rattle.alt_rowchanges.proofs.ChangeLaws.{ShowsWrite, two_changes}
+use Rattle.alt_rowchanges.proofs.ChangeLaws.{two_changes}
 use Rattle.alt_rowchanges.proofs.DescribedShows.{described_change, shows_described}
 use Rattle.alt_rowchanges.proofs.WriteLaws.{family_within, index_within, stream_within}
 
@@ -56,7 +57,7 @@ use Rattle.alt_rowchanges.proofs.WriteLaws.{family_within, index_within, stream_
 -- a place of a list with one more behind is that of the one, or one of the list
 more_at : {A : Type 0} (xs : List A) (new x : A) (n : ℕ) → slice_get (xs ++ new ∷ []) n ≡ Some x
     → (slice_get xs n ≡ Some x) ⊎ (new ≡ x)
-more_at [] new x zero e = inr (some new x e)
+more_at [] new x zero e = inr (same_Some new x e)
 more_at [] new x (suc n) e = absurd (let no : None ≡ Some x = e in cc no)
 more_at (y ∷ ys) new x zero e = inl e
 more_at (y ∷ ys) new x (suc n) e = more_at ys new x n e
@@ -82,23 +83,12 @@ behind_left p (z ∷ zs) ys zero x e = (0, e)
 behind_left p (z ∷ zs) ys (suc n) x e =
     let (m, at) = behind_left p zs ys n x e in (suc m, at)
 
--- a list with one more is longer
-more_counted : {A : Type 0} (xs : List A) (x : A) → length xs < length (xs ++ x ∷ [])
-more_counted [] x = omega arith
-more_counted (y ∷ ys) x = omega (arith, more_counted ys x)
-
-lt_so : (a b : ℕ) → a < b → nat_lt a b ≡ true
-lt_so a b h = grind (arith, nat_tests)
-
-lt_not : (a b : ℕ) → b ≤ a → nat_lt a b ≡ false
-lt_not a b h = grind (arith, nat_tests)
-
--- so a description with an index more has more of them
+-- a description with an index more has more of them
 pub is_longer : (d : TableSchema) (more : List KeyAttr) (family : ℕ) (index : StatedIndex)
     → has_more d (with_index d more family index) ≡ true
-is_longer d more family index = lt_so (length d.globals)
+is_longer d more family index = lt-ltb (length d.globals)
     (length (d.globals ++ index_added d more family index ∷ []))
-    (more_counted d.globals (index_added d more family index))
+    (length-one_more d.globals (index_added d more family index))
 
 -- ---- rows
 
@@ -302,8 +292,8 @@ module _ (s : State) (name : List ℕ) (t : Table) (at : map.get s.tables name �
     stays i = not (is_named gone i)
 
     shorter : has_more d without ≡ false
-    shorter = lt_not (length d.globals) (length (filter stays d.globals))
-        (filter_short stays d.globals)
+    shorter = le-ltb (length d.globals) (length (filter stays d.globals))
+        (length-filter stays d.globals)
 
     left : family_left s.next_family d without ≡ s.next_family
     left = ap (λ b. if b then s.next_family + 1 else s.next_family) shorter

@@ -2,20 +2,24 @@
 use Rattle.std.proofs.Common.{◌≡◌, ◌≢◌, ◌≤◌, ◌<◌, ◌+◌, ◌⊎◌, ℕ, zero, suc, Bool, true, false, cond, not, T, List, [], ◌∷◌, ◌++◌, map as each, take, Option, Some, None, refl, sym, ap, subst, ◌∙◌, inl, inr, slice_get, option_map, arith, All, Contains}
 use Rattle.std.proofs.lemmas.Bool.{false≢true}
 use Rattle.std.proofs.lemmas.List.Elements.{All-cons, All-head, All-tail, All-nil, All-take}
-use Rattle.std.proofs.lemmas.Option.{slice_get-map}
+use Rattle.std.proofs.lemmas.Option.{slice_get-map, same_Some}
 use Rattle.std.specs.Cmp.{tied_itself}
 use Rattle.std.specs.Prelude.{if◌then◌else◌}
 use Rattle.std.specs.List.{filter}
 use Rattle.std.specs.Ordering.{eq_by_cmp, is_lt}
 use Rattle.std.specs.FinMap as map
 use Rattle.std.specs.FinMap.Entries.{below_all, is_sorted}
+use Rattle.alt_base.proofs.Bools.{first_holds, second_holds}
+use Rattle.alt_base.proofs.Lists.{all_at}
 use Rattle.alt_cells.specs.declared.batch.RowChange.{RowChange}
 use Rattle.alt_cells.specs.Keys.{key_cmp}
 use Rattle.alt_cells.proofs.CellLaws.{key_total}
+use Rattle.alt_cells.proofs.SameKeys.{key_itself, one_key}
 use Rattle.alt_opening.specs.HandInHand.{batch_write}
 use Rattle.alt_layout.specs.Layout.{Layout, shown, shown_by, change_of}
 use Rattle.alt_layout.specs.Writes.{with_write}
 use Rattle.alt_layout.proofs.BatchLaws.{shows_batch}
+use Rattle.alt_layout.proofs.FirstChange.{ShowsWrite}
 use Rattle.alt_writes.specs.Writes.{Write}
 use Rattle.alt_machine.specs.Building.{built_after, built_part, building_in, described_so_far, is_building, left_part, reaches, so_far, with_built}
 use Rattle.alt_machine.specs.Indexed.{index_entry, index_items}
@@ -28,7 +32,6 @@ use Rattle.alt_machine.specs.declared.TheConstants.{NUMBERS_END}
 use Rattle.alt_machine.proofs.BuildParts.{Placed, built_after-is, in_order, sorted_taken, with_all}
 use Rattle.alt_machine.proofs.BuildSteps.{all_stored, with_built_valid}
 use Rattle.alt_machine.proofs.Building.{get-built_part}
-use Rattle.alt_machine.proofs.Entries.{first, second}
 use Rattle.alt_machine.proofs.Indexing.{index_apart}
 use Rattle.alt_machine.proofs.Looks.{at_insert}
 use Rattle.alt_machine.proofs.Redescribed.{IsAlike, built_part-alike}
@@ -44,13 +47,11 @@ use Rattle.alt_value.specs.Tree.{Pair}
 use Rattle.alt_value.proofs.Texts.{text_total}
 use Rattle.alt_opening.specs.StateRows.{HasMoment, IsHeldWhole, Shows, catalog_family, index_rows}
 use Rattle.alt_opening.proofs.Families.{own_family}
-use Rattle.alt_opening.proofs.OneIndex.{at_each, behind_any, found_at, one_of_family, only_one}
-use Rattle.alt_opening.proofs.OneState.{some}
-use Rattle.alt_opening.proofs.Ties.{tied, itself}
+use Rattle.alt_opening.proofs.OneIndex.{behind_any, found_at, one_of_family, only_one}
 use Rattle.alt_rowchanges.specs.RowChanges.{Turns, step_changes}
 use Rattle.alt_rowchanges.proofs.BuildShows.{AreFresh, build_changes, build_shows, apart_of}
 use Rattle.alt_rowchanges.proofs.CatalogLaws.{off_catalog, table_named}
-use Rattle.alt_rowchanges.proofs.ChangeLaws.{ShowsWrite, AreOthers, change_of-none, others-append}
+use Rattle.alt_rowchanges.proofs.ChangeLaws.{AreOthers, change_of-none, others-append}
 use Rattle.alt_rowchanges.proofs.DescribedShows.{described_change, shows_described}
 use Rattle.alt_rowchanges.proofs.IndexFamilies.{own_families, index_family, index_family_differs}
 use Rattle.alt_rowchanges.proofs.Moving.{others-moved_changes}
@@ -74,8 +75,8 @@ module _ {A : Type 0} (f : A → A) where
           × (((x ≡ z) × ((m : ℕ) × (slice_get [] m ≡ Some x)))
           ⊎ ((f x ≡ z) × ((m : ℕ) × (slice_get ys m ≡ Some x))))
       by None here g = absurd (let no : ⊥ = cc in no)
-      by (Some x) here g = (x, here, inr (some (f x) z g, (n, here)))
-  behind_changed (w ∷ ws) ys zero z at = (w, refl, inl (some w z at, (0, refl)))
+      by (Some x) here g = (x, here, inr (same_Some (f x) z g, (n, here)))
+  behind_changed (w ∷ ws) ys zero z at = (w, refl, inl (same_Some w z at, (0, refl)))
   behind_changed (w ∷ ws) ys (suc n) z at =
       let (x, here, which) = behind_changed ws ys n z at in (
         x,
@@ -94,8 +95,8 @@ fresh_of : (items : Texts (List Pair)) (es : Placed) → T (is_sorted text_order
 fresh_of items [] sorted none = tt
 fresh_of items (e ∷ es) sorted none = (
   All-head (λ (e : List ℕ × List Pair). map.get items e.0 ≡ None) e es none,
-  fresh_of (with_item items e.0 (Some e.1)) es (second (below_all text_order e.0 es) _ sorted)
-      (still es (first (below_all text_order e.0 es) _ sorted)
+  fresh_of (with_item items e.0 (Some e.1)) es (second_holds (below_all text_order e.0 es) _ sorted)
+      (still es (first_holds (below_all text_order e.0 es) _ sorted)
       (All-tail (λ (e : List ℕ × List Pair). map.get items e.0 ≡ None) e es none)),
 )
   where
@@ -110,16 +111,16 @@ fresh_of items (e ∷ es) sorted none = (
         by : (b : Bool) → eq_by_cmp key_cmp f.0 e.0 ≡ b
             → cond b (Some e.1) (map.get items f.0) ≡ None
         by true same = absurd (subst (λ o. T (is_lt o)) (tied_itself text_total e.0)
-            (subst (λ q. T (is_lt (text_order e.0 q))) (tied f.0 e.0 same) above))
+            (subst (λ q. T (is_lt (text_order e.0 q))) (one_key f.0 e.0 same) above))
         by false other = none
 
     still : (fs : Placed) → T (below_all text_order e.0 fs)
         → All (λ (f : List ℕ × List Pair). map.get items f.0 ≡ None) fs → All Then fs
     still [] below none = All-nil Then
     still (f ∷ fs) below none = All-cons Then f fs
-        (at f (first (is_lt (text_order e.0 f.0)) _ below)
+        (at f (first_holds (is_lt (text_order e.0 f.0)) _ below)
         (All-head (λ (f : List ℕ × List Pair). map.get items f.0 ≡ None) f fs none))
-        (still fs (second (is_lt (text_order e.0 f.0)) _ below)
+        (still fs (second_holds (is_lt (text_order e.0 f.0)) _ below)
         (All-tail (λ (f : List ℕ × List Pair). map.get items f.0 ≡ None) f fs none))
 
 module _ (d : TableSchema) (b : Built) (items : Texts (List Pair)) where
@@ -230,7 +231,7 @@ module _ (s : State) (valid : IsValid s) (held : IsHeldWhole s) (name : List ℕ
   -- a table that has the family of the index is this one
   same_table : (other : List ℕ) (x : Table) → map.get s.tables other ≡ Some x
       → Contains (families_of x.description) i.family → x ≡ t
-  same_table other x at_x has = some x t (sym at_x
+  same_table other x at_x has = same_Some x t (sym at_x
       ∙ ap (map.get s.tables) (valid.families other name x t i.family at_x at has
       (index_family d numbered.0 i numbered.1)) ∙ at)
 
@@ -258,7 +259,7 @@ module _ (s : State) (valid : IsValid s) (held : IsHeldWhole s) (name : List ℕ
       subst (Contains (families_of x.description)) same (index_family x.description n j at_j) in
       let one_name : other ≡ name = valid.families other name x t i.family at_x at has
       (index_family d numbered.0 i numbered.1) in
-      false≢true (sym differs ∙ ap (λ k. eq_by_cmp key_cmp k name) one_name ∙ itself name)
+      false≢true (sym differs ∙ ap (λ k. eq_by_cmp key_cmp k name) one_name ∙ key_itself name)
 
   module _ (l : Layout) (shows : Shows l s) (law : ShowsWrite l (batch_write l batch)) where
     abbrev w : Write
@@ -319,7 +320,7 @@ module _ (s : State) (valid : IsValid s) (held : IsHeldWhole s) (name : List ℕ
       where
         -- a local index is whole
         local : (x : IndexSchema) (m : ℕ) → slice_get d.locals m ≡ Some x → is_building x ≡ false
-        local x m at_x = ap not (at_each (λ (y : IndexSchema). is_whole y.built) d.locals m x
+        local x m at_x = ap not (all_at (λ (y : IndexSchema). is_whole y.built) d.locals m x
             is_table.made.built.locals at_x)
 
         by : (x : IndexSchema) → index_at d (Some n) ≡ Some x → (m : ℕ)

@@ -9,8 +9,10 @@ use Rattle.alt_cells.specs.Keys.{key_cmp}
 use Rattle.alt_cells.specs.declared.batch.RowChange.{RowChange}
 use Rattle.alt_cells.proofs.CellLaws.{key_total}
 use Rattle.alt_cells.proofs.ChangeLaws.{written-change_between}
+use Rattle.alt_cells.proofs.SameKeys.{key_itself, one_key}
 use Rattle.alt_layout.specs.Layout.{Layout, change_of, shown, shown_by}
 use Rattle.alt_layout.specs.Writes.{with_write}
+use Rattle.alt_layout.proofs.FirstChange.{ShowsWrite}
 use Rattle.alt_machine.specs.Indexed.{index_entry, index_items}
 use Rattle.alt_machine.specs.State.{Texts}
 use Rattle.alt_machine.specs.Writes.{with_item}
@@ -22,10 +24,8 @@ use Rattle.alt_value.specs.Tree.{Pair}
 use Rattle.alt_views.specs.IndexRows.{beside_keys, index_columns, moved_changes, moves_in}
 use Rattle.alt_views.proofs.ItemRowLaws.{item_can_show}
 use Rattle.alt_writes.specs.Writes.{Write}
-use Rattle.alt_opening.proofs.Ties.{itself, tied}
 use Rattle.alt_rowchanges.proofs.IndexShows.{index_shown}
 use Rattle.alt_rowchanges.proofs.StreamTrims.{change_first}
-use Rattle.alt_rowchanges.proofs.ChangeLaws.{ShowsWrite}
 
 -- none stands where one stood, before it or among those in front of it
 abbrev pub AreFresh : Texts (List Pair) → Placed → Type 0
@@ -42,7 +42,7 @@ kept_all items (e ∷ es) fresh q x there =
   where
     by : (b : Bool) → eq_by_cmp key_cmp q e.0 ≡ b → cond b (Some e.1) (finite.get items q) ≡ Some x
     by true same = absurd (let no : None ≡ Some x = sym fresh.0
-        ∙ ap (finite.get items) (sym (tied q e.0 same)) ∙ there in cc no)
+        ∙ ap (finite.get items) (sym (one_key q e.0 same)) ∙ there in cc no)
     by false other = there
 
 module _ (d : TableSchema) (i : IndexSchema) where
@@ -92,7 +92,7 @@ module _ (d : TableSchema) (i : IndexSchema) where
       last : finite.get (with_all (with_item items e.0 (Some e.1)) es) e.0 ≡ Some e.1
       last = kept_all (with_item items e.0 (Some e.1)) es fresh.1 e.0 e.1
           (finite.get-insert key_total items e.0 e.1 e.0
-          ∙ ap (λ b. cond b (Some e.1) (finite.get items e.0)) (itself e.0))
+          ∙ ap (λ b. cond b (Some e.1) (finite.get items e.0)) (key_itself e.0))
 
       by : shown_by (change_of i.family key (build_changes es)) (rows_of (with_item items e.0 (Some e.1)) key)
           ≡ rows_of (with_all (with_item items e.0 (Some e.1)) es) key
@@ -131,7 +131,7 @@ module _ (d : TableSchema) (i : IndexSchema) where
                 e.0,
                 (
                   e.1,
-                  (last, is ∙ ap (λ k. Some (k, f.1)) (sym (tied key f.0 same))),
+                  (last, is ∙ ap (λ k. Some (k, f.1)) (sym (one_key key f.0 same))),
                 ),
               )))
           at_key false other =

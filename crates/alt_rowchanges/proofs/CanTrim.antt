@@ -17,20 +17,20 @@ use Rattle.alt_schema.specs.declared.schema.TableSchema.{TableSchema}
 use Rattle.alt_rowchanges.specs.RowChanges.{item_changes}
 use Rattle.alt_rowchanges.specs.declared.trimming.Trim.{Trim}
 use Rattle.alt_rowchanges.specs.Trims.{CanTrim, IsWithin}
-use Rattle.alt_rowchanges.proofs.StepParts.{has_none}
 use Rattle.alt_rowchanges.proofs.StreamShows.{change_new}
 use Rattle.alt_value.specs.Tree.{Pair}
 use Rattle.alt_views.specs.IndexRows.{index_changes}
 use Rattle.alt_views.specs.ItemRows.{item_columns}
 use Rattle.std.proofs.lemmas.Slice.Eq.{bytes_eq-Decides}
 use Rattle.std.proofs.lemmas.List.Elements.{All-weaker}
+use Rattle.alt_views.proofs.Batched.{has_row-append}
 
 -- The row changes of an item have none of the row of a lesser number.
 pub no_lesser_row : (d : TableSchema) → HasOwnFamilies d → (number moment : ℕ) (writer : Writer)
     (place : List ℕ) (old new : Option (List Pair)) (family : ℕ) → d.stream_family ≡ Some family → (k : ℕ)
     → k < number → number < 2 ^ 64
     → has_row (item_changes d number moment writer place old new) family (row_key k) ≡ false
-no_lesser_row d own number moment writer place old new family stream k less small = has_none
+no_lesser_row d own number moment writer place old new family stream k less small = has_row-append
     (change_between d.family place (option_map item_columns old) (option_map item_columns new)
     ∷ index_changes d old new)
     (row_changes d (change_left number moment writer old new)) family (row_key k)

@@ -3,6 +3,7 @@ use Rattle.std.proofs.Common.{◌≡◌, ◌≤◌, ◌<◌, ◌+◌, ℕ, Bool,
 use Rattle.std.proofs.Common.{All}
 use Rattle.std.proofs.lemmas.Bool.{false≢true}
 use Rattle.std.proofs.lemmas.List.Elements.{All-nil}
+use Rattle.std.proofs.lemmas.Option.{same_Some}
 use Rattle.std.specs.Prelude.{◌==◌, if◌then◌else◌, option_map, codes}
 use Rattle.std.specs.Int.{w32, to_be_bytes}
 use Rattle.std.specs.Ordering.{eq_by_cmp}
@@ -12,6 +13,7 @@ use Rattle.alt_cells.specs.Changes.{CanShow, change_between}
 use Rattle.alt_cells.specs.Keys.{key_cmp}
 use Rattle.alt_cells.proofs.CellLaws.{key_total}
 use Rattle.alt_cells.proofs.ChangeLaws.{written-change_between, none_shown}
+use Rattle.alt_cells.proofs.SameKeys.{key_itself, one_key}
 use Rattle.alt_changes.specs.ChangeRows.{change_columns, row_key}
 use Rattle.alt_changes.specs.TrimRows.{trimmed_row}
 use Rattle.alt_opening.specs.HandInHand.{batch_write}
@@ -19,6 +21,7 @@ use Rattle.alt_layout.specs.Layout.{Layout, shown, shown_by, change_of}
 use Rattle.alt_writes.specs.Writes.{Write}
 use Rattle.alt_layout.specs.Writes.{with_write}
 use Rattle.alt_layout.proofs.BatchLaws.{shows_batch}
+use Rattle.alt_layout.proofs.FirstChange.{ShowsWrite}
 use Rattle.alt_machine.specs.declared.TheConstants.{NUMBERS_END, FAMILIES_END, MOST_FAMILIES, MOST_TABLES}
 use Rattle.alt_machine.specs.Building.{built_part, reaches}
 use Rattle.alt_machine.specs.Indexed.{index_entry, index_items}
@@ -42,12 +45,11 @@ use Rattle.alt_schema.specs.declared.schema.IndexSchema.{IndexSchema}
 use Rattle.alt_schema.specs.declared.schema.TableSchema.{TableSchema}
 use Rattle.alt_opening.specs.StateRows.{HasMoment, IsHeldWhole, IsLeftover, Shows, catalog_family, catalog_rows, item_rows, index_rows, change_rows, keyed_changes, one_column, table_row, next_row}
 use Rattle.alt_rowchanges.specs.RowChanges.{Turns, creation_changes, drop_changes}
-use Rattle.alt_opening.proofs.Ties.{tied, itself}
-use Rattle.alt_rowchanges.proofs.ChangeLaws.{ShowsWrite, one_change, two_changes, other_family}
+use Rattle.alt_rowchanges.proofs.ChangeLaws.{one_change, two_changes, other_family}
 use Rattle.alt_views.proofs.ItemRowLaws.{can_show}
 use Rattle.alt_views.specs.IndexRows.{index_columns}
 use Rattle.alt_opening.proofs.Maps.{same_texts}
-use Rattle.alt_opening.proofs.OneState.{some, nameless}
+use Rattle.alt_opening.proofs.OneState.{nameless}
 use Rattle.alt_value.specs.Members.{text_order}
 use Rattle.alt_value.specs.Tree.{Pair}
 use Rattle.alt_opening.proofs.TableRow.{get-table_row}
@@ -59,7 +61,7 @@ use Rattle.alt_rowchanges.proofs.WriteLaws.{family_within, index_within, stream_
 pub one_can_show : (name value : List ℕ) → CanShow (Some (one_column name value))
 one_can_show name value = can_show (one_column name value) name value
     (map.get-insert key_total map.empty name value name
-    ∙ ap (λ b. cond b (Some value) (map.get (map.empty {R = key_cmp}) name)) (itself name))
+    ∙ ap (λ b. cond b (Some value) (map.get (map.empty {R = key_cmp}) name)) (key_itself name))
 
 -- so can that of a table
 pub table_can_show : (d : TableSchema) → CanShow (Some (table_row d))
@@ -148,7 +150,7 @@ module _ (l : Layout) (s : State) (shows : Shows l s) (valid : IsValid s) where
             ≡ (if b then next_row after else option_map (λ t. table_row t.description)
             (cond a (Some (new_table d)) (map.get s.tables key)))
         by_key true true e f = absurd (false≢true (sym named
-            ∙ ap (λ k. eq_by_cmp key_cmp k d.name) (sym (tied key [] f)) ∙ e))
+            ∙ ap (λ k. eq_by_cmp key_cmp k d.name) (sym (one_key key [] f)) ∙ e))
         by_key true false e f = written-change_between catalog_family d.name None
             (Some (table_row d)) (table_can_show d)
         by_key false true e f = written-change_between catalog_family [] (next_row s.next_family)
@@ -160,7 +162,7 @@ module _ (l : Layout) (s : State) (shows : Shows l s) (valid : IsValid s) where
         → (key : List ℕ) → shown (with_write l w) u.description.family key ≡ item_rows u key
     items_after other u true e at key =
         subst (λ u. shown (with_write l w) u.description.family key ≡ item_rows u key)
-        (some _ _ at)
+        (same_Some _ _ at)
         (elsewhere d.family key (let low = valid.next_family.0 in omega (arith, low, family))
         ∙ shows.beyond d.family key (omega (arith, family))
         ∙ sym (ap (option_map _) (map.get-empty key_cmp key)))
@@ -174,7 +176,7 @@ module _ (l : Layout) (s : State) (shows : Shows l s) (valid : IsValid s) where
         → (key : List ℕ) → shown (with_write l w) i.family key ≡ index_rows u i key
     indexes_after other u true e at n i at_index key =
         subst (λ u. index_at u.description (Some n) ≡ Some i
-        → shown (with_write l w) i.family key ≡ index_rows u i key) (some _ _ at)
+        → shown (with_write l w) i.family key ≡ index_rows u i key) (same_Some _ _ at)
         (λ at_index. let is = of_contained (λ f. (d.family ≤ f)
         × (f < d.family + length (families_of d)))
         (families_of d) i.family (families_within d new) (index_family d n i at_index) in
@@ -195,7 +197,7 @@ module _ (l : Layout) (s : State) (shows : Shows l s) (valid : IsValid s) where
         → shown (with_write l w) g key ≡ change_rows u key
     changes_after other u true e at g stream key counts =
         subst (λ u. u.description.stream_family ≡ Some g
-        → shown (with_write l w) g key ≡ change_rows u key) (some _ _ at)
+        → shown (with_write l w) g key ≡ change_rows u key) (same_Some _ _ at)
         (λ stream. let is = of_contained (λ f. (d.family ≤ f)
         × (f < d.family + length (families_of d)))
         (families_of d) g (families_within d new) (stream_family d g stream) in
@@ -264,7 +266,7 @@ module _ (l : Layout) (s : State) (shows : Shows l s) (valid : IsValid s) where
             ≡ (if b then next_row s.next_family
             else option_map (λ t. table_row t.description) (cond a None (map.get s.tables key)))
         by_key true true e f = absurd (false≢true (sym named
-            ∙ ap (λ k. eq_by_cmp key_cmp k name) (sym (tied key [] f)) ∙ e))
+            ∙ ap (λ k. eq_by_cmp key_cmp k name) (sym (one_key key [] f)) ∙ e))
         by_key true false e f = none_shown
         by_key false b e f = refl
 

@@ -1,26 +1,15 @@
 -- Which of the changes of a write is that of a row.
-use Rattle.std.proofs.Common.{◌≡◌, ◌≢◌, ℕ, Bool, true, false, List, [], ◌∷◌, ◌++◌, Option, Some, None, refl, ap, ◌∙◌, arith}
+use Rattle.std.proofs.Common.{◌≡◌, ◌≢◌, ℕ, Bool, true, false, List, [], ◌∷◌, ◌++◌, Option, Some, None, refl, ap, ◌∙◌}
 use Rattle.std.proofs.lemmas.Bool.{eqb-true}
-use Rattle.std.proofs.lemmas.Bool.Decides.{nat_tests}
 use Rattle.std.specs.Prelude.{◌==◌, if◌then◌else◌}
 use Rattle.std.specs.Ordering.{eq_by_cmp}
+use Rattle.alt_base.proofs.Numbers.{equal_is_told}
 use Rattle.alt_cells.specs.declared.batch.RowChange.{RowChange}
 use Rattle.alt_cells.specs.Keys.{key_cmp}
-use Rattle.alt_layout.specs.Layout.{Layout, change_of, shown, shown_by}
-use Rattle.alt_layout.specs.Writes.{with_write}
-use Rattle.alt_writes.specs.Writes.{Write}
-
--- after a write each row shows what the write's change of it makes of what it showed
-abbrev pub ShowsWrite : Layout → Write → Type 0
-ShowsWrite l w = (family : ℕ) (key : List ℕ) → shown (with_write l w) family key
-    ≡ shown_by (change_of family key w.changes) (shown l family key)
-
--- equal numbers are told to be equal
-test : (m n : ℕ) → m ≡ n → (m == n) ≡ true
-test m n e = grind (arith, nat_tests)
+use Rattle.alt_layout.specs.Layout.{change_of}
 
 own : (family : ℕ) → (family == family) ≡ true
-own family = test family family refl
+own family = equal_is_told family family refl
 
 -- a change of one row alone, at a key of its family
 pub one_change : (c : RowChange) (key : List ℕ) → change_of c.family key (c ∷ [])

@@ -1,6 +1,7 @@
 -- The rows of a state in which a table has another description: those of the catalog, and what they leave of the others.
 use Rattle.std.proofs.Common.{◌≡◌, ◌≢◌, ◌≤◌, ◌<◌, ◌+◌, ℕ, Bool, true, false, cond, List, [], Option, Some, None, refl, sym, ap, subst, ◌∙◌, arith}
 use Rattle.std.proofs.lemmas.Bool.{false≢true}
+use Rattle.std.proofs.lemmas.Option.{same_Some}
 use Rattle.std.specs.Prelude.{if◌then◌else◌, option_map}
 use Rattle.std.specs.Ordering.{eq_by_cmp}
 use Rattle.std.specs.FinMap as map
@@ -9,8 +10,10 @@ use Rattle.alt_cells.specs.Changes.{change_between}
 use Rattle.alt_cells.specs.Keys.{key_cmp}
 use Rattle.alt_cells.proofs.CellLaws.{key_total}
 use Rattle.alt_cells.proofs.ChangeLaws.{written-change_between}
+use Rattle.alt_cells.proofs.SameKeys.{one_key}
 use Rattle.alt_layout.specs.Layout.{Layout, shown, shown_by, change_of}
 use Rattle.alt_layout.specs.Writes.{with_write}
+use Rattle.alt_layout.proofs.FirstChange.{ShowsWrite}
 use Rattle.alt_writes.specs.Writes.{Write}
 use Rattle.alt_machine.specs.Ops.UpdateTable.{redescribed, with_description}
 use Rattle.alt_machine.specs.Sources.{index_at}
@@ -19,11 +22,8 @@ use Rattle.alt_machine.specs.Valid.{IsValid}
 use Rattle.alt_schema.specs.declared.schema.IndexSchema.{IndexSchema}
 use Rattle.alt_schema.specs.declared.schema.TableSchema.{TableSchema}
 use Rattle.alt_opening.specs.StateRows.{IsLeftover, Shows, catalog_family, catalog_rows, item_rows, index_rows, change_rows, table_row, next_row}
-use Rattle.alt_opening.proofs.OneState.{some}
-use Rattle.alt_opening.proofs.Ties.{tied}
 use Rattle.alt_rowchanges.proofs.CatalogLaws.{table_can_show}
 use Rattle.alt_rowchanges.proofs.WriteLaws.{family_within, index_within, stream_within}
-use Rattle.alt_rowchanges.proofs.ChangeLaws.{ShowsWrite}
 
 -- the row of one description gives way to that of another
 abbrev pub described_change : TableSchema → TableSchema → RowChange
@@ -63,11 +63,11 @@ module _ (l : Layout) (s : State) (shows : Shows l s) (valid : IsValid s) (name 
           else option_map (λ (x : Table). table_row x.description)
           (cond a (Some u) (map.get s.tables key)))
       by_key true true f g = absurd (false≢true (sym named
-          ∙ ap (λ k. eq_by_cmp key_cmp k name) (sym (tied key [] g)) ∙ f))
+          ∙ ap (λ k. eq_by_cmp key_cmp k name) (sym (one_key key [] g)) ∙ f))
       by_key true false f g =
           ap (λ k. shown_by (Some (described_change t.description e))
           (option_map (λ (x : Table). table_row x.description) (map.get s.tables k)))
-          (tied key name f)
+          (one_key key name f)
           ∙ ap (λ o. shown_by (Some (described_change t.description e))
           (option_map (λ (x : Table). table_row x.description) o)) at
           ∙ written-change_between catalog_family t.description.name
@@ -93,7 +93,7 @@ module _ (l : Layout) (s : State) (shows : Shows l s) (valid : IsValid s) (name 
         → (key : List ℕ) → shown (with_write l w) x.description.family key ≡ item_rows x key
     items_then other x true at_other key =
         subst (λ (y : Table). shown (with_write l w) y.description.family key ≡ item_rows y key)
-        (some u x at_other)
+        (same_Some u x at_other)
         (ap (λ f. shown (with_write l w) f key) family
         ∙ others t.description.family key (family_within s name t (valid.tables name t at)).0
         (of_table name t at)
@@ -109,10 +109,11 @@ module _ (l : Layout) (s : State) (shows : Shows l s) (valid : IsValid s) (name 
         → (key : List ℕ) → shown (with_write l w) i.family key ≡ index_rows x i key
     indexes_then other x true same at_other n i at_index key =
         let own : index_at e (Some n) ≡ Some i =
-        subst (λ (y : Table). index_at y.description (Some n) ≡ Some i) (sym (some u x at_other))
+        subst (λ (y : Table). index_at y.description (Some n) ≡ Some i)
+        (sym (same_Some u x at_other))
         at_index in
         subst (λ (y : Table). shown (with_write l w) i.family key ≡ index_rows y i key)
-        (some u x at_other) (own_index n i own key)
+        (same_Some u x at_other) (own_index n i own key)
     indexes_then other x false same at_other n i at_index key =
         others i.family key
         (index_within s other x (valid.tables other x at_other) n i at_index).0
@@ -127,12 +128,13 @@ module _ (l : Layout) (s : State) (shows : Shows l s) (valid : IsValid s) (name 
     changes_then other x true at_other g told key counts =
         let own : t.description.stream_family ≡ Some g =
         sym stream ∙ subst (λ (y : Table). y.description.stream_family ≡ Some g)
-        (sym (some u x at_other)) told in
-        subst (λ (y : Table). shown (with_write l w) g key ≡ change_rows y key) (some u x at_other)
+        (sym (same_Some u x at_other)) told in
+        subst (λ (y : Table). shown (with_write l w) g key ≡ change_rows y key)
+        (same_Some u x at_other)
         (others g key (stream_within s name t (valid.tables name t at) g own).0
         (of_stream name t g at own)
         ∙ shows.changes name t g at own key
-        (subst (λ (y : Table). IsLeftover y.trimmed key → ⊥) (sym (some u x at_other)) counts))
+        (subst (λ (y : Table). IsLeftover y.trimmed key → ⊥) (sym (same_Some u x at_other)) counts))
     changes_then other x false at_other g told key counts =
         others g key (stream_within s other x (valid.tables other x at_other) g told).0
         (of_stream other x g at_other told)

@@ -7,10 +7,10 @@ use Rattle.std.specs.List.{find, range_with_len}
 use Rattle.std.specs.Ordering.{eq_by_cmp}
 use Rattle.std.specs.Prelude.{filter, if◌then◌else◌, is_some, not}
 use Rattle.std.specs.Str.{bytes_eq}
+use Rattle.alt_cells.proofs.SameKeys.{key_itself, one_key as tied}
 use Rattle.alt_changes.specs.ChangeRows.{row_key}
 use Rattle.alt_layout.specs.Layout.{Layout, shown}
 use Rattle.alt_machine.specs.State.{Table, Texts}
-use Rattle.alt_opening.proofs.Ties.{itself, tied}
 use Rattle.alt_rowchanges.specs.Fronts.{AreFronts, IsFront, KnowsFront, front_at, without_front}
 use Rattle.alt_rowchanges.specs.Leftovers.{leftovers}
 use Rattle.alt_rowchanges.specs.declared.fronts.Front.{Front}
@@ -178,7 +178,7 @@ module _ (l : Layout) (tables : Texts Table) (name : List ℕ) (known : List Fro
             u,
             map.get-insert text_total tables name u q
                 ∙ ap (λ b. cond b (Some u) (map.get tables q))
-                (ap (eq_by_cmp text_order q) same ∙ itself q),
+                (ap (eq_by_cmp text_order q) same ∙ key_itself q),
             own f (ap (λ n. front_at n new) same ∙ is),
           )
       by false e =

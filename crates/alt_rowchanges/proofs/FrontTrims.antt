@@ -2,6 +2,7 @@
 -- rows that are left over.
 use Rattle.std.proofs.Common.{◌≡◌, ◌<◌, ◌≤◌, ◌+◌, refl, sym, ap, subst, ◌∙◌, ℕ, Bool, true, false, T, List, [], ◌∷◌, ◌++◌, map as map_list, take, drop, Option, Some, None, All, arith}
 use Rattle.std.proofs.lemmas.List.Elements.{All-nil}
+use Rattle.std.proofs.lemmas.Option.{same_Some}
 use Rattle.std.specs.FinMap as map
 use Rattle.std.specs.Option.{option_map_or, option_to_list}
 use Rattle.std.specs.Prelude.{if◌then◌else◌, is_some, unwrap_or}
@@ -20,7 +21,6 @@ use Rattle.alt_machine.specs.Trimming.{kept, trimmed_at}
 use Rattle.alt_machine.specs.Valid.{IsValid}
 use Rattle.alt_machine.specs.Writes.{with_write_by}
 use Rattle.alt_machine.proofs.Trimming.{trimmed_most}
-use Rattle.alt_opening.proofs.OneState.{some}
 use Rattle.alt_schema.specs.declared.schema.TableSchema.{TableSchema}
 use Rattle.alt_rowchanges.specs.Fronts.{IsFront, first_moment}
 use Rattle.alt_rowchanges.specs.Leftovers.{leftovers, lowest_left}
@@ -137,7 +137,8 @@ module _ (s : State) (name : List ℕ) (t : Table) (at : map.get s.tables name �
       );
       above = λ g of. subst (λ n. All (λ k. n ≤ k) (leftovers m g after.trimmed)) (sym told.1)
           (subst (λ ns. All (λ k. r.from ≤ k) ns)
-          (sym ((λ i. leftovers m (some g family (sym of ∙ stream) i) (trimmed_then i)) ∙ left))
+          (sym
+          ((λ i. leftovers m (same_Some g family (sym of ∙ stream) i) (trimmed_then i)) ∙ left))
           (is.above family stream));
     }
 

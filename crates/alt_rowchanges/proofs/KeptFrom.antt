@@ -1,6 +1,6 @@
 -- What a write trims of the changes of a stream, as they are read from the front on.
 use Rattle.std.proofs.Common.{◌≡◌, ◌<◌, ◌≤◌, ◌+◌, ◌⊎◌, inl, inr, refl, sym, ap, subst, ◌∙◌, ℕ, zero, suc, Bool, true, false, cond, List, [], ◌∷◌, ◌++◌, length, take, Option, Some, None, IsSome, arith}
-use Rattle.std.proofs.lemmas.Bool.{false≢true}
+use Rattle.std.proofs.lemmas.Bool.{false≢true, lt-leb, leb-false, leb-true, le-leb}
 use Rattle.std.proofs.lemmas.Bool.Decides.{nat_tests}
 use Rattle.std.proofs.lemmas.List.Elements.{All-head, All-tail}
 use Rattle.std.specs.Prelude.{if◌then◌else◌, nat_le, unwrap_or}
@@ -8,7 +8,6 @@ use Rattle.alt_machine.specs.Ops.GetRecords.{changes_from}
 use Rattle.alt_machine.specs.State.{Change}
 use Rattle.alt_machine.specs.Trimming.{is_past, kept, trimmed_at}
 use Rattle.alt_machine.proofs.Trimming.{Above, Rise, rise_first, rise_rest}
-use Rattle.alt_opening.proofs.StreamKeys.{above, low_of, late_of, up_to}
 use Rattle.alt_rowchanges.specs.Fronts.{first_moment}
 use Rattle.alt_rowchanges.specs.Trims.{IsKeptFrom, is_over}
 
@@ -68,7 +67,7 @@ all_from n [] over m low = refl
 all_from n (c ∷ cs) over m low =
     let high = All-head (λ (x : Change). n < x.number) c cs over in
     ap (λ b. cond b (c ∷ changes_from m cs) (changes_from m cs))
-    (up_to m c.number (omega (arith, high, low)))
+    (le-leb m c.number (omega (arith, high, low)))
     ∙ ap (λ rest. c ∷ rest) (all_from n cs (All-tail (λ (x : Change). n < x.number) c cs over) m low)
 
 -- those behind one of them are those from the number behind it on
@@ -91,13 +90,13 @@ next_from (d ∷ ds) rise n c rest is = by (nat_le n d.number) refl is
         let first : c ≡ d = cc is in
         let behind : rest ≡ changes_from n ds = cc is in
         let number : c.number ≡ d.number = ap (λ (x : Change). x.number) first in (
-          omega (arith, low_of n d.number low, number),
+          omega (arith, leb-true n d.number low, number),
           behind ∙ all_from d.number ds over n
-              (let le = low_of n d.number low in omega (arith, le))
+              (let le = leb-true n d.number low in omega (arith, le))
               ∙ sym (all_from d.number ds over (c.number + 1) (omega (arith, number)))
               ∙ ap (λ b. cond b (d ∷ changes_from (c.number + 1) ds)
               (changes_from (c.number + 1) ds))
-              (sym (above (c.number + 1) d.number (omega (arith, number)))),
+              (sym (lt-leb (c.number + 1) d.number (omega (arith, number)))),
         )
     by false late is later =
         let further = later is in
@@ -105,8 +104,8 @@ next_from (d ∷ ds) rise n c rest is = by (nat_le n d.number) refl is
           further.0,
           further.1 ∙ ap (λ b. cond b (d ∷ changes_from (c.number + 1) ds)
               (changes_from (c.number + 1) ds))
-              (sym (above (c.number + 1) d.number
-              (let less = late_of n d.number late in omega (arith, less, least)))),
+              (sym (lt-leb (c.number + 1) d.number
+              (let less = leb-false n d.number late in omega (arith, less, least)))),
         )
 
 -- What the first of the changes behind a number tell of all of them: where each of them is trimmed one may go on behind the last, and

@@ -10,16 +10,16 @@ use Rattle.alt_cells.specs.Keys.{key_cmp}
 use Rattle.alt_cells.specs.declared.batch.RowChange.{RowChange}
 use Rattle.alt_cells.specs.Changes.{Columns, change_between}
 use Rattle.alt_cells.proofs.ChangeLaws.{none_shown}
+use Rattle.alt_cells.proofs.SameKeys.{key_itself}
 use Rattle.alt_changes.specs.ChangeRows.{row_key}
 use Rattle.alt_changes.specs.TrimRows.{hidden, trimmed_changes, trimmed_row}
 use Rattle.alt_layout.specs.Layout.{Layout, change_of, shown, shown_by}
 use Rattle.alt_writes.specs.Writes.{Write}
 use Rattle.alt_layout.specs.Writes.{with_write}
+use Rattle.alt_layout.proofs.FirstChange.{ShowsWrite}
 use Rattle.alt_rowchanges.specs.Leftovers.{leftovers}
-use Rattle.alt_opening.proofs.Ties.{itself}
 use Rattle.alt_rowchanges.proofs.StreamTrims.{change_first}
 use Rattle.alt_opening.proofs.StreamKeys.{keys_differ}
-use Rattle.alt_rowchanges.proofs.ChangeLaws.{ShowsWrite}
 
 -- a number is one of these
 abbrev pub is_in : List ℕ → ℕ → Bool
@@ -122,7 +122,7 @@ key_test m n small_m small_n = by (m == n) refl
   where
     by : (b : Bool) → (m == n) ≡ b → eq_by_cmp key_cmp (row_key m) (row_key n) ≡ b
     by true e = ap (λ k. eq_by_cmp key_cmp (row_key m) (row_key k)) (sym (eqb-true m n e))
-        ∙ itself (row_key m)
+        ∙ key_itself (row_key m)
     by false e = keys_differ m n small_m small_n (λ same. let f : (m == n) ≡ true = one m n same in
         let g : ⊥ = cc (e, f) in g)
       where

@@ -1,6 +1,6 @@
 -- The rows of a stream from a number on are those of the numbers at which it shows one.
 use Rattle.std.proofs.Common.{◌≡◌, ◌<◌, ◌≤◌, ◌+◌, ◌-◌, ◌^◌, ⊎_elim, refl, sym, ap, subst, ◌∙◌, ℕ, zero, suc, Bool, true, false, cond, T, List, [], ◌∷◌, ◌++◌, length, get_or, map, take, drop, Option, Some, None, All, option_map, arith}
-use Rattle.std.proofs.lemmas.Bool.{false≢true}
+use Rattle.std.proofs.lemmas.Bool.{false≢true, lt-leb as above, leb-false, leb-true, le-leb}
 use Rattle.std.proofs.lemmas.List.Elements.{All-nil}
 use Rattle.std.specs.BTreeMap.Range.{range_contains}
 use Rattle.std.specs.FinMap as finite
@@ -12,19 +12,21 @@ use Rattle.std.specs.Prelude.{Vec}
 use Rattle.std.specs.declared.alloc.Global.{Global}
 use Rattle.std.specs.declared.cmp.Ordering.TheVariants.{Equal}
 use Rattle.std.specs.declared.ops.Bound.TheVariants.{Included, Excluded}
+use Rattle.alt_base.proofs.Bools.{both_hold}
+use Rattle.alt_base.proofs.Orderings.{nat_cmp-less}
 use Rattle.alt_cells.specs.Changes.{Columns}
 use Rattle.alt_cells.specs.Keys.{key_cmp}
 use Rattle.alt_cells.proofs.CellLaws.{key_exact, key_total}
+use Rattle.alt_cells.proofs.SameKeys.{key_itself, one_key}
 use Rattle.alt_changes.specs.ChangeRows.{change_columns, row_key}
 use Rattle.alt_changes.specs.TrimRows.{trimmed_row}
-use Rattle.alt_keyorder.proofs.Parts.{nat_cmp-less}
 use Rattle.alt_layout.specs.Layout.{Layout, rows_between, shown, shown_of, shown_rows}
 use Rattle.alt_layout.proofs.ShownLaws.{find-shown, get-shown_rows, is_sorted-shown}
 use Rattle.alt_machine.specs.State.{Change, Table}
+use Rattle.alt_machine.proofs.Trimming.{Rise}
 use Rattle.alt_opening.specs.StateRows.{IsLeftover, change_rows, keyed_changes}
 use Rattle.alt_opening.proofs.OneStream.{leftover_or_not}
-use Rattle.alt_opening.proofs.StreamKeys.{IsSmall, Rise, above, found_keyed, get_keyed, is_le-nat, key_one, key_order, late_of, low_of, up_to}
-use Rattle.alt_opening.proofs.Ties.{itself, tied}
+use Rattle.alt_opening.proofs.StreamKeys.{IsSmall, found_keyed, get_keyed, is_le-nat, key_one, key_order}
 use Rattle.alt_rowchanges.specs.Leftovers.{leftovers}
 use Rattle.alt_rowchanges.specs.Trims.{AreNumbersOf, AreTwo, IsLowest, IsLowestFrom, behind, leftovers_from}
 use Rattle.alt_rowchanges.proofs.Rising.{behind_low, drop_behind, drop_two, filter_rising, none_past, range_skip, rising_later, take_two}
@@ -38,13 +40,9 @@ at_key n = (row_key n, n)
 abbrev pub numbered : ℕ → ℕ → List (List ℕ × ℕ)
 numbered a k = map at_key (range_with_len a k)
 
-both : (a b : Bool) → T a → T b → T (a && b)
-both true b p q = q
-both false b p q = absurd p
-
 below_keys : (m a k : ℕ) → m < a → a + k ≤ 2 ^ 64 → T (below_all key_cmp (row_key m) (numbered a k))
 below_keys m a zero low high = tt
-below_keys m a (suc k) low high = both _ _
+below_keys m a (suc k) low high = both_hold _ _
     (subst (λ o. T (is_lt o)) (sym (key_order m a (omega (arith, low, high)) (omega (arith, high))
     ∙ nat_cmp-less m a low)) tt)
     (below_keys m (a + 1) k (omega (arith, low)) (omega (arith, high)))
@@ -52,7 +50,7 @@ below_keys m a (suc k) low high = both _ _
 -- they are in order
 pub sorted_numbers : (a k : ℕ) → a + k ≤ 2 ^ 64 → T (is_sorted key_cmp (numbered a k))
 sorted_numbers a zero high = tt
-sorted_numbers a (suc k) high = both _ _
+sorted_numbers a (suc k) high = both_hold _ _
     (below_keys a (a + 1) k (omega arith) (omega (arith, high)))
     (sorted_numbers (a + 1) k (omega (arith, high)))
 
@@ -71,7 +69,7 @@ found_number q a (suc k) n found = by (eq_by_cmp key_cmp q (row_key a)) refl fou
     by true same found later =
         let is : Some a ≡ Some n = found in
         let one : a ≡ n = cc is in (
-          tied q (row_key a) same ∙ ap row_key one,
+          one_key q (row_key a) same ∙ ap row_key one,
           omega (arith, one),
           omega (arith, one),
         )
@@ -90,17 +88,17 @@ finds_number a (suc k) n fits low high = by (eq_by_cmp key_cmp (row_key n) (row_
   where
     later : eq_by_cmp key_cmp (row_key n) (row_key a) ≡ false → (c : Bool) → nat_le (a + 1) n ≡ c
         → a + 1 ≤ n
-    later differs true e = low_of (a + 1) n e
-    later differs false e = absurd (let less = late_of (a + 1) n e in
+    later differs true e = leb-true (a + 1) n e
+    later differs false e = absurd (let less = leb-false (a + 1) n e in
         let one : n ≡ a = omega (arith, low, less) in
         false≢true (sym differs ∙ ap (λ m. eq_by_cmp key_cmp (row_key m) (row_key a)) one
-        ∙ itself (row_key a)))
+        ∙ key_itself (row_key a)))
 
     by : (b : Bool) → eq_by_cmp key_cmp (row_key n) (row_key a) ≡ b
         → (a + 1 ≤ n → find key_cmp (row_key n) (numbered (a + 1) k) ≡ Some n)
         → cond b (Some a) (find key_cmp (row_key n) (numbered (a + 1) k)) ≡ Some n
     by true same rest = ap (λ m. Some m) (key_one a n (omega (arith, fits)) (omega (arith, high, fits))
-        (sym (tied (row_key n) (row_key a) same)))
+        (sym (one_key (row_key n) (row_key a) same)))
     by false differs rest = rest (later differs (nat_le (a + 1) n) refl)
 
 -- ---- rows in a range of numbers
@@ -187,7 +185,7 @@ module _ (l : Layout) (family : ℕ)
 
     inside : (n : ℕ) → a ≤ n → n < b → within (row_key n) ≡ true
     inside n low high = test n (omega (arith, high, fits))
-        ∙ (λ i. up_to a n low i && not (above b n high i))
+        ∙ (λ i. le-leb a n low i && not (above b n high i))
 
     -- and back
     between : (n : ℕ) → n < 2 ^ 64 → within (row_key n) ≡ true → (a ≤ n) × (n < b)
@@ -195,7 +193,7 @@ module _ (l : Layout) (family : ℕ)
       where
         by : (c d : Bool) → nat_le a n ≡ c → nat_le b n ≡ d → (c && not d) ≡ true
             → (a ≤ n) × (n < b)
-        by true false e f h = (low_of a n e, late_of b n f)
+        by true false e f h = (leb-true a n e, leb-false b n f)
         by true true e f h = absurd (false≢true h)
         by false d e f h = absurd (false≢true h)
 
@@ -266,7 +264,7 @@ row_number l family t small small_all rise shows q row is = ⊎_elim
         → finite.get (keyed_changes t.changes) q ≡ o
         → (if b then trimmed_row t.trimmed else option_map change_columns o) ≡ Some row
         → (n : ℕ) × (n < 2 ^ 64) × (q ≡ row_key n)
-    by true e o f h = (0, omega arith, tied q (row_key 0) e)
+    by true e o f h = (0, omega arith, one_key q (row_key 0) e)
     by false e None f h = absurd (let no : None ≡ Some row = h in let f : ⊥ = cc no in f)
     by false e (Some c) f h =
         let found = found_keyed IsSmall t.changes q c small_all
@@ -358,11 +356,11 @@ left_from_there l family number from some above = by (nat_le from number) refl
     by : (b : Bool) → nat_le from number ≡ b
         → leftovers l family number ≡ leftovers_from l family from number
     by true e =
-        let low = low_of from number e in
+        let low = leb-true from number e in
         range_skip has (from - 1) 1 (number + 1 - from) number from (omega (arith, low, some))
         (omega (arith, some)) above
     by false e =
-        let past = late_of from number e in
+        let past = leb-false from number e in
         let empty : number + 1 - from ≡ 0 = omega (arith, past) in
         none_past 1 (number + 1) from (leftovers l family number) (omega (arith, past))
         (filter_rising has 1 number (number + 1) (omega arith)) above

@@ -39,5 +39,5 @@ pub use Rattle.alt_opening.proofs.OneState as OpeningOneState
 pub use Rattle.alt_opening.proofs.OneStream as OpeningOneStream
 pub use Rattle.alt_opening.proofs.OverEngine as OpeningOverEngine
 pub use Rattle.alt_opening.proofs.StreamKeys as OpeningStreamKeys
-pub use Rattle.alt_opening.proofs.Ties as OpeningTies
 pub use Rattle.alt_opening.proofs.TrimmedLaws as OpeningTrimmedLaws
+pub use Rattle.alt_opening.proofs.EngineLaws as OpeningEngineLaws

@@ -8,8 +8,9 @@ use Rattle.std.specs.Ordering.{int_cmp, is_le, is_lt, nat_cmp, ordering_reverse}
 use Rattle.std.specs.declared.cmp.Ordering.{Ordering}
 use Rattle.std.specs.declared.cmp.Ordering.TheVariants.{Less, Equal, Greater}
 use Rattle.std.proofs.lemmas.Cmp.{int_cmp_total}
+use Rattle.alt_base.proofs.Orderings.{nat_cmp-equal, nat_cmp-greater, nat_cmp-less}
 use Rattle.alt_decimal.specs.Number.{units_in}
-use Rattle.alt_decimal.proofs.Orders.{int_cmp-neg_pos, int_cmp-pos, nat_cmp-equal, nat_cmp-greater, nat_cmp-less}
+use Rattle.alt_decimal.proofs.Orders.{int_cmp-neg_pos, int_cmp-pos}
 use Rattle.alt_opening.proofs.TableSteps.{up_to_or_above}
 use Rattle.alt_machine.specs.Expiry.{is_over}
 use Rattle.alt_machine.specs.declared.TheConstants.{FIVE_YEARS}

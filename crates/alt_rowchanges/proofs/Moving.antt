@@ -1,5 +1,5 @@
 -- What the changes of a row that moves make of what is shown.
-use Rattle.std.proofs.Common.{◌≡◌, ◌≢◌, ℕ, Bool, true, false, List, [], ◌∷◌, Option, Some, None, refl, sym, ap, subst, ◌∙◌}
+use Rattle.std.proofs.Common.{◌≡◌, ◌≢◌, ℕ, Bool, true, false, List, [], ◌∷◌, Option, Some, None, refl, sym, ap, ◌∙◌}
 use Rattle.std.proofs.lemmas.Bool.{false≢true}
 use Rattle.std.proofs.lemmas.List.Elements.{All-head, All-tail}
 use Rattle.std.specs.Prelude.{if◌then◌else◌}
@@ -8,12 +8,14 @@ use Rattle.alt_cells.specs.declared.batch.RowChange.{RowChange}
 use Rattle.alt_cells.specs.Changes.{Columns, CanShow, change_between, with_columns, as_shown, written}
 use Rattle.alt_cells.specs.Keys.{key_cmp}
 use Rattle.alt_cells.proofs.ChangeLaws.{written-change_between, none_shown}
+use Rattle.alt_cells.proofs.SameKeys.{key_itself, one_key}
 use Rattle.alt_layout.specs.Layout.{change_of, shown_by}
 use Rattle.alt_machine.proofs.Rekeying.{moved}
-use Rattle.alt_opening.proofs.Ties.{tied, itself}
 use Rattle.alt_rowchanges.proofs.ChangeLaws.{one_change, two_changes, AreOthers}
 use Rattle.alt_views.specs.IndexRows.{KeyedRow, if_said, moved_changes}
+use Rattle.alt_views.proofs.Alike.{unsaid as not_said}
 use Rattle.alt_views.proofs.Batched.{AreOf, moved_changes-of}
+use Rattle.alt_views.proofs.Moved.{is_said}
 
 -- the row that moves was shown at its key
 abbrev pub WasShown : Option KeyedRow → List ℕ → Option Columns → Type 0
@@ -38,20 +40,6 @@ unsaid family key old new can_old can none =
     ∙ ap (λ given. as_shown (with_columns given old)) (sym none)
     ∙ written-change_between family key (Some old) (Some new) can
 
--- a change without a cell isn't made
-not_said : (c : RowChange) → c.cells ≡ [] → if_said c ≡ []
-not_said c none = subst (λ given. if_said (record c { cells = given }) ≡ []) (sym none) refl
-
--- and one with a cell is
-is_said : (c : RowChange) → (c.cells ≡ [] → ⊥) → if_said c ≡ c ∷ []
-is_said c some = by c.cells refl
-  where
-    by : (cells : List (List ℕ × Option (List ℕ))) → c.cells ≡ cells → if_said c ≡ c ∷ []
-    by [] is = absurd (some is)
-    by (cell ∷ cells) is = subst
-        (λ given. if_said (record c { cells = given }) ≡ record c { cells = given } ∷ [])
-        (sym is) refl
-
 -- ---- a row that stays at its key
 
 module _ (family : ℕ) (o n : KeyedRow) (key : List ℕ) (before : Option Columns)
@@ -65,14 +53,14 @@ module _ (family : ℕ) (o n : KeyedRow) (key : List ℕ) (before : Option Colum
   changed : (b : Bool) → eq_by_cmp key_cmp key o.0 ≡ b
       → shown_by (if b then Some in_place else None) before
       ≡ (if b then Some n.1 else (if b then None else before))
-  changed true e = ap (written in_place) (was (tied key o.0 e))
+  changed true e = ap (written in_place) (was (one_key key o.0 e))
       ∙ written-change_between family o.0 (Some o.1) (Some n.1) can
   changed false e = refl
 
   -- where it says nothing that is shown already
   nothing : in_place.cells ≡ [] → (b : Bool) → eq_by_cmp key_cmp key o.0 ≡ b
       → before ≡ (if b then Some n.1 else (if b then None else before))
-  nothing none true e = was (tied key o.0 e) ∙ unsaid family o.0 o.1 n.1 can_old can none
+  nothing none true e = was (one_key key o.0 e) ∙ unsaid family o.0 o.1 n.1 can_old can none
   nothing none false e = refl
 
   -- so whether it is made or not, that is shown
@@ -114,7 +102,7 @@ module _ (family : ℕ) (o n : KeyedRow) (key : List ℕ) (before : Option Colum
       by : (a b : Bool) → eq_by_cmp key_cmp key o.0 ≡ a → eq_by_cmp key_cmp key n.0 ≡ b
           → shown_by (if a then Some leaves else (if b then Some comes else None)) before
           ≡ (if b then Some n.1 else (if a then None else before))
-      by true true e f = absurd (apart (sym (tied key n.0 f) ∙ tied key o.0 e))
+      by true true e f = absurd (apart (sym (one_key key n.0 f) ∙ one_key key o.0 e))
       by true false e f = none_shown
       by false true e f = made family n before can
       by false false e f = refl
@@ -156,9 +144,9 @@ shown-moved_changes family (Some o) (Some n) key before was can_old can =
         else (if eq_by_cmp key_cmp key o.0 then None else before))
     by_keys true e = said family o n key before was can_old can
         ∙ ap (λ k. if eq_by_cmp key_cmp key k then Some n.1
-        else (if eq_by_cmp key_cmp key o.0 then None else before)) (sym (tied n.0 o.0 e))
+        else (if eq_by_cmp key_cmp key o.0 then None else before)) (sym (one_key n.0 o.0 e))
     by_keys false e = goes family o n key before can
-        (λ same. false≢true (sym e ∙ ap (λ k. eq_by_cmp key_cmp k o.0) same ∙ itself o.0))
+        (λ same. false≢true (sym e ∙ ap (λ k. eq_by_cmp key_cmp k o.0) same ∙ key_itself o.0))
 
 -- changes of one family are others to another
 others-of : (family other : ℕ) (cs : List RowChange) → family ≢ other → AreOf family cs

@@ -163,12 +163,6 @@ one_changes (e ∷ es) (a ∷ cs) (b ∷ ds) p q =
 
 -- ---- places
 
--- the last of a list with one more
-pub last_more : {A : Type 0} (o : Option A) (xs : List A) (x : A)
-    → last_or o (xs ++ x ∷ []) ≡ Some x
-last_more o [] x = refl
-last_more o (y ∷ ys) x = last_more (Some y) ys x
-
 -- the place of one row more is the last
 pub last_row : (page : List (List ℕ × Columns)) (e : List ℕ × Columns)
     → Some e.0 ≡ last_or None (map (λ (x : List ℕ × Columns). x.0) (page ++ e ∷ []))

@@ -14,24 +14,12 @@ use Rattle.alt_value.specs.Tree.{Pair}
 use Rattle.alt_views.specs.IndexRows.{index_columns, moved_changes, moves_in, row_in_index}
 use Rattle.std.proofs.lemmas.Bool.Decides.{nat_tests}
 use Rattle.std.proofs.lemmas.List.{append-nil}
+use Rattle.std.proofs.lemmas.Option.{same_Some}
 use Rattle.std.specs.List.{find, flat_map, last_or}
-use Rattle.alt_opening.proofs.OneState.{some}
 use Rattle.alt_schema.specs.Indexes.{indexes}
 use Rattle.alt_schema.specs.declared.schema.IndexSchema.{IndexSchema}
 use Rattle.alt_schema.specs.declared.schema.TableSchema.{TableSchema}
-
--- changes in front of others have no row where neither have
-pub has_none : (cs ds : List RowChange) (family : ℕ) (key : List ℕ) → has_row cs family key ≡ false
-    → has_row ds family key ≡ false → has_row (cs ++ ds) family key ≡ false
-has_none [] ds family key e f = f
-has_none (c ∷ cs) ds family key e f = by ((c.family == family) && bytes_eq c.key key) e
-    (λ e. has_none cs ds family key e f)
-  where
-    by : (b : Bool) → (b || has_row cs family key) ≡ false
-        → (has_row cs family key ≡ false → has_row (cs ++ ds) family key ≡ false)
-        → (b || has_row (cs ++ ds) family key) ≡ false
-    by true e rest = absurd (let f : ⊥ = cc e in f)
-    by false e rest = rest e
+use Rattle.alt_views.proofs.Batched.{has_row-append}
 
 module _ {A : Type 0} (p : A → Bool) where
   -- the first from a place on that passes is the one there, or the first behind it
@@ -39,7 +27,7 @@ module _ {A : Type 0} (p : A → Bool) where
       → find p (drop n xs) ≡ cond (p x) (Some x) (find p (drop (suc n) xs))
   find_from [] n x at = absurd (let no : None ≡ Some x = at in cc no)
   find_from (y ∷ ys) zero x at = subst (λ z. find p (y ∷ ys) ≡ cond (p z) (Some z) (find p ys))
-      (some y x at) refl
+      (same_Some y x at) refl
   find_from (y ∷ ys) (suc n) x at = find_from ys n x at
 
   -- behind the last there is none
@@ -53,7 +41,7 @@ module _ {A : Type 0} (p : A → Bool) where
 pub last_made : {A B : Type 0} (f : A → B) (xs : List A) (n : ℕ) (x : A) (o : Option B)
     → slice_get xs n ≡ Some x → last_or o (each f (take (suc n) xs)) ≡ Some (f x)
 last_made f [] n x o at = absurd (let no : None ≡ Some x = at in cc no)
-last_made f (y ∷ ys) zero x o at = ap (λ z. Some (f z)) (some y x at)
+last_made f (y ∷ ys) zero x o at = ap (λ z. Some (f z)) (same_Some y x at)
 last_made f (y ∷ ys) (suc n) x o at = last_made f ys n x (Some (f y)) at
 
 -- what stands behind a list stands there
@@ -77,7 +65,7 @@ taken_at (x ∷ xs) (suc n) (suc m) y at =
 flat_more : {A B : Type 0} (f : A → List B) (xs : List A) (n : ℕ) (x : A)
     → slice_get xs n ≡ Some x → flat_map f (take (suc n) xs) ≡ flat_map f (take n xs) ++ f x
 flat_more f [] n x at = absurd (let no : None ≡ Some x = at in cc no)
-flat_more f (y ∷ ys) zero x at = append-nil (f y) ∙ ap f (some y x at)
+flat_more f (y ∷ ys) zero x at = append-nil (f y) ∙ ap f (same_Some y x at)
 flat_more f (y ∷ ys) (suc n) x at = ap (λ zs. f y ++ zs) (flat_more f ys n x at)
     ∙ sym (append_assoc (f y) (flat_map f (take n ys)) (f x))
 
@@ -123,7 +111,7 @@ module _ (d e : TableSchema) (i : IndexSchema) (low : 1 ≤ i.family) where
       → index_entry d i y ≡ Some (key, w) → ⊥)
       → has_row (flat_map (λ y. moves_in d None (Some y) i) items) i.family key ≡ false
   none_of_all key [] none = refl
-  none_of_all key (y ∷ ys) none = has_none (moves_in d None (Some y) i)
+  none_of_all key (y ∷ ys) none = has_row-append (moves_in d None (Some y) i)
       (flat_map (λ z. moves_in d None (Some z) i) ys) i.family key
       (none_moves key y (λ w is. none 0 y w refl is))
       (none_of_all key ys (λ m z w at is. none (suc m) z w at is))
@@ -174,7 +162,7 @@ module _ (d e : TableSchema) (i : IndexSchema) (low : 1 ≤ i.family) where
             → after ≡ so_far (take (n + 1) items)
         by None is told = absurd (let no : None ≡ Some (key, columns) = told in cc no)
         by (Some f) is told =
-            let one : f.0 ≡ key = ap (λ (r : List ℕ × Columns). r.0) (some _ _ told) in
+            let one : f.0 ≡ key = ap (λ (r : List ℕ × Columns). r.0) (same_Some _ _ told) in
             put (subst (λ cs. has_row cs i.family key ≡ false) (sym so)
             (step_free items apart n x at key f.1 (is ∙ ap (λ k. Some (k, f.1)) one)))
             ∙ ap (λ cs. cs ++ change_between i.family key None (Some columns) ∷ []) so

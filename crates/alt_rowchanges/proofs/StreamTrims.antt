@@ -13,6 +13,7 @@ use Rattle.alt_cells.specs.Keys.{key_cmp}
 use Rattle.alt_cells.specs.declared.batch.RowChange.{RowChange}
 use Rattle.alt_cells.proofs.CellLaws.{key_total}
 use Rattle.alt_cells.proofs.ChangeLaws.{none_shown, written-change_between}
+use Rattle.alt_cells.proofs.SameKeys.{key_itself, one_key}
 use Rattle.alt_changes.specs.ChangeRows.{change_columns, row_change, row_changes, row_key}
 use Rattle.alt_changes.specs.TrimRows.{AreLeft, hidden, trim_changes, trimmed_changes, trimmed_columns, trimmed_row}
 use Rattle.alt_changes.proofs.RowLaws.{change_can_show}
@@ -20,6 +21,7 @@ use Rattle.alt_layout.specs.Layout.{Layout, change_of, shown, shown_by}
 use Rattle.alt_writes.specs.Writes.{Write}
 use Rattle.alt_layout.specs.Writes.{with_write}
 use Rattle.alt_codec.specs.declared.writer.Writer.{Writer}
+use Rattle.alt_layout.proofs.FirstChange.{ShowsWrite}
 use Rattle.alt_machine.specs.Changes.{change_left, trimmed_with, with_change}
 use Rattle.alt_machine.specs.Same.{is_same}
 use Rattle.alt_machine.specs.State.{Change}
@@ -29,13 +31,11 @@ use Rattle.alt_machine.specs.declared.TheConstants.{NUMBERS_END}
 use Rattle.alt_machine.proofs.Trimming.{Above, Rise, trimmed_least}
 use Rattle.alt_schema.specs.declared.schema.TableSchema.{TableSchema}
 use Rattle.alt_opening.specs.StateRows.{IsLeftover, keyed_changes, stream_row}
-use Rattle.alt_opening.proofs.Ties.{itself, tied}
 use Rattle.alt_opening.proofs.StreamKeys.{IsSmall, keyed_more, keys_differ}
 use Rattle.alt_opening.proofs.KeptChanges.{are_small, each_so}
 use Rattle.alt_rowchanges.proofs.TrimKeys.{get_kept}
 use Rattle.alt_value.specs.Tree.{Pair}
 use Rattle.alt_views.proofs.ItemRowLaws.{can_show}
-use Rattle.alt_rowchanges.proofs.ChangeLaws.{ShowsWrite}
 
 -- the row of number 0 can be shown
 pub trimmed_can_show : (trimmed : ℕ) → CanShow (trimmed_row trimmed)
@@ -46,7 +46,7 @@ trimmed_can_show trimmed = by (trimmed == 0)
     by false = can_show (trimmed_columns trimmed) (codes "x") (to_be_bytes w64 trimmed)
         (finite.get-insert key_total finite.empty (codes "x") (to_be_bytes w64 trimmed) (codes "x")
         ∙ ap (λ b. cond b (Some (to_be_bytes w64 trimmed)) (finite.get (finite.empty {R = key_cmp}) (codes "x")))
-        (itself (codes "x")))
+        (key_itself (codes "x")))
 
 -- a key that isn't left over is none of a row that is hidden
 pub hidden_none : (family trimmed : ℕ) (key : List ℕ) (ks : List ℕ) → AreLeft trimmed ks
@@ -62,7 +62,7 @@ hidden_none family trimmed key (k ∷ ks) left counts = by
         else change_of family key (map (hidden family) ks)) ≡ None
     by rest true true same =
         let of = All-head (λ (k : ℕ). (1 ≤ k) × (k ≤ trimmed)) k ks left in
-        absurd (counts (k, of.0, of.1, tied key (row_key k) same))
+        absurd (counts (k, of.0, of.1, one_key key (row_key k) same))
     by rest true false differs = rest
     by rest false b differs = rest
 
@@ -189,7 +189,7 @@ module _ (family moment before : ℕ) (change : Change) (cs : List Change) (left
           ∙ ap (λ b. cond b (Some change) (finite.get (keyed_changes cs) key)) same))
           ∙ sym (ap (λ b. if b then trimmed_row after
           else option_map change_columns (finite.get (keyed_changes (kept moment all)) key))
-          (ap (λ k. eq_by_cmp key_cmp k (row_key 0)) (tied key (row_key change.number) same)
+          (ap (λ k. eq_by_cmp key_cmp k (row_key 0)) (one_key key (row_key change.number) same)
           ∙ keys_differ change.number 0 small (omega arith)
           (λ is. let none : change.number ≡ 0 = is in omega (arith, some, none))))
       by_number false other =

@@ -1,6 +1,7 @@
 -- The rows of a state in which a table has another attribute for time to live, or none.
 use Rattle.std.proofs.Common.{◌≡◌, ◌≤◌, ◌<◌, ◌+◌, ℕ, Bool, true, false, cond, List, [], Option, Some, None, refl, sym, ap, subst, ◌∙◌, inl, inr, arith, All}
 use Rattle.std.proofs.lemmas.Bool.{false≢true}
+use Rattle.std.proofs.lemmas.Option.{same_Some}
 use Rattle.std.specs.Prelude.{if◌then◌else◌, option_map}
 use Rattle.std.specs.Ordering.{eq_by_cmp}
 use Rattle.std.specs.FinMap as map
@@ -9,10 +10,12 @@ use Rattle.alt_cells.specs.Changes.{change_between}
 use Rattle.alt_cells.specs.Keys.{key_cmp}
 use Rattle.alt_cells.proofs.CellLaws.{key_total}
 use Rattle.alt_cells.proofs.ChangeLaws.{written-change_between}
+use Rattle.alt_cells.proofs.SameKeys.{one_key}
 use Rattle.alt_opening.specs.HandInHand.{batch_write}
 use Rattle.alt_layout.specs.Layout.{Layout, shown, shown_by, change_of}
 use Rattle.alt_layout.specs.Writes.{with_write}
 use Rattle.alt_layout.proofs.BatchLaws.{shows_batch}
+use Rattle.alt_layout.proofs.FirstChange.{ShowsWrite}
 use Rattle.alt_writes.specs.Writes.{Write}
 use Rattle.alt_machine.specs.declared.TheConstants.{NUMBERS_END}
 use Rattle.alt_machine.specs.Indexed.{index_items}
@@ -27,12 +30,10 @@ use Rattle.alt_schemabytes.specs.Held.{IsHeld, IsHeldText, Where}
 use Rattle.alt_schema.specs.declared.schema.IndexSchema.{IndexSchema}
 use Rattle.alt_schema.specs.declared.schema.TableSchema.{TableSchema}
 use Rattle.alt_opening.specs.StateRows.{HasMoment, IsHeldWhole, IsLeftover, Shows, catalog_family, catalog_rows, item_rows, index_rows, change_rows, table_row, next_row}
-use Rattle.alt_opening.proofs.OneState.{some}
-use Rattle.alt_opening.proofs.Ties.{tied}
 use Rattle.alt_rowchanges.specs.RowChanges.{Turns, time_changes}
 use Rattle.alt_views.specs.IndexRows.{index_columns}
 use Rattle.alt_rowchanges.proofs.CatalogLaws.{off_catalog, table_can_show, table_named}
-use Rattle.alt_rowchanges.proofs.ChangeLaws.{ShowsWrite, one_change}
+use Rattle.alt_rowchanges.proofs.ChangeLaws.{one_change}
 use Rattle.alt_rowchanges.proofs.WriteLaws.{family_within, index_within, stream_within}
 
 -- a description that a program can hold, with another text for that
@@ -89,10 +90,10 @@ module _ (l : Layout) (s : State) (shows : Shows l s) (valid : IsValid s) (name 
           ≡ (if b then next_row s.next_family
           else option_map (λ t. table_row t.description) (cond a (Some u) (map.get s.tables key)))
       by_key true true e f = absurd (false≢true (sym named
-          ∙ ap (λ k. eq_by_cmp key_cmp k name) (sym (tied key [] f)) ∙ e))
+          ∙ ap (λ k. eq_by_cmp key_cmp k name) (sym (one_key key [] f)) ∙ e))
       by_key true false e f =
           ap (λ k. shown_by (Some row_then)
-          (option_map (λ t. table_row t.description) (map.get s.tables k))) (tied key name e)
+          (option_map (λ t. table_row t.description) (map.get s.tables k))) (one_key key name e)
           ∙ ap (λ o. shown_by (Some row_then) (option_map (λ t. table_row t.description) o)) at
           ∙ written-change_between catalog_family t.description.name
           (Some (table_row t.description)) (Some (table_row d)) (table_can_show d)
@@ -103,7 +104,7 @@ module _ (l : Layout) (s : State) (shows : Shows l s) (valid : IsValid s) (name 
       → (key : List ℕ) → shown (with_write l w) x.description.family key ≡ item_rows x key
   items_then other x true at_other key =
       subst (λ (y : Table). shown (with_write l w) y.description.family key ≡ item_rows y key)
-      (some _ _ at_other)
+      (same_Some _ _ at_other)
       (kept t.description.family key (family_within s name t (valid.tables name t at)).0
       ∙ shows.items name t at key)
   items_then other x false at_other key =
@@ -116,10 +117,10 @@ module _ (l : Layout) (s : State) (shows : Shows l s) (valid : IsValid s) (name 
       → (key : List ℕ) → shown (with_write l w) i.family key ≡ index_rows x i key
   indexes_then other x true at_other n i at_index key =
       let own : index_at t.description (Some n) ≡ Some i =
-      subst (λ (y : Table). index_at y.description (Some n) ≡ Some i) (sym (some u x at_other))
+      subst (λ (y : Table). index_at y.description (Some n) ≡ Some i) (sym (same_Some u x at_other))
       at_index in
       subst (λ (y : Table). shown (with_write l w) i.family key ≡ index_rows y i key)
-      (some u x at_other)
+      (same_Some u x at_other)
       (kept i.family key (index_within s name t (valid.tables name t at) n i own).0
       ∙ shows.indexes name t n i at own key
       ∙ ap (λ m. option_map (index_columns t.description i)
@@ -136,12 +137,13 @@ module _ (l : Layout) (s : State) (shows : Shows l s) (valid : IsValid s) (name 
       → shown (with_write l w) g key ≡ change_rows x key
   changes_then other x true at_other g stream key counts =
       let own : t.description.stream_family ≡ Some g =
-      subst (λ (y : Table). y.description.stream_family ≡ Some g) (sym (some u x at_other))
+      subst (λ (y : Table). y.description.stream_family ≡ Some g) (sym (same_Some u x at_other))
       stream in
-      subst (λ (y : Table). shown (with_write l w) g key ≡ change_rows y key) (some u x at_other)
+      subst (λ (y : Table). shown (with_write l w) g key ≡ change_rows y key)
+      (same_Some u x at_other)
       (kept g key (stream_within s name t (valid.tables name t at) g own).0
       ∙ shows.changes name t g at own key
-      (subst (λ (y : Table). IsLeftover y.trimmed key → ⊥) (sym (some u x at_other)) counts))
+      (subst (λ (y : Table). IsLeftover y.trimmed key → ⊥) (sym (same_Some u x at_other)) counts))
   changes_then other x false at_other g stream key counts =
       kept g key (stream_within s other x (valid.tables other x at_other) g stream).0
       ∙ shows.changes other x g at_other stream key counts

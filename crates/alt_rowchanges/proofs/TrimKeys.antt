@@ -10,9 +10,9 @@ use Rattle.alt_machine.specs.State.{Change}
 use Rattle.alt_machine.specs.Trimming.{is_past, kept, trimmed_at}
 use Rattle.alt_machine.proofs.Trimming.{Rise, Above, rise_first, rise_rest, kept_all, kept_rise, trimmed_least}
 use Rattle.alt_opening.specs.StateRows.{IsLeftover, keyed_changes}
-use Rattle.alt_opening.proofs.Ties.{tied}
 use Rattle.alt_opening.proofs.StreamKeys.{IsSmall, get_keyed, keyed}
 use Rattle.std.proofs.lemmas.List.Elements.{All-head}
+use Rattle.alt_cells.proofs.SameKeys.{one_key}
 
 -- a key that isn't left over finds among those that are kept what it found among all
 find_kept : (moment before : ℕ) (key : List ℕ) (cs : List Change) → Rise cs → Above before cs
@@ -42,7 +42,7 @@ find_kept moment before key (c ∷ cs) rise above counts = by
               c.number,
               omega (arith, low),
               trimmed_least moment c.number cs (rise_rest c cs rise) (rise_first c cs rise),
-              tied key (row_key c.number) same,
+              one_key key (row_key c.number) same,
             ))
         passed false differs = refl
     by rest false e = refl

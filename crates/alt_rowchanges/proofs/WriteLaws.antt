@@ -3,6 +3,7 @@ use Rattle.std.proofs.Common.{◌≡◌, ◌≢◌, ◌+◌, ◌<◌, ◌≤◌,
 use Rattle.std.proofs.lemmas.Bool.{false≢true}
 use Rattle.std.proofs.Common.{append-nil, append_assoc}
 use Rattle.std.proofs.lemmas.List.Elements.{All-push}
+use Rattle.std.proofs.lemmas.Option.{same_Some}
 use Rattle.std.specs.Option.{option_to_list}
 use Rattle.std.specs.Prelude.{if◌then◌else◌, ◌++◌, ◌^◌, is_some, option_map, All}
 use Rattle.std.specs.Ordering.{eq_by_cmp}
@@ -12,6 +13,7 @@ use Rattle.alt_cells.specs.Changes.{change_between, written}
 use Rattle.alt_cells.specs.Keys.{key_cmp}
 use Rattle.alt_cells.proofs.CellLaws.{key_total}
 use Rattle.alt_cells.proofs.ChangeLaws.{written-change_between}
+use Rattle.alt_cells.proofs.SameKeys.{key_itself, one_key}
 use Rattle.alt_changes.specs.ChangeRows.{row_changes}
 use Rattle.alt_changes.specs.TrimRows.{AreLeft, trim_changes}
 use Rattle.alt_opening.specs.HandInHand.{batch_write}
@@ -20,6 +22,7 @@ use Rattle.alt_writes.specs.Writes.{Write}
 use Rattle.alt_layout.specs.Writes.{with_write}
 use Rattle.alt_layout.proofs.BatchLaws.{shows_batch}
 use Rattle.alt_codec.specs.declared.writer.Writer.{Writer}
+use Rattle.alt_layout.proofs.FirstChange.{ShowsWrite}
 use Rattle.alt_machine.specs.declared.TheConstants.{NUMBERS_END}
 use Rattle.alt_machine.specs.Building.{built_part, reaches}
 use Rattle.alt_machine.specs.Changes.{change_left}
@@ -42,8 +45,7 @@ use Rattle.alt_schema.specs.declared.schema.IndexSchema.{IndexSchema}
 use Rattle.alt_views.specs.ItemRows.{item_columns}
 use Rattle.alt_opening.specs.StateRows.{HasMoment, IsHeldWhole, IsLeftover, Shows, catalog_family, catalog_rows, item_rows, index_rows, change_rows, table_row, next_row}
 use Rattle.alt_rowchanges.specs.RowChanges.{Turns, write_changes}
-use Rattle.alt_opening.proofs.Ties.{tied, itself}
-use Rattle.alt_rowchanges.proofs.ChangeLaws.{ShowsWrite, one_change, other_family, AreOthers, others-append, change_of-none, change_of-front, change_of-behind}
+use Rattle.alt_rowchanges.proofs.ChangeLaws.{one_change, other_family, AreOthers, others-append, change_of-none, change_of-front, change_of-behind}
 use Rattle.alt_opening.proofs.Families.{own_family}
 use Rattle.alt_rowchanges.proofs.IndexShows.{change_of-index, index_shows}
 use Rattle.alt_rowchanges.proofs.IndexFamilies.{index_family, index_family_differs, own_families, others-index_changes}
@@ -53,7 +55,6 @@ use Rattle.alt_views.specs.IndexRows.{index_changes, index_columns, moves_in}
 use Rattle.alt_views.proofs.ItemRowLaws.{items_can_show}
 use Rattle.alt_views.proofs.Reached.{IsAt, changes_at}
 use Rattle.alt_opening.proofs.Maps.{same_texts}
-use Rattle.alt_opening.proofs.OneState.{some}
 use Rattle.alt_value.specs.Tree.{Pair}
 use Rattle.alt_value.specs.Values.{IsItemOfValues}
 
@@ -112,7 +113,7 @@ module _ (l : Layout) (s : State) (shows : Shows l s) (valid : IsValid s) (held 
           ≡ option_map (λ t. table_row t.description)
           (cond (eq_by_cmp key_cmp key name) (Some changed) (map.get s.tables key))
       by_name true e = ap (λ k. option_map (λ t. table_row t.description) (map.get s.tables k))
-          (tied key name e) ∙ ap (option_map (λ t. table_row t.description)) at
+          (one_key key name e) ∙ ap (option_map (λ t. table_row t.description)) at
           ∙ ap (λ b. option_map (λ t. table_row t.description)
           (cond b (Some changed) (map.get s.tables key))) (sym e)
       by_name false e = ap (λ b. option_map (λ t. table_row t.description)
@@ -204,7 +205,7 @@ module _ (l : Layout) (s : State) (shows : Shows l s) (valid : IsValid s) (held 
         at_key : (b : Bool) → eq_by_cmp key_cmp key place ≡ b
             → shown_by (cond b (Some change) None) (item_rows t key)
             ≡ option_map item_columns (cond b new (map.get t.items key))
-        at_key true e = ap (λ k. written change (item_rows t k)) (tied key place e)
+        at_key true e = ap (λ k. written change (item_rows t k)) (one_key key place e)
             ∙ written-change_between t.description.family place
             (option_map item_columns (map.get t.items place)) (option_map item_columns new)
             (items_can_show new)
@@ -248,7 +249,7 @@ module _ (l : Layout) (s : State) (shows : Shows l s) (valid : IsValid s) (held 
             by_key : (to : Option (List Pair)) (b : Bool) → IfSome to IsItemOfValues
                 → cond b to (map.get t.items q) ≡ Some item → IsItemOfValues item
             by_key None true given e = let no : None ≡ Some item = e in cc no
-            by_key (Some x) true given e = subst IsItemOfValues (some x item e) given
+            by_key (Some x) true given e = subst IsItemOfValues (same_Some x item e) given
             by_key to false given e = held.items name q t item at e
 
         -- an item of which it is built is one of the table's
@@ -329,14 +330,14 @@ module _ (l : Layout) (s : State) (shows : Shows l s) (valid : IsValid s) (held 
         → Contains (families_of t.description) family → ⊥
     apart_from other u family at_other e of_other own =
         let one : other ≡ name = valid.families other name u t family at_other at of_other own in
-        false≢true (sym e ∙ ap (λ k. eq_by_cmp key_cmp k name) one ∙ itself name)
+        false≢true (sym e ∙ ap (λ k. eq_by_cmp key_cmp k name) one ∙ key_itself name)
 
     items_after : (other : List ℕ) (u : Table) (b : Bool) → eq_by_cmp key_cmp other name ≡ b
         → cond b (Some changed) (map.get s.tables other) ≡ Some u
         → (key : List ℕ) → shown (with_write l w) u.description.family key ≡ item_rows u key
     items_after other u true e at_other key =
         subst (λ u. shown (with_write l w) u.description.family key ≡ item_rows u key)
-        (some _ _ at_other) (here key)
+        (same_Some _ _ at_other) (here key)
     items_after other u false e at_other key =
         elsewhere u.description.family key
         (apart_from other u u.description.family at_other e (own_family u.description))
@@ -349,7 +350,7 @@ module _ (l : Layout) (s : State) (shows : Shows l s) (valid : IsValid s) (held 
     indexes_after other u true e at_other n i at_index key =
         subst (λ u. index_at u.description (Some n) ≡ Some i
         → shown (with_write l w) i.family key ≡ index_rows u i key)
-        (some _ _ at_other) (λ at_index. there n i at_index key) at_index
+        (same_Some _ _ at_other) (λ at_index. there n i at_index key) at_index
     indexes_after other u false e at_other n i at_index key =
         elsewhere i.family key (apart_from other u i.family at_other e
         (index_family u.description n i at_index))
@@ -363,7 +364,7 @@ module _ (l : Layout) (s : State) (shows : Shows l s) (valid : IsValid s) (held 
     changes_after other u true e at_other f stream key counts =
         subst (λ u. u.description.stream_family ≡ Some f → (IsLeftover u.trimmed key → ⊥)
         → shown (with_write l w) f key ≡ change_rows u key)
-        (some _ _ at_other) (λ stream. behind f stream key) stream counts
+        (same_Some _ _ at_other) (λ stream. behind f stream key) stream counts
     changes_after other u false e at_other f stream key counts =
         elsewhere f key (apart_from other u f at_other e (stream_family u.description f stream))
         ∙ shows.changes other u f at_other stream key counts
@@ -413,7 +414,7 @@ held_after s moment writer name t place new held at given fits = record {
         → IfSome to IsItemOfValues → cond b to (map.get t.items q) ≡ Some item
         → IsItemOfValues item
     new_or_old None q item true given e = let no : None ≡ Some item = e in cc no
-    new_or_old (Some x) q item true given e = subst IsItemOfValues (some x item e) given
+    new_or_old (Some x) q item true given e = subst IsItemOfValues (same_Some x item e) given
     new_or_old to q item false given e = held.items.items name q t item at e
 
     items : (other : List ℕ) (u : Table) (q : List ℕ) (item : List Pair)

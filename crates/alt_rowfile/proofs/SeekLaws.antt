@@ -22,9 +22,8 @@ use Rattle.alt_rowblocks.specs.Holding.{IsCutBlock, IsInHand}
 use Rattle.alt_rowfile.specs.Walking.{list_from, LeftAs, IsLeft}
 use Rattle.alt_rowblocks.specs.declared.hand.Hand.{Hand}
 use Rattle.alt_rowfile.specs.declared.rowfile.RowFile.{RowFile}
-use Rattle.alt_rowblocks.proofs.BlockLaws.{rows_of-append}
+use Rattle.alt_rowblocks.proofs.BlockLaws.{rows_of-append, block_key, sorted_back}
 use Rattle.alt_rowfile.proofs.SearchLaws.{above_first, AtBlock, at_block}
-use Rattle.alt_rowblocks.proofs.SearchLaws.{open_block, sorted_behind}
 use Rattle.alt_rowblocks.proofs.CutLaws.{below_front, from_first}
 use Rattle.alt_rowblocks.proofs.HandLaws.{from_cut, cut_in_hand}
 use Rattle.alt_rowfile.proofs.WalkLaws.{reads_at, count_blocks}
@@ -138,7 +137,7 @@ module _ (key : List ℕ) where
       → AllByRecursion (IsFrom key) (rows_of ys)
   from_blocks [] cut h up = tt
   from_blocks (y ∷ ys) cut h up =
-      let k = open_block y (Rattle.alt_rowblocks.proofs.BlockLaws.block_within [] y ys cut) in
+      let k = block_key y (Rattle.alt_rowblocks.proofs.BlockLaws.block_within [] y ys cut) in
       let same : rows_of (y ∷ ys) ≡ k.0 ∷ (k.1 ++ rows_of ys) =
       ap (λ (l : List Entry). l ++ rows_of ys) k.2 in
       let above : is_gt (key_cmp k.0.0 key) ≡ true =
@@ -161,7 +160,7 @@ module _ (key : List ℕ) where
       → InTwo (rows_of blocks) (rows_of at.before ++ front) (back ++ rows_of at.behind)
   cut_block blocks i at front back parts below from =
       let b = at.here in
-      let k = open_block b at.block in
+      let k = block_key b at.block in
       let whole : rows_of (at.before ++ b ∷ at.behind) ≡ rows_of at.before
       ++ (b ++ rows_of at.behind) = rows_of-append at.before (b ∷ at.behind) in
       let sorted : T (is_sorted key_cmp (rows_of at.before ++ (b ++ rows_of at.behind))) =
@@ -180,8 +179,8 @@ module _ (key : List ℕ) where
             below;
         from = all_append (IsFrom key) back (rows_of at.behind) from
             (from_blocks at.behind at.cut
-            (sorted_behind b (rows_of at.behind)
-            (sorted_behind (rows_of at.before) (b ++ rows_of at.behind) sorted)) at.high);
+            (sorted_back b (rows_of at.behind)
+            (sorted_back (rows_of at.before) (b ++ rows_of at.behind) sorted)) at.high);
       }
     where
       regroup : (a x y z : List Entry) → a ++ ((x ++ y) ++ z) ≡ (a ++ x) ++ (y ++ z)

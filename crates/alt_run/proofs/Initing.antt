@@ -15,8 +15,8 @@ use Rattle.alt_shell.proofs.Telling.{Grows-then, Grows-nil, Tells-nil}
 use Rattle.alt_run.specs.Endings.{Makes, IsFirstFile, SaysNothing, SaysSome}
 use Rattle.alt_talks.specs.Runs.{Stretch}
 use Rattle.alt_talks.proofs.Stopping.{trusts-kept, within-wider}
-use Rattle.alt_tables.proofs.Left.{stands_made}
 use Rattle.alt_base.specs.Counts.{Rose}
+use Rattle.alt_tables.proofs.Starting.{image_made}
 
 pub makes : (a b c : DiskState) → Goes a b → ShellCall b c true → Adds b c (said (codes "ok\n"))
     → moments_of c.beside ≡ moments_of b.beside
@@ -42,7 +42,7 @@ makes a b c goes call added m none images = record {
     inside = refl;
     unasked = refl;
     none = none;
-    stands = λ trusted image is_image. stands_made image (images trusted image
+    stands = λ trusted image is_image. image_made image (images trusted image
         (λ f. subst (λ (x : Fates). Fits x (image f))
         (call.keeps.fates c.moment f call.keeps.later (omega arith)) (is_image f)));
   };
@@ -108,7 +108,7 @@ some_said a b c goes call m images (inl part) =
       untaken = refl;
       inside = refl;
       unasked = m ∙ (silent_by a b goes).unasked;
-      stands = λ more trusted image is_image. stands_made image (images trusted image
+      stands = λ more trusted image is_image. image_made image (images trusted image
           (λ f. subst (λ (x : Fates). Fits x (image f))
           (call.keeps.fates c.moment f call.keeps.later (omega arith)) (is_image f)));
     }

@@ -4,6 +4,7 @@ use Rattle.std.proofs.lemmas.List.{drop_all}
 use Rattle.std.specs.Char.{is_ascii_digit}
 use Rattle.std.specs.Prelude.{option_and_then, nat_le, ◌&&◌, Bool}
 use Rattle.std.proofs.lemmas.Bool.{cases_lt, lt-leb}
+use Rattle.std.proofs.Math.Bool.{and-false}
 use Rattle.alt_run.specs.Words.{digits_from, small_port, within, small_seed, serve_of, trial_of}
 
 abbrev pub capped : Option ℕ → Option ℕ
@@ -60,10 +61,6 @@ pub port_capped : (o p : Option ℕ) → p ≡ capped o
 port_capped None p e = ap (option_and_then small_port) e
 port_capped (Some n) p e = ap (option_and_then small_port) e ∙ small_capped n
 
-and_no : (b : Bool) → (b && false) ≡ false
-and_no true = refl
-and_no false = refl
-
 -- words that are fewer than five ask for no serving
 pub serve_few : (ws : List (List ℕ)) → length ws < 5 → None ≡ serve_of ws
 serve_few [] few = refl
@@ -105,7 +102,7 @@ trial_many (a ∷ b ∷ c ∷ d ∷ e ∷ f ∷ ws) many = refl
 none_within : (least most n : ℕ) → most < n → within least most n ≡ None
 none_within least most n large =
     ap (λ (b : Bool). cond (nat_le least n && b) (Some n) None) (lt-leb n most large)
-    ∙ ap (λ (b : Bool). cond b (Some n) None) (and_no (nat_le least n))
+    ∙ ap (λ (b : Bool). cond b (Some n) None) (and-false (nat_le least n))
 
 within_stopped : (least most n : ℕ) → most < 2 ^ 64 - 1
     → within least most (min n (2 ^ 64 - 1)) ≡ within least most n

@@ -3,6 +3,7 @@ use Rattle.std.proofs.Common.{◌≡◌, ◌≤◌, ◌<◌, ◌+◌, ◌*◌, �
 use Rattle.std.specs.Prelude.{◌||◌, nat_le}
 use Rattle.std.proofs.lemmas.Bool.{le-leb}
 use Rattle.alt_base.specs.Prefix.{IsPrefix}
+use Rattle.alt_base.proofs.Lists.{length-none}
 use Rattle.alt_disk.specs.Disk.{DiskState, IsTrusted, IsImage}
 use Rattle.alt_lines.specs.Lines.{lines_of}
 use Rattle.alt_lines.specs.Unread.{Unread}
@@ -20,7 +21,7 @@ use Rattle.alt_run.specs.private.Rungs.{Serves, ServesAtHand, BreaksAtHand, Hand
 use Rattle.alt_talks.specs.Stops.{Image, IsLeft, AtEach, AreWithin}
 use Rattle.alt_tables.specs.Images.{StandsFor}
 use Rattle.alt_tables.proofs.Left.{stands_left}
-use Rattle.alt_talks.proofs.Stopping.{Meet, IsPrefix-longer, until-append, until-before, until-behind, said-by, none-shorter, taken-until, ended-until, within-wider, left-more, left-behind, spans_two, keeps-spans, trusts-kept}
+use Rattle.alt_talks.proofs.Stopping.{Meet, IsPrefix-longer, until-append, until-before, until-behind, said-by, taken-until, ended-until, within-wider, left-more, left-behind, spans_two, keeps-spans, trusts-kept}
 use Rattle.alt_run.proofs.TurnLaws.{turns-more, left-nothing-said, tasks-append, turns-append}
 use Rattle.alt_talks.specs.declared.fault.RunFault.{RunFault}
 use Rattle.alt_talks.specs.declared.fault.RunFault.TheVariants.{Failed, NoMemory}
@@ -118,7 +119,7 @@ leaves_silent a b tables s u es stands keeps silent trusted =
     (λ t image low is_image. left-nothing-said s
     (asked_later u (taken (until t es)) (ended (until t es))) []
     (said_in (until t es)) image
-    (none-shorter (said_in (until t es))
+    (length-none (said_in (until t es))
     (let h = said-by t es in let k = ap length silent in omega (arith, h, k)))
     (stands_left a tables s stands image is_image))
 

@@ -1,5 +1,6 @@
 -- The turns of lines, one list of lines after another.
-use Rattle.std.proofs.Common.{◌≡◌, ◌+◌, ℕ, suc, Option, None, Some, List, [], ◌∷◌, ◌++◌, length, refl, ap, arith, length-append, ◌<◌, sym, subst}
+use Rattle.std.proofs.Common.{◌≡◌, ◌+◌, ℕ, Option, None, Some, List, [], ◌∷◌, ◌++◌, length, refl, ap, arith, length-append, ◌<◌, sym, subst}
+use Rattle.std.proofs.Math.Nat.{suc_inj}
 use Rattle.alt_machine.specs.State.{State}
 use Rattle.alt_talks.specs.Turns.{Turn, after, after_turn}
 use Rattle.alt_run.specs.Turns.{Asked, request, control, unread, turns, obeyed, turned_away, carried_out, requests, tasks, asked_as}
@@ -7,9 +8,6 @@ use Rattle.alt_run.specs.declared.lines.Control.{Control}
 use Rattle.alt_talks.specs.Stops.{Image, IsLeft}
 use Rattle.alt_tables.specs.Images.{StandsFor}
 use Rattle.alt_talks.proofs.Stopping.{AllSay, left-nothing-of}
-
-same_suc : {m n : ℕ} → suc m ≡ suc n → m ≡ n
-same_suc e = omega arith
 
 -- requests of lines and more lines
 pub requests-append : (ls ks : List Asked) → requests (ls ++ ks) ≡ requests ls + requests ks
@@ -38,7 +36,7 @@ turns-append s [] ks (m ∷ ms) ns e = absurd (omega arith)
 turns-append s (request name body ∷ ls) ks [] ns e = absurd (omega arith)
 turns-append s (request name body ∷ ls) ks (m ∷ ms) ns e =
     ap (λ ts. carried_out s name body m ∷ ts)
-    (turns-append (after_turn s (carried_out s name body m)) ls ks ms ns (same_suc e))
+    (turns-append (after_turn s (carried_out s name body m)) ls ks ms ns (suc_inj e))
 turns-append s (control word ∷ ls) ks ms ns e =
     ap (λ ts. obeyed ∷ ts) (turns-append s ls ks ms ns e)
 turns-append s (unread ∷ ls) ks ms ns e = ap (λ ts. turned_away ∷ ts) (turns-append s ls ks ms ns e)

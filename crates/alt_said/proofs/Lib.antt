@@ -8,5 +8,6 @@ pub use Rattle.alt_tables.proofs.Left as TablesLeft
 pub use Rattle.alt_tables.proofs.OpeningNextRow as TablesOpeningNextRow
 pub use Rattle.alt_tables.proofs.OpeningOneColumn as TablesOpeningOneColumn
 pub use Rattle.alt_tables.proofs.OpeningOneState as TablesOpeningOneState
-pub use Rattle.alt_tables.proofs.OpeningTies as TablesOpeningTies
 pub use Rattle.alt_tables.proofs.Standing as TablesStanding
+pub use Rattle.alt_tables.proofs.AlterLaws as TablesAlterLaws
+pub use Rattle.alt_tables.proofs.Each as TablesEach

@@ -2,6 +2,7 @@
 use Rattle.std.proofs.Common.{◌≡◌, refl, sym, ap, ◌∙◌, suc, Bool, true, ◌&&◌, List, [], ◌∷◌, ◌++◌, map, length, ℕ, Option, None}
 use Rattle.std.specs.List.{list_all, AllByRecursion}
 use Rattle.std.proofs.lemmas.List.Folds.{list_all-append}
+use Rattle.std.specs.Cmp.{first_so, second_so}
 use Rattle.alt_description.specs.Bare.{as_whole, bare, is_whole}
 use Rattle.alt_schema.specs.Described.{IsDescription, keys_defined}
 use Rattle.alt_description.specs.Indexes.{indexes}
@@ -9,7 +10,6 @@ use Rattle.alt_description.specs.declared.schema.Built.{Built}
 use Rattle.alt_description.specs.declared.schema.Built.TheVariants.{Whole, UpTo}
 use Rattle.alt_description.specs.declared.schema.IndexSchema.{IndexSchema}
 use Rattle.alt_description.specs.declared.schema.TableSchema.{TableSchema}
-use Rattle.alt_schema.proofs.NewDescriptions.{left, right}
 
 -- ---- one index, and several
 
@@ -33,8 +33,8 @@ pub all_whole : (is : List IndexSchema) → list_all (λ i. is_whole i.built) is
     → AllByRecursion (λ i. i.built ≡ Whole) is
 all_whole [] h = tt
 all_whole (i ∷ is) h = (
-  whole_is i.built (left (is_whole i.built) _ h),
-  all_whole is (right (is_whole i.built) _ h),
+  whole_is i.built (first_so (is_whole i.built) _ h),
+  all_whole is (second_so (is_whole i.built) _ h),
 )
 
 -- as if they were whole, they are
@@ -105,7 +105,7 @@ module _ (d : TableSchema) where
       && list_all (λ i. is_whole i.built) d.globals) ≡ true =
       sym (list_all-append (λ i. is_whole i.built) d.locals d.globals) ∙ h in
       λ j. record d {
-        locals = map-as_whole d.locals (all_whole d.locals (left _ _ both)) j;
-        globals = map-as_whole d.globals (all_whole d.globals (right
+        locals = map-as_whole d.locals (all_whole d.locals (first_so _ _ both)) j;
+        globals = map-as_whole d.globals (all_whole d.globals (second_so
             (list_all (λ i. is_whole i.built) d.locals) _ both)) j;
       }

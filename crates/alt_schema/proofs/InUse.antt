@@ -3,6 +3,7 @@ use Rattle.std.proofs.Common.{◌≡◌, refl, sym, ap, ◌∙◌, ℕ, suc, ◌
 use Rattle.std.proofs.Math.Seq.{drop-cons}
 use Rattle.std.specs.List.{list_any, list_all}
 use Rattle.std.proofs.lemmas.List.{drop_all}
+use Rattle.std.proofs.Math.Bool.{or-false}
 use Rattle.alt_schema.specs.Named.{kind_at, AreOf, HasMore}
 use Rattle.alt_schema.specs.Rules.{is_used, is_defined, in_each_schema}
 use Rattle.alt_schema.specs.declared.named.Kinds.{Kinds}
@@ -12,10 +13,6 @@ use Rattle.alt_schema.proofs.NamedLemmas.{is_some-kind_defined}
 or_assoc : (a b c : Bool) → ((a || b) || c) ≡ (a || (b || c))
 or_assoc true b c = refl
 or_assoc false b c = refl
-
-or_false : (a : Bool) → (a || false) ≡ a
-or_false true = refl
-or_false false = refl
 
 -- what another has besides, and a third besides that
 pub has_more-both : (a b c : Kinds) (s t : List ℕ → Bool) → HasMore a b s → HasMore b c t
@@ -75,7 +72,7 @@ module _ {A : Type 0} (ok : A → Bool) (uses : List ℕ → A → Bool) where
   pub goes_used : (initial now : Kinds) (xs : List A) (i : ℕ) → length xs ≤ i
       → Goes initial now xs i → HasMore initial now (λ name. list_any (uses name) xs)
   goes_used initial now xs i end g = λ name.
-      sym (or_false (is_some (kind_at now name)))
+      sym (or-false (is_some (kind_at now name)))
       ∙ ap (λ ys. is_some (kind_at now name) || list_any (uses name) ys)
       (sym (drop_all i xs end))
       ∙ g.used name

@@ -5,5 +5,6 @@ pub mod NamedLemmas
 pub mod InUse
 pub mod AlteredLaws
 pub mod BareLaws
-pub use Rattle.alt_description.proofs.Bools
+pub mod CutRows
 pub use Rattle.alt_description.proofs.Shown
+pub use Rattle.alt_description.proofs.Plain

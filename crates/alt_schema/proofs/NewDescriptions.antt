@@ -3,8 +3,9 @@ use Rattle.std.proofs.Common.{◌≡◌, refl, sym, ap, subst, ◌∙◌, ℕ, s
 use Rattle.std.specs.List.{list_any, list_all, find}
 use Rattle.std.specs.Option.{option_map_or}
 use Rattle.std.specs.Str.{bytes_eq}
-use Rattle.std.proofs.lemmas.Bool.Decides.{nat_tests}
 use Rattle.std.proofs.lemmas.List.Folds.{list_all-append}
+use Rattle.std.proofs.lemmas.Bool.{leb-true, and_from}
+use Rattle.std.specs.Cmp.{first_so, second_so}
 use Rattle.alt_shape.specs.Refusals.{bad_name, bad_key_schema, bad_index, IsKnown}
 use Rattle.alt_shape.specs.declared.refusal.Refusal.{Refusal}
 use Rattle.alt_value.specs.declared.kind.KeyKind.{KeyKind}
@@ -17,19 +18,8 @@ use Rattle.alt_description.specs.declared.schema.View.{View}
 use Rattle.alt_schema.specs.declared.stated.Element.{Element}
 use Rattle.alt_schema.specs.declared.stated.StatedIndex.{StatedIndex}
 use Rattle.alt_schema.specs.declared.stated.Stated.{Stated}
-use Rattle.alt_description.proofs.Bools.{both}
 
 -- ---- tests
-
--- the first of two tests that pass
-pub left : (a b : Bool) → (a && b) ≡ true → a ≡ true
-left true b h = refl
-left false b h = h
-
--- the second of them
-pub right : (a b : Bool) → (a && b) ≡ true → b ≡ true
-right true b h = h
-right false b h = cc
 
 -- nothing is refused where the three tests pass
 all_three : (x y z : Bool)
@@ -76,10 +66,6 @@ pub known : (b : Stated) (r : Refusal) → refused_for b ≡ Some r → IsKnown 
 unfolding refused_for
 known b r e = known_by (names_fit b) (keys_fit_together b) (indexes_fit b) r e
 
--- at most so many, as a fact
-pub at_most : (a b : ℕ) → nat_le a b ≡ true → a ≤ b
-at_most a b h = grind (arith, nat_tests)
-
 -- ---- kinds
 
 same_kind-same : (k : KeyKind) → same_kind k k ≡ true
@@ -106,10 +92,11 @@ pub keys_found : (ds : List KeyAttr) (keys : List Element) → is_key_schema key
     → list_all (λ e. is_defined ds e.name) keys ≡ true
     → keys_defined ds (hash_of ds keys) (range_of ds keys) ≡ true
 keys_found ds [] s d = cc
-keys_found ds (h ∷ []) s d = both _ true (kind_found ds h.name (left _ true d)) refl
+keys_found ds (h ∷ []) s d = and_from _ true (kind_found ds h.name (first_so _ true d)) refl
 keys_found ds (h ∷ r ∷ []) s d =
-    both _ _ (kind_found ds h.name (left (is_defined ds h.name) _ d))
-    (kind_found ds r.name (left (is_defined ds r.name) true (right (is_defined ds h.name) _ d)))
+    and_from _ _ (kind_found ds h.name (first_so (is_defined ds h.name) _ d))
+    (kind_found ds r.name
+    (first_so (is_defined ds r.name) true (second_so (is_defined ds h.name) _ d)))
 keys_found ds (h ∷ r ∷ e ∷ es) s d = cc
 
 -- those of the indexes too
@@ -119,10 +106,10 @@ index_keys_found : (ds : List KeyAttr) (family : ℕ) (is : List StatedIndex)
     → list_all (λ i. keys_defined ds i.hash i.range) (indexes_from ds family is) ≡ true
 index_keys_found ds family [] s d = refl
 index_keys_found ds family (i ∷ is) s d =
-    both _ _ (keys_found ds i.keys (left (is_key_schema i.keys) _ s)
-    (left (list_all (λ e. is_defined ds e.name) i.keys) _ d))
-    (index_keys_found ds (suc family) is (right (is_key_schema i.keys) _ s)
-    (right (list_all (λ e. is_defined ds e.name) i.keys) _ d))
+    and_from _ _ (keys_found ds i.keys (first_so (is_key_schema i.keys) _ s)
+    (first_so (list_all (λ e. is_defined ds e.name) i.keys) _ d))
+    (index_keys_found ds (suc family) is (second_so (is_key_schema i.keys) _ s)
+    (second_so (list_all (λ e. is_defined ds e.name) i.keys) _ d))
 
 -- ---- names of indexes
 
@@ -208,17 +195,17 @@ module _ (b : Stated) (taken : refused_for b ≡ None) where
   together = keys_hold b taken
 
   schemas : in_each_schema is_key_schema b ≡ true
-  schemas = left (in_each_schema is_key_schema b) (defines_exactly b) together
+  schemas = first_so (in_each_schema is_key_schema b) (defines_exactly b) together
 
   exactly : defines_exactly b ≡ true
-  exactly = right (in_each_schema is_key_schema b) (defines_exactly b) together
+  exactly = second_so (in_each_schema is_key_schema b) (defines_exactly b) together
 
   used : (list_all (λ d. is_used b d.name) b.definitions
       && in_each_schema (list_all (λ e. is_defined b.definitions e.name)) b) ≡ true
-  used = right (all_differ (λ d. d.name) b.definitions) _ exactly
+  used = second_so (all_differ (λ d. d.name) b.definitions) _ exactly
 
   defined : in_each_schema (list_all (λ e. is_defined b.definitions e.name)) b ≡ true
-  defined = right (list_all (λ d. is_used b d.name) b.definitions) _ used
+  defined = second_so (list_all (λ d. is_used b d.name) b.definitions) _ used
 
   fit : indexes_fit b ≡ true
   fit = indexes_hold b taken
@@ -228,27 +215,27 @@ module _ (b : Stated) (taken : refused_for b ≡ None) where
       && (all_differ (λ i. i.name) (stated_indexes b)
       && (list_all (λ i. is_local_to b.keys i.keys) b.locals
       && list_all (λ i. is_projection i.projects i.includes) (stated_indexes b)))) ≡ true
-  fit' = right (nat_le (length b.locals) most_locals) _ fit
+  fit' = second_so (nat_le (length b.locals) most_locals) _ fit
 
   -- there are at most 5 local indexes
   pub few_locals : length b.locals ≤ 5
-  few_locals = at_most _ _ (left (nat_le (length b.locals) most_locals) _ fit)
+  few_locals = leb-true _ _ (first_so (nat_le (length b.locals) most_locals) _ fit)
 
   -- and at most 20 global ones
   pub few_globals : length b.globals ≤ 20
-  few_globals = at_most _ _ (left (nat_le (length b.globals) most_globals) _ fit')
+  few_globals = leb-true _ _ (first_so (nat_le (length b.globals) most_globals) _ fit')
 
   -- no two indexes have one name
   names : all_differ (λ i. i.name) (stated_indexes b) ≡ true
-  names = left (all_differ (λ i. i.name) (stated_indexes b)) _
-      (right (nat_le (length b.globals) most_globals) _ fit')
+  names = first_so (all_differ (λ i. i.name) (stated_indexes b)) _
+      (second_so (nat_le (length b.globals) most_globals) _ fit')
 
   -- a test of each index's key schema, of the two lists apart
   of_both : (test : List Element → Bool) → in_each_schema test b ≡ true
       → (list_all (λ i. test i.keys) b.locals && list_all (λ i. test i.keys) b.globals) ≡ true
   of_both test h =
       sym (list_all-append (λ i. test i.keys) b.locals b.globals)
-      ∙ right (test b.keys) (list_all (λ i. test i.keys) (stated_indexes b)) h
+      ∙ second_so (test b.keys) (list_all (λ i. test i.keys) (stated_indexes b)) h
 
   -- what such a body describes is a description as it is made
   pub new_description : (moment number family : ℕ) → IsNew (described_by b moment number family)
@@ -256,20 +243,20 @@ module _ (b : Stated) (taken : refused_for b ≡ None) where
   new_description moment number family = record {
     description = record {
       stream = same_there b.view (family + 1 + length b.locals + length b.globals);
-      once = left (all_differ (λ d. d.name) b.definitions) _ exactly;
+      once = first_so (all_differ (λ d. d.name) b.definitions) _ exactly;
       keys =
-          keys_found b.definitions b.keys (left (is_key_schema b.keys) _ schemas)
-          (left (list_all (λ e. is_defined b.definitions e.name) b.keys) _ defined);
+          keys_found b.definitions b.keys (first_so (is_key_schema b.keys) _ schemas)
+          (first_so (list_all (λ e. is_defined b.definitions e.name) b.keys) _ defined);
       index_keys =
           list_all-append (λ i. keys_defined b.definitions i.hash i.range)
           (indexes_from b.definitions (family + 1) b.locals)
           (indexes_from b.definitions (family + 1 + length b.locals) b.globals)
-          ∙ both _ _ (index_keys_found b.definitions (family + 1) b.locals
-          (left _ _ (of_both is_key_schema schemas))
-          (left _ _ (of_both (list_all (λ e. is_defined b.definitions e.name)) defined)))
+          ∙ and_from _ _ (index_keys_found b.definitions (family + 1) b.locals
+          (first_so _ _ (of_both is_key_schema schemas))
+          (first_so _ _ (of_both (list_all (λ e. is_defined b.definitions e.name)) defined)))
           (index_keys_found b.definitions (family + 1 + length b.locals) b.globals
-          (right _ _ (of_both is_key_schema schemas))
-          (right _ _ (of_both (list_all (λ e. is_defined b.definitions e.name)) defined)));
+          (second_so _ _ (of_both is_key_schema schemas))
+          (second_so _ _ (of_both (list_all (λ e. is_defined b.definitions e.name)) defined)));
     };
     locals = omega (arith, few_locals, length-indexes_from b.definitions (family + 1) b.locals);
     globals = omega (
@@ -288,7 +275,7 @@ module _ (b : Stated) (taken : refused_for b ≡ None) where
     whole =
         list_all-append (λ i. is_whole i.built) (indexes_from b.definitions (family + 1) b.locals)
         (indexes_from b.definitions (family + 1 + length b.locals) b.globals)
-        ∙ both _ _ (whole_from b.definitions (family + 1) b.locals)
+        ∙ and_from _ _ (whole_from b.definitions (family + 1) b.locals)
         (whole_from b.definitions (family + 1 + length b.locals) b.globals);
     no_time = refl;
   }

@@ -3,6 +3,7 @@ use Rattle.std.proofs.Common.{◌≡◌, refl, sym, ap, ◌∙◌, ℕ, ◌+◌,
 use Rattle.std.specs.Int.{w32, w64, to_be_bytes, from_be_bytes}
 use Rattle.std.proofs.lemmas.Bool.Decides.{nat_tests}
 use Rattle.std.proofs.lemmas.List.{take-append-drop, length-drop}
+use Rattle.std.proofs.lemmas.Bool.{lt-leb}
 use Rattle.alt_fields.specs.Field.{field, StandsAt, told_length}
 use Rattle.alt_fields.proofs.Numbers.{stands_within}
 use Rattle.alt_schemabytes.specs.Parts.{got, stops, followed_by, read_bytes, read_u64, read_u32, read_field}
@@ -38,29 +39,25 @@ field_taken bytes content h stands =
     ∙ field_read content (drop (length (field content)) bytes) h
     ∙ ap (λ n. got content (drop n bytes)) end
 
--- fewer bytes than a number has
-fewer : (m n : ℕ) → n < m → nat_le m n ≡ false
-fewer m n h = grind (arith, nat_tests)
-
 -- fewer than 8 bytes give no number
 pub u64_short : (bytes : List ℕ) → length bytes < 8 → read_u64 bytes ≡ stops 0
 unfolding read_u64
 u64_short bytes h =
     ap (λ b. cond b (got (from_be_bytes w64 (take 8 bytes)) (drop 8 bytes)) (stops 0))
-    (fewer 8 (length bytes) h)
+    (lt-leb 8 (length bytes) h)
 
 -- the same of 4 bytes
 pub u32_short : (bytes : List ℕ) → length bytes < 4 → read_u32 bytes ≡ stops 0
 unfolding read_u32
 u32_short bytes h =
     ap (λ b. cond b (got (from_be_bytes w32 (take 4 bytes)) (drop 4 bytes)) (stops 0))
-    (fewer 4 (length bytes) h)
+    (lt-leb 4 (length bytes) h)
 
 -- fewer bytes than a field tells
 content_short : (n : ℕ) (bytes : List ℕ) → length bytes < n → read_bytes n bytes ≡ stops 0
 unfolding read_bytes
 content_short n bytes h =
-    ap (λ b. cond b (got (take n bytes) (drop n bytes)) (stops 0)) (fewer n (length bytes) h)
+    ap (λ b. cond b (got (take n bytes) (drop n bytes)) (stops 0)) (lt-leb n (length bytes) h)
 
 -- fewer bytes than a field has give none
 pub field_short : (bytes : List ℕ) → length bytes < 8 + told_length bytes 0

@@ -1,5 +1,5 @@
 -- Bytes put one piece behind another.
-use Rattle.std.proofs.Common.{◌≡◌, ℕ, suc, ◌+◌, ◌<◌, List, ◌∷◌, ◌++◌, length, drop, get_or, add-one, Result, Ok, Err, OnErr, ap, sym, ◌∙◌, append_assoc}
+use Rattle.std.proofs.Common.{◌≡◌, ℕ, suc, ◌+◌, ◌<◌, List, ◌∷◌, ◌++◌, length, drop, get_or, add-one, ap, sym, ◌∙◌, append_assoc}
 use Rattle.std.proofs.Math.Seq.{drop-cons}
 use Rattle.alt_schemabytes.specs.Format.{each}
 
@@ -26,11 +26,6 @@ module _ {A : Type 0} where
       two_pieces out one six a (b ++ (c ++ (d ++ (e ++ f)))) p
       (two_pieces one two six b (c ++ (d ++ (e ++ f))) q
       (four_pieces two three four five six c d e f r s t u))
-
--- what follows from it, too
-pub on_err_map : {T E P Q : Type 0} (r : Result T E) → (P → Q) → OnErr r P → OnErr r Q
-on_err_map (Ok x) f p = tt
-on_err_map (Err e) f p = f p
 
 -- one piece more of a list's bytes
 pub one_more : {X : Type 0} (bytes : X → List ℕ) (xs : List X) (i : ℕ) (x : X)

@@ -6,6 +6,7 @@ use Rattle.std.specs.List.{find}
 use Rattle.std.specs.Option.{option_map_or}
 use Rattle.std.specs.Str.{is_utf8}
 use Rattle.std.proofs.lemmas.List.{append-nil, take-append-drop, length-take-le, length-drop, take_at, drop_at}
+use Rattle.std.proofs.lemmas.Bool.{le-leb}
 use Rattle.alt_fields.specs.Field.{told_length}
 use Rattle.alt_schema.specs.Bare.{bare}
 use Rattle.alt_schema.specs.Described.{key_attr, IsDescription}
@@ -19,7 +20,7 @@ use Rattle.alt_schema.specs.declared.schema.Projection.{Projection}
 use Rattle.alt_schema.specs.declared.schema.Projection.TheVariants.{All, KeysOnly, Include}
 use Rattle.alt_schema.specs.declared.schema.View.{View}
 use Rattle.alt_schema.specs.declared.schema.TableSchema.{TableSchema}
-use Rattle.alt_schemabytes.proofs.Wholes.{got_value, got_rest, no_stop, both_got, within, passes, le_true, bytes_got, some_got}
+use Rattle.alt_schemabytes.proofs.Wholes.{got_value, got_rest, no_stop, both_got, within, passes, bytes_got, some_got}
 use Rattle.alt_schemabytes.proofs.WholeDescriptions.{description_read}
 
 -- bytes that give a value: a piece of theirs does, whatever follows
@@ -185,7 +186,7 @@ fixed k f = record {
         is = sym (take-append-drop k bytes) ∙ ap (λ m. take k bytes ++ m) (got_rest _ _ _ _ w.1);
         alone = λ z.
             ap (λ b. cond b (got (f (take k (take k bytes ++ z))) (drop k (take k bytes ++ z)))
-            (stops 0)) (le_true k (length (take k bytes ++ z))
+            (stops 0)) (le-leb k (length (take k bytes ++ z))
             (omega (arith, n, length-append (take k bytes) z)))
             ∙ (λ j. got (f (take_at (take k bytes) z k n j)) (drop_at (take k bytes) z k n j))
             ∙ ap (λ x. got x z) (got_value _ _ _ _ w.1);

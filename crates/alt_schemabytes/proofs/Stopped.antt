@@ -4,8 +4,8 @@ use Rattle.std.specs.Int.{w32, w64, to_be_bytes, from_be_bytes}
 use Rattle.std.specs.List.{find, AllByRecursion}
 use Rattle.std.specs.Str.{is_utf8}
 use Rattle.std.proofs.lemmas.Str.{is_utf8-from_IsUtf8, IsUtf8-from_is_utf8}
-use Rattle.std.proofs.lemmas.Bool.Decides.{nat_tests}
 use Rattle.std.proofs.lemmas.List.{append-nil, length-drop}
+use Rattle.std.proofs.lemmas.Bool.{and_from, not-true, leb-false, true≢false}
 use Rattle.alt_fields.specs.Field.{field, told_length}
 use Rattle.alt_value.specs.declared.kind.KeyKind.{KeyKind}
 use Rattle.alt_schema.specs.Described.{key_attr, IsDescription}
@@ -22,7 +22,6 @@ use Rattle.alt_schema.specs.declared.schema.Projection.TheVariants.{All, KeysOnl
 use Rattle.alt_schema.specs.declared.schema.View.{View}
 use Rattle.alt_schema.specs.declared.schema.IndexSchema.{IndexSchema}
 use Rattle.alt_schema.specs.declared.schema.TableSchema.{TableSchema}
-use Rattle.alt_schema.proofs.Bools.{both, not_true, true_false}
 use Rattle.alt_schemabytes.proofs.Wholes.{Small, small_at, small_back, small_take, got_value, both_got, within, passes, u64_got, u32_got, bytes_got, field_got, name_got, byte_got}
 use Rattle.alt_schemabytes.proofs.WholeLists.{counted_got, next_all}
 use Rattle.alt_schemabytes.proofs.WholeDescriptions.{definition_got, key_got, range_got, index_got, stream_got, description_got, view_find, kind_find}
@@ -70,10 +69,6 @@ u64_sound = λ b n r small e. (u64_got b n r small e, u64_below b n r small e)
 u32_sound : Sound (to_be_bytes w32) (λ n. n < 2 ^ 32) read_u32
 u32_sound = λ b n r small e. (u32_got b n r small e, u32_below b n r small e)
 
--- the test of an order that doesn't hold
-short_of : (k m : ℕ) → nat_le k m ≡ false → m < k
-short_of k m h = grind (arith, nat_tests)
-
 -- where reading stopped, there weren't bytes enough
 too_short : {A : Type 0} (k m : ℕ) (x : A) (r : List ℕ) (n : ℕ)
     → (if nat_le k m then got x r else stops 0) ≡ stops n → (m < k) × (n ≡ 0)
@@ -81,7 +76,7 @@ too_short k m x r n e =
     (elim (nat_le k m) as (λ b. nat_le k m ≡ b → cond b (got x r) (stops 0) ≡ stops n
     → (m < k) × (n ≡ 0)) [
       | true ↦ λ t f. absurd (no_got x r n f)
-      | false ↦ λ t f. (short_of k m t, sym (stop_count 0 n f))
+      | false ↦ λ t f. (leb-false k m t, sym (stop_count 0 n f))
     ]) refl e
 
 -- where no number is read, it is cut off
@@ -270,7 +265,7 @@ field_none bytes n e =
           (take (told_length bytes 0) (drop 8 bytes))
           (drop (told_length bytes 0) (drop 8 bytes)) n f in
           (omega (arith, h.0, length-drop 8 bytes), h.1)
-      | false ↦ λ t f. (omega (arith, short_of 8 (length bytes) t), sym (stop_count 0 n f))
+      | false ↦ λ t f. (omega (arith, leb-false 8 (length bytes) t), sym (stop_count 0 n f))
     ]) refl e
 
 -- a text that is read is one that the program can hold
@@ -300,7 +295,7 @@ module _ (test : List ℕ → Bool) (Fits : List ℕ → Type 0)
   text_by bytes (got x mid) n small e f =
       let t = name_fails test x mid (length bytes) n f in
       another_field x mid (field_length bytes x mid small e) (field_got bytes x mid small e)
-      (λ u fits. true_false (sym (both (is_utf8 x) (test x) (is_utf8-from_IsUtf8 x u)
+      (λ u fits. true≢false (sym (and_from (is_utf8 x) (test x) (is_utf8-from_IsUtf8 x u)
       (passed x fits)) ∙ t.0))
       (sym t.1)
 
@@ -330,7 +325,7 @@ module _ {A : Type 0} (byte_of : A → ℕ) (values : List A)
         | c ∷ rest ↦ λ n small e.
             let s = none_stops (find (λ y. c == byte_of y) values) rest (suc (length rest)) n e in
             another_byte c rest refl
-            (λ x is. true_false (sym (all x)
+            (λ x is. true≢false (sym (all x)
             ∙ ap (λ m. is_some (find (λ y. m == byte_of y) values)) (sym is) ∙ ap is_some s.0))
             (sym s.1)
       ]
@@ -350,7 +345,7 @@ new_name_sound before = λ b s r small e.
       g.0,
       (
         held_name (λ name. not (is_defined before name)) b s r small e,
-        not_true
+        not-true
             (is_defined before s) g.2,
       ),
     )

@@ -8,6 +8,9 @@ use Rattle.std.specs.Str.{bytes_eq}
 use Rattle.std.proofs.lemmas.Str.{is_utf8-from_IsUtf8}
 use Rattle.std.proofs.lemmas.List.{append-nil}
 use Rattle.std.proofs.lemmas.List.Folds.{list_all-append}
+use Rattle.std.proofs.lemmas.Option.{none-some}
+use Rattle.std.proofs.lemmas.Bool.{not-true, true≢false}
+use Rattle.std.specs.Cmp.{first_so, second_so}
 use Rattle.alt_fields.specs.Field.{field}
 use Rattle.alt_value.specs.declared.kind.KeyKind.{KeyKind}
 use Rattle.alt_value.specs.declared.kind.KeyKind.TheVariants.{S, N, B}
@@ -32,8 +35,7 @@ use Rattle.alt_schema.specs.declared.schema.View.TheVariants.{KeysOnly as view_k
 use Rattle.alt_schema.specs.declared.schema.IndexSchema.{IndexSchema}
 use Rattle.alt_schema.specs.declared.schema.TableSchema.{TableSchema}
 use Rattle.alt_schema.proofs.BareLaws.{as_whole-same, map_whole, bare_described, bare-same}
-use Rattle.alt_schema.proofs.Bools.{not_true, true_false}
-use Rattle.alt_schema.proofs.NewDescriptions.{left, right, kind_found}
+use Rattle.alt_schema.proofs.NewDescriptions.{kind_found}
 use Rattle.alt_schemabytes.proofs.BareBytes.{description_bytes-bare, bare_held}
 use Rattle.alt_schemabytes.proofs.Wholes.{Small, small_back, got_value, got_rest, both_got, u64_got, u32_got, u64_read, u32_read, name_got, name_read, byte_got, byte_read}
 use Rattle.alt_schemabytes.proofs.WholeLists.{counted_got, counted_read, all_next, next_all, HasNewName, next_differ, differ_next}
@@ -62,7 +64,7 @@ definition_got before bytes d rest small e =
           ∙ (λ j. field ((v j).name) ++ kind_byte ((v j).kind) ∷ got_rest _ _ _ _ c.second j)
           ∙ sym (append_assoc (field d.name) (kind_byte d.kind ∷ []) rest),
       ap (is_defined before) (sym (ap (λ (t : KeyAttr). t.name) v))
-          ∙ not_true (is_defined before b.x) n.2,
+          ∙ not-true (is_defined before b.x) n.2,
     )
 
 -- the byte of a kind is found
@@ -128,7 +130,7 @@ same_kind-eq B N h = cc
 -- where the second is false, the first is true
 either_one : (a b : Bool) → (a || b) ≡ true → b ≡ false → a ≡ true
 either_one true b h f = refl
-either_one false b h f = absurd (true_false (sym h ∙ f))
+either_one false b h f = absurd (true≢false (sym h ∙ f))
 
 -- equal names are found alike
 any_same : (ds : List KeyAttr) (x y : List ℕ) → bytes_eq x y ≡ true
@@ -143,7 +145,7 @@ one_false : (ds : List KeyAttr) (k : KeyAttr) → is_defined ds k.name ≡ false
     ≡ false
 one_false ds k h =
     (elim (is_one_of ds k) as (λ b. is_one_of ds k ≡ b → b ≡ false) [
-      | true ↦ λ t. absurd (true_false (sym (one_defined ds k t) ∙ h))
+      | true ↦ λ t. absurd (true≢false (sym (one_defined ds k t) ∙ h))
       | false ↦ λ t. refl
     ]) refl
 
@@ -158,10 +160,10 @@ kind_same (d ∷ ds) k a h =
     ≡ k.kind) [
       | true ↦ λ t g.
           let none : is_defined ds k.name ≡ false = sym (any_same ds d.name k.name t)
-          ∙ not_true _ (left _ _ a) in
+          ∙ not-true _ (first_so _ _ a) in
           same_kind-eq d.kind k.kind (either_one (same_kind d.kind k.kind) (is_one_of ds k) g
           (one_false ds k none))
-      | false ↦ λ t g. kind_same ds k (right _ _ a) g
+      | false ↦ λ t g. kind_same ds k (second_so _ _ a) g
     ]) refl h
 
 -- a defined key that stands there is read
@@ -321,8 +323,8 @@ index_read ds i rest a h t =
     let r = range_bytes i.range ++ p in
     let k = field i.hash.name ++ r in
     let f = to_be_bytes w32 i.family ++ k in
-    let one = left (is_one_of ds i.hash) (of_range (is_one_of ds) true i.range) h in
-    let two = right (is_one_of ds i.hash) (of_range (is_one_of ds) true i.range) h in
+    let one = first_so (is_one_of ds i.hash) (of_range (is_one_of ds) true i.range) h in
+    let two = second_so (is_one_of ds i.hash) (of_range (is_one_of ds) true i.range) h in
     ap (read_index ds) (sym (index_pieces (field i.name) (to_be_bytes w32 i.family)
     (field i.hash.name) (range_bytes i.range) (projection_bytes i.projection) rest))
     ∙ ap (followed_by _) (text_read i.name f t.name)
@@ -372,8 +374,8 @@ stream_read : (v : Option View) (o : Option ℕ) (rest : List ℕ) → is_some o
     → read_stream v (stream_bytes o ++ rest) ≡ got o rest
 unfolding read_stream
 stream_read None None rest h t = refl
-stream_read None (Some f) rest h t = absurd (true_false h)
-stream_read (Some w) None rest h t = absurd (true_false (sym h))
+stream_read None (Some f) rest h t = absurd (true≢false h)
+stream_read (Some w) None rest h t = absurd (true≢false (sym h))
 stream_read (Some w) (Some f) rest h t =
     ap (followed_by (λ family r. got (Some family) r)) (u32_read f rest t)
 
@@ -529,8 +531,8 @@ keyed_read ds k rest a h hash range ln lh lk gn gh gk =
     let g = counted index_bytes k.globals ++ rest in
     let l = counted index_bytes k.locals ++ g in
     let r = range_bytes k.range ++ l in
-    let one = left (is_one_of ds k.hash) (of_range (is_one_of ds) true k.range) h in
-    let two = right (is_one_of ds k.hash) (of_range (is_one_of ds) true k.range) h in
+    let one = first_so (is_one_of ds k.hash) (of_range (is_one_of ds) true k.range) h in
+    let two = second_so (is_one_of ds k.hash) (of_range (is_one_of ds) true k.range) h in
     let each_read : (before : List IndexSchema) (i : IndexSchema) (q : List ℕ) → IsHeldIndex i
     × HasKeys ds i → read_index ds (index_bytes i ++ q) ≡ got i q
     = λ before i q p. index_read ds i q a p.1.0 p.0
@@ -563,9 +565,9 @@ true_all : {A : Type 0} (test : A → Bool) (xs : List A) → list_all test xs �
     → AllByRecursion (λ x. test x ≡ true) xs
 true_all test [] h = tt
 true_all test (x ∷ xs) h = (
-  left (test x) (list_all test xs) h,
+  first_so (test x) (list_all test xs) h,
   true_all test xs
-      (right (test x) (list_all test xs) h),
+      (second_so (test x) (list_all test xs) h),
 )
 
 -- the pieces of a description in a row
@@ -677,11 +679,11 @@ bare_read s rest d h ls gs none =
     h.locals.0 h.locals.1 (both_all (λ i. keys_defined s.definitions i.hash i.range ≡ true)
     (λ i. i.built ≡ Whole) s.locals
     (true_all (λ i. keys_defined s.definitions i.hash i.range) s.locals
-    (left _ _ all_keys)) ls)
+    (first_so _ _ all_keys)) ls)
     h.globals.0 h.globals.1 (both_all (λ i. keys_defined s.definitions i.hash i.range ≡ true)
     (λ i. i.built ≡ Whole) s.globals
     (true_all (λ i. keys_defined s.definitions i.hash i.range) s.globals
-    (right _ _ all_keys)) gs))
+    (second_so _ _ all_keys)) gs))
     ∙ ap (λ o. got (record s { ttl = o }) rest) (sym none)
 
 -- of one that stands there is read what its bytes tell
@@ -716,10 +718,6 @@ pub read_bare : (r : Result TableSchema BytesFault) (bytes : List ℕ) → Small
 read_bare (Ok s) bytes small e = (description_got bytes s [] small e).2
 read_bare (Err e) bytes small h = h
 
--- none isn't one
-none_some : {A : Type 0} (x : A) → None ≡ Some x → ⊥
-none_some x e = cc
-
 -- the bytes of a description are read as it
 pub read_again : (r : Result TableSchema BytesFault) (bytes : List ℕ)
     → IfOk r (λ s. read_description bytes ≡ got s [])
@@ -731,6 +729,6 @@ read_again (Ok t) bytes whole place s d h e =
     ∙ description_read s [] d h)
 read_again (Err (Bad at)) bytes whole place s d h e =
     let p = place at refl in
-    none_some p.0 (ap left_of (sym (description_read s [] d h))
+    none-some p.0 (ap left_of (sym (description_read s [] d h))
     ∙ ap (λ b. left_of (read_description b)) (append-nil (description_bytes s) ∙ sym e) ∙ p.1)
 read_again (Err NoRoom) bytes whole place s d h e = tt

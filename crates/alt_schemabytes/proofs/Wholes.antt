@@ -5,13 +5,12 @@ use Rattle.std.specs.List.{find}
 use Rattle.std.specs.Option.{option_map_or}
 use Rattle.std.specs.Str.{is_utf8, IsUtf8}
 use Rattle.std.proofs.lemmas.Str.{IsUtf8-from_is_utf8}
-use Rattle.std.proofs.lemmas.Bool.{eqb-true}
-use Rattle.std.proofs.lemmas.Bool.Decides.{nat_tests}
+use Rattle.std.proofs.lemmas.Bool.{eqb-true, leb-true, le-leb}
 use Rattle.std.proofs.lemmas.List.{take-append-drop, length-take-le, take_at, drop_at}
 use Rattle.std.proofs.lemmas.Nat.{be_bytes_4, be_bytes_8, from_be_bytes-to_be_bytes_4, from_be_bytes-to_be_bytes_8}
+use Rattle.std.specs.Cmp.{first_so as left, second_so}
 use Rattle.alt_fields.specs.Field.{field}
 use Rattle.alt_schemabytes.specs.Parts.{Read, got, stops, followed_by, read_bytes, read_u64, read_u32, read_field, any_name, read_name, read_byte, read_more}
-use Rattle.alt_schema.proofs.NewDescriptions.{left, right, at_most}
 
 -- ---- bytes are below 256
 
@@ -83,7 +82,7 @@ pub within : {A : Type 0} (k m : ℕ) (r : Read A) (n : ℕ) (y : A) (rest : Lis
 within k m r n y rest e =
     (elim (nat_le k m) as (λ b. nat_le k m ≡ b → cond b r (stops n) ≡ got y rest → (k ≤ m)
     × (r ≡ got y rest)) [
-      | true ↦ λ t f. (at_most k m t, f)
+      | true ↦ λ t f. (leb-true k m t, f)
       | false ↦ λ t f. absurd (no_stop n y rest f)
     ]) refl e
 
@@ -92,10 +91,6 @@ pub passes : {A : Type 0} (b : Bool) (r : Read A) (n : ℕ) (y : A) (rest : List
     → (if b then r else stops n) ≡ got y rest → (b ≡ true) × (r ≡ got y rest)
 passes true r n y rest e = (refl, e)
 passes false r n y rest e = absurd (no_stop n y rest e)
-
--- the test of an order that holds
-pub le_true : (k m : ℕ) → k ≤ m → nat_le k m ≡ true
-le_true k m h = grind (arith, nat_tests)
 
 -- ---- numbers and fields
 
@@ -132,7 +127,7 @@ unfolding read_u64
 u64_read n rest h =
     let bytes = to_be_bytes w64 n ++ rest in
     let long : nat_le 8 (length bytes) ≡ true =
-    le_true 8 (length bytes) (omega (arith, length-append (to_be_bytes w64 n) rest)) in
+    le-leb 8 (length bytes) (omega (arith, length-append (to_be_bytes w64 n) rest)) in
     ap (λ b. cond b (got (from_be_bytes w64 (take 8 bytes)) (drop 8 bytes)) (stops 0)) long
     ∙ (λ j. got (from_be_bytes w64 (take_at (to_be_bytes w64 n) rest 8 refl j))
     (drop_at (to_be_bytes w64 n) rest 8 refl j))
@@ -145,7 +140,7 @@ unfolding read_u32
 u32_read n rest h =
     let bytes = to_be_bytes w32 n ++ rest in
     let long : nat_le 4 (length bytes) ≡ true =
-    le_true 4 (length bytes) (omega (arith, length-append (to_be_bytes w32 n) rest)) in
+    le-leb 4 (length bytes) (omega (arith, length-append (to_be_bytes w32 n) rest)) in
     ap (λ b. cond b (got (from_be_bytes w32 (take 4 bytes)) (drop 4 bytes)) (stops 0)) long
     ∙ (λ j. got (from_be_bytes w32 (take_at (to_be_bytes w32 n) rest 4 refl j))
     (drop_at (to_be_bytes w32 n) rest 4 refl j))
@@ -168,7 +163,7 @@ bytes_read : (s rest : List ℕ) → read_bytes (length s) (s ++ rest) ≡ got s
 unfolding read_bytes
 bytes_read s rest =
     let long : nat_le (length s) (length (s ++ rest)) ≡ true =
-    le_true (length s) (length (s ++ rest)) (omega (arith, length-append s rest)) in
+    le-leb (length s) (length (s ++ rest)) (omega (arith, length-append s rest)) in
     ap (λ b. cond b (got (take (length s) (s ++ rest)) (drop (length s) (s ++ rest))) (stops 0))
     long
     ∙ (λ j. got (take_at s rest (length s) refl j) (drop_at s rest (length s) refl j))
@@ -207,7 +202,7 @@ name_got test bytes s rest small e =
       field_got bytes b.x b.mid small b.first
           ∙ (λ j. field (v j) ++ got_rest _ _ _ _ p.1 j),
       left (is_utf8 s) (test s) good,
-      right
+      second_so
           (is_utf8 s) (test s) good,
     )
 

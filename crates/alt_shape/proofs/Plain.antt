@@ -1,9 +1,11 @@
 -- Replies without a float. A reply whose body has none is printed as its text, by `to_string` of
 -- serde_json; so each operation shows it of its answer, member by member.
-use Rattle.std.proofs.Common.{◌≡◌, ℕ, List, [], ◌∷◌, Bool, true, false, Ordering, Less, Equal, Greater, refl, ap, ◌∙◌, nat_cmp}
+use Rattle.std.proofs.Common.{◌≡◌, ℕ, List, [], ◌∷◌, false, Ordering, Less, Equal, Greater, refl, nat_cmp}
+use Rattle.std.proofs.lemmas.Bool.{or_from}
 use Rattle.std.specs.Prelude.{◌||◌}
 use Rattle.std.specs.Ordering.{match_ordering}
 use Rattle.std.specs.Cmp.Lexicographic.{slice_cmp}
+use Rattle.alt_base.proofs.Bools.{neither_first, neither_second}
 use Rattle.serde_json.specs.Data.{Data, object, Items, item, Members, no_members, member, put}
 use Rattle.serde_json.specs.Written.{has_float, items_have_float, members_have_float}
 use Rattle.alt_codec.specs.Writing.{json_of_pairs}
@@ -23,23 +25,10 @@ use Rattle.alt_shape.specs.declared.object.Leaf.TheVariants as leaf
 use Rattle.alt_shape.specs.declared.object.Object.{Object}
 use Rattle.alt_value.specs.Tree.{Pair}
 
--- where neither of two has one, none of them has
-pub no_float_either : (a b : Bool) → a ≡ false → b ≡ false → (a || b) ≡ false
-no_float_either a b p q = ap (λ x. x || b) p ∙ q
-
--- where none of two has one, the first and the second have none
-no_float_first : (a b : Bool) → (a || b) ≡ false → a ≡ false
-no_float_first true b h = h
-no_float_first false b h = refl
-
-no_float_second : (a b : Bool) → (a || b) ≡ false → b ≡ false
-no_float_second true b h = absurd (cc)
-no_float_second false b h = h
-
 -- an array with one more item
 pub items_have_float-item : (d : Data) (ds : Items) → has_float d ≡ false → items_have_float ds
     ≡ false → items_have_float (item d ds) ≡ false
-items_have_float-item d ds p q = no_float_either (has_float d) (items_have_float ds) p q
+items_have_float-item d ds p q = or_from (has_float d) (items_have_float ds) p q
 
 -- a member put before another, in its place or behind it
 put_at : (o : Ordering) (k l : List ℕ) (d e : Data) (ms : Members) → has_float d ≡ false
@@ -47,21 +36,21 @@ put_at : (o : Ordering) (k l : List ℕ) (d e : Data) (ms : Members) → has_flo
     → members_have_float (match_ordering o (member k d (member l e ms)) (member l d ms)
     (member l e (put k d ms))) ≡ false
 put_at Less k l d e ms p q r =
-    no_float_either (has_float d) (has_float e || members_have_float ms) p q
+    or_from (has_float d) (has_float e || members_have_float ms) p q
 put_at Equal k l d e ms p q r =
-    no_float_either (has_float d) (members_have_float ms) p
-    (no_float_second (has_float e) (members_have_float ms) q)
+    or_from (has_float d) (members_have_float ms) p
+    (neither_second (has_float e) (members_have_float ms) q)
 put_at Greater k l d e ms p q r =
-    no_float_either (has_float e) (members_have_float (put k d ms))
-    (no_float_first (has_float e) (members_have_float ms) q) r
+    or_from (has_float e) (members_have_float (put k d ms))
+    (neither_first (has_float e) (members_have_float ms) q) r
 
 -- an object with a member put into it
 pub members_have_float-put : (k : List ℕ) (d : Data) (ms : Members) → has_float d ≡ false
     → members_have_float ms ≡ false → members_have_float (put k d ms) ≡ false
-members_have_float-put k d no_members p q = no_float_either (has_float d) false p refl
+members_have_float-put k d no_members p q = or_from (has_float d) false p refl
 members_have_float-put k d (member l e ms) p q =
     put_at (slice_cmp nat_cmp k l) k l d e ms p q
-    (members_have_float-put k d ms p (no_float_second (has_float e) (members_have_float ms) q))
+    (members_have_float-put k d ms p (neither_second (has_float e) (members_have_float ms) q))
 
 -- ---- what a reply says by its members
 
@@ -74,7 +63,7 @@ items_plain (i ∷ items) = items_have_float-item (json_of_pairs i) (items_json 
 -- tables
 pub tables_plain : (ts : List TableItems) → members_have_float (tables_json ts) ≡ false
 tables_plain [] = refl
-tables_plain (t ∷ ts) = no_float_either (items_have_float (items_json t.items.items))
+tables_plain (t ∷ ts) = or_from (items_have_float (items_json t.items.items))
     (members_have_float (tables_json ts)) (items_plain t.items.items) (tables_plain ts)
 
 -- a plain value
@@ -87,7 +76,7 @@ leaf_plain (leaf.Item i) = pairs_plain i
 -- fields
 fields_plain : (fs : List Field) → members_have_float (fields_json fs) ≡ false
 fields_plain [] = refl
-fields_plain (f ∷ fs) = no_float_either (has_float (leaf_json f.value))
+fields_plain (f ∷ fs) = or_from (has_float (leaf_json f.value))
     (members_have_float (fields_json fs)) (leaf_plain f.value) (fields_plain fs)
 
 -- what stands at an entry
@@ -98,7 +87,7 @@ inner_plain (inner.Fields fs) = fields_plain fs.items
 -- entries
 entries_plain : (es : List Entry) → members_have_float (entries_json es) ≡ false
 entries_plain [] = refl
-entries_plain (e ∷ es) = no_float_either (has_float (inner_json e.value))
+entries_plain (e ∷ es) = or_from (has_float (inner_json e.value))
     (members_have_float (entries_json es)) (inner_plain e.value) (entries_plain es)
 
 -- the objects of a list
@@ -120,5 +109,5 @@ part_plain (part.Objects os) = objects_plain os.items
 -- the members
 pub members_plain : (ms : List Member) → members_have_float (members_json ms) ≡ false
 members_plain [] = refl
-members_plain (m ∷ ms) = no_float_either (has_float (part_json m.value))
+members_plain (m ∷ ms) = or_from (has_float (part_json m.value))
     (members_have_float (members_json ms)) (part_plain m.value) (members_plain ms)

@@ -1,10 +1,10 @@
 -- A take gives nothing exactly where no piece is left, and what it leaves of the log.
 use Rattle.std.proofs.Common.{◌≡◌, ◌<◌, ◌+◌, ◌==◌, ℕ, Bool, true, false, List, [], ◌∷◌, ◌++◌, length, take, map, if◌then◌else◌}
 use Rattle.std.proofs.Common.{Vec, Global, ap, sym, ◌∙◌, arith, length-take, length-append, append-nil, refl}
-use Rattle.std.proofs.lemmas.Bool.Decides.{nat_tests}
 use Rattle.std.proofs.lemmas.Grind.{flat_map-append}
 use Rattle.std.specs.Prelude.{◌↔◌}
 use Rattle.std.specs.List.{All}
+use Rattle.alt_base.proofs.Numbers.{told_zero, zero_is_told}
 use Rattle.alt_shell.specs.declared.pieces.Pieces.{Pieces}
 use Rattle.alt_shell.specs.Log.{Log, entry, event_of, took, bytes_taken, taken}
 use Rattle.alt_shell.specs.Pieces.{front_of}
@@ -35,21 +35,13 @@ hand_ends true talk standard bytes n most some size same =
 hand_ends false talk standard bytes n most some size same =
     ends standard.waiting.items bytes n most standard.filled some size same
 
--- a test of a number for zero
-zero_is : (n : ℕ) → n ≡ 0 → (n == 0) ≡ true
-zero_is n is = grind (arith, nat_tests)
-
--- and what it says
-pub is_zero : (n : ℕ) → (n == 0) ≡ true → n ≡ 0
-is_zero n is = grind (arith, nat_tests)
-
 -- these bytes are none exactly where their count is
 pub none_is : (bytes : List ℕ) (n : ℕ) → n ≡ length bytes → is_none bytes ≡ (n == 0)
-none_is [] n is = sym (zero_is n is)
+none_is [] n is = sym (zero_is_told n is)
 none_is (b ∷ bytes) n is = sym (no (n == 0) refl)
   where
     no : (t : Bool) → (n == 0) ≡ t → t ≡ false
-    no true test = absurd (let none = is_zero n test in omega (arith, is, none))
+    no true test = absurd (let none = told_zero n test in omega (arith, is, none))
     no false test = refl
 
 -- the streams after a take

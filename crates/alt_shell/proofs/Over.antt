@@ -1,5 +1,6 @@
 -- The end of standard input is final: where the log says that it was taken, no piece of it is left.
 use Rattle.std.proofs.Common.{◌≡◌, ◌||◌, ◌&&◌, not, ℕ, Bool, true, false, List, [], ◌∷◌, Option, Some, None, refl, ap, ◌∙◌, if◌then◌else◌}
+use Rattle.std.proofs.Math.Bool.{or-true}
 use Rattle.std.specs.List.{fold}
 use Rattle.alt_shell.specs.Log.{Log, Event, event_of, is_end, is_bound, ended, crosses, is_positive}
 use Rattle.alt_shell.specs.Log.{took, said, take_failed, say_failed, accepted, none_came, hung_up}
@@ -39,16 +40,11 @@ over_stays [] s over = over
 over_stays (e ∷ es) s over =
     over_stays es (after_event (event_of e.1) s) (event_over (event_of e.1) s over)
 
--- or true is true
-or_true : (b : Bool) → (b || true) ≡ true
-or_true true = refl
-or_true false = refl
-
 -- a take outside of talks that gave nothing is the end
 took_none : (talking : Bool) (s : Streams) → talking ≡ false
     → (on_hand talking (after_take []) s).standard.over ≡ true
 took_none true s quiet = absurd (let f : ⊥ = cc in f)
-took_none false s quiet = or_true s.standard.over
+took_none false s quiet = or-true s.standard.over
 
 -- a take or say begins no talk
 hand_quiet : (talking : Bool) (act : Heard → Heard) (s : Streams)

@@ -1,11 +1,12 @@
 -- What a ListStreams comes to.
 use Rattle.std.proofs.Common.{◌≡◌, refl, sym, ap, ◌∙◌, ℕ, ◌&&◌, Bool, true, false, nat_lt, take, length, List, [], ◌∷◌, map, Option, Some, None, option_map, codes, Result, Ok, Err, IfOk}
-use Rattle.std.specs.Prelude.{◌||◌, is_some, option_and_then}
+use Rattle.std.specs.Prelude.{is_some, option_and_then}
 use Rattle.std.specs.FinMap as finite
 use Rattle.std.specs.FinMap.{entries, entries_sorted, get-entries}
 use Rattle.std.specs.List.{filter}
 use Rattle.std.specs.Option.{option_map_or}
 use Rattle.std.specs.Ordering.{is_lt}
+use Rattle.alt_base.proofs.Bools.{or_nothing}
 use Rattle.serde_json.specs.Data.{Data, Members, string, array, item, member, no_members}
 use Rattle.serde_json.specs.View.{view}
 use Rattle.serde_json.specs.Written.{has_float, items_have_float, members_have_float}
@@ -36,6 +37,7 @@ use Rattle.alt_streams.specs.private.Listed.{AreNamed, IsAsked, StartsAfter, all
 use Rattle.alt_streams.proofs.Entries.{chosen_alike}
 use Rattle.alt_request.specs.TablesStands.{Stands, catalog_of}
 use Rattle.alt_request.specs.TablesDeclaredTables.{Tables}
+use Rattle.alt_schema.proofs.CutRows.{empty_before_name}
 use Rattle.alt_value.specs.Members.{text_order}
 
 -- ---- the tables that are known
@@ -46,11 +48,6 @@ each_description : (es : List (List ℕ × Table))
     (map (λ (e : List ℕ × Table). (e.0, e.1.description)) es)
 each_description [] = refl
 each_description (e ∷ es) = ap (λ ds. e.1.description ∷ ds) (each_description es)
-
--- the empty name is before all others
-before_name : (name : List ℕ) → is_name name ≡ true → is_lt (text_order [] name) ≡ true
-before_name [] e = absurd (let f : false ≡ true = e in cc f)
-before_name (c ∷ cs) e = refl
 
 module _ (s : State) (valid : IsValid s) (catalog : Texts TableSchema)
     (same : descriptions s.tables ≡ catalog) where
@@ -91,7 +88,7 @@ module _ (s : State) (valid : IsValid s) (catalog : Texts TableSchema)
           → option_map (λ (t : Table). t.description) o ≡ start
           → option_map_or (λ (t : Table). is_lt (text_order t.description.name d.name)) o true
           ≡ is_lt (text_order (option_map_or (λ (x : TableSchema). x.name) start []) d.name)
-      by d spelled None start e = sym (before_name d.name spelled)
+      by d spelled None start e = sym (empty_before_name d.name spelled)
           ∙ ap (λ (p : Option TableSchema). is_lt
           (text_order (option_map_or (λ (x : TableSchema). x.name) p [])
           d.name)) e
@@ -141,10 +138,6 @@ pub page-answered : (more : Bool) (ds all : List TableSchema) (most : ℕ) → d
     → more ≡ nat_lt most (length all) → page_answer more ds ≡ streams_answer most all
 page-answered more ds all most e f = λ i. page_answer (f i) (e i)
 
--- no float stands in it
-or_false : (b : Bool) → b ≡ false → (b || false) ≡ false
-or_false b e = rw e refl
-
 streams_plain : (ds : List TableSchema) → items_have_float (items_by stream_json ds) ≡ false
 streams_plain [] = refl
 streams_plain (d ∷ ds) = streams_plain ds
@@ -153,8 +146,8 @@ members_plain : (o : Option TableSchema) (ds : List TableSchema)
     → members_have_float (member_if (codes "LastEvaluatedStreamArn")
     (option_map (λ d. string (stream_arn d.name d.number)) o)
     (member (codes "Streams") (array (items_by stream_json ds)) no_members)) ≡ false
-members_plain None ds = or_false _ (streams_plain ds)
-members_plain (Some d) ds = or_false _ (streams_plain ds)
+members_plain None ds = or_nothing _ (streams_plain ds)
+members_plain (Some d) ds = or_nothing _ (streams_plain ds)
 
 -- a reply that lists streams has no float in it
 pub reply_plain : {E : Type 0} (r : Result Reply E) (more : Bool) (ds : List TableSchema)
@@ -163,12 +156,6 @@ pub reply_plain : {E : Type 0} (r : Result Reply E) (more : Bool) (ds : List Tab
 reply_plain (Ok reply) more ds is =
     ap (λ (a : Answer). has_float a.body) is ∙ members_plain (last_of more ds) ds
 reply_plain (Err e) more ds is = tt
-
--- a reply that has one answer has every answer that is equal to it
-pub page_said : {E : Type 0} (r : Result Reply E) (a b : Answer) → a ≡ b
-    → IfOk r (λ reply. answer_of reply ≡ a) → IfOk r (λ reply. answer_of reply ≡ b)
-page_said (Ok reply) a b e h = h ∙ e
-page_said (Err x) a b e h = tt
 
 -- ---- what each stream shows
 

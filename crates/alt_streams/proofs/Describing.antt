@@ -1,6 +1,7 @@
 -- What a DescribeStream comes to.
-use Rattle.std.proofs.Common.{◌≡◌, refl, sym, ap, ◌∙◌, ℕ, Bool, true, false, List, Option, Some, None, codes, Result, Ok, Err, IfOk}
-use Rattle.std.specs.Prelude.{◌||◌, if◌then◌else◌}
+use Rattle.std.proofs.Common.{◌≡◌, refl, sym, ap, ◌∙◌, ℕ, Bool, true, false, List, Some, None, codes, Result, Ok, Err, IfOk}
+use Rattle.std.proofs.lemmas.Bool.{or_from}
+use Rattle.std.specs.Prelude.{if◌then◌else◌}
 use Rattle.serde_json.specs.Data.{Items, Members, no_items, item}
 use Rattle.serde_json.specs.View.{view}
 use Rattle.serde_json.specs.declared.value.Value.{Value}
@@ -12,10 +13,9 @@ use Rattle.alt_machine.specs.Refusals.{first_answer}
 use Rattle.alt_machine.specs.State.{State}
 use Rattle.alt_machine.specs.Streams.{arn_in, stream_at}
 use Rattle.alt_machine.proofs.Tests.{passed, stopped}
-use Rattle.alt_schema.specs.Json.{key_schema_json}
-use Rattle.alt_schema.specs.declared.schema.KeyAttr.{KeyAttr}
 use Rattle.alt_schema.specs.declared.schema.TableSchema.{TableSchema}
 use Rattle.alt_schema.specs.declared.schema.View.{View}
+use Rattle.alt_schema.proofs.Plain.{key_schema_plain}
 use Rattle.alt_shape.specs.Refusals.{refused}
 use Rattle.alt_shape.specs.declared.refusal.Refusal.{Refusal}
 
@@ -35,14 +35,6 @@ describe-on ms arn is free s = passed (of_body ms) _ free
 
 -- ---- no float stands in it
 
-neither : (a b : Bool) → a ≡ false → b ≡ false → (a || b) ≡ false
-neither a b e f = (λ i. e i || f i)
-
-keys_plain : (hash : KeyAttr) (range : Option KeyAttr)
-    → has_float (key_schema_json hash range) ≡ false
-keys_plain hash None = refl
-keys_plain hash (Some k) = refl
-
 abbrev shards_by : TableSchema → Bool → Items
 shards_by d b = if b then no_items else item (shard_json d) no_items
 
@@ -55,8 +47,8 @@ shards_plain d ms = elim (is_given (codes "ExclusiveStartShardId") ms) as
 
 stream_plain : (d : TableSchema) (ms : Members) (shows : View)
     → has_float (stream_json d ms shows) ≡ false
-stream_plain d ms shows = neither _ _ (keys_plain d.hash d.range)
-    (neither _ false (shards_plain d ms) refl)
+stream_plain d ms shows = or_from _ _ (key_schema_plain d.hash d.range)
+    (or_from _ false (shards_plain d ms) refl)
 
 -- a description that was written has no float in it
 pub written_plain : {E : Type 0} (r : Result Value E) (d : TableSchema) (ms : Members)

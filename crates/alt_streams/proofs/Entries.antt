@@ -1,31 +1,13 @@
 -- What is found among the entries of a finite map by texts, which rise by their keys.
 use Rattle.std.proofs.Common.{◌≡◌, refl, sym, ap, ◌∙◌, ℕ, Bool, true, false, cond, T, List, [], ◌∷◌, map, Some, None}
-use Rattle.std.specs.Prelude.{unwrap_or}
+use Rattle.std.proofs.lemmas.Option.{same_Some}
 use Rattle.std.specs.List.{filter, find}
-use Rattle.std.specs.declared.cmp.Ordering.{Ordering}
-use Rattle.std.specs.declared.cmp.Ordering.TheVariants.{Less, Equal, Greater}
 use Rattle.std.specs.Ordering.{eq_by_cmp, is_eq}
-use Rattle.std.specs.Cmp.{tied_itself}
 use Rattle.std.specs.FinMap.Entries.{find as at_key, is_sorted, below_all}
+use Rattle.alt_base.proofs.Bools.{first_holds, second_holds}
+use Rattle.alt_base.proofs.Orderings.{is_lt-holds}
 use Rattle.alt_value.specs.Members.{text_order}
-use Rattle.alt_value.proofs.Places.{first, second, less}
-use Rattle.alt_value.proofs.Texts.{text_total, text_apart}
-
-equal : (r : Ordering) → is_eq r ≡ true → r ≡ Equal
-equal Less e = absurd (let f : ⊥ = cc in f)
-equal Equal e = refl
-equal Greater e = absurd (let f : ⊥ = cc in f)
-
--- keys that tie are one key, and each ties with itself
-one_key : (q k : List ℕ) → eq_by_cmp text_order q k ≡ true → q ≡ k
-one_key q k e = text_apart q k (equal _ e)
-
-itself : (q : List ℕ) → eq_by_cmp text_order q q ≡ true
-itself q = ap is_eq (tied_itself text_total q)
-
--- values that are equal as options are equal
-pub some : {A : Type 0} (x y : A) → Some x ≡ Some y → x ≡ y
-some x y e = ap (λ o. unwrap_or o x) e
+use Rattle.alt_value.proofs.TextTies.{text_itself, one_text}
 
 module _ {X : Type 0} where
   -- a key below all isn't found
@@ -33,8 +15,9 @@ module _ {X : Type 0} where
       → at_key text_order q es ≡ None
   find_below q [] h = refl
   find_below q (e ∷ es) h =
-      ap (λ r. cond (is_eq r) (Some e.1) (at_key text_order q es)) (less _ (first _ _ h))
-      ∙ find_below q es (second _ _ h)
+      ap (λ r. cond (is_eq r) (Some e.1) (at_key text_order q es))
+      (is_lt-holds _ (first_holds _ _ h))
+      ∙ find_below q es (second_holds _ _ h)
 
   -- what is found behind an entry is found with it
   pub behind : (e : List ℕ × X) (es : List (List ℕ × X)) → T (is_sorted text_order (e ∷ es))
@@ -44,14 +27,15 @@ module _ {X : Type 0} where
     where
       by : (b : Bool) → eq_by_cmp text_order k e.0 ≡ b
           → cond b (Some e.1) (at_key text_order k es) ≡ Some x
-      by true same = absurd (let no : None ≡ Some x = sym (find_below e.0 es (first _ _ sorted))
-          ∙ ap (λ q. at_key text_order q es) (sym (one_key k e.0 same)) ∙ at in cc no)
+      by true same =
+          absurd (let no : None ≡ Some x = sym (find_below e.0 es (first_holds _ _ sorted))
+          ∙ ap (λ q. at_key text_order q es) (sym (one_text k e.0 same)) ∙ at in cc no)
       by false other = at
 
   -- an entry is found by its key
   pub here : (e : List ℕ × X) (es : List (List ℕ × X))
       → at_key text_order e.0 (e ∷ es) ≡ Some e.1
-  here e es = ap (λ b. cond b (Some e.1) (at_key text_order e.0 es)) (itself e.0)
+  here e es = ap (λ b. cond b (Some e.1) (at_key text_order e.0 es)) (text_itself e.0)
 
   module _ (p : X → Bool) where
     -- those that pass a test stand at one key
@@ -73,7 +57,7 @@ module _ {X : Type 0} where
         by_key : (b : Bool) → eq_by_cmp text_order k e.0 ≡ b
             → cond b (Some e.1) (at_key text_order k es) ≡ Some x
             → find p (map (λ e. e.1) es) ≡ Some x
-        by_key true tied here_so = absurd (let one : e.1 ≡ x = some _ _ here_so in
+        by_key true tied here_so = absurd (let one : e.1 ≡ x = same_Some _ _ here_so in
             let no : false ≡ true = sym same ∙ ap p one ∙ is in cc no)
         by_key false other there = rest there
 
@@ -83,7 +67,8 @@ module _ {X : Type 0} where
         → find p (map (λ e. e.1) es) ≡ Some x
     found_only k x [] sorted at is only = absurd (let no : None ≡ Some x = at in cc no)
     found_only k x (e ∷ es) sorted at is only = by_test k x e es at is only
-        (λ there. found_only k x es (second _ _ sorted) there is (only_behind k e es sorted only))
+        (λ there. found_only k x es (second_holds _ _ sorted) there is
+        (only_behind k e es sorted only))
         (p e.1) refl
 
     -- where none passes it, there is none
@@ -92,7 +77,8 @@ module _ {X : Type 0} where
         → find p (map (λ e. e.1) es) ≡ None
     found_none [] sorted never = refl
     found_none (e ∷ es) sorted never = by (p e.1) refl
-        (found_none es (second _ _ sorted) (λ j y at is. never j y (behind e es sorted j y at) is))
+        (found_none es (second_holds _ _ sorted)
+        (λ j y at is. never j y (behind e es sorted j y at) is))
       where
         by : (b : Bool) → p e.1 ≡ b → find p (map (λ e. e.1) es) ≡ None
             → cond b (Some e.1) (find p (map (λ e. e.1) es)) ≡ None
@@ -105,6 +91,6 @@ module _ {X : Type 0} where
       → filter p (map (λ e. e.1) es) ≡ filter q (map (λ e. e.1) es)
   chosen_alike p q [] sorted alike = refl
   chosen_alike p q (e ∷ es) sorted alike =
-      let rest = chosen_alike p q es (second _ _ sorted)
+      let rest = chosen_alike p q es (second_holds _ _ sorted)
       (λ j y at. alike j y (behind e es sorted j y at)) in
       (λ i. cond (alike e.0 e.1 (here e es) i) (e.1 ∷ rest i) (rest i))

@@ -2,7 +2,7 @@
 use Rattle.std.proofs.Common.{◌≡◌, refl, sym, ap, ◌∙◌, ℕ, ◌+◌, ◌-◌, ◌||◌, ◌==◌, true, false, nat_le, List, [], ◌∷◌, ◌++◌, length, map, sum_by, codes, arith, length-append}
 use Rattle.std.proofs.lemmas.List.{map_push}
 use Rattle.std.proofs.lemmas.List.Sums.{sum_by_push}
-use Rattle.serde_json.specs.Data.{Data, string, array, item, member, no_members}
+use Rattle.serde_json.specs.Data.{string, array, item, member, no_members}
 use Rattle.serde_json.specs.View.{items_of}
 use Rattle.alt_expr.specs.Pages.{page_bytes}
 use Rattle.alt_machine.specs.Changes.{record_json, record_size}
@@ -12,6 +12,7 @@ use Rattle.alt_machine.specs.Streams.{iterator_text}
 use Rattle.alt_schema.specs.Json.{items_by}
 use Rattle.alt_schema.specs.declared.schema.TableSchema.{TableSchema}
 use Rattle.alt_schema.specs.declared.schema.View.{View}
+use Rattle.alt_schema.proofs.Shown.{items_of-map}
 use Rattle.alt_shape.specs.Objects.{object_json, objects_json}
 use Rattle.alt_shape.specs.Refusals.{answered}
 use Rattle.alt_shape.specs.declared.object.Object.{Object}
@@ -19,11 +20,6 @@ use Rattle.alt_streams.specs.private.Paged.{HasRead, is_full, iterator_at, page_
 use Rattle.alt_streams.specs.declared.page.Page.{Page}
 use Rattle.alt_streams.proofs.Prefixes.{first_push, page_full, page_whole}
 use Rattle.alt_streams.proofs.Numbers.{past-append}
-
-items_of-map : {A : Type 0} (shown : A → Data) (xs : List A) → items_of (map shown xs)
-    ≡ items_by shown xs
-items_of-map shown [] = refl
-items_of-map shown (x ∷ xs) = ap (λ ds. item (shown x) ds) (items_of-map shown xs)
 
 -- objects as JSON, one by one
 objects_each : (os : List Object) → objects_json os ≡ items_of (map object_json os)

@@ -7,15 +7,17 @@ use Rattle.std.specs.FinMap.Entries.{find as at_key, is_sorted}
 use Rattle.std.specs.List.{find}
 use Rattle.std.specs.Ordering.{is_lt}
 use Rattle.std.proofs.lemmas.Slice.Eq.{bytes_eq-Decides}
+use Rattle.std.proofs.Math.Bool.{and-true, and-false}
+use Rattle.std.proofs.lemmas.Option.{same_Some}
+use Rattle.alt_base.proofs.Bools.{second_holds}
 use Rattle.alt_machine.specs.Ops.ListTables.{names_after}
 use Rattle.alt_machine.specs.State.{Texts}
 use Rattle.alt_schema.specs.declared.schema.TableSchema.{TableSchema}
 use Rattle.alt_streams.specs.private.Listed.{AreNamed, all_in, is_listed, is_named, streams_after}
-use Rattle.alt_streams.proofs.Entries.{found_only, found_none, here, behind, some}
+use Rattle.alt_streams.proofs.Entries.{found_only, found_none, here, behind}
 use Rattle.alt_streams.proofs.Rising.{Rises, keyed, chosen_next, find-filter, find-keyed, sorted-each, walk_found, walk_on, walk_none}
 use Rattle.alt_request.specs.TablesOpeningOrder.{first_after}
 use Rattle.alt_value.specs.Members.{text_order}
-use Rattle.alt_value.proofs.Places.{second}
 
 -- ---- fewer names are left behind the first
 
@@ -44,16 +46,8 @@ names_less last k m h =
 abbrev test : Option (List ℕ) → Bool → TableSchema → Bool
 test name b d = is_some d.view && (b && is_named name d)
 
-never : (b : Bool) → (b && false) ≡ false
-never true = refl
-never false = refl
-
-always : (b : Bool) → (b && true) ≡ b
-always true = refl
-always false = refl
-
 off : (name : Option (List ℕ)) (d : TableSchema) → test name false d ≡ false
-off name d = never (is_some d.view)
+off name d = and-false (is_some d.view)
 
 all_three : (a b c : Bool) → (a && (b && c)) ≡ true → (a ≡ true) × (b ≡ true) × (c ≡ true)
 all_three true true true e = (refl, refl, refl)
@@ -66,7 +60,7 @@ keyed_so : (es : List (List ℕ × TableSchema)) → T (is_sorted text_order es)
     → keyed (λ (d : TableSchema). d.name) (map (λ e. e.1) es) ≡ es
 keyed_so [] sorted named = refl
 keyed_so (e ∷ es) sorted named =
-    let rest = keyed_so es (second _ _ sorted)
+    let rest = keyed_so es (second_holds _ _ sorted)
     (λ k d at. named k d (behind e es sorted k d at)) in
     (λ i. (named e.0 e.1 (here e es) i, e.1) ∷ rest i)
 
@@ -120,14 +114,14 @@ module _ (catalog : Texts TableSchema) (named : AreNamed catalog) where
       → is_some d.view ≡ true → Some d ≡ find (is_listed last None) ds
   walk_here last d e is =
       sym (walk_found (λ (d : TableSchema). d.name) (test None) (off None) last d ds
-      (sym (first-behind last) ∙ sym e) (always (is_some d.view) ∙ is))
+      (sym (first-behind last) ∙ sym e) (and-true (is_some d.view) ∙ is))
 
   -- one that has none is passed over
   pub walk_next : (last : List ℕ) (d : TableSchema) → Some d ≡ first_after last catalog
       → is_some d.view ≡ false → find (is_listed last None) ds ≡ find (is_listed d.name None) ds
   walk_next last d e is =
       walk_on (λ (d : TableSchema). d.name) (test None) (off None) last d ds rises
-      (sym (first-behind last) ∙ sym e) (always (is_some d.view) ∙ is)
+      (sym (first-behind last) ∙ sym e) (and-true (is_some d.view) ∙ is)
 
   -- behind the last table none is found
   pub walk_end : (last : List ℕ) → None ≡ first_after last catalog
@@ -179,6 +173,6 @@ module _ (catalog : Texts TableSchema) (named : AreNamed catalog) where
             → (if b then Some d else None) ≡ find (is_listed last (Some name)) ds
         by true e = named_one d there e less
         by false e = named_none (λ x at shown behind_so.
-            let one : d ≡ x = some d x (there ∙ at) in
+            let one : d ≡ x = same_Some d x (there ∙ at) in
             let no : false ≡ true = sym e ∙ ap (λ (y : TableSchema). is_some y.view) one
             ∙ shown in cc no)

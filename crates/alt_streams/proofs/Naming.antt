@@ -1,5 +1,5 @@
 -- The table whose stream has a name: the table's own name is cut out of that, and no other table's stream can have it.
-use Rattle.std.proofs.Common.{◌≡◌, ◌≤◌, ◌<◌, refl, sym, ap, ◌∙◌, ℕ, ◌+◌, ◌-◌, ◌^◌, ◌&&◌, Bool, true, false, List, ◌++◌, length, take, drop, get_or, replicate, Option, Some, None, option_map, codes, decimal, arith, length-append}
+use Rattle.std.proofs.Common.{◌≡◌, ◌≤◌, ◌<◌, refl, sym, ap, ◌∙◌, ℕ, ◌+◌, ◌-◌, ◌^◌, true, false, List, ◌++◌, length, take, drop, get_or, replicate, Option, Some, None, option_map, codes, decimal, arith, length-append}
 use Rattle.std.specs.Prelude.{is_some}
 use Rattle.std.specs.FinMap as map
 use Rattle.std.specs.FinMap.{entries, entries_sorted, get-entries}
@@ -9,6 +9,8 @@ use Rattle.std.proofs.Math.Seq.{take-append_seam, get_or-append_seam}
 use Rattle.std.proofs.lemmas.Fmt.{length-decimal-le}
 use Rattle.std.proofs.lemmas.List.{append_assoc, length-replicate}
 use Rattle.std.proofs.lemmas.Slice.Eq.{bytes_eq-Decides}
+use Rattle.std.proofs.lemmas.Option.{same_Some}
+use Rattle.std.specs.Cmp.{second_so}
 use Rattle.alt_machine.specs.State.{State, Table, Texts}
 use Rattle.alt_machine.specs.Streams.{is_stream, table_of_stream}
 use Rattle.alt_machine.specs.Valid.{IsValid}
@@ -16,7 +18,7 @@ use Rattle.alt_request.proofs.Named.{table_found, table_missed}
 use Rattle.alt_schema.specs.Json.{label, stream_arn}
 use Rattle.alt_schema.specs.declared.schema.TableSchema.{TableSchema}
 use Rattle.alt_streams.specs.private.Named.{IsStreamOf}
-use Rattle.alt_streams.proofs.Entries.{found_only, found_none, some}
+use Rattle.alt_streams.proofs.Entries.{found_only, found_none}
 
 -- ---- the name in that of the stream
 
@@ -88,11 +90,6 @@ abbrev pub Cuts : List ℕ → Option (List ℕ) → Type 0
 Cuts arn cut = (name : List ℕ) (number : ℕ) → number < 2 ^ 62 → arn ≡ stream_arn name number
     → cut ≡ Some name
 
--- of two that hold, the second does
-both_true : (a b : Bool) → (a && b) ≡ true → b ≡ true
-both_true true b e = e
-both_true false b e = absurd (let f : ⊥ = cc in f)
-
 module _ (s : State) (valid : IsValid s) (arn : List ℕ) where
   abbrev Is : Table → Type 0
   Is t = is_stream arn t.description ≡ true
@@ -104,7 +101,7 @@ module _ (s : State) (valid : IsValid s) (arn : List ℕ) where
       let table = valid.tables k t at in
       let named : stream_arn t.description.name t.description.number ≡ arn =
       (bytes_eq-Decides (stream_arn t.description.name t.description.number) arn).0
-      (both_true (is_some t.description.view) _ is) in
+      (second_so (is_some t.description.view) _ is) in
       cuts k t.description.number (omega (arith, table.number.1, valid.next_number.1))
       (sym (ap (λ q. stream_arn q t.description.number) (sym table.named) ∙ named))
 
@@ -112,7 +109,8 @@ module _ (s : State) (valid : IsValid s) (arn : List ℕ) where
       → map.get s.tables k ≡ Some t → Is t → table_of_stream s arn ≡ Some t
   found_at cut cuts k t at is = found_only (λ (u : Table). is_stream arn u.description) k t
       (entries s.tables) (entries_sorted s.tables) (sym (get-entries s.tables k) ∙ at) is
-      (λ j u there so. some j k (sym (own_name cut cuts j u (get-entries s.tables j ∙ there) so)
+      (λ j u there so. same_Some j k
+      (sym (own_name cut cuts j u (get-entries s.tables j ∙ there) so)
       ∙ own_name cut cuts k t at is))
 
   none_at : ((k : List ℕ) (t : Table) → map.get s.tables k ≡ Some t → Is t → ⊥)
@@ -133,7 +131,7 @@ module _ (catalog : Texts TableSchema) (arn : List ℕ) where
     -- no table has the name in it
     pub stream_missed : map.get catalog name ≡ None → IsStreamOf catalog arn None
     stream_missed none s valid same = ap to (none_at s valid arn (λ k t at is.
-        let one : name ≡ k = some name k (own_name s valid arn (Some name) cuts k t at is) in
+        let one : name ≡ k = same_Some name k (own_name s valid arn (Some name) cuts k t at is) in
         let no : None ≡ Some t = sym (table_missed s catalog same name none)
         ∙ ap (map.get s.tables) one ∙ at in cc no))
 
@@ -141,9 +139,10 @@ module _ (catalog : Texts TableSchema) (arn : List ℕ) where
       -- its stream has another name, or it has none
       pub stream_other : is_stream arn d ≡ false → IsStreamOf catalog arn None
       stream_other other s valid same = ap to (none_at s valid arn (λ k t at is.
-          let one : name ≡ k = some name k (own_name s valid arn (Some name) cuts k t at is) in
+          let one : name ≡ k = same_Some name k (own_name s valid arn (Some name) cuts k t at is) in
           let found = table_found s catalog same name d there in
-          let it : found.0 ≡ t = some found.0 t (sym found.1 ∙ ap (map.get s.tables) one ∙ at) in
+          let it : found.0 ≡ t =
+          same_Some found.0 t (sym found.1 ∙ ap (map.get s.tables) one ∙ at) in
           let no : false ≡ true = sym other ∙ ap (is_stream arn) (sym found.2)
           ∙ ap (λ (u : Table). is_stream arn u.description) it ∙ is in cc no))
 

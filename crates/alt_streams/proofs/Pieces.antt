@@ -4,7 +4,9 @@ use Rattle.std.specs.Result.{IsErr, IsErrAnd}
 use Rattle.std.specs.FinMap as finite
 use Rattle.std.specs.Prelude.{nat_le}
 use Rattle.std.proofs.lemmas.List.{take-append-drop}
-use Rattle.std.proofs.lemmas.List.Elements.{All-head, All-tail, All-filter, All-take, All-weaker}
+use Rattle.std.proofs.lemmas.List.Elements.{All-filter, All-take, All-weaker}
+use Rattle.std.proofs.lemmas.Option.{same_Some}
+use Rattle.alt_base.proofs.Lists.{All-ahead}
 use Rattle.alt_changes.specs.KeyOf.{IsSized}
 use Rattle.alt_disk.specs.Disk.{DiskState}
 use Rattle.alt_machine.specs.Changes.{record_size}
@@ -55,17 +57,6 @@ module _ (s : State) (valid : IsValid s) (name : List ℕ) (t : Table)
   rising = (valid.tables name t at).changes.rise
 
 -- ---- a piece
-
-All-ahead : {A : Type 0} (P : A → Type 0) (front : List A) (x : A) (ahead : List A)
-    → All P (front ++ x ∷ ahead) → P x
-All-ahead P [] x ahead all = All-head P x ahead all
-All-ahead P (y ∷ ys) x ahead all =
-    All-ahead P ys x ahead (All-tail P y (ys ++ x ∷ ahead) all)
-
--- none is ahead of an iterator without items
-pub none_ahead : {A : Type 0} (xs : List A) → length xs ≡ 0 → xs ≡ []
-none_ahead [] e = refl
-none_ahead (x ∷ xs) e = absurd (omega (arith, e))
 
 module _ (d : TableSchema) (shows : View) (most from : ℕ) (seen changes : List Change) where
   -- the records of a front of the changes were put behind those that were there, and these are ahead
@@ -209,15 +200,12 @@ module _ (d : TableSchema) (shows : View) (most from : ℕ) (t : Table) (list : 
 
 -- ---- the table, and what stops
 
-same_some : (x y : TableSchema) → Some x ≡ Some y → x ≡ y
-same_some x y e = cc
-
 module _ (disk : DiskState) (tables : Tables) (s : State) (stands : Stands disk tables s)
     (name : List ℕ) (now : Tables) (keeps : KeepsCatalog tables now) (d : TableSchema)
     (found : Some d ≡ finite.get (catalog_of now) name) where
   -- the description at hand is that of the table
   pub described : (t : Table) → finite.get s.tables name ≡ Some t → d ≡ t.description
-  described t at = same_some d t.description (found
+  described t at = same_Some d t.description (found
       ∙ ap (λ m. finite.get m name) (keeps.catalog ∙ stands.catalog)
       ∙ get-descriptions s.tables name ∙ ap (option_map (λ (x : Table). x.description)) at)
 

@@ -1,36 +1,10 @@
 -- The page of a list: of one that no prefix fills it is the list, and once it has ended it is the page of every longer list.
-use Rattle.std.proofs.Common.{◌≡◌, refl, ap, ◌∙◌, cond, Bool, true, false, List, [], ◌∷◌, ◌++◌, map, Option, Some, None, unwrap_or}
+use Rattle.std.proofs.Common.{◌≡◌, refl, ap, ◌∙◌, cond, Bool, true, false, List, [], ◌∷◌, ◌++◌, Option, Some, None, unwrap_or}
 use Rattle.std.specs.List.{find}
 use Rattle.std.specs.Option.{option_or}
-use Rattle.std.proofs.lemmas.List.{map-append}
 use Rattle.std.proofs.lemmas.List.Folds.{find-append}
 use Rattle.alt_expr.specs.Pages.{prefixes}
-
--- ---- prefixes
-
--- the prefixes of a longer list that aren't prefixes of its front
-longer : {A : Type 0} → List A → List (List A)
-longer [] = []
-longer (y ∷ ys) = map (λ front. y ∷ front) (prefixes ys)
-
--- those of a front and of what stands behind it
-beyond : {A : Type 0} → List A → List A → List (List A)
-beyond [] ys = longer ys
-beyond (x ∷ xs) ys = map (λ front. x ∷ front) (beyond xs ys)
-
--- the prefixes of a list begin with those of its front
-prefixes-append : {A : Type 0} (xs ys : List A) → prefixes (xs ++ ys) ≡ prefixes xs ++ beyond xs ys
-unfolding longer beyond
-prefixes-append [] [] = refl
-prefixes-append [] (y ∷ ys) = refl
-prefixes-append (x ∷ xs) ys = ap (λ fs. [] ∷ map (λ front. x ∷ front) fs) (prefixes-append xs ys)
-    ∙ ap (λ fs. [] ∷ fs) (map-append (λ front. x ∷ front) (prefixes xs) (beyond xs ys))
-
--- one more prefix of a list with one more element: the whole list
-beyond_one : {A : Type 0} (xs : List A) (y : A) → beyond xs (y ∷ []) ≡ (xs ++ y ∷ []) ∷ []
-unfolding longer beyond
-beyond_one [] y = refl
-beyond_one (x ∷ xs) y = ap (map (λ front. x ∷ front)) (beyond_one xs y)
+use Rattle.alt_expr.proofs.Prefixes.{beyond, beyond_one, prefixes-append}
 
 -- ---- the first that fills a page
 

@@ -1,11 +1,14 @@
 -- The table that a GetRecords reaches, in each state that has the tables of a catalog.
-use Rattle.std.proofs.Common.{◌≡◌, refl, sym, ap, ◌∙◌, ℕ, ◌&&◌, Bool, true, false, cond, T, List, [], ◌∷◌, map, Option, Some, None, option_map, is_some, IsSome, bytes_eq, codes, Err}
+use Rattle.std.proofs.Common.{◌≡◌, refl, sym, ap, ◌∙◌, ℕ, Bool, true, false, cond, T, List, [], ◌∷◌, map, Option, Some, None, option_map, is_some, IsSome, bytes_eq, codes, Err}
 use Rattle.std.specs.FinMap as finite
 use Rattle.std.specs.FinMap.{entries, entries_sorted, get-entries}
 use Rattle.std.specs.FinMap.Entries.{find as at_key, is_sorted}
 use Rattle.std.specs.List.{find}
 use Rattle.std.specs.Option.{option_map_or}
 use Rattle.std.proofs.lemmas.Slice.Eq.{bytes_eq-Decides}
+use Rattle.std.proofs.lemmas.Bool.{and_parts}
+use Rattle.std.proofs.lemmas.Option.{same_Some}
+use Rattle.alt_base.proofs.Bools.{second_holds}
 use Rattle.serde_json.specs.Data.{Members, no_members}
 use Rattle.alt_disk.specs.Disk.{DiskState}
 use Rattle.alt_machine.specs.Body.{of_shape}
@@ -37,19 +40,15 @@ use Rattle.alt_streams.proofs.Entries.{behind, here}
 use Rattle.alt_request.specs.TablesStands.{Stands, catalog_of, trimmed_of}
 use Rattle.alt_request.specs.TablesDeclaredTables.{Tables}
 use Rattle.alt_value.specs.Members.{text_order}
-use Rattle.alt_value.proofs.Places.{second}
 
 -- ---- what is found among entries
-
-same_some : {A : Type 0} (x y : A) → Some x ≡ Some y → x ≡ y
-same_some x y e = cc
 
 module _ {X : Type 0} (p : X → Bool) (x : X) where
   -- it stands at a key
   found_at : (es : List (List ℕ × X)) → T (is_sorted text_order es)
       → find p (map (λ e. e.1) es) ≡ Some x → (k : List ℕ) × (at_key text_order k es ≡ Some x)
   found_at [] sorted e = absurd (let no : ⊥ = cc in no)
-  found_at (y ∷ es) sorted e = by (p y.1) e (found_at es (second _ _ sorted))
+  found_at (y ∷ es) sorted e = by (p y.1) e (found_at es (second_holds _ _ sorted))
     where
       by : (b : Bool) → cond b (Some y.1) (find p (map (λ e. e.1) es)) ≡ Some x
           → (find p (map (λ e. e.1) es) ≡ Some x → (k : List ℕ) × (at_key text_order k es ≡ Some x))
@@ -64,21 +63,16 @@ module _ {X : Type 0} (p : X → Bool) (x : X) where
     where
       by : (b : Bool) → p y.1 ≡ b → cond b (Some y.1) (find p (map (λ e. e.1) es)) ≡ Some x
           → (find p (map (λ e. e.1) es) ≡ Some x → p x ≡ true) → p x ≡ true
-      by true so is more = ap p (sym (same_some y.1 x is)) ∙ so
+      by true so is more = ap p (sym (same_Some y.1 x is)) ∙ so
       by false so is more = more is
 
 -- ---- the table of a stream
-
-both : (a b : Bool) → (a && b) ≡ true → (a ≡ true) × (b ≡ true)
-both true true e = (refl, refl)
-both true false e = absurd (let no : ⊥ = cc in no)
-both false b e = absurd (let no : ⊥ = cc in no)
 
 -- a stream's name is that of its table's
 pub stream_is : (arn : List ℕ) (d : TableSchema) → is_stream arn d ≡ true
     → (is_some d.view ≡ true) × (stream_arn d.name d.number ≡ arn)
 stream_is arn d e =
-    let is = both (is_some d.view) (bytes_eq (stream_arn d.name d.number) arn) e in
+    let is = and_parts (is_some d.view) (bytes_eq (stream_arn d.name d.number) arn) e in
     (is.0, (bytes_eq-Decides (stream_arn d.name d.number) arn).0 is.1)
 
 module _ (s : State) (valid : IsValid s) (arn : List ℕ) (t : Table)
@@ -111,7 +105,7 @@ module _ (catalog : Texts TableSchema) (arn : List ℕ) (d : TableSchema)
           × (finite.get catalog d.name ≡ Some d)
       by None found e = absurd (let no : ⊥ = cc in no)
       by (Some t) found e =
-          let one : t.description ≡ d = same_some t.description d e in (
+          let one : t.description ≡ d = same_Some t.description d e in (
             t,
             found,
             one,
@@ -170,7 +164,7 @@ module _ (s : State) (valid : IsValid s) (catalog : Texts TableSchema)
       → option_map (λ (t : Table). t.description) o ≡ Some u.description → Reached
   by_stream u at None found e = absurd (let no : ⊥ = cc in no)
   by_stream u at (Some t) found e =
-      let one : t.description ≡ u.description = same_some t.description u.description e in
+      let one : t.description ≡ u.description = same_Some t.description u.description e in
       let own : t.description.name ≡ name =
       ap (λ (d : TableSchema). d.name) one ∙ (valid.tables name u at).named in (
         t,

@@ -1,5 +1,6 @@
 -- Whether the stream of a request is reached: the machine stops at the same step.
 use Rattle.std.proofs.Common.{◌≡◌, refl, sym, ap, subst, ◌∙◌, ℕ, List, Option, Some, None, option_map, Result, Ok, Err, Bor}
+use Rattle.std.proofs.lemmas.Option.{same_Some}
 use Rattle.std.specs.Result.{IsErr, IsErrAnd}
 use Rattle.alt_disk.specs.Disk.{DiskState}
 use Rattle.alt_machine.specs.Outcomes.{Outcome, refuses, with_found}
@@ -16,7 +17,6 @@ use Rattle.alt_schema.specs.declared.schema.TableSchema.{TableSchema}
 use Rattle.alt_shape.specs.Refusals.{IsKnown, not_found}
 use Rattle.alt_shape.specs.declared.refusal.Reply.{Reply}
 use Rattle.alt_streams.specs.private.Named.{OnStream}
-use Rattle.alt_streams.proofs.Entries.{some}
 use Rattle.alt_request.specs.TablesStands.{Stands, catalog_of}
 use Rattle.alt_request.specs.TablesDeclaredTables.{Tables}
 
@@ -29,7 +29,7 @@ nothing (Some t) e = absurd (let f : ⊥ = cc in f)
 pub something : (o : Option Table) (d : TableSchema) → option_map (λ t. t.description) o ≡ Some d
     → (t : Table) × (o ≡ Some t) × (t.description ≡ d)
 something None d e = absurd (let f : ⊥ = cc in f)
-something (Some t) d e = (t, refl, some t.description d e)
+something (Some t) d e = (t, refl, same_Some t.description d e)
 
 module _ (disk : DiskState) (tables : Tables) (arn : List ℕ) (outcome : State → Outcome)
     (go : State → Table → Outcome)

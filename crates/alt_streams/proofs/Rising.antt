@@ -1,39 +1,24 @@
 -- Lists that rise by their names: those that pass a test behind a name, each from the one before.
 use Rattle.std.proofs.Common.{◌≡◌, refl, sym, ap, subst, ◌∙◌, ℕ, Bool, true, false, cond, T, List, [], ◌∷◌, map, Some, None, option_map, slice_get}
+use Rattle.std.proofs.lemmas.Option.{same_Some}
+use Rattle.std.specs.Bool.{passes}
 use Rattle.std.specs.List.{filter, find}
-use Rattle.std.specs.declared.cmp.Ordering.{Ordering}
-use Rattle.std.specs.declared.cmp.Ordering.TheVariants.{Less, Equal, Greater}
+use Rattle.std.specs.declared.cmp.Ordering.TheVariants.{Less}
 use Rattle.std.specs.Ordering.{is_lt}
 use Rattle.std.specs.Cmp.{tied_itself}
 use Rattle.std.specs.FinMap.Entries.{is_sorted, below_all}
+use Rattle.alt_base.proofs.Bools.{both_hold, first_holds, holds_true, second_holds}
+use Rattle.alt_base.proofs.Orderings.{less-holds, is_lt-holds, not_lt_either}
 use Rattle.alt_value.specs.Members.{text_order}
-use Rattle.alt_value.proofs.Places.{first, second, both, less, is_less}
 use Rattle.alt_value.proofs.Texts.{text_total}
-use Rattle.alt_streams.proofs.Entries.{some}
-
--- what is told to hold holds
-pub holds : (b : Bool) → b ≡ true → T b
-holds true e = tt
-holds false e = absurd (let f : ⊥ = cc in f)
-
--- what holds is told to
-pub is_true : (b : Bool) → T b → b ≡ true
-is_true true h = refl
-is_true false h = absurd h
-
--- where less follows from less, not less follows from not less
-not_less : (r s : Ordering) → (r ≡ Less → s ≡ Less) → is_lt s ≡ false → is_lt r ≡ false
-not_less Less s h e = sym (ap is_lt (h refl)) ∙ e
-not_less Equal s h e = refl
-not_less Greater s h e = refl
 
 -- a key below another is below all that are above that
 below_less : {X : Type 0} (last k : List ℕ) (es : List (List ℕ × X)) → text_order last k ≡ Less
     → T (below_all text_order k es) → T (below_all text_order last es)
 below_less last k [] l h = h
-below_less last k (e ∷ es) l h = both _ _
-    (is_less _ (text_total.trans last k e.0 l (less _ (first _ _ h))))
-    (below_less last k es l (second _ _ h))
+below_less last k (e ∷ es) l h = both_hold _ _
+    (less-holds _ (text_total.trans last k e.0 l (is_lt-holds _ (first_holds _ _ h))))
+    (below_less last k es l (second_holds _ _ h))
 
 -- ---- the first
 
@@ -55,7 +40,7 @@ found_passes p x (y ∷ xs) e = by (p y) refl e (found_passes p x xs)
   where
     by : (b : Bool) → p y ≡ b → cond b (Some y) (find p xs) ≡ Some x
         → (find p xs ≡ Some x → p x ≡ true) → p x ≡ true
-    by true same e rest = ap p (sym (some y x e)) ∙ same
+    by true same e rest = ap p (sym (same_Some y x e)) ∙ same
     by false same e rest = rest e
 
 module _ {X : Type 0} (name : X → List ℕ) where
@@ -98,8 +83,8 @@ module _ {X : Type 0} (name : X → List ℕ) where
         → chosen k xs ≡ filter (test true) xs
     above k [] h = refl
     above k (x ∷ xs) h =
-        let lt : is_behind k x ≡ true = is_true _ (first _ _ h) in
-        let rest = above k xs (second _ _ h) in
+        let lt : is_behind k x ≡ true = holds_true _ (first_holds _ _ h) in
+        let rest = above k xs (second_holds _ _ h) in
         (λ i. cond (test (lt i) x) (x ∷ rest i) (rest i))
 
     above_less : (last k : List ℕ) (xs : List X) → text_order last k ≡ Less
@@ -112,7 +97,7 @@ module _ {X : Type 0} (name : X → List ℕ) where
     -- what isn't behind a name isn't behind a larger one
     not_behind : (last k : List ℕ) (y : X) → text_order last k ≡ Less → is_behind last y ≡ false
         → is_behind k y ≡ false
-    not_behind last k y l e = not_less _ _ (λ m. text_total.trans last k (name y) l m) e
+    not_behind last k y l e = not_lt_either _ _ (λ m. text_total.trans last k (name y) l m) e
 
     passed_over : (last k : List ℕ) (y : X) → text_order last k ≡ Less → listed last y ≡ false
         → listed k y ≡ false
@@ -131,7 +116,7 @@ module _ {X : Type 0} (name : X → List ℕ) where
     behind_name last x e = by (is_behind last x) refl
       where
         by : (b : Bool) → is_behind last x ≡ b → text_order last (name x) ≡ Less
-        by true same = less _ (holds _ same)
+        by true same = is_lt-holds _ (passes _ same)
         by false same = absurd (let no : false ≡ true =
             sym (ap (λ c. test c x) same ∙ off x) ∙ e in cc no)
 
@@ -145,7 +130,7 @@ module _ {X : Type 0} (name : X → List ℕ) where
         let l = behind_name last x e in (
           l,
           ap (λ b. cond b (x ∷ chosen last xs) (chosen last xs)) e
-              ∙ ap (λ zs. x ∷ zs) (above_less last (name x) xs l (first _ _ s))
+              ∙ ap (λ zs. x ∷ zs) (above_less last (name x) xs l (first_holds _ _ s))
               ∙ sym (ap (λ b. x ∷ cond b (x ∷ chosen (name x) xs) (chosen (name x) xs)) (itself x)),
         )
 
@@ -161,11 +146,11 @@ module _ {X : Type 0} (name : X → List ℕ) where
     next : (last : List ℕ) (x : X) (xs : List X) → Rises xs → find (listed last) xs ≡ Some x
         → Next last x xs
     next last x [] s e = absurd (let no : None ≡ Some x = e in cc no)
-    next last x (y ∷ xs) s e = by (listed last y) refl e (next last x xs (second _ _ s))
+    next last x (y ∷ xs) s e = by (listed last y) refl e (next last x xs (second_holds _ _ s))
       where
         by : (b : Bool) → listed last y ≡ b → cond b (Some y) (find (listed last) xs) ≡ Some x
             → (find (listed last) xs ≡ Some x → Next last x xs) → Next last x (y ∷ xs)
-        by true same found rest = subst (λ z. Next last z (y ∷ xs)) (some y x found)
+        by true same found rest = subst (λ z. Next last z (y ∷ xs)) (same_Some y x found)
             (here_next last y xs s same)
         by false same found rest = later_next last x y xs same (rest found)
 
@@ -186,7 +171,7 @@ module _ {X : Type 0} (name : X → List ℕ) where
             → (find (is_behind last) xs ≡ Some x → find (listed last) xs ≡ Some x)
             → cond (listed last y) (Some y) (find (listed last) xs) ≡ Some x
         by true same found rest =
-            let one : y ≡ x = some y x found in
+            let one : y ≡ x = same_Some y x found in
             ap (λ b. cond b (Some y) (find (listed last) xs))
             (ap (λ b. test b y) same ∙ ap (test true) one ∙ is) ∙ found
         by false same found rest =
@@ -199,7 +184,7 @@ module _ {X : Type 0} (name : X → List ℕ) where
         → chosen last xs ≡ chosen (name x) xs
     chosen_on last x [] s e is = refl
     chosen_on last x (y ∷ xs) s e is =
-        by (is_behind last y) refl e (λ f. chosen_on last x xs (second _ _ s) f is)
+        by (is_behind last y) refl e (λ f. chosen_on last x xs (second_holds _ _ s) f is)
       where
         by : (b : Bool) → is_behind last y ≡ b
             → cond b (Some y) (find (is_behind last) xs) ≡ Some x
@@ -207,15 +192,15 @@ module _ {X : Type 0} (name : X → List ℕ) where
             → cond (listed last y) (y ∷ chosen last xs) (chosen last xs)
             ≡ cond (listed (name x) y) (y ∷ chosen (name x) xs) (chosen (name x) xs)
         by true same found rest =
-            let one : y ≡ x = some y x found in
+            let one : y ≡ x = same_Some y x found in
             ap (λ b. cond b (y ∷ chosen last xs) (chosen last xs))
             (ap (λ b. test b y) same ∙ ap (test true) one ∙ is)
-            ∙ above_less last (name y) xs (less _ (holds _ same)) (first _ _ s)
+            ∙ above_less last (name y) xs (is_lt-holds _ (passes _ same)) (first_holds _ _ s)
             ∙ sym (ap (λ b. cond b (y ∷ chosen (name y) xs) (chosen (name y) xs)) (itself y))
             ∙ ap (λ z. cond (listed (name z) y) (y ∷ chosen (name z) xs) (chosen (name z) xs)) one
         by false same found rest =
             let l : text_order last (name x) ≡ Less =
-            less _ (holds _ (found_passes (is_behind last) x xs found)) in
+            is_lt-holds _ (passes _ (found_passes (is_behind last) x xs found)) in
             ap (λ b. cond b (y ∷ chosen last xs) (chosen last xs)) (ap (λ b. test b y) same ∙ off y)
             ∙ rest found
             ∙ sym (ap (λ b. cond b (y ∷ chosen (name x) xs) (chosen (name x) xs))
@@ -252,11 +237,11 @@ module _ {X Y : Type 0} (f : List ℕ × X → Y) where
   below-each : (k : List ℕ) (es : List (List ℕ × X)) → T (below_all text_order k es)
       → T (below_all text_order k (each es))
   below-each k [] h = h
-  below-each k (e ∷ es) h = both _ _ (first _ _ h) (below-each k es (second _ _ h))
+  below-each k (e ∷ es) h = both_hold _ _ (first_holds _ _ h) (below-each k es (second_holds _ _ h))
 
   -- entries that rise by their keys rise as they are listed
   pub sorted-each : (es : List (List ℕ × X)) → T (is_sorted text_order es)
       → T (is_sorted text_order (each es))
   sorted-each [] h = h
   sorted-each (e ∷ es) h =
-      both _ _ (below-each e.0 es (first _ _ h)) (sorted-each es (second _ _ h))
+      both_hold _ _ (below-each e.0 es (first_holds _ _ h)) (sorted-each es (second_holds _ _ h))

@@ -1,6 +1,7 @@
 -- The rows of tables without the cell of an index that is being built, and with it.
 use Rattle.std.proofs.Common.{◌≡◌, refl, sym, ap, subst, ◌∙◌, ℕ, ◌&&◌, true, cond, not, List, [], ◌∷◌, ◌++◌, length, Option, Some, None, option_map, Result, Ok, Err, IfOk, arith}
 use Rattle.std.proofs.lemmas.List.Folds.{list_all-append}
+use Rattle.std.specs.Cmp.{first_so, second_so}
 use Rattle.std.specs.FinMap.{entries, same_entries_map}
 use Rattle.std.specs.Int.{w32, to_be_bytes}
 use Rattle.std.specs.List.{filter, find, list_all}
@@ -15,7 +16,6 @@ use Rattle.alt_schema.specs.declared.schema.IndexSchema.{IndexSchema}
 use Rattle.alt_schema.specs.declared.schema.TableSchema.{TableSchema}
 use Rattle.alt_schema.proofs.BareLaws.{bare_described, tests-as_whole, whole_is}
 use Rattle.alt_schemabytes.proofs.BareBytes.{description_bytes-bare}
-use Rattle.alt_schema.proofs.NewDescriptions.{left, right}
 use Rattle.alt_schemabytes.proofs.WholeDescriptions.{one_spelling}
 use Rattle.alt_tablerows.specs.CatalogRows.{built_bytes, built_cell, described_row, plain_row, table_row, with_built_cell}
 use Rattle.alt_tablerows.proofs.CellRows.{cell_of_row, no_cell, row_with_cell, same_cell}
@@ -34,10 +34,10 @@ none_building : (is : List IndexSchema) → list_all (λ i. is_whole i.built) is
     → (filter is_building is ≡ []) × (find is_building is ≡ None)
 none_building [] whole = (refl, refl)
 none_building (x ∷ xs) whole =
-    let rest = none_building xs (right (is_whole x.built) _ whole) in (
+    let rest = none_building xs (second_so (is_whole x.built) _ whole) in (
       ap (λ b. cond (not b) (x ∷ filter is_building xs) (filter is_building xs))
-          (left (is_whole x.built) _ whole) ∙ rest.0,
-      ap (λ b. cond (not b) (Some x) (find is_building xs)) (left (is_whole x.built) _ whole)
+          (first_so (is_whole x.built) _ whole) ∙ rest.0,
+      ap (λ b. cond (not b) (Some x) (find is_building xs)) (first_so (is_whole x.built) _ whole)
           ∙ rest.1,
     )
 
@@ -47,8 +47,8 @@ whole_keys : (d : TableSchema) (is : List IndexSchema)
 whole_keys d [] whole = refl
 whole_keys d (x ∷ xs) whole =
     ap (λ b. is_built_to d b && list_all (λ i. is_built_to d i.built) xs)
-    (whole_is x.built (left (is_whole x.built) _ whole))
-    ∙ whole_keys d xs (right (is_whole x.built) _ whole)
+    (whole_is x.built (first_so (is_whole x.built) _ whole))
+    ∙ whole_keys d xs (second_so (is_whole x.built) _ whole)
 
 -- A description whose indexes are whole has a row without the cell.
 pub row_whole : (row : Columns) (d : TableSchema) → AllWhole d → row ≡ plain_row d
@@ -57,10 +57,10 @@ row_whole row d whole is =
     let all : (list_all (λ i. is_whole i.built) d.locals
     && list_all (λ i. is_whole i.built) d.globals) ≡ true =
     sym (list_all-append (λ (i : IndexSchema). is_whole i.built) d.locals d.globals) ∙ whole in
-    let globals = right (list_all (λ i. is_whole i.built) d.locals) _ all in
+    let globals = second_so (list_all (λ i. is_whole i.built) d.locals) _ all in
     let none = none_building d.globals globals in (
       record {
-        locals = left (list_all (λ i. is_whole i.built) d.locals) _ all;
+        locals = first_so (list_all (λ i. is_whole i.built) d.locals) _ all;
         one = omega (arith, ap length none.0);
         keys = whole_keys d d.globals globals;
       },

@@ -6,10 +6,13 @@ use Rattle.std.proofs.lemmas.List.{length-drop, take-append-drop}
 use Rattle.std.proofs.lemmas.List.Elements.{All-head, All-tail}
 use Rattle.std.proofs.lemmas.List.Folds.{list_all-append}
 use Rattle.std.proofs.lemmas.List.Sums.{length-filter}
+use Rattle.std.proofs.lemmas.Option.{same_Some}
+use Rattle.std.specs.Cmp.{first_so, second_so}
 use Rattle.std.specs.Int.{w32, to_be_bytes}
 use Rattle.std.specs.List.{count_by, filter, find, list_any, list_all}
 use Rattle.std.specs.Option.{option_map_or}
 use Rattle.std.specs.Prelude.{unwrap_or, if◌then◌else◌, option_and_then, ◌||◌}
+use Rattle.alt_base.proofs.Lists.{all_at}
 use Rattle.alt_fields.specs.Field.{StandsAt}
 use Rattle.alt_keyorder.specs.Place.{place_bytes}
 use Rattle.alt_machine.proofs.Inserted.{head_pairs, tail_pairs}
@@ -24,19 +27,14 @@ use Rattle.alt_schema.specs.declared.schema.Built.TheVariants.{Whole, UpTo}
 use Rattle.alt_schema.specs.declared.schema.IndexSchema.{IndexSchema}
 use Rattle.alt_schema.specs.declared.schema.TableSchema.{TableSchema}
 use Rattle.alt_schema.proofs.BareLaws.{whole_is}
-use Rattle.alt_schema.proofs.NewDescriptions.{left, right}
 use Rattle.alt_tablerows.specs.Families.{HasOwnFamilies}
 use Rattle.alt_tablerows.specs.CatalogRows.{built_bytes, built_cell}
 use Rattle.alt_tablerows.specs.private.Cells.{TellsBuilt}
 use Rattle.alt_tablerows.proofs.OneDescription.{at_rec, pairs_front}
-use Rattle.alt_tablerows.proofs.OneIndex.{at_each, family_in, found_at, passes_counted}
+use Rattle.alt_tablerows.proofs.OneIndex.{family_in, found_at, passes_counted}
 use Rattle.alt_value.specs.Tree.{Pair}
 
--- what is there is one
-some : {A : Type 0} (x y : A) → Some x ≡ Some y → x ≡ y
-some x y e = cc
-
--- so is what is read
+-- what is read is one
 pub same_ok : {E : Type 0} (r : Result (ℕ × ℕ) E) (f g a b : ℕ) → r ≡ Ok (f, a) → r ≡ Ok (g, b)
     → f ≡ g
 same_ok r f g a b x y = ap (λ (p : ℕ × ℕ). p.0) (inside (f, a) (g, b) r x y)
@@ -74,7 +72,8 @@ module _ (family : ℕ) (built : Built) (part : is_whole built ≡ false) where
       × IsOf i
   first_built [] whole one = absurd (omega (arith, one))
   first_built (x ∷ xs) whole one =
-      by (λ h. first_built xs (right (is_whole x.built) _ whole) h) (x.family == family) refl one
+      by (λ h. first_built xs (second_so (is_whole x.built) _ whole) h)
+      (x.family == family) refl one
     where
       by : (length (filter (of_family family) xs) ≡ 1 → (i : IndexSchema)
           × (find is_building (each (index_of_family family built) xs) ≡ Some i) × IsOf i)
@@ -94,7 +93,7 @@ module _ (family : ℕ) (built : Built) (part : is_whole built ≡ false) where
             i,
             ap (λ b. cond (not b) (Some x)
                 (find is_building (each (index_of_family family built) xs)))
-                (left (is_whole x.built) _ whole) ∙ found,
+                (first_so (is_whole x.built) _ whole) ∙ found,
             of,
           )
 
@@ -104,7 +103,7 @@ module _ (family : ℕ) (built : Built) (part : is_whole built ≡ false) where
       ≡ length (filter (of_family family) is)
   count_built [] whole = refl
   count_built (x ∷ xs) whole =
-      by (count_built xs (right (is_whole x.built) _ whole)) (x.family == family)
+      by (count_built xs (second_so (is_whole x.built) _ whole)) (x.family == family)
     where
       by : length (filter is_building (each (index_of_family family built) xs))
           ≡ length (filter (of_family family) xs) → (b : Bool)
@@ -119,7 +118,7 @@ module _ (family : ℕ) (built : Built) (part : is_whole built ≡ false) where
           ap (λ b. length (cond (not b)
           (x ∷ filter is_building (each (index_of_family family built) xs))
           (filter is_building (each (index_of_family family built) xs))))
-          (left (is_whole x.built) _ whole) ∙ rest
+          (first_so (is_whole x.built) _ whole) ∙ rest
 
   -- each is built to a key of the table, where this one is
   keys_built : (d : TableSchema) → is_built_to d built ≡ true → (is : List IndexSchema)
@@ -127,7 +126,7 @@ module _ (family : ℕ) (built : Built) (part : is_whole built ≡ false) where
       → list_all (λ i. is_built_to d i.built) (each (index_of_family family built) is) ≡ true
   keys_built d to [] whole = refl
   keys_built d to (x ∷ xs) whole =
-      by (keys_built d to xs (right (is_whole x.built) _ whole)) (x.family == family)
+      by (keys_built d to xs (second_so (is_whole x.built) _ whole)) (x.family == family)
     where
       by : list_all (λ i. is_built_to d i.built) (each (index_of_family family built) xs) ≡ true
           → (b : Bool) → (is_built_to d (if b then record x { built = built } else x).built
@@ -137,7 +136,7 @@ module _ (family : ℕ) (built : Built) (part : is_whole built ≡ false) where
           ∙ rest
       by rest false = ap (λ b. is_built_to d b
           && list_all (λ i. is_built_to d i.built) (each (index_of_family family built) xs))
-          (whole_is x.built (left (is_whole x.built) _ whole)) ∙ rest
+          (whole_is x.built (first_so (is_whole x.built) _ whole)) ∙ rest
 
   -- as if they were whole, they are what they were
   as_they_were : (is : List IndexSchema) → each as_whole (each (index_of_family family built) is)
@@ -196,8 +195,8 @@ module _ (d : TableSchema) (cell : List ℕ) (family : ℕ) (built : Built)
   each_whole =
       let all = sym (list_all-append (λ (i : IndexSchema). is_whole i.built) d.locals d.globals)
       ∙ whole in (
-        left (list_all (λ i. is_whole i.built) d.locals) _ all,
-        right (list_all (λ i. is_whole i.built) d.locals) _ all,
+        first_so (list_all (λ i. is_whole i.built) d.locals) _ all,
+        second_so (list_all (λ i. is_whole i.built) d.locals) _ all,
       )
 
   globals : list_all (λ i. is_whole i.built) d.globals ≡ true
@@ -321,7 +320,7 @@ is_told e cell told = by (building_in e) refl told
           number = n;
           stands = at;
           building = passes;
-          bytes = sym (some _ _ h);
+          bytes = sym (same_Some _ _ h);
         }
 
 module _ (d e : TableSchema) (cell : List ℕ) (held : IsHeld e) (is : IsBuilt e)
@@ -369,7 +368,8 @@ module _ (d e : TableSchema) (cell : List ℕ) (held : IsHeld e) (is : IsBuilt e
     record {
       part = not_whole the_one.index.built the_one.building;
       to = same_to d e hash range the_one.index.built
-          (at_each (λ (x : IndexSchema). is_built_to e x.built) e.globals the_one.number the_one.index
+          (all_at (λ (x : IndexSchema). is_built_to e x.built) e.globals the_one.number
+          the_one.index
           is.keys the_one.stands);
       told = ap (drop 4) the_one.bytes ∙ same_bytes d e hash range the_one.index.built;
     },

@@ -1,6 +1,5 @@
 -- Rows with the cell of an index that is being built in front of the others, and rows whose columns are put one by one.
-use Rattle.std.proofs.Common.{◌≡◌, ◌≢◌, refl, sym, ap, subst, ◌∙◌, ℕ, ◌+◌, ◌-◌, ◌<◌, not, Bool, true, false, ◌&&◌, T, List, [], ◌∷◌, ◌++◌, length, get_or, take, drop, Option, Some, None, arith}
-use Rattle.std.proofs.lemmas.Bool.{false≢true}
+use Rattle.std.proofs.Common.{◌≡◌, ◌≢◌, refl, sym, ap, subst, ◌∙◌, ℕ, ◌+◌, ◌-◌, ◌<◌, ◌&&◌, T, List, [], ◌∷◌, ◌++◌, length, get_or, take, drop, Option, Some, None, arith}
 use Rattle.std.proofs.lemmas.List.{append_assoc, take-append-drop, take_more}
 use Rattle.std.specs.FinMap.{entries, entries-insert, entries_sorted, same_entries_map}
 use Rattle.std.specs.FinMap.Entries.{below_all, by_order, is_sorted, put}
@@ -8,49 +7,21 @@ use Rattle.std.specs.Ordering.{is_lt}
 use Rattle.std.specs.Prelude.{codes}
 use Rattle.std.specs.declared.cmp.Ordering.{Ordering}
 use Rattle.std.specs.declared.cmp.Ordering.TheVariants.{Less, Equal, Greater}
+use Rattle.alt_base.proofs.Bools.{both_hold, second_holds}
 use Rattle.alt_cells.proofs.CellLaws.{key_total}
 use Rattle.alt_cells.specs.Changes.{Columns}
 use Rattle.alt_cells.specs.Keys.{key_cmp}
 use Rattle.alt_tablerows.specs.CatalogRows.{described_row, table_cells, with_built_cell}
 use Rattle.alt_tablerows.specs.private.Cells.{AllBelow}
-use Rattle.alt_tablerows.proofs.TableRow.{entries-described_row}
+use Rattle.alt_tablerows.proofs.TableRow.{entries-described_row, behind_first, first_value}
+use Rattle.alt_views.proofs.Columns.{sorted_front}
 
 -- ---- columns in order
 
-both : (a b : Bool) → T a → T b → T (a && b)
-both true b p q = q
-both false b p q = p
-
-first : (a b : Bool) → T (a && b) → T a
-first true b p = tt
-first false b p = p
-
-second : (a b : Bool) → T (a && b) → T b
-second true b p = p
-second false b p = absurd p
-
--- below all is below those in front
-below_front : (x : List ℕ) (es more : List (List ℕ × List ℕ)) → T (below_all key_cmp x (es ++ more))
-    → T (below_all key_cmp x es)
-below_front x [] more h = tt
-below_front x (e ∷ es) more h = both (is_lt (key_cmp x e.0)) (below_all key_cmp x es)
-    (first (is_lt (key_cmp x e.0)) (below_all key_cmp x (es ++ more)) h)
-    (below_front x es more (second (is_lt (key_cmp x e.0)) (below_all key_cmp x (es ++ more)) h))
-
--- what is in order to its end is so up to any place
-pub sorted_front : (es more : List (List ℕ × List ℕ)) → T (is_sorted key_cmp (es ++ more))
-    → T (is_sorted key_cmp es)
-sorted_front [] more h = tt
-sorted_front (e ∷ es) more h = both (below_all key_cmp e.0 es) (is_sorted key_cmp es)
-    (below_front e.0 es more
-    (first (below_all key_cmp e.0 (es ++ more)) (is_sorted key_cmp (es ++ more)) h))
-    (sorted_front es more
-    (second (below_all key_cmp e.0 (es ++ more)) (is_sorted key_cmp (es ++ more)) h))
-
--- and behind the first
+-- what is in order is so behind the first
 pub sorted_behind : (e : List ℕ × List ℕ) (es : List (List ℕ × List ℕ))
     → T (is_sorted key_cmp (e ∷ es)) → T (is_sorted key_cmp es)
-sorted_behind e es h = second (below_all key_cmp e.0 es) (is_sorted key_cmp es) h
+sorted_behind e es h = second_holds (below_all key_cmp e.0 es) (is_sorted key_cmp es) h
 
 -- one more of the columns
 pub one_more : (old columns : List (List ℕ × List ℕ)) (k : ℕ) (e d : List ℕ × List ℕ)
@@ -86,11 +57,6 @@ parted (x ∷ xs) e name value some at named valued =
     take_all [] = refl
     take_all (y ∷ ys) = ap (λ zs. y ∷ zs) (take_all ys)
 
--- where the opposite of a test doesn't hold, the test does
-pub truth : (b : Bool) → not b ≡ false → b ≡ true
-truth true e = refl
-truth false e = absurd (false≢true (sym e))
-
 -- ---- the cell
 
 -- what is below all is put in front
@@ -109,7 +75,7 @@ put_front name value (e ∷ es) h = by (key_cmp name e.0) h
 -- and all are in order then
 pub front_rises : (value : List ℕ) (row : Columns) → AllBelow (codes "b") (entries row)
     → T (is_sorted key_cmp ((codes "b", value) ∷ entries row))
-front_rises value row below = both (below_all key_cmp (codes "b") (entries row))
+front_rises value row below = both_hold (below_all key_cmp (codes "b") (entries row))
     (is_sorted key_cmp (entries row)) below (entries_sorted row)
 
 -- so a row with the cell has it in front
@@ -161,16 +127,6 @@ no_cell row value rest time bytes begins is =
     by : (o : Option (List ℕ)) → first_code (table_cells o bytes) ≡ 98 → ⊥
     by None e = let f : 116 ≡ 98 = e in omega (arith, f)
     by (Some name) e = let f : 108 ≡ 98 = e in omega (arith, f)
-
--- what stands behind the cell
-abbrev behind_first : List (List ℕ × List ℕ) → List (List ℕ × List ℕ)
-behind_first [] = []
-behind_first (e ∷ es) = es
-
--- the value of the first column
-abbrev first_value : List (List ℕ × List ℕ) → List ℕ
-first_value [] = []
-first_value (e ∷ es) = e.1
 
 -- Two rows that begin with the cell and are one have one value there, and the same behind it.
 pub same_cell : (v w : List ℕ) (rest : List (List ℕ × List ℕ)) (row : Columns)

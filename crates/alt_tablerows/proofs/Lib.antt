@@ -11,9 +11,8 @@ pub mod OneIndex
 pub mod OneKey
 pub mod StreamTests
 pub mod TableRow
-pub mod There
-pub mod Ties
 pub mod TrimmedRow
 pub use Rattle.alt_changes.proofs.RowLaws
 pub use Rattle.alt_views.proofs.ItemRowLaws
 pub use Rattle.alt_views.proofs.Keeping
+pub use Rattle.alt_changes.proofs.TrimLaws

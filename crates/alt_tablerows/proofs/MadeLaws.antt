@@ -1,7 +1,8 @@
 -- A description is as it is made exactly where the tests say so.
-use Rattle.std.proofs.Common.{◌≡◌, refl, sym, ap, ◌∙◌, Bool, true, false, nat_le, length}
-use Rattle.std.proofs.lemmas.Bool.{leb-true, le-leb}
+use Rattle.std.proofs.Common.{◌≡◌, sym, ◌∙◌, Bool, true, nat_le, length}
+use Rattle.std.proofs.lemmas.Bool.{leb-true, le-leb, and_from}
 use Rattle.std.proofs.lemmas.List.Folds.{list_all-append}
+use Rattle.std.specs.Cmp.{first_so, second_so}
 use Rattle.std.specs.List.{list_all}
 use Rattle.std.specs.Prelude.{◌&&◌}
 use Rattle.alt_machine.specs.Building.{IsBuilt}
@@ -12,17 +13,6 @@ use Rattle.alt_schema.specs.Rules.{all_differ, is_name, most_locals, most_global
 use Rattle.alt_schema.specs.declared.schema.IndexSchema.{IndexSchema}
 use Rattle.alt_schema.specs.declared.schema.TableSchema.{TableSchema}
 use Rattle.alt_tablerows.specs.private.Made.{all_indexes, are_few_indexes, are_keyed, are_named, are_shaped, is_as_made}
-
-left : (a b : Bool) → (a && b) ≡ true → a ≡ true
-left true b e = refl
-left false b e = e
-
-right : (a b : Bool) → (a && b) ≡ true → b ≡ true
-right true b e = e
-right false b e = absurd (let f : ⊥ = cc in f)
-
-both : (a b : Bool) → a ≡ true → b ≡ true → (a && b) ≡ true
-both a b e f = ap (λ x. x && b) e ∙ f
 
 -- a test of all indexes is one of both lists
 lists : (p : IndexSchema → Bool) (d : TableSchema) → list_all p (indexes d) ≡ all_indexes p d
@@ -42,39 +32,42 @@ module _ (d : TableSchema) where
   pub as_made : is_as_made d ≡ true → IsDescription d
       → IsBuilt d → IsMade d
   as_made e whole built =
-      let few : are_few_indexes d ≡ true = left (are_few_indexes d) _ e in
+      let few : are_few_indexes d ≡ true = first_so (are_few_indexes d) _ e in
       let rest : (are_named d && (are_keyed d && are_shaped d)) ≡ true =
-      right (are_few_indexes d) _ e in
-      let names : are_named d ≡ true = left (are_named d) _ rest in
-      let more : (are_keyed d && are_shaped d) ≡ true = right (are_named d) _ rest in
-      let keys : are_keyed d ≡ true = left (are_keyed d) _ more in
-      let shapes : are_shaped d ≡ true = right (are_keyed d) _ more in
+      second_so (are_few_indexes d) _ e in
+      let names : are_named d ≡ true = first_so (are_named d) _ rest in
+      let more : (are_keyed d && are_shaped d) ≡ true = second_so (are_named d) _ rest in
+      let keys : are_keyed d ≡ true = first_so (are_keyed d) _ more in
+      let shapes : are_shaped d ≡ true = second_so (are_keyed d) _ more in
       let behind : (all_indexes spelled d && all_differ (λ i. i.name) (indexes d)) ≡ true =
-      right (is_name d.name) _ names in
+      second_so (is_name d.name) _ names in
       let also : (all_indexes paired d && list_all (λ a. is_used d a.name) d.definitions) ≡ true =
-      right (is_pair d.hash d.range) _ keys in
+      second_so (is_pair d.hash d.range) _ keys in
       record {
         locals_few = leb-true (length d.locals) most_locals
-            (left (nat_le (length d.locals) most_locals) _ few);
+            (first_so (nat_le (length d.locals) most_locals) _ few);
         globals_few = leb-true (length d.globals) most_globals
-            (right (nat_le (length d.locals) most_locals) _ few);
-        spelled = left (is_name d.name) _ names;
-        indexes_spelled = lists spelled d ∙ left (all_indexes spelled d) _ behind;
-        indexes_differ = right (all_indexes spelled d) _ behind;
-        keys = left (is_pair d.hash d.range) _ keys;
-        index_keys = lists paired d ∙ left (all_indexes paired d) _ also;
-        used = right (all_indexes paired d) _ also;
-        locals = left (list_all (is_local d.hash d.range) d.locals) _ shapes;
-        projections = lists named d ∙ right (list_all (is_local d.hash d.range) d.locals) _ shapes;
+            (second_so (nat_le (length d.locals) most_locals) _ few);
+        spelled = first_so (is_name d.name) _ names;
+        indexes_spelled = lists spelled d ∙ first_so (all_indexes spelled d) _ behind;
+        indexes_differ = second_so (all_indexes spelled d) _ behind;
+        keys = first_so (is_pair d.hash d.range) _ keys;
+        index_keys = lists paired d ∙ first_so (all_indexes paired d) _ also;
+        used = second_so (all_indexes paired d) _ also;
+        locals = first_so (list_all (is_local d.hash d.range) d.locals) _ shapes;
+        projections =
+            lists named d ∙ second_so (list_all (is_local d.hash d.range) d.locals) _ shapes;
         built = built;
         whole = whole;
       }
 
   -- and one that is as it is made passes
   pub made_as : IsMade d → is_as_made d ≡ true
-  made_as m = both _ _ (both _ _ (le-leb (length d.locals) most_locals m.locals_few)
+  made_as m = and_from _ _ (and_from _ _ (le-leb (length d.locals) most_locals m.locals_few)
       (le-leb (length d.globals) most_globals m.globals_few))
-      (both _ _ (both _ _ m.spelled (both _ _ (sym (lists spelled d) ∙ m.indexes_spelled)
+      (and_from _ _
+      (and_from _ _ m.spelled (and_from _ _ (sym (lists spelled d) ∙ m.indexes_spelled)
       m.indexes_differ))
-      (both _ _ (both _ _ m.keys (both _ _ (sym (lists paired d) ∙ m.index_keys) m.used))
-      (both _ _ m.locals (sym (lists named d) ∙ m.projections))))
+      (and_from _ _
+      (and_from _ _ m.keys (and_from _ _ (sym (lists paired d) ∙ m.index_keys) m.used))
+      (and_from _ _ m.locals (sym (lists named d) ∙ m.projections))))

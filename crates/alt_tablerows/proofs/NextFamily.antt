@@ -4,11 +4,11 @@ use Rattle.std.specs.Prelude.{◌==◌, if◌then◌else◌, IfNone, codes}
 use Rattle.std.specs.Int.{w32, to_be_bytes, from_be_bytes}
 use Rattle.std.proofs.lemmas.Bool.{eqb-true, eq-eqb, false≢true}
 use Rattle.std.proofs.lemmas.Nat.{from_be_bytes-to_be_bytes_4}
+use Rattle.std.proofs.lemmas.Option.{same_Some}
 use Rattle.alt_cells.specs.Changes.{Columns}
 use Rattle.alt_machine.specs.declared.TheConstants.{FAMILIES_END}
 use Rattle.alt_tablerows.specs.CatalogRows.{next_row, one_column}
 use Rattle.alt_tablerows.proofs.OneColumn.{one_value}
-use Rattle.alt_tablerows.proofs.There.{some}
 
 -- the next family is the one that its row tells
 pub next_row-one : (m n : ℕ) → m < 2 ^ 32 → n < 2 ^ 32 → next_row m ≡ next_row n → m ≡ n
@@ -22,7 +22,7 @@ next_row-one m n small_m small_n same = by_test (m == 1) (n == 1) refl refl same
     by_test false true e f same = cc same
     by_test false false e f same =
         let bytes : to_be_bytes w32 m ≡ to_be_bytes w32 n =
-        one_value (codes "next") _ _ (some _ _ same) in
+        one_value (codes "next") _ _ (same_Some _ _ same) in
         sym (from_be_bytes-to_be_bytes_4 m small_m) ∙ ap (from_be_bytes w32) bytes
         ∙ from_be_bytes-to_be_bytes_4 n small_n
 
@@ -45,7 +45,7 @@ module _ (row : Option Columns) (columns : Columns) (bytes : List ℕ) (is : row
       by true e same = absurd (let f : ⊥ = cc in f)
       by false e same = (
         λ one. false≢true (sym e ∙ eq-eqb family 1 one),
-        one_value (codes "next") bytes (to_be_bytes w32 family) (sym value ∙ some _ _ same),
+        one_value (codes "next") bytes (to_be_bytes w32 family) (sym value ∙ same_Some _ _ same),
       )
 
   -- where its bytes are those of none above 1 it is the row of none

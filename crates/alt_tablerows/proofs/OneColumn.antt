@@ -54,11 +54,7 @@ single [] e low high at = absurd (omega arith)
 single (x ∷ []) e low high at = ap (λ y. y ∷ []) (sym at)
 single (x ∷ y ∷ ys) e low high at = absurd (omega arith)
 
--- bytes that are told to be equal are
-pub same_bytes : (a b : List ℕ) → bytes_eq a b ≡ true → a ≡ b
-same_bytes a b e = (bytes_eq-Decides a b).0 e
-
--- and equal ones are told to be
+-- equal bytes are told to be
 pub bytes_differ : (a b : List ℕ) → bytes_eq a b ≡ false → a ≡ b → ⊥
 bytes_differ a b e same = let f : false ≡ true = sym e ∙ (bytes_eq-Decides a b).1 same in cc
 

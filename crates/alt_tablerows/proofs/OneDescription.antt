@@ -4,10 +4,12 @@ use Rattle.std.proofs.lemmas.Bool.{false≢true}
 use Rattle.std.proofs.lemmas.List.Elements.{All-head, All-tail, All-nil, All-cons}
 use Rattle.std.proofs.lemmas.List.Kept.{AllPairs-cons}
 use Rattle.std.proofs.lemmas.Nat.{from_be_bytes-to_be_bytes_4}
+use Rattle.std.proofs.lemmas.Option.{same_Some}
 use Rattle.std.specs.Int.{w32, to_be_bytes, from_be_bytes}
 use Rattle.std.specs.List.{AllByRecursion, find, list_all}
 use Rattle.std.specs.Option.{option_map_or}
 use Rattle.std.specs.Prelude.{unwrap_or, if◌then◌else◌, option_and_then, ◌&&◌}
+use Rattle.alt_base.proofs.Lists.{all_at}
 use Rattle.alt_machine.specs.Building.{IsBuilt, building_in, built_place, is_building, is_built_to}
 use Rattle.alt_machine.proofs.Inserted.{head_pairs, tail_pairs}
 use Rattle.alt_machine.specs.Lists.{start_beside, start_value}
@@ -22,14 +24,13 @@ use Rattle.alt_schema.specs.declared.schema.IndexSchema.{IndexSchema}
 use Rattle.alt_schema.specs.declared.schema.TableSchema.{TableSchema}
 use Rattle.alt_schema.proofs.BareLaws.{all_whole, map-as_whole}
 use Rattle.alt_schemabytes.proofs.WholeDescriptions.{one_spelling}
-use Rattle.alt_tablerows.proofs.OneIndex.{at_each, behind_any, family_in, found_at, one_of_family, only_one}
+use Rattle.alt_tablerows.proofs.OneIndex.{behind_any, family_in, found_at, one_of_family, only_one}
 use Rattle.alt_tablerows.specs.Families.{HasOwnFamilies}
 use Rattle.alt_tablerows.specs.CatalogRows.{built_bytes, built_cell, table_row}
 use Rattle.alt_tablerows.proofs.OneKey.{one_key}
 use Rattle.alt_tablerows.proofs.TableRow.{all_told}
 use Rattle.alt_value.specs.Tree.{Pair}
 use Rattle.alt_keyorder.specs.Place.{place_bytes}
-use Rattle.alt_tablerows.proofs.There.{some}
 
 -- ---- lists of indexes
 
@@ -110,7 +111,7 @@ module _ (d e : TableSchema) (hash : e.hash ≡ d.hash) (range : e.range ≡ d.r
 pub at_rec : {A : Type 0} (P : A → Type 0) (xs : List A) (n : ℕ) (x : A) → AllByRecursion P xs
     → slice_get xs n ≡ Some x → P x
 at_rec P [] n x all at = absurd (let f : ⊥ = cc in f)
-at_rec P (y ∷ ys) zero x all at = subst P (some y x at) all.0
+at_rec P (y ∷ ys) zero x all at = subst P (same_Some y x at) all.0
 at_rec P (y ∷ ys) (suc n) x all at = at_rec P ys n x all.1 at
 
 -- the families are those of the indexes as if whole
@@ -220,7 +221,7 @@ module _ (d e : TableSchema) (is_d : IsDescription d) (held_d : IsHeld d) (built
 
     bytes : to_be_bytes w32 i.family ++ built_bytes d i.built
         ≡ to_be_bytes w32 j.family ++ built_bytes e j.built
-    bytes = some _ _ (sym (ap (option_map (λ (x : IndexSchema). to_be_bytes w32 x.family
+    bytes = same_Some _ _ (sym (ap (option_map (λ (x : IndexSchema). to_be_bytes w32 x.family
         ++ built_bytes d x.built)) in_d) ∙ cells.0
         ∙ ap (option_map (λ (x : IndexSchema). to_be_bytes w32 x.family
         ++ built_bytes e x.built)) in_e)
@@ -237,8 +238,8 @@ module _ (d e : TableSchema) (is_d : IsDescription d) (held_d : IsHeld d) (built
     one_built : i.built ≡ j.built
     one_built = built_one d e hash range same_place i.built j.built (not_whole i at_d.2)
         (not_whole j at_e.2)
-        (at_each (λ (x : IndexSchema). is_built_to d x.built) d.globals at_d.0 i built_d.keys at_d.1)
-        (at_each (λ (x : IndexSchema). is_built_to e x.built) e.globals at_e.0 j built_e.keys at_e.1)
+        (all_at (λ (x : IndexSchema). is_built_to d x.built) d.globals at_d.0 i built_d.keys at_d.1)
+        (all_at (λ (x : IndexSchema). is_built_to e x.built) e.globals at_e.0 j built_e.keys at_e.1)
         is_held_i.built is_held_j.built
         (cell_behind i.family j.family (built_bytes d i.built) (built_bytes e j.built) bytes)
 
@@ -267,7 +268,8 @@ module _ (d e : TableSchema) (is_d : IsDescription d) (held_d : IsHeld d) (built
   none_built : (x : IndexSchema) (n : ℕ) (xs : List IndexSchema) → find is_building xs ≡ None
       → slice_get xs n ≡ Some x → is_building x ≡ false
   none_built x n xs none at = by (is_building x)
-      (at_each (λ (z : IndexSchema). not (is_building z)) xs n x (none_passes is_building xs none) at)
+      (all_at (λ (z : IndexSchema). not (is_building z)) xs n x
+      (none_passes is_building xs none) at)
     where
       by : (b : Bool) → not b ≡ true → b ≡ false
       by true f = absurd (let g : ⊥ = cc in g)

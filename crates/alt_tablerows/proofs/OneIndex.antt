@@ -3,11 +3,10 @@ use Rattle.std.proofs.Common.{◌≡◌, ◌≢◌, refl, sym, ap, subst, ◌∙
 use Rattle.std.proofs.lemmas.Bool.{false≢true}
 use Rattle.std.proofs.lemmas.List.{take_more}
 use Rattle.std.proofs.lemmas.List.Elements.{All-head, All-tail}
-use Rattle.std.specs.List.{filter, find, list_all}
+use Rattle.std.proofs.lemmas.Option.{same_Some}
+use Rattle.std.specs.List.{filter, find}
 use Rattle.alt_machine.proofs.Inserted.{head_pairs, tail_pairs}
 use Rattle.alt_schema.specs.declared.schema.IndexSchema.{IndexSchema}
-use Rattle.alt_schema.proofs.NewDescriptions.{left, right}
-use Rattle.alt_tablerows.proofs.There.{some}
 
 -- ---- one that passes
 
@@ -21,7 +20,7 @@ module _ {A : Type 0} (p : A → Bool) where
       by : (find p ys ≡ Some x → (n : ℕ) × (slice_get ys n ≡ Some x) × (p x ≡ true)) → (b : Bool)
           → p y ≡ b → cond b (Some y) (find p ys) ≡ Some x
           → (n : ℕ) × (slice_get (y ∷ ys) n ≡ Some x) × (p x ≡ true)
-      by later true c f = (0, f, subst (λ z. p z ≡ true) (some y x f) c)
+      by later true c f = (0, f, subst (λ z. p z ≡ true) (same_Some y x f) c)
       by later false c f = let (n, at, passes) = later f in (suc n, at, passes)
 
   -- where none in front passes, the first that passes is one that does
@@ -65,7 +64,7 @@ module _ {A : Type 0} (p : A → Bool) where
           → slice_get (y ∷ ys) k ≡ Some x → (b : Bool) → p y ≡ b
           → 1 ≤ length (cond b (y ∷ filter p ys) (filter p ys))
       by later k f true c = omega arith
-      by later zero f false c = absurd (false≢true (sym c ∙ ap p (some y x f) ∙ e))
+      by later zero f false c = absurd (false≢true (sym c ∙ ap p (same_Some y x f) ∙ e))
       by later (suc k) f false c = later k f
 
   -- where no two pass, what passes is the first that does
@@ -79,18 +78,11 @@ module _ {A : Type 0} (p : A → Bool) where
           → (k : ℕ) → slice_get (y ∷ ys) k ≡ Some z → (b : Bool) → p y ≡ b
           → length (cond b (y ∷ filter p ys) (filter p ys)) ≤ 1
           → cond b (Some y) (find p ys) ≡ Some x → z ≡ x
-      by later zero g true c h f = sym (some y z g) ∙ some y x f
+      by later zero g true c h f = sym (same_Some y z g) ∙ same_Some y x f
       by later (suc k) g true c h f =
           absurd (omega (arith, h, passes_counted ys k z g passes))
-      by later zero g false c h f = absurd (false≢true (sym c ∙ ap p (some y z g) ∙ passes))
+      by later zero g false c h f = absurd (false≢true (sym c ∙ ap p (same_Some y z g) ∙ passes))
       by later (suc k) g false c h f = later h f k g
-
--- what each of a list passes, the one at a place does
-pub at_each : {A : Type 0} (test : A → Bool) (xs : List A) (n : ℕ) (x : A) → list_all test xs ≡ true
-    → slice_get xs n ≡ Some x → test x ≡ true
-at_each test [] n x all e = absurd (let f : ⊥ = cc in f)
-at_each test (y ∷ ys) zero x all e = subst (λ z. test z ≡ true) (some y x e) (left (test y) _ all)
-at_each test (y ∷ ys) (suc n) x all e = at_each test ys n x (right (test y) _ all) e
 
 -- what stands in a list stands in it behind another
 pub behind_any : {A : Type 0} (xs ys : List A) (n : ℕ) (x : A) → slice_get ys n ≡ Some x
@@ -108,7 +100,8 @@ family_holds : (P : ℕ → Type 0) (is : List IndexSchema) (n : ℕ) (i : Index
     → All P (each family_in is) → slice_get is n ≡ Some i → P i.family
 family_holds P [] n i all at = absurd (let no : ⊥ = cc in no)
 family_holds P (x ∷ xs) zero i all at =
-    subst (λ (y : IndexSchema). P y.family) (some x i at) (All-head P x.family (each family_in xs) all)
+    subst (λ (y : IndexSchema). P y.family) (same_Some x i at)
+    (All-head P x.family (each family_in xs) all)
 family_holds P (x ∷ xs) (suc n) i all at =
     family_holds P xs n i (All-tail P x.family (each family_in xs) all) at
 
@@ -117,15 +110,16 @@ pub one_of_family : (is : List IndexSchema) → AllPairs (λ f g. f ≢ g) (each
     → (n m : ℕ) (x y : IndexSchema) → slice_get is n ≡ Some x → slice_get is m ≡ Some y
     → x.family ≡ y.family → x ≡ y
 one_of_family [] apart n m x y at_x at_y same = absurd (let no : ⊥ = cc in no)
-one_of_family (z ∷ zs) apart zero zero x y at_x at_y same = sym (some z x at_x) ∙ some z y at_y
+one_of_family (z ∷ zs) apart zero zero x y at_x at_y same =
+    sym (same_Some z x at_x) ∙ same_Some z y at_y
 one_of_family (z ∷ zs) apart zero (suc m) x y at_x at_y same =
     absurd (family_holds (λ g. z.family ≢ g) zs m y
     (head_pairs (λ f g. f ≢ g) z.family (each family_in zs) apart) at_y
-    (ap family_in (some z x at_x) ∙ same))
+    (ap family_in (same_Some z x at_x) ∙ same))
 one_of_family (z ∷ zs) apart (suc n) zero x y at_x at_y same =
     absurd (family_holds (λ g. z.family ≢ g) zs n x
     (head_pairs (λ f g. f ≢ g) z.family (each family_in zs) apart) at_x
-    (ap family_in (some z y at_y) ∙ sym same))
+    (ap family_in (same_Some z y at_y) ∙ sym same))
 one_of_family (z ∷ zs) apart (suc n) (suc m) x y at_x at_y same =
     one_of_family zs (tail_pairs (λ f g. f ≢ g) z.family (each family_in zs) apart) n m x y at_x
     at_y same

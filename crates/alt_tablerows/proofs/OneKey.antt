@@ -6,12 +6,13 @@ use Rattle.std.specs.List.{list_all}
 use Rattle.std.specs.Ordering.{eq_by_cmp}
 use Rattle.std.specs.Str.{bytes_eq}
 use Rattle.std.proofs.lemmas.Slice.Eq.{bytes_eq-Decides}
+use Rattle.std.proofs.lemmas.Option.{same_Some}
+use Rattle.alt_cells.proofs.SameKeys.{one_key as tied}
 use Rattle.alt_keyorder.specs.Kinds.{IsKeyFor, IsOfKind}
 use Rattle.alt_keyorder.specs.Place.{place_bytes, place_in_table}
 use Rattle.alt_keyorder.proofs.PlaceLaws.{table_tell}
 use Rattle.alt_machine.specs.Building.{built_place}
 use Rattle.alt_machine.specs.Lists.{is_of_kind, place_there, start_beside, start_value}
-use Rattle.alt_machine.proofs.Placed.{field_value}
 use Rattle.alt_schema.specs.Indexes.{is_key}
 use Rattle.alt_schema.specs.declared.schema.KeyAttr.{KeyAttr}
 use Rattle.alt_schema.specs.declared.schema.TableSchema.{TableSchema}
@@ -21,12 +22,8 @@ use Rattle.alt_value.specs.Tree.{Tree, Pair, S_tree, N_tree, B_tree, fields_of}
 use Rattle.alt_value.specs.Values.{AreFields, IsItemOfValues, IsValue}
 use Rattle.alt_value.specs.declared.kind.KeyKind.{KeyKind}
 use Rattle.alt_value.specs.declared.kind.KeyKind.TheVariants.{S, N, B}
+use Rattle.alt_value.proofs.NamedPairs.{value_at}
 use Rattle.alt_value.proofs.Texts.{text_apart, text_total}
-use Rattle.alt_tablerows.proofs.Ties.{tied}
-
--- what is there is one
-some : {A : Type 0} (x y : A) → Some x ≡ Some y → x ≡ y
-some x y e = cc
 
 -- a value of a kind is one that a key can have
 of_kind : (kind : KeyKind) (t : Tree) → IsValue t → is_of_kind kind t ≡ true → IsOfKind kind t
@@ -54,8 +51,8 @@ has_part key a t fields e = by (at_name a.name key) refl e
             → HasPart key a t
         test true is g = record {
           at = at ∙ g;
-          kind = of_kind a.kind t (field_value a.name key t fields (at ∙ g))
-              (ap (is_of_kind a.kind) (sym (some u t g)) ∙ is);
+          kind = of_kind a.kind t (value_at a.name key t fields (at ∙ g))
+              (ap (is_of_kind a.kind) (sym (same_Some u t g)) ∙ is);
         }
         test false is g = absurd (let no : ⊥ = cc in no)
 
@@ -83,7 +80,7 @@ module _ (d : TableSchema) (key : List Pair) (place : List ℕ) (fields : AreFie
     range = None;
     part = part;
     beside = subst (λ o. HasBeside key o None) (sym is) refl;
-    bytes = some (place_bytes (place_in_table h None)) place e;
+    bytes = same_Some (place_bytes (place_in_table h None)) place e;
   }
   by_range alone h part (Some a) is e = by (start_value key a) refl e
     where
@@ -98,7 +95,7 @@ module _ (d : TableSchema) (key : List Pair) (place : List ℕ) (fields : AreFie
         part = part;
         beside = subst (λ o. HasBeside key o (Some t)) (sym is)
             (t, refl, has_part key a t fields at);
-        bytes = some (place_bytes (place_in_table h (Some t))) place f;
+        bytes = same_Some (place_bytes (place_in_table h (Some t))) place f;
       }
 
   by_hash : list_all (λ (p : Pair). is_key d.hash d.range p.0) key ≡ true → (o : Option Tree)
@@ -179,7 +176,7 @@ one_key d k l place held_k held_l at_k at_l = same_entries text_order text_total
         → HasBeside l o y → (a : KeyAttr) → o ≡ Some a → at_name a.name k ≡ at_name a.name l
     at_range None x y same in_k in_l a is = absurd (let no : None ≡ Some a = is in cc no)
     at_range (Some r) x y same in_k in_l a is =
-        let own : r ≡ a = some r a is in
+        let own : r ≡ a = same_Some r a is in
         subst (λ (c : KeyAttr). at_name c.name k ≡ at_name c.name l) own
         (in_k.2.at ∙ (sym in_k.1 ∙ same ∙ in_l.1) ∙ sym in_l.2.at)
 

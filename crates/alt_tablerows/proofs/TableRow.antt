@@ -43,12 +43,12 @@ one_described bytes = row_of_cells (one_column (codes "t") bytes) None bytes
     (entries-one_column (codes "t") bytes)
 
 -- the value of the first cell
-abbrev first_value : List (List ℕ × List ℕ) → List ℕ
+abbrev pub first_value : List (List ℕ × List ℕ) → List ℕ
 first_value [] = []
 first_value (e ∷ es) = e.1
 
 -- what is behind it
-abbrev behind_first : List (List ℕ × List ℕ) → List (List ℕ × List ℕ)
+abbrev pub behind_first : List (List ℕ × List ℕ) → List (List ℕ × List ℕ)
 behind_first [] = []
 behind_first (e ∷ es) = es
 

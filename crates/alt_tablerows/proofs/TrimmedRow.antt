@@ -1,7 +1,6 @@
 -- What the row of number 0 tells.
 use Rattle.std.proofs.Common.{◌≡◌, ◌≤◌, ◌<◌, ◌^◌, refl, sym, ap, subst, ◌∙◌, ℕ, Bool, true, false, nat_lt, List, length, IsTrue, arith}
-use Rattle.std.proofs.lemmas.Bool.{eqb-true}
-use Rattle.std.proofs.lemmas.Bool.Decides.{nat_tests}
+use Rattle.std.proofs.lemmas.Bool.{eqb-true, ltb-true, lt-ltb, leb-true}
 use Rattle.std.specs.Int.{w64, from_be_bytes}
 use Rattle.std.specs.Prelude.{◌==◌, ◌↔◌, if◌then◌else◌, nat_le, codes}
 use Rattle.alt_cells.specs.Changes.{Columns}
@@ -23,15 +22,6 @@ not_told bytes other = by (length bytes == 8) refl
 abbrev pub Tells : Columns → ℕ → Type 0
 Tells row next = (n : ℕ) × (1 ≤ n) × (n < next) × (row ≡ trimmed_columns n)
 
-less_of : (m n : ℕ) → nat_lt m n ≡ true → m < n
-less_of m n h = grind (arith, nat_tests)
-
-less_so : (m n : ℕ) → m < n → nat_lt m n ≡ true
-less_so m n h = grind (arith, nat_tests)
-
-up_of : (m n : ℕ) → nat_le m n ≡ true → m ≤ n
-up_of m n h = grind (arith, nat_tests)
-
 module _ (row : Columns) (bytes : List ℕ) (next : ℕ) (fits : next < 2 ^ 64)
     (is : row ≡ one_column (codes "x") bytes) where
   -- its one column has the bytes of that number
@@ -51,14 +41,14 @@ module _ (row : Columns) (bytes : List ℕ) (next : ℕ) (fits : next < 2 ^ 64)
     -- those of a number from 1 on tell it, where it is below the next one
     pub tells_it : 1 ≤ n → IsTrue (nat_lt n next) ↔ Tells row next
     tells_it low = (
-      λ less. (n, low, less_of n next less, is ∙ ap (one_column (codes "x")) at),
-      λ told. less_so n next (subst (λ m. m < next) (one_told told) told.2),
+      λ less. (n, low, ltb-true n next less, is ∙ ap (one_column (codes "x")) at),
+      λ told. lt-ltb n next (subst (λ m. m < next) (one_told told) told.2),
     )
 
     -- and those of 0 tell none
     pub tells_none : n < 1 → IsTrue (nat_le 1 n) ↔ Tells row next
     tells_none zero_so = (
-      λ up. absurd (let low = up_of 1 n up in omega (arith, low, zero_so)),
+      λ up. absurd (let low = leb-true 1 n up in omega (arith, low, zero_so)),
       λ told. absurd (let low = told.1 in
           let same = one_told told in omega (arith, low, same, zero_so)),
     )

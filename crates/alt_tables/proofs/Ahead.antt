@@ -3,12 +3,14 @@ use Rattle.std.proofs.Common.{◌≡◌, ◌<◌, ◌≤◌, ◌+◌, ◌^◌, r
 use Rattle.std.proofs.lemmas.Bool.{false≢true}
 use Rattle.std.proofs.lemmas.Bool.Decides.{nat_tests}
 use Rattle.std.proofs.lemmas.Slice.Eq.{bytes_eq-Decides}
+use Rattle.std.proofs.lemmas.Option.{same_Some}
 use Rattle.std.specs.FinMap as map
 use Rattle.std.specs.Option.{option_map_or}
 use Rattle.std.specs.Prelude.{◌-◌, if◌then◌else◌, is_some, nat_lt, unwrap_or}
 use Rattle.std.specs.Str.{bytes_eq}
 use Rattle.alt_cells.specs.Batches.{is_distinct}
 use Rattle.alt_cells.specs.declared.batch.RowChange.{RowChange}
+use Rattle.alt_cells.proofs.SameKeys.{key_itself}
 use Rattle.alt_changes.specs.ChangeRows.{row_key}
 use Rattle.alt_codec.specs.declared.writer.Writer.{Writer}
 use Rattle.alt_layout.specs.Layout.{Layout, IsPast, shown}
@@ -20,8 +22,6 @@ use Rattle.alt_machine.specs.Valid.{IsStored, IsValid}
 use Rattle.alt_machine.specs.Writes.{after_item_by, with_write_by}
 use Rattle.alt_machine.proofs.Looks.{insert_elsewhere}
 use Rattle.alt_rowchanges.specs.OpeningStateRows.{IsHeldWhole}
-use Rattle.alt_rowchanges.proofs.OpeningOneState.{some}
-use Rattle.alt_rowchanges.proofs.OpeningTies.{itself}
 use Rattle.alt_rowchanges.specs.Fronts.{first_moment}
 use Rattle.alt_rowchanges.specs.Leftovers.{leftovers}
 use Rattle.alt_rowchanges.specs.RowChanges.{Turns, changed_rows, write_changes}
@@ -122,7 +122,7 @@ module _ (l m : Layout) (t : Table) (moment : ℕ) (last : Trim) (touched : IsTo
           oldest = same_oldest;
           low = (lowest.low.0, subst (λ n. x.from ≤ n + 1) (sym number) lowest.low.1);
           above = λ g of. subst (λ f. All (λ n. x.from ≤ n) (drop 2 (leftovers m f x.number)))
-              (some family g (sym stream ∙ of))
+              (same_Some family g (sym stream ∙ of))
               (subst (λ ns. All (λ n. x.from ≤ n) ns) (sym rest)
               (rising_least x.from (x.from + (x.number + 1 - x.from))
               (leftovers_from l family x.from x.number)
@@ -130,7 +130,7 @@ module _ (l m : Layout) (t : Table) (moment : ℕ) (last : Trim) (touched : IsTo
               (x.number + 1 - x.from) (x.from + (x.number + 1 - x.from)) (omega arith))));
         };
         rest = λ g of. subst (λ f. drop 2 (leftovers m f x.number)
-            ≡ leftovers_from l f x.from x.number) (some family g (sym stream ∙ of)) rest;
+            ≡ leftovers_from l f x.from x.number) (same_Some family g (sym stream ∙ of)) rest;
       }
 
   -- none, without a stream
@@ -302,7 +302,7 @@ module _ (l : Layout) (s : State) (past : IsPast l) (moment : ℕ) (writer : Wri
                 table_after,
                 ap (map.get after.tables) (sym ((bytes_eq-Decides name q).0 e))
                     ∙ map.get-insert text_total r.tables name table_after name
-                    ∙ ap (λ b. cond b (Some table_after) (map.get r.tables name)) (itself name),
+                    ∙ ap (λ b. cond b (Some table_after) (map.get r.tables name)) (key_itself name),
                 subst (λ m. IsTouched l m moment x table_after) (sym then_is) touched,
               )
           by q false e = subst (λ (b : Bool). IsTableAhead l

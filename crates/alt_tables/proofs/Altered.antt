@@ -7,8 +7,10 @@ use Rattle.std.specs.Ordering.{eq_by_cmp}
 use Rattle.std.proofs.lemmas.Bool.{false≢true, le-leb, leb-true}
 use Rattle.std.proofs.lemmas.Bool.Decides.{nat_tests}
 use Rattle.std.proofs.lemmas.List.Elements.{All-cons, All-head, All-nil, All-tail}
+use Rattle.std.proofs.lemmas.Option.{same_Some}
 use Rattle.alt_cells.specs.Batches.{is_distinct}
 use Rattle.alt_cells.specs.declared.batch.RowChange.{RowChange}
+use Rattle.alt_cells.proofs.SameKeys.{one_key}
 use Rattle.alt_disk.specs.Disk.{DiskState}
 use Rattle.alt_layout.specs.Layout.{Layout}
 use Rattle.alt_machine.specs.Ops.UpdateTable.{redescribed, with_description}
@@ -28,8 +30,6 @@ use Rattle.alt_rowchanges.specs.OpeningFamilies.{HasOwnFamilies}
 use Rattle.alt_rowchanges.specs.OpeningLive.{with_all, without_all}
 use Rattle.alt_rowchanges.specs.OpeningOpened.{Holds}
 use Rattle.alt_rowchanges.proofs.OpeningLiveLaws.{live_replace}
-use Rattle.alt_rowchanges.proofs.OpeningOneState.{some}
-use Rattle.alt_rowchanges.proofs.OpeningTies.{tied}
 use Rattle.alt_rowchanges.proofs.OpeningTrimmedLaws.{trimmed-stay}
 use Rattle.alt_rowchanges.specs.Altering.{MayAlter, alter_wants, family_left, has_more}
 use Rattle.alt_tables.specs.Foreseen.{Foresees}
@@ -73,7 +73,7 @@ fronts_described l tables known name t e stream at are q f told =
       redescribed e t,
       is,
       own (subst (λ (x : Table). IsFront l x f)
-          (some _ _ (sym at_v ∙ ap (map.get tables) (tied q name tie) ∙ at)) front),
+          (same_Some _ _ (sym at_v ∙ ap (map.get tables) (one_key q name tie) ∙ at)) front),
     )
     by v at_v front false tie is = (v, is ∙ at_v, front)
 
@@ -179,7 +179,7 @@ module _ (before : DiskState) (old : Tables) (s : State) (stands : Stands before
     (named : e.name ≡ name) (d : TableSchema) (described : map.get (catalog_of old) name ≡ Some d)
     (may : MayAlter old.family d e) where
   same : t.description ≡ d
-  same = some _ _ (sym (known before old s name t stands at) ∙ described)
+  same = same_Some _ _ (sym (known before old s name t stands at) ∙ described)
 
   abbrev more : Bool
   more = has_more t.description e

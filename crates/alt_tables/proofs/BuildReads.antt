@@ -1,7 +1,8 @@
 -- What a step of building reads: the items of which the index isn't built yet, in the order of their places.
-use Rattle.std.proofs.Common.{◌≡◌, ◌≤◌, ◌<◌, ◌+◌, ◌&&◌, refl, sym, ap, ◌∙◌, ℕ, Bool, true, false, not, List, [], ◌∷◌, ◌++◌, length, map as each, take, nat_le, Option, Some, None, inl, inr, ⊎_elim, arith}
+use Rattle.std.proofs.Common.{◌≡◌, ◌≤◌, ◌<◌, ◌+◌, refl, sym, ap, ◌∙◌, ℕ, Bool, true, false, not, List, [], ◌∷◌, ◌++◌, length, map as each, take, nat_le, Option, Some, None, inl, inr, ⊎_elim, arith}
 use Rattle.std.proofs.lemmas.Bool.Decides.{nat_tests}
 use Rattle.std.proofs.lemmas.List.{length-map, length-take-le, take-map, take-take, take_all}
+use Rattle.std.proofs.Math.Bool.{and-true}
 use Rattle.std.specs.BTreeMap.Range.{range_contains}
 use Rattle.std.specs.Cmp.{tied_itself}
 use Rattle.std.specs.FinMap as map
@@ -28,6 +29,7 @@ use Rattle.alt_schema.specs.declared.schema.TableSchema.{TableSchema}
 use Rattle.alt_rowchanges.specs.Steps.{built_to, first_behind}
 use Rattle.alt_value.specs.Members.{text_order}
 use Rattle.alt_value.specs.Tree.{Pair}
+use Rattle.alt_value.proofs.TextTies.{empty_up_to}
 use Rattle.alt_value.proofs.Texts.{text_apart, text_total}
 
 -- ---- places
@@ -58,29 +60,20 @@ behind_is last q = by (text_order q last) refl
     by Equal e = below (after_below q last (inr (text_apart q last e)))
     by Greater e = from e (text_order (last ++ 0 ∷ []) q) refl
 
--- each comes from the least of all on
-from_least : (q : List ℕ) → is_le (text_order [] q) ≡ true
-from_least [] = refl
-from_least (x ∷ q) = refl
-
-also : (b : Bool) → (b && true) ≡ b
-also true = refl
-also false = refl
-
 module _ (d : TableSchema) where
   -- what isn't reached comes from that key on
   from_left : (b : Built) → is_whole b ≡ false → (q : List ℕ)
       → range_contains text_order (Included (first_behind (built_to d b))) Unbounded q
       ≡ not (reaches d b q)
   from_left Whole whole q = absurd (let no : true ≡ false = whole in cc no)
-  from_left (UpTo None) whole q = also (is_le (text_order [] q)) ∙ from_least q
+  from_left (UpTo None) whole q = and-true (is_le (text_order [] q)) ∙ empty_up_to q
   from_left (UpTo (Some key)) whole q = by (built_place d key)
     where
       by : (o : Option (List ℕ))
           → range_contains text_order (Included (first_behind o)) Unbounded q
           ≡ not (option_map_or (λ last. is_le (text_order q last)) o false)
-      by None = also (is_le (text_order [] q)) ∙ from_least q
-      by (Some last) = also (is_le (text_order (last ++ 0 ∷ []) q)) ∙ behind_is last q
+      by None = and-true (is_le (text_order [] q)) ∙ empty_up_to q
+      by (Some last) = and-true (is_le (text_order (last ++ 0 ∷ []) q)) ∙ behind_is last q
 
 -- So these are the items that are left.
 pub left_items : (t : Table) (b : Built) → is_whole b ≡ false

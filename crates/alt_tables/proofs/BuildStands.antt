@@ -2,13 +2,14 @@
 use Rattle.std.proofs.Common.{◌≡◌, ◌≢◌, ◌≤◌, ◌<◌, ◌+◌, refl, sym, ap, subst, ◌∙◌, ℕ, zero, suc, T, List, [], ◌∷◌, ◌++◌, length, take, map as each, Option, Some, None, All, option_map, slice_get, arith}
 use Rattle.std.proofs.lemmas.List.Elements.{All-filter, All-from_recursion, All-head, All-tail, All-take}
 use Rattle.std.proofs.lemmas.List.Folds.{flat_map-map}
-use Rattle.std.proofs.lemmas.Option.{slice_get-map}
+use Rattle.std.proofs.lemmas.Option.{slice_get-map, same_Some}
 use Rattle.std.specs.Cmp.{tied_itself}
 use Rattle.std.specs.FinMap as map
 use Rattle.std.specs.FinMap.Entries.{below_all, is_sorted}
 use Rattle.std.specs.List.{last_or}
 use Rattle.std.specs.Ordering.{is_lt}
 use Rattle.std.specs.Prelude.{not}
+use Rattle.alt_base.proofs.Bools.{first_holds, second_holds}
 use Rattle.alt_cells.specs.Batches.{is_distinct}
 use Rattle.alt_cells.specs.declared.batch.RowChange.{RowChange}
 use Rattle.alt_disk.specs.Disk.{DiskState}
@@ -21,7 +22,7 @@ use Rattle.alt_machine.specs.Valid.{IsValid}
 use Rattle.alt_machine.specs.declared.TheConstants.{NUMBERS_END}
 use Rattle.alt_machine.proofs.BuildParts.{Placed, in_order, sorted_taken}
 use Rattle.alt_machine.proofs.BuildSteps.{all_stored, families_same}
-use Rattle.alt_machine.proofs.Entries.{each_entry, first, second}
+use Rattle.alt_machine.proofs.Entries.{each_entry}
 use Rattle.alt_machine.proofs.Indexing.{index_apart}
 use Rattle.alt_schemabytes.specs.Held.{IsHeld}
 use Rattle.alt_schema.specs.declared.schema.Built.{Built}
@@ -35,7 +36,6 @@ use Rattle.alt_views.specs.IndexRows.{moves_in}
 use Rattle.alt_rowchanges.specs.OpeningOpened.{Holds}
 use Rattle.alt_rowchanges.proofs.OpeningOverEngine.{stands_past}
 use Rattle.alt_rowchanges.proofs.OpeningLiveLaws.{live_alike}
-use Rattle.alt_rowchanges.proofs.OpeningOneState.{some}
 use Rattle.alt_rowchanges.proofs.OpeningTrimmedLaws.{trimmed-stay}
 use Rattle.alt_tables.specs.Foreseen.{Foresees}
 use Rattle.alt_rowchanges.specs.Fronts.{AreFronts}
@@ -63,12 +63,12 @@ below_at : (q : List ℕ) (es : Placed) (n : ℕ) (e : List ℕ × List Pair)
     → T (below_all text_order q es) → slice_get es n ≡ Some e → q ≢ e.0
 below_at q [] n e below at same = absurd (let no : None ≡ Some e = at in cc no)
 below_at q (x ∷ xs) zero e below at same =
-    let there : T (is_lt (text_order q x.0)) = first (is_lt (text_order q x.0)) _ below in
+    let there : T (is_lt (text_order q x.0)) = first_holds (is_lt (text_order q x.0)) _ below in
     subst (λ o. T (is_lt o)) (tied_itself text_total q)
     (subst (λ p. T (is_lt (text_order q p)))
-    (ap (λ (y : List ℕ × List Pair). y.0) (some x e at) ∙ sym same) there)
+    (ap (λ (y : List ℕ × List Pair). y.0) (same_Some x e at) ∙ sym same) there)
 below_at q (x ∷ xs) (suc n) e below at same =
-    below_at q xs n e (second (is_lt (text_order q x.0)) _ below) at same
+    below_at q xs n e (second_holds (is_lt (text_order q x.0)) _ below) at same
 
 -- so in a list in order one place stands once
 sorted_at : (es : Placed) → T (is_sorted text_order es) → (n m : ℕ)
@@ -77,19 +77,19 @@ sorted_at : (es : Placed) → T (is_sorted text_order es) → (n m : ℕ)
 sorted_at [] sorted n m e f at_e at_f same = absurd (let no : None ≡ Some e = at_e in cc no)
 sorted_at (x ∷ xs) sorted zero zero e f at_e at_f same = refl
 sorted_at (x ∷ xs) sorted zero (suc m) e f at_e at_f same =
-    absurd (below_at x.0 xs m f (first (below_all text_order x.0 xs) _ sorted) at_f
-    (ap (λ (y : List ℕ × List Pair). y.0) (some x e at_e) ∙ same))
+    absurd (below_at x.0 xs m f (first_holds (below_all text_order x.0 xs) _ sorted) at_f
+    (ap (λ (y : List ℕ × List Pair). y.0) (same_Some x e at_e) ∙ same))
 sorted_at (x ∷ xs) sorted (suc n) zero e f at_e at_f same =
-    absurd (below_at x.0 xs n e (first (below_all text_order x.0 xs) _ sorted) at_e
-    (ap (λ (y : List ℕ × List Pair). y.0) (some x f at_f) ∙ sym same))
+    absurd (below_at x.0 xs n e (first_holds (below_all text_order x.0 xs) _ sorted) at_e
+    (ap (λ (y : List ℕ × List Pair). y.0) (same_Some x f at_f) ∙ sym same))
 sorted_at (x ∷ xs) sorted (suc n) (suc m) e f at_e at_f same = ap suc
-    (sorted_at xs (second (below_all text_order x.0 xs) _ sorted) n m e f at_e at_f same)
+    (sorted_at xs (second_holds (below_all text_order x.0 xs) _ sorted) n m e f at_e at_f same)
 
 -- what holds of each holds of the one at a place
 each_at : (P : List ℕ × List Pair → Type 0) (es : Placed) (n : ℕ) (e : List ℕ × List Pair)
     → All P es → slice_get es n ≡ Some e → P e
 each_at P [] n e all at = absurd (let no : None ≡ Some e = at in cc no)
-each_at P (x ∷ xs) zero e all at = subst P (some x e at) (All-head P x xs all)
+each_at P (x ∷ xs) zero e all at = subst P (same_Some x e at) (All-head P x xs all)
 each_at P (x ∷ xs) (suc n) e all at = each_at P xs n e (All-tail P x xs all) at
 
 -- what stands without its place stands with one
@@ -100,7 +100,7 @@ with_place es n x at = by (slice_get es n) refl (sym (slice_get-map item_in es n
     by : (o : Option (List ℕ × List Pair)) → slice_get es n ≡ o → option_map item_in o ≡ Some x
         → (e : List ℕ × List Pair) × (slice_get es n ≡ Some e) × (e.1 ≡ x)
     by None here is = absurd (let no : None ≡ Some x = is in cc no)
-    by (Some e) here is = (e, here, some e.1 x is)
+    by (Some e) here is = (e, here, same_Some e.1 x is)
 
 -- ---- the step
 
@@ -152,7 +152,7 @@ module _ (before : DiskState) (old : Tables) (s : State) (stands : Stands before
       (all : length items ≤ most → taken ≡ length items) (fewer : most < length items → taken ≡ most)
       (b : Built) (later : TableSchema) (so_far : later ≡ described_so_far b d) where
     own : t.description ≡ d
-    own = some _ _ (sym (known before old s name t stands at) ∙ described)
+    own = same_Some _ _ (sym (known before old s name t stands at) ∙ described)
 
     pub later_is : (taken ≡ length items → b ≡ Whole)
         → (taken < length items → 1 ≤ taken
@@ -180,7 +180,7 @@ module _ (before : DiskState) (old : Tables) (s : State) (stands : Stands before
       (later : TableSchema) (is_later : later ≡ e) (batch : List RowChange)
       (is : batch ≡ step_of d later i (each item_in es)) where
     same : t.description ≡ d
-    same = some _ _ (sym (known before old s name t stands at) ∙ described)
+    same = same_Some _ _ (sym (known before old s name t stands at) ∙ described)
 
     -- its row changes are those of the step
     batch_is : batch ≡ step_changes t.description e i es

@@ -14,12 +14,7 @@ use Rattle.alt_schema.specs.declared.schema.TableSchema.{TableSchema}
 use Rattle.alt_tables.specs.Several.{Every, IsFound, MayWrite, MayWriteKey, WasThere, place_within, written_at, written_in}
 use Rattle.alt_tables.specs.declared.by_keys.ItemWrite.{ItemWrite}
 use Rattle.alt_tables.specs.declared.several.ItemChange.{ItemChange}
-
--- what holds of a list holds of it with one more
-every_more : {A : Type 0} (P : A → Type 0) (xs : List A) (x : A) → Every P xs → P x
-    → Every P (xs ++ x ∷ [])
-every_more P [] x h p = (p, tt)
-every_more P (y ∷ ys) x h p = (h.0, every_more P ys x h.1 p)
+use Rattle.alt_tables.proofs.Each.{every_more}
 
 -- ---- the place of a key
 

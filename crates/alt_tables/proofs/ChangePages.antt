@@ -1,6 +1,6 @@
 -- The changes that are read from the rows of a walk over the family of a stream.
 use Rattle.std.proofs.Common.{◌≡◌, ◌<◌, ◌≤◌, ◌+◌, ◌^◌, refl, sym, ap, subst, ◌∙◌, ℕ, zero, suc, Bool, true, false, cond, T, List, [], ◌∷◌, ◌++◌, map, max, take, Option, Some, None, IsTrue, All, option_map, Equal, arith}
-use Rattle.std.proofs.lemmas.Bool.{false≢true}
+use Rattle.std.proofs.lemmas.Bool.{false≢true, lt-leb, leb-false, leb-true, le-leb}
 use Rattle.std.proofs.lemmas.List.Elements.{All-head, All-tail, All-filter}
 use Rattle.std.specs.BTreeMap.Range.{range_contains}
 use Rattle.std.specs.FinMap as finite
@@ -10,20 +10,22 @@ use Rattle.std.specs.Option.{option_map_or}
 use Rattle.std.specs.Ordering.{eq_by_cmp, is_le}
 use Rattle.std.specs.Prelude.{◌&&◌, if◌then◌else◌, nat_le, option_and_then}
 use Rattle.std.specs.declared.ops.Bound.TheVariants.{Included, Unbounded}
+use Rattle.alt_base.proofs.Orderings.{nat_cmp-greater}
 use Rattle.alt_cells.specs.Changes.{Columns}
 use Rattle.alt_cells.specs.Keys.{key_cmp}
 use Rattle.alt_cells.proofs.CellLaws.{key_exact, key_total}
+use Rattle.alt_cells.proofs.SameKeys.{one_key}
 use Rattle.alt_changes.specs.ChangeRows.{change_columns, row_key}
 use Rattle.alt_changes.specs.TrimRows.{trimmed_row}
 use Rattle.alt_disk.specs.Disk.{DiskState}
 use Rattle.alt_disk.proofs.Runs.{tells_of}
 use Rattle.alt_rowchanges.specs.OpeningEngineInHand.{Reads as EngineReads}
-use Rattle.alt_keyorder.proofs.Parts.{nat_cmp-greater}
 use Rattle.alt_layout.specs.Layout.{Layout, rows_between, shown, shown_of, shown_rows}
-use Rattle.alt_layout.proofs.ShownLaws.{find-shown, is_sorted-shown}
+use Rattle.alt_layout.proofs.ShownLaws.{find-shown, is_sorted-shown, get-shown_rows}
 use Rattle.alt_machine.specs.Ops.GetRecords.{changes_from}
 use Rattle.alt_machine.specs.State.{Change, State, Table, Texts}
 use Rattle.alt_machine.specs.Valid.{AreChanges}
+use Rattle.alt_machine.proofs.Trimming.{Above}
 use Rattle.alt_schema.specs.declared.schema.TableSchema.{TableSchema}
 use Rattle.alt_rowchanges.specs.Pages.{AreChangesOf}
 use Rattle.alt_rowchanges.specs.OpeningStateRows.{keyed_changes}
@@ -31,11 +33,9 @@ use Rattle.alt_rowchanges.specs.OpeningTrimmed.{number_at}
 use Rattle.alt_tables.specs.Stands.{Stands, catalog_of, trimmed_of}
 use Rattle.alt_tables.specs.declared.tables.Tables.{Tables}
 use Rattle.alt_tables.proofs.Pages.{as_row, placed_between, row_at, row_of, same_table, shown_of-rows}
-use Rattle.alt_rowchanges.proofs.OpeningOverEngine.{finds_shown}
 use Rattle.alt_rowchanges.proofs.OpeningOneStream.{ShowsStream}
-use Rattle.alt_rowchanges.proofs.OpeningStreamKeys.{Above, IsKept, IsSmall, above, entries_keyed, filter_keyed, key_order, keyed, late_of, low_of, up_to}
+use Rattle.alt_rowchanges.proofs.OpeningStreamKeys.{IsKept, IsSmall, entries_keyed, filter_keyed, key_order, keyed}
 use Rattle.alt_rowchanges.proofs.OpeningKeptChanges.{are_kept, are_small}
-use Rattle.alt_rowchanges.proofs.OpeningTies.{tied}
 use Rattle.alt_value.specs.Members.{text_order}
 
 -- of none there are no first ones
@@ -52,7 +52,7 @@ are-take zero cs kept = tt
 are-take (suc n) [] kept = tt
 are-take (suc n) (c ∷ cs) kept =
     let is = All-head IsKept c cs kept in (
-      record { above = is.2; number = is.0; place = refl; read = is.1; row = refl },
+      record { lt-leb = is.2; number = is.0; place = refl; read = is.1; row = refl },
       are-take n cs (All-tail IsKept c cs kept),
     )
 
@@ -86,7 +86,8 @@ module _ {X : Type 0} (columns : X → Columns) (l : Layout) (family : ℕ) (ite
           → cond b (find key_cmp q (finite.entries (shown_rows l family))) None
           ≡ option_and_then (as_row columns)
           (cond b (find key_cmp q (finite.entries items)) None)
-      at_key q true e = sym (finite.get-entries (shown_rows l family) q) ∙ finds_shown l family q ∙ shows q e
+      at_key q true e =
+          sym (finite.get-entries (shown_rows l family) q) ∙ get-shown_rows l family q ∙ shows q e
           ∙ row_of columns (finite.get items q)
           ∙ ap (option_and_then (as_row columns)) (finite.get-entries items q)
       at_key q false e = refl
@@ -117,7 +118,7 @@ stream_from trimmed number cs high fits rows shows key inside =
         → (if b then trimmed_row trimmed
         else option_map change_columns (finite.get (keyed_changes cs) key))
         ≡ option_map change_columns (finite.get (keyed_changes cs) key)
-    by true e = absurd (before 0 (omega arith) (tied key (row_key 0) e))
+    by true e = absurd (before 0 (omega arith) (one_key key (row_key 0) e))
     by false e = refl
 
 -- The changes from a number on are those from one past what was trimmed on, where that is greater.
@@ -136,10 +137,10 @@ changes-from_kept trimmed from (c ∷ cs) kept =
       where
         by : (b : Bool) → nat_le from c.number ≡ b
             → nat_le (max from (trimmed + 1)) c.number ≡ b
-        by true e = up_to (max from (trimmed + 1)) c.number
-            (let low = low_of from c.number e in omega (arith, high, low))
-        by false e = above (max from (trimmed + 1)) c.number
-            (let late = late_of from c.number e in omega (arith, late))
+        by true e = le-leb (max from (trimmed + 1)) c.number
+            (let low = leb-true from c.number e in omega (arith, high, low))
+        by false e = lt-leb (max from (trimmed + 1)) c.number
+            (let late = leb-false from c.number e in omega (arith, late))
 
 module _ (disk : DiskState) (tables : Tables) (s : State) (name : List ℕ) (t : Table)
     (d : TableSchema) (stands : Stands disk tables s) (at : finite.get s.tables name ≡ Some t)

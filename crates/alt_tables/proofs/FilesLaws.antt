@@ -14,6 +14,7 @@ use Rattle.alt_machine.specs.Valid.{IsMade, IsValid}
 use Rattle.alt_machine.specs.declared.TheConstants.{MOST_FAMILIES, MOST_TABLES}
 use Rattle.alt_machine.proofs.Descriptions.{get-descriptions}
 use Rattle.alt_manifest.specs.Versions.{IsIn, RiseFrom}
+use Rattle.alt_manifest.proofs.Among.{in_back, in_front, risen}
 use Rattle.alt_rowchanges.proofs.OpeningLiveLists.{contained_in}
 use Rattle.alt_rowchanges.specs.OpeningLive.{AreLiveIn, IsOfTable}
 use Rattle.alt_rowchanges.specs.OpeningStateRows.{catalog_family}
@@ -49,14 +50,6 @@ without_it (y ∷ ys) x (inr later) =
           (λ (more : IsIn ys z). inr (it.others z more apart)) there;
     }
 
--- numbers that rise from one on are that one or greater
-above_least : (least n : ℕ) (ns : List ℕ) → RiseFrom least ns → IsIn ns n → least ≤ n
-above_least least n [] rise there = absurd there
-above_least least n (m ∷ ms) rise there = ⊎_elim
-    (λ (e : n ≡ m). let first = rise.0 in omega (arith, e, first))
-    (λ (later : IsIn ms n). let more = above_least (m + 1) n ms rise.1 later in
-    let first = rise.0 in omega (arith, more, first)) there
-
 -- numbers that rise are no more than those among which they are
 rising_few : (least : ℕ) (xs ys : List ℕ) → RiseFrom least xs
     → ((x : ℕ) → IsIn xs x → IsIn ys x) → length xs ≤ length ys
@@ -65,18 +58,9 @@ rising_few least (x ∷ xs) ys rise among =
     let it = without_it ys x (among x (inl refl)) in
     let shorter = it.shorter in
     let rest = rising_few (x + 1) xs it.rest rise.1 (λ y there. it.others y (among y (inr there))
-    (λ (same : y ≡ x). let above = above_least (x + 1) y xs rise.1 there in
+    (λ (same : y ≡ x). let above = risen (x + 1) y xs rise.1 there in
     omega (arith, above, same))) in
     omega (arith, rest, shorter)
-
-in_front : (xs ys : List ℕ) (x : ℕ) → IsIn xs x → IsIn (xs ++ ys) x
-in_front [] ys x there = absurd there
-in_front (y ∷ xs) ys x (inl e) = inl e
-in_front (y ∷ xs) ys x (inr later) = inr (in_front xs ys x later)
-
-in_back : (xs ys : List ℕ) (x : ℕ) → IsIn ys x → IsIn (xs ++ ys) x
-in_back [] ys x there = there
-in_back (y ∷ xs) ys x there = inr (in_back xs ys x there)
 
 -- ---- the families of tables
 

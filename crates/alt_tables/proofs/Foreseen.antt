@@ -1,10 +1,12 @@
 -- What the list of the items that are due next knows of the items of tables, where tables and items come, go or change.
-use Rattle.std.proofs.Common.{◌≡◌, refl, sym, ap, subst, ◌∙◌, ℕ, Bool, true, false, cond, List, [], ◌∷◌, ◌++◌, Option, Some, None, IfSome, option_map, ◌≤◌, ◌^◌, arith}
+use Rattle.std.proofs.Common.{◌≡◌, refl, sym, ap, subst, ◌∙◌, ℕ, Bool, true, false, cond, List, [], ◌∷◌, Option, Some, None, IfSome, option_map, ◌≤◌, ◌^◌, arith}
 use Rattle.std.specs.Prelude.{◌&&◌, if◌then◌else◌, option_and_then}
 use Rattle.std.specs.FinMap as map
 use Rattle.std.proofs.lemmas.Bool.{false≢true}
+use Rattle.std.proofs.lemmas.Option.{same_Some}
 use Rattle.std.specs.Option.{option_map_or}
 use Rattle.std.specs.Ordering.{eq_by_cmp}
+use Rattle.alt_cells.proofs.SameKeys.{one_key}
 use Rattle.alt_codec.specs.declared.writer.Writer.{Writer}
 use Rattle.alt_due.specs.Due.{CoversNothing, KeepsKnown, KnowsFrom, is_before}
 use Rattle.alt_due.specs.Order.{spot_of}
@@ -17,9 +19,8 @@ use Rattle.alt_machine.specs.Outcomes.{last_state}
 use Rattle.alt_machine.specs.Same.{is_same}
 use Rattle.alt_machine.specs.State.{State, Table, Texts, descriptions, new_table}
 use Rattle.alt_machine.specs.Writes.{after_item_by, item_writes_by, with_item, with_write_by}
+use Rattle.alt_machine.proofs.Behind.{last_behind}
 use Rattle.alt_machine.proofs.Descriptions.{get-descriptions}
-use Rattle.alt_rowchanges.proofs.OpeningOneState.{some}
-use Rattle.alt_rowchanges.proofs.OpeningTies.{tied}
 use Rattle.alt_schema.specs.declared.schema.TableSchema.{TableSchema}
 use Rattle.alt_tables.specs.Foreseen.{Foresees, ForeseesItem, ForeseesWritten, IsFrom, IsMetFrom}
 use Rattle.alt_tables.specs.Several.{Every}
@@ -64,7 +65,7 @@ put_or_old tables name u q t P at own old =
   where
     by : (b : Bool) → eq_by_cmp text_order q name ≡ b → cond b (Some u) (map.get tables q) ≡ Some t
         → P
-    by true e is = own (tied q name e) (some u t is)
+    by true e is = own (one_key q name e) (same_Some u t is)
     by false e is = old is
 
 module _ (tables : Texts Table) (name : List ℕ) (due : Due) (knows : Foresees tables due) where
@@ -135,17 +136,11 @@ module _ (tables : Texts Table) (name : List ℕ) (due : Due) (knows : Foresees 
               → cond b (Some own) (map.get t.items q) ≡ Some item
               → ForeseesItem t.description name q due item
           by_put true e is = subst (λ p. ForeseesItem t.description name p due item)
-              (sym (tied q place e))
-              (subst (ForeseesItem t.description name place due) (some own item is) h)
+              (sym (one_key q place e))
+              (subst (ForeseesItem t.description name place due) (same_Some own item is) h)
           by_put false e is = knows name q t item at is
 
 -- ---- several writes
-
--- the last of some and of others behind them
-pub last-append : (s : State) (xs ys : List State)
-    → last_state s (xs ++ ys) ≡ last_state (last_state s xs) ys
-last-append s [] ys = refl
-last-append s (x ∷ xs) ys = last-append x xs ys
 
 -- behind those of a state
 pub foresees_all : (catalog : Texts TableSchema) (due : Due) (s : State) (moment : ℕ)
@@ -154,7 +149,8 @@ pub foresees_all : (catalog : Texts TableSchema) (due : Due) (s : State) (moment
     → Foresees (last_state s (writes_of_all_by s moment writer ws)).tables due
 foresees_all catalog due s moment writer [] same told knows = knows
 foresees_all catalog due s moment writer (w ∷ ws) same told knows =
-    subst (λ (r : State). Foresees r.tables due) (sym (last-append s (writes_of_by s moment writer w)
+    subst (λ (r : State). Foresees r.tables due)
+    (sym (last_behind s (writes_of_by s moment writer w)
     (writes_of_all_by (last_state s (writes_of_by s moment writer w)) moment writer ws)))
     (foresees_all catalog due (last_state s (writes_of_by s moment writer w)) moment writer ws
     (same ∙ sym (one (map.get s.tables w.table) refl).0) told.1

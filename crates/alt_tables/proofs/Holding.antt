@@ -29,8 +29,9 @@ use Rattle.alt_rowchanges.specs.OpeningStateRows.{Shows}
 use Rattle.alt_rowchanges.specs.RowChanges.{Turns}
 use Rattle.alt_tables.specs.Several.{AreDistinct, TurnsAll, with_batches}
 use Rattle.alt_rowchanges.specs.OpeningOpened.{Holds}
+use Rattle.alt_rowchanges.proofs.OpeningEngineLaws.{stays_quiet}
 use Rattle.alt_tables.proofs.Batches.{with_batches-writes}
-use Rattle.alt_rowchanges.proofs.OpeningOverEngine.{in_each_image, stands_past, stays_quiet, one_layout_in_hand}
+use Rattle.alt_rowchanges.proofs.OpeningOverEngine.{in_each_image, stands_past, one_layout_in_hand}
 use Rattle.alt_rowchanges.proofs.OpeningOneState.{one_state}
 
 -- whatever a stop now leaves stands for the state

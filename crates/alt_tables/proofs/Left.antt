@@ -6,18 +6,16 @@ use Rattle.alt_disk.specs.Disk.{DiskState, Goes, IsImage, IsTrusted}
 use Rattle.alt_disk.specs.Runs.{Quiet, Spans}
 use Rattle.alt_disk.proofs.Calls.{goes_refl, goes_on}
 use Rattle.alt_disk.proofs.Runs.{quiet_start, quiet_then, tells_of, trusted_back}
-use Rattle.alt_layout.specs.Files.{IsLayout}
-use Rattle.alt_layout.specs.Layout.{no_rows}
-use Rattle.alt_rowchanges.proofs.OpeningOverEngine.{files_hold, one_layout_in_hand, stays_quiet}
-use Rattle.alt_machine.specs.State.{State, start}
+use Rattle.alt_rowchanges.proofs.OpeningOverEngine.{files_hold, one_layout_in_hand}
+use Rattle.alt_machine.specs.State.{State}
 use Rattle.alt_rowchanges.specs.OpeningImages.{StandsFor}
 use Rattle.alt_rowchanges.specs.OpeningRecovery.{WasLeft}
+use Rattle.alt_rowchanges.proofs.OpeningEngineLaws.{stays_quiet}
 use Rattle.alt_tables.specs.Images.{AfterSome, IsWhole, Lasts, Leaves}
 use Rattle.alt_tables.specs.Stands.{AreReady, HasRows, Stands, Reads}
 use Rattle.alt_tables.specs.declared.tables.Tables.{Tables}
 use Rattle.alt_tables.proofs.Holding.{each_holds, holds_quiet, leaves_behind, leaves_quiet}
 use Rattle.alt_tables.proofs.Holding as holding
-use Rattle.alt_tables.proofs.Starting.{image_made}
 
 -- ---- calls that read
 
@@ -115,10 +113,6 @@ stands_lasts a t s stands = record {
 -- also behind calls that read, whatever becomes of the tables
 pub reads_lasts : (a b : DiskState) (t : Tables) (s : State) → Reads a b → Stands a t s → Lasts b s
 reads_lasts a b t s reads stands = stands_lasts b t s (stays_read a b t s reads stands)
-
--- files that hold no rows stand for the empty store
-pub stands_made : (image : ℕ → Option (List ℕ)) → IsLayout image no_rows → StandsFor image start
-stands_made = image_made
 
 -- ---- a disk that is whole
 

@@ -7,6 +7,7 @@ pub mod BuildStands
 pub mod ByKeys
 pub mod ChangePages
 pub mod Differing
+pub mod Each
 pub mod FilesLaws
 pub mod Foreseen
 pub mod Holding
@@ -28,4 +29,4 @@ pub mod Working
 pub use Rattle.alt_rowchanges.proofs.OpeningNextRow as OpeningNextRow
 pub use Rattle.alt_rowchanges.proofs.OpeningOneColumn as OpeningOneColumn
 pub use Rattle.alt_rowchanges.proofs.OpeningOneState as OpeningOneState
-pub use Rattle.alt_rowchanges.proofs.OpeningTies as OpeningTies
+pub use Rattle.alt_rowchanges.proofs.AlterLaws

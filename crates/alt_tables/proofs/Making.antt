@@ -56,12 +56,12 @@ use Rattle.alt_rowchanges.specs.declared.faults.TableFault.{TableFault}
 use Rattle.alt_rowchanges.specs.declared.faults.TableFault.TheVariants.{Spent, Damaged, BadRow, Failed, NoMemory}
 use Rattle.alt_tables.specs.declared.tables.Tables.{Tables}
 use Rattle.alt_rowchanges.proofs.CatalogLaws.{creation_turns, drop_turns}
-use Rattle.alt_rowchanges.proofs.OpeningOneState.{some}
 use Rattle.alt_tables.proofs.Standing.{descriptions-insert, descriptions-stay, descriptions-remove, known, there, absent, still_live, still_trimmed}
 use Rattle.alt_rowchanges.proofs.WriteLaws.{item_turns, stream_within}
 use Rattle.alt_value.specs.Tree.{Pair}
 use Rattle.alt_value.specs.Values.{IsItemOfValues}
 use Rattle.std.proofs.Math.Nat.{le_refl}
+use Rattle.std.proofs.lemmas.Option.{same_Some as some}
 use Rattle.alt_tables.specs.private.Foretold.{Fits, FitsWrite}
 use Rattle.alt_tables.proofs.Sizing.{each_left, each_new, each_written, fits_of, largest_is, sized_valid}
 use Rattle.alt_value.specs.Size.{item_size}

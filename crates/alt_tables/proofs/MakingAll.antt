@@ -25,13 +25,8 @@ use Rattle.alt_tables.proofs.Left.{leaves_after}
 use Rattle.alt_tables.proofs.Staged.{stand_behind, together_last}
 use Rattle.alt_tables.proofs.Standing.{rows_kept, stands_kept}
 use Rattle.alt_tables.specs.private.Foretold.{Fits, FitsWrites}
+use Rattle.alt_tables.proofs.Each.{every_weaker}
 use Rattle.alt_tables.proofs.Sizing.{EachItem, each_behind, fits_of}
-
--- what holds of each element may be weakened
-every_weaker : {A : Type 0} (P Q : A → Type 0) → ((x : A) → P x → Q x) → (xs : List A)
-    → Every P xs → Every Q xs
-every_weaker P Q leads [] h = tt
-every_weaker P Q leads (x ∷ xs) h = (leads x h.0, every_weaker P Q leads xs h.1)
 
 -- ---- the changes that change something
 

@@ -1,14 +1,15 @@
 -- Where no index of any table is being built none is behind a write that brings none.
 use Rattle.std.proofs.Common.{◌≡◌, refl, sym, ap, subst, ◌∙◌, ℕ, Bool, true, false, cond, List, Option, Some, None}
 use Rattle.std.proofs.lemmas.Bool.{false≢true}
+use Rattle.std.proofs.lemmas.Option.{same_Some}
 use Rattle.std.specs.FinMap as map
 use Rattle.std.specs.List.{list_all}
 use Rattle.std.specs.Ordering.{eq_by_cmp}
 use Rattle.std.specs.Prelude.{not}
+use Rattle.alt_base.proofs.Lists.{all_at}
 use Rattle.alt_machine.specs.Building.{building_in, is_building}
 use Rattle.alt_machine.specs.State.{Texts}
-use Rattle.alt_rowchanges.proofs.OpeningOneIndex.{at_each, behind_any, found_at}
-use Rattle.alt_rowchanges.proofs.OpeningOneState.{some}
+use Rattle.alt_rowchanges.proofs.OpeningOneIndex.{behind_any, found_at}
 use Rattle.alt_schema.specs.Bare.{is_whole}
 use Rattle.alt_schema.specs.Indexes.{indexes}
 use Rattle.alt_schema.specs.declared.schema.IndexSchema.{IndexSchema}
@@ -30,7 +31,7 @@ module _ (catalog : Texts TableSchema) (none : NoneBuilds catalog) (name : List 
       (sym (map.get-insert text_total catalog name d other) ∙ at)
     where
       by : (b : Bool) → cond b (Some d) (map.get catalog other) ≡ Some e → building_in e ≡ None
-      by true is = subst (λ (x : TableSchema). building_in x ≡ None) (some d e is) free
+      by true is = subst (λ (x : TableSchema). building_in x ≡ None) (same_Some d e is) free
       by false is = none other e is
 
   -- without a table
@@ -52,5 +53,6 @@ none_of_whole d whole = by (building_in d) refl
     by (Some i) is =
         let (n, here, building) = found_at is_building d.globals i is in
         let (m, there) = behind_any d.locals d.globals n i here in
-        absurd (false≢true (sym (ap not (at_each (λ (x : IndexSchema). is_whole x.built) (indexes d) m
+        absurd (false≢true
+        (sym (ap not (all_at (λ (x : IndexSchema). is_whole x.built) (indexes d) m
         i whole there)) ∙ building))

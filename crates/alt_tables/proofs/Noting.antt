@@ -2,6 +2,7 @@
 use Rattle.std.proofs.Common.{append-nil, append_assoc, ◌≡◌, ◌≤◌, ◌+◌, refl, sym, ap, subst, ◌∙◌, ℕ, Bool, true, false, cond, List, [], ◌∷◌, ◌++◌, Option, Some, None, IsSome, All, ◌<◌, arith}
 use Rattle.std.proofs.lemmas.Bool.{false≢true}
 use Rattle.std.proofs.lemmas.Slice.Eq.{bytes_eq-Decides}
+use Rattle.std.proofs.lemmas.Option.{same_Some}
 use Rattle.std.specs.FinMap as map
 use Rattle.std.specs.Option.{option_map_or}
 use Rattle.std.specs.Prelude.{◌-◌, if◌then◌else◌, is_some}
@@ -12,7 +13,6 @@ use Rattle.alt_machine.specs.State.{Table, Texts}
 use Rattle.alt_machine.specs.Valid.{AreChanges}
 use Rattle.alt_rowchanges.specs.OpeningTrimmed.{AreTrimmedOf, IsRenumbered, number_at}
 use Rattle.alt_rowchanges.specs.OpeningDeclaredTrimmed.{Trimmed}
-use Rattle.alt_rowchanges.proofs.OpeningOneState.{some}
 use Rattle.alt_schema.specs.declared.schema.TableSchema.{TableSchema}
 use Rattle.alt_rowchanges.specs.Fronts.{AreFronts, IsFront, first_moment, front_at}
 use Rattle.alt_rowchanges.specs.Leftovers.{leftovers}
@@ -50,7 +50,7 @@ note_is catalog next name (x ∷ xs) e all is =
         → (e.table ≡ name) × ((d : TableSchema) → map.get catalog name ≡ Some d
         → IsSome d.stream_family → e.trim.number < next)
     by true same is rest =
-        let one : x ≡ e = some x e is in
+        let one : x ≡ e = same_Some x e is in
         let named : x.table ≡ name = (bytes_eq-Decides x.table name).0 same in (
           ap (λ (n : Noted). n.table) (sym one) ∙ named,
           λ d at stream. subst (λ (n : Noted). n.trim.number < next) one
@@ -93,9 +93,9 @@ module _ (catalog : Texts TableSchema) (moment : ℕ) (x : Noted) (notes : List 
   of_its_table q same = (
     λ f told c there stream. by f told c.stream_family
         (ap (λ (y : TableSchema). y.stream_family)
-        (some d c (sym (ap (map.get catalog) (sym same) ∙ at) ∙ there))) stream,
+        (same_Some d c (sym (ap (map.get catalog) (sym same) ∙ at) ∙ there))) stream,
     λ c there none.
-        let one : c ≡ d = some c d (sym there ∙ ap (map.get catalog) (sym same) ∙ at) in
+        let one : c ≡ d = same_Some c d (sym there ∙ ap (map.get catalog) (sym same) ∙ at) in
         let bare : d.stream_family ≡ None =
         ap (λ (y : TableSchema). y.stream_family) (sym one) ∙ none in
         ap (front_at q) (noted.none bare)
@@ -254,7 +254,7 @@ module _ (l m : Layout) (moment : ℕ) (was now : Texts Table) (notes : List Not
       touched_front e t at touched known None stream =
           let (u, at_u, front) = are q f
           (sym (known.1 t.description (described q t at) stream) ∙ told) in
-          let same : t.description ≡ u.description = some _ _
+          let same : t.description ≡ u.description = same_Some _ _
           (sym (described q t at) ∙ described_before q u at_u) in
           let of_u = valid_before q u at_u in
           let of_t = valid q t at in

@@ -1,24 +1,26 @@
 -- The rows of the items in a range of places, and the items that are read from them.
-use Rattle.std.proofs.Common.{◌≡◌, ◌<◌, refl, sym, ap, subst, ◌∙◌, ℕ, zero, suc, Bool, true, false, cond, T, List, [], ◌∷◌, ◌++◌, map, reverse, take, length, Option, Some, None, Result, Ok, Err, OnOk, IfErr, IsTrue, option_map, slice_get, All, arith}
+use Rattle.std.proofs.Common.{◌≡◌, refl, sym, ap, subst, ◌∙◌, ℕ, zero, suc, Bool, true, false, cond, T, List, [], ◌∷◌, ◌++◌, map, take, Option, Some, None, Result, Ok, Err, IfErr, IsTrue, option_map, All}
 use Rattle.std.proofs.lemmas.List.{take-map}
 use Rattle.std.proofs.lemmas.List.Elements.{All-nil, All-cons, All-head, All-tail, All-map, All-take, All-filter}
-use Rattle.std.proofs.lemmas.List.Sorted.{All-permutation, IsPermutation-reverse}
+use Rattle.std.proofs.lemmas.Option.{same_Some}
 use Rattle.std.specs.BTreeMap.Range.{entries_between, range_contains}
 use Rattle.std.specs.FinMap as finite
 use Rattle.std.specs.FinMap.Entries.{below_all, find, is_sorted, same_entries}
 use Rattle.std.specs.Prelude.{option_and_then}
 use Rattle.std.specs.Ordering.{eq_by_cmp}
 use Rattle.std.specs.declared.ops.Bound.TheVariants.{Included}
+use Rattle.alt_base.proofs.Bools.{first_holds, second_holds}
 use Rattle.alt_cells.specs.Changes.{Columns}
 use Rattle.alt_cells.specs.Keys.{key_cmp}
 use Rattle.alt_cells.specs.Walks.{turned as rows_turned}
 use Rattle.alt_cells.proofs.CellLaws.{key_total, key_exact}
-use Rattle.alt_cells.proofs.Entries.{first, second, find_below}
+use Rattle.alt_cells.proofs.Entries.{find_below}
+use Rattle.alt_cells.proofs.SameKeys.{key_itself, one_key}
 use Rattle.alt_disk.specs.Disk.{DiskState}
 use Rattle.alt_disk.proofs.Runs.{tells_of}
 use Rattle.alt_rowchanges.specs.OpeningEngineInHand.{Reads as EngineReads}
 use Rattle.alt_layout.specs.Layout.{Layout, rows_between, shown, shown_of, shown_rows, end_bound as rows_end}
-use Rattle.alt_layout.proofs.ShownLaws.{find-shown, is_sorted-shown, shown-filter, shown-turned}
+use Rattle.alt_layout.proofs.ShownLaws.{find-shown, is_sorted-shown, shown-filter, shown-turned, get-shown_rows}
 use Rattle.alt_machine.specs.Building.{built_part}
 use Rattle.alt_machine.specs.Indexed.{index_items}
 use Rattle.alt_machine.specs.Sources.{index_at}
@@ -33,19 +35,18 @@ use Rattle.alt_schema.specs.declared.schema.TableSchema.{TableSchema}
 use Rattle.alt_rowchanges.specs.OpeningHandFaults.{told_by_engine}
 use Rattle.alt_faults.specs.Faults.{IsOutside}
 use Rattle.alt_faults.proofs.Telling.{memory-outside, outside-neither}
+use Rattle.alt_machine.proofs.Turned.{All-turned}
 use Rattle.alt_rowchanges.specs.Faults.{IsFindFault, IsReadFault, told_by_tables}
 use Rattle.alt_views.specs.ItemRows.{IsReadItem, item_columns}
 use Rattle.alt_rowchanges.specs.Pages.{AreItemsOf, AreKept, ArePut}
 use Rattle.alt_tables.specs.Stands.{Stands, catalog_of}
 use Rattle.alt_rowchanges.specs.declared.faults.TableFault.{TableFault}
 use Rattle.alt_tables.specs.declared.tables.Tables.{Tables}
-use Rattle.alt_rowchanges.proofs.OpeningTies.{tied, itself}
-use Rattle.alt_rowchanges.proofs.OpeningOverEngine.{finds_shown}
 use Rattle.alt_rowchanges.specs.OpeningStateRows.{index_rows}
 use Rattle.alt_views.specs.IndexRows.{index_columns}
 use Rattle.alt_views.specs.Read.{IsKeptAt}
 use Rattle.alt_views.proofs.Keeping.{kept_at}
-use Rattle.alt_rowchanges.proofs.OpeningOneState.{some, has_whole}
+use Rattle.alt_rowchanges.proofs.OpeningOneState.{has_whole}
 use Rattle.alt_rowchanges.proofs.PageRows.{same_items}
 use Rattle.alt_tables.proofs.Standing.{known}
 use Rattle.alt_value.specs.Members.{text_order}
@@ -100,27 +101,21 @@ each_found : {X : Type 0} (P : List ℕ × X → Type 0) (es : List (List ℕ ×
     → All P es
 each_found P [] sorted found = All-nil P
 each_found {X = X} P (e ∷ es) sorted found = All-cons P e es
-    (found e.0 e.1 (ap (λ b. cond b (Some e.1) (find key_cmp e.0 es)) (itself e.0)))
-    (each_found P es (second (below_all key_cmp e.0 es) _ sorted)
+    (found e.0 e.1 (ap (λ b. cond b (Some e.1) (find key_cmp e.0 es)) (key_itself e.0)))
+    (each_found P es (second_holds (below_all key_cmp e.0 es) _ sorted)
     (λ place item at. found place item (later place item at (eq_by_cmp key_cmp place e.0) refl)))
   where
     later : (place : List ℕ) (item : X) → find key_cmp place es ≡ Some item → (b : Bool)
         → eq_by_cmp key_cmp place e.0 ≡ b → find key_cmp place (e ∷ es) ≡ Some item
     later place item at true same = absurd (let no : None ≡ Some item =
-        sym (find_below key_cmp key_total e.0 es (first _ (is_sorted key_cmp es) sorted))
-        ∙ ap (λ q. find key_cmp q es) (sym (tied place e.0 same)) ∙ at in cc no)
+        sym (find_below key_cmp key_total e.0 es (first_holds _ (is_sorted key_cmp es) sorted))
+        ∙ ap (λ q. find key_cmp q es) (sym (one_key place e.0 same)) ∙ at in cc no)
     later place item at false differs =
         ap (λ b. cond b (Some e.1) (find key_cmp place es)) differs ∙ at
 
 -- the item of an entry can be read
 abbrev CanBeRead : List ℕ × List Pair → Type 0
 CanBeRead e = IsReadItem e.1
-
--- what holds of all holds of them either way
-All-turned : {A : Type 0} (P : A → Type 0) (forward : Bool) (xs : List A) → All P xs
-    → All P (turned forward xs)
-All-turned P true xs all = all
-All-turned P false xs all = All-permutation P xs (reverse xs) (IsPermutation-reverse xs) all
 
 -- ---- the rows of a family
 
@@ -134,7 +129,7 @@ module _ {X : Type 0} (columns : X → Columns) (l : Layout) (family : ℕ) (ite
   entries-rows : finite.entries rows ≡ shown_of (as_row columns) (finite.entries items)
   entries-rows = same_entries key_cmp key_total key_exact _ _ (finite.entries_sorted rows)
       (is_sorted-shown (as_row columns) (finite.entries items) (finite.entries_sorted items))
-      (λ q. sym (finite.get-entries rows q) ∙ finds_shown l family q
+      (λ q. sym (finite.get-entries rows q) ∙ get-shown_rows l family q
       ∙ shows q ∙ row_of columns (finite.get items q)
       ∙ ap (option_and_then (as_row columns)) (finite.get-entries items q)
       ∙ sym (find-shown (as_row columns) q (finite.entries items) (finite.entries_sorted items)))
@@ -191,7 +186,7 @@ pub same_table : (disk : DiskState) (tables : Tables) (s : State) (name : List �
     (d : TableSchema) → Stands disk tables s → finite.get s.tables name ≡ Some t
     → finite.get (catalog_of tables) name ≡ Some d → d ≡ t.description
 same_table disk tables s name t d stands at known_as =
-    some _ _ (sym known_as ∙ known disk tables s name t stands at)
+    same_Some _ _ (sym known_as ∙ known disk tables s name t stands at)
 
 module _ (disk : DiskState) (tables : Tables) (s : State) (name : List ℕ) (t : Table)
     (d : TableSchema) (stands : Stands disk tables s) (at : finite.get s.tables name ≡ Some t)
@@ -300,18 +295,6 @@ module _ (disk : DiskState) (tables : Tables) (s : State) (name : List ℕ) (t :
         )
 
 -- ---- the answer of a walk
-
--- where a list goes so far, something stands
-pub within_some : {A : Type 0} (xs : List A) (n : ℕ) → n < length xs
-    → (x : A) × (slice_get xs n ≡ Some x)
-within_some [] n within = absurd (omega (arith, within))
-within_some (x ∷ xs) zero within = (x, refl)
-within_some (x ∷ xs) (suc n) within = within_some xs n (omega (arith, within))
-
--- what holds at Ok holds in other words
-pub ok_then : {A E P Q : Type 0} (r : Result A E) → (P → Q) → OnOk r P → OnOk r Q
-ok_then (Ok x) f h = f h
-ok_then (Err e) f h = tt
 
 -- want of memory is a fault of a call that reads rows
 pub find_fault : {A : Type 0} (r : Result A TableFault) → IfErr r IsReadFault

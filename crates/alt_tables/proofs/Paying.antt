@@ -1,5 +1,5 @@
 -- What a walk reads, from the words of the engine's rows to those of the items.
-use Rattle.std.proofs.Common.{◌≡◌, ◌≤◌, ◌+◌, ◌*◌, refl, sym, ap, subst, ◌∙◌, ℕ, zero, suc, Bool, true, false, not, ◌&&◌, List, [], ◌∷◌, map, take, length, Option, Some, None, Result, Ok, Err, OnOk, option_map}
+use Rattle.std.proofs.Common.{◌≡◌, ◌≤◌, ◌+◌, ◌*◌, refl, sym, ap, subst, ◌∙◌, ℕ, zero, suc, Bool, true, false, not, ◌&&◌, List, [], ◌∷◌, map, take, length, Option, Some, None, option_map}
 use Rattle.std.proofs.lemmas.List.{take-map}
 use Rattle.std.specs.BTreeMap.Range.{entries_between, range_contains}
 use Rattle.std.specs.Cmp.Lexicographic.{nat_list_cmp_total}
@@ -101,11 +101,6 @@ places-rows : {X : Type 0} (columns : X → Columns) (es : List (List ℕ × X))
     → map (λ (e : List ℕ × Columns). e.0) (map (row_at columns) es) ≡ map (λ e. e.0) es
 places-rows columns [] = refl
 places-rows columns (e ∷ es) = ap (λ ps. e.0 ∷ ps) (places-rows columns es)
-
--- what holds at each Ok holds where it is that
-pub on_ok : {A E P : Type 0} (r : Result A E) → P → OnOk r P
-on_ok (Ok x) h = h
-on_ok (Err e) h = tt
 
 module _ {X : Type 0} (columns : X → Columns) (l : Layout) (family : ℕ) (items : Texts X)
     (shows : (key : List ℕ) → shown l family key ≡ option_map columns (finite.get items key))

@@ -1,6 +1,7 @@
 -- How many bytes the items of tables have at most, where tables and items come, go or change.
 use Rattle.std.proofs.Common.{◌≡◌, ◌≤◌, refl, sym, ap, subst, ◌∙◌, ℕ, Bool, true, false, cond, List, [], ◌∷◌, Option, Some, None, IfSome, max, arith}
 use Rattle.std.proofs.lemmas.Bool.{le-leb}
+use Rattle.std.proofs.lemmas.Option.{same_Some}
 use Rattle.std.specs.Prelude.{if◌then◌else◌, unwrap_or}
 use Rattle.std.specs.FinMap as map
 use Rattle.std.specs.Option.{option_map_or}
@@ -13,12 +14,12 @@ use Rattle.alt_machine.specs.State.{State, Table, Texts, new_table}
 use Rattle.alt_machine.specs.Valid.{IsValid}
 use Rattle.alt_machine.specs.declared.TheConstants.{LARGEST_ITEM}
 use Rattle.alt_machine.specs.Writes.{after_item_by, item_writes_by, with_item, with_write_by}
+use Rattle.alt_machine.proofs.Behind.{last_behind}
 use Rattle.alt_rowchanges.specs.OpeningSized.{AreSized}
-use Rattle.alt_rowchanges.proofs.OpeningOneState.{some}
 use Rattle.alt_schema.specs.declared.schema.TableSchema.{TableSchema}
 use Rattle.alt_tables.specs.Several.{Every}
 use Rattle.alt_tables.specs.private.Foretold.{Fits, FitsWrite}
-use Rattle.alt_tables.proofs.Foreseen.{last-append, put_or_old}
+use Rattle.alt_tables.proofs.Foreseen.{put_or_old}
 use Rattle.alt_value.specs.Members.{text_order}
 use Rattle.alt_value.specs.Size.{item_size, within}
 use Rattle.alt_value.specs.Tree.{Pair}
@@ -81,7 +82,7 @@ module _ (P : List Pair → Type 0) (tables : Texts Table) (name : List ℕ)
           (sym (map.get-insert text_total t.items place own q) ∙ there)
         where
           by_put : (b : Bool) → cond b (Some own) (map.get t.items q) ≡ Some item → P item
-          by_put true is = subst P (some own item is) h
+          by_put true is = subst P (same_Some own item is) h
           by_put false is = so name q t item at is
 
 -- what each of these leaves is so
@@ -94,7 +95,7 @@ pub each_behind : (P : List Pair → Type 0) (s : State) (moment : ℕ) (writer 
     → EachItem P (last_state s (writes_of_all_by s moment writer ws)).tables
 each_behind P s moment writer [] told so = so
 each_behind P s moment writer (w ∷ ws) told so =
-    subst (λ (r : State). EachItem P r.tables) (sym (last-append s (writes_of_by s moment writer w)
+    subst (λ (r : State). EachItem P r.tables) (sym (last_behind s (writes_of_by s moment writer w)
     (writes_of_all_by (last_state s (writes_of_by s moment writer w)) moment writer ws)))
     (each_behind P (last_state s (writes_of_by s moment writer w)) moment writer ws told.1
     (one (map.get s.tables w.table) refl))

@@ -18,7 +18,6 @@ use Rattle.alt_machine.specs.Writes.{after_item_by, with_write_by}
 use Rattle.alt_machine.proofs.Descriptions.{get-descriptions, table_of_description}
 use Rattle.alt_rowchanges.specs.OpeningOpened.{Holds}
 use Rattle.alt_rowchanges.proofs.OpeningOverEngine.{one_layout_in_hand, stands_past}
-use Rattle.alt_rowchanges.proofs.OpeningOneState.{some}
 use Rattle.alt_schema.specs.declared.schema.TableSchema.{TableSchema}
 use Rattle.alt_tables.specs.Foreseen.{Foresees, ForeseesWritten}
 use Rattle.alt_rowchanges.specs.Fronts.{AreFronts}
@@ -44,6 +43,7 @@ use Rattle.alt_tables.proofs.Standing.{keeps_nothing, keeps_then, known, rows_ke
 use Rattle.alt_value.specs.Tree.{Pair}
 use Rattle.alt_value.specs.Values.{IsItemOfValues}
 use Rattle.std.proofs.Math.Nat.{le_trans}
+use Rattle.std.proofs.lemmas.Option.{same_Some as some}
 use Rattle.alt_tables.specs.private.Foretold.{Fits, FitsWrite, FitsWrites}
 use Rattle.alt_tables.proofs.Sizing.{EachItem, fits_up, sized_valid}
 

@@ -1,10 +1,12 @@
 -- For which state the tables stand, and what the catalog knows of it.
 use Rattle.std.proofs.Common.{◌≡◌, ◌≤◌, refl, sym, ap, subst, ◌∙◌, ℕ, Bool, true, false, cond, List, Option, Some, None, IfSome, IsTrue, option_map}
 use Rattle.std.proofs.Math.Nat.{le_refl, le_trans}
+use Rattle.std.proofs.lemmas.Option.{same_Some}
 use Rattle.std.specs.Prelude.{◌↔◌}
 use Rattle.std.specs.Ordering.{eq_by_cmp}
 use Rattle.std.specs.FinMap as map
 use Rattle.alt_cells.specs.Changes.{Columns}
+use Rattle.alt_cells.proofs.SameKeys.{one_key}
 use Rattle.alt_disk.specs.Disk.{DiskState, Goes, IsTrusted}
 use Rattle.alt_disk.proofs.Calls.{goes_refl, goes_on}
 use Rattle.alt_due.specs.Due.{KeepsKnown}
@@ -22,11 +24,10 @@ use Rattle.alt_tables.specs.Stands.{AreReady, HasRows, Keeps, Stands, bounds_of,
 use Rattle.alt_tables.specs.declared.tables.Tables.{Tables}
 use Rattle.alt_rowchanges.specs.OpeningLive.{AreLiveIn}
 use Rattle.alt_rowchanges.specs.OpeningTrimmed.{AreTrimmedOf, number_at}
-use Rattle.alt_rowchanges.proofs.OpeningTies.{tied}
 use Rattle.alt_tables.proofs.Holding.{one_held}
 use Rattle.alt_tables.proofs.NoneBuilt.{none_on}
 use Rattle.alt_views.proofs.ItemRowLaws.{item_columns-one}
-use Rattle.alt_rowchanges.proofs.OpeningOneState.{some, has_whole}
+use Rattle.alt_rowchanges.proofs.OpeningOneState.{has_whole}
 use Rattle.alt_rowchanges.proofs.OpeningMaps.{same_texts}
 use Rattle.alt_value.specs.Tree.{Pair}
 use Rattle.alt_value.specs.Values.{IsWholeItem}
@@ -73,7 +74,8 @@ module _ (tables : Texts Table) (name : List ℕ) where
           ≡ map.get (descriptions tables) q
       by q true e = ap (λ d. Some d) same
           ∙ sym (get-descriptions tables q
-          ∙ ap (λ k. option_map (λ (t : Table). t.description) (map.get tables k)) (tied q name e)
+          ∙ ap (λ k. option_map (λ (t : Table). t.description) (map.get tables k))
+          (one_key q name e)
           ∙ ap (option_map (λ (t : Table). t.description)) at)
       by q false e = refl
 
@@ -263,7 +265,7 @@ one_item None (Some b) h k e = absurd (let no : None ≡ Some (item_columns b) =
 one_item (Some a) None h k e = absurd (let no : Some (item_columns a) ≡ None = e in
     let f : ⊥ = cc in f)
 one_item (Some a) (Some b) h k e = ap (λ x. Some x)
-    (item_columns-one a b h.whole (k b refl) (some _ _ e))
+    (item_columns-one a b h.whole (k b refl) (same_Some _ _ e))
 
 module _ (disk : DiskState) (t : Tables) (s : State) (name : List ℕ) (u : Table)
     (d : TableSchema) (stands : Stands disk t s) (at : map.get s.tables name ≡ Some u)
@@ -273,7 +275,7 @@ module _ (disk : DiskState) (t : Tables) (s : State) (name : List ℕ) (u : Tabl
   pub row_shows : row ≡ option_map item_columns (map.get u.items place)
   row_shows = shows stands.rows.layout stands.rows.is.hand.reads
       ∙ ap (λ (x : TableSchema). shown stands.rows.layout x.family place)
-      (some _ _ (sym known_as ∙ known disk t s name u stands at))
+      (same_Some _ _ (sym known_as ∙ known disk t s name u stands at))
       ∙ stands.rows.shows.items name u at place
 
   -- so what was read is that

@@ -1,10 +1,12 @@
 -- The write that gives a table another attribute for time to live, or none: what it leaves is what the machine's leaves.
 use Rattle.std.proofs.Common.{◌≤◌, ◌≡◌, refl, sym, ap, subst, ◌∙◌, ℕ, ◌+◌, ◌<◌, Bool, true, false, cond, T, List, Option, Some, None, arith}
+use Rattle.std.proofs.lemmas.Option.{same_Some}
 use Rattle.std.specs.FinMap as map
 use Rattle.std.specs.Option.{option_map_or}
 use Rattle.std.specs.Ordering.{eq_by_cmp}
 use Rattle.alt_cells.specs.Batches.{is_distinct}
 use Rattle.alt_cells.specs.declared.batch.RowChange.{RowChange}
+use Rattle.alt_cells.proofs.SameKeys.{one_key}
 use Rattle.alt_disk.specs.Disk.{DiskState}
 use Rattle.alt_due.specs.declared.due.Due.{Due}
 use Rattle.alt_layout.specs.Layout.{Layout}
@@ -18,8 +20,6 @@ use Rattle.alt_value.specs.Members.{text_order}
 use Rattle.alt_value.proofs.Texts.{text_total}
 use Rattle.alt_rowchanges.specs.OpeningOpened.{Holds}
 use Rattle.alt_rowchanges.proofs.OpeningLiveLaws.{live_alike}
-use Rattle.alt_rowchanges.proofs.OpeningOneState.{some}
-use Rattle.alt_rowchanges.proofs.OpeningTies.{tied}
 use Rattle.alt_rowchanges.proofs.OpeningTrimmedLaws.{trimmed-stay}
 use Rattle.alt_tables.specs.Built.{NoneBuilds}
 use Rattle.alt_tables.specs.Foreseen.{Foresees}
@@ -59,7 +59,7 @@ fronts_timed l tables known name t ttl at are q f told =
       timed ttl t,
       is,
       own (subst (λ (x : Table). IsFront l x f)
-          (some _ _ (sym at_v ∙ ap (map.get tables) (tied q name tie) ∙ at)) front),
+          (same_Some _ _ (sym at_v ∙ ap (map.get tables) (one_key q name tie) ∙ at)) front),
     )
     by v at_v front false tie is = (v, is ∙ at_v, front)
 
@@ -88,7 +88,7 @@ module _ (before : DiskState) (old : Tables) (s : State) (stands : Stands before
     (d : TableSchema) (described : map.get (catalog_of old) name ≡ Some d)
     (batch : List RowChange) (is : batch ≡ time_changes d ttl) where
   same : t.description ≡ d
-  same = some _ _ (sym (known before old s name t stands at) ∙ described)
+  same = same_Some _ _ (sym (known before old s name t stands at) ∙ described)
 
   -- its row changes turn the state into the one with that time to live
   pub time_turned : number_of old < NUMBERS_END → Where IsHeldText ttl

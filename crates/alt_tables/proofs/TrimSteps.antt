@@ -1,6 +1,7 @@
 -- What is read of the front of a table's stream before a write, as the tables stand for a state.
 use Rattle.std.proofs.Common.{◌≡◌, ◌<◌, ◌≤◌, ◌+◌, ◌^◌, ◌⊎◌, refl, sym, ap, subst, ◌∙◌, ℕ, suc, Bool, true, false, List, [], ◌++◌, take, drop, length, Option, Some, None, IsSome, All, IsTrue, arith}
 use Rattle.std.proofs.lemmas.List.Elements.{All-filter, All-take}
+use Rattle.std.proofs.lemmas.Option.{same_Some}
 use Rattle.std.specs.FinMap as map
 use Rattle.std.specs.Option.{option_map_or}
 use Rattle.std.specs.Prelude.{◌-◌, filter, nat_le, is_some, if◌then◌else◌, Vec}
@@ -20,7 +21,6 @@ use Rattle.alt_rowchanges.proofs.OpeningStreamKeys.{IsSmall}
 use Rattle.alt_machine.proofs.Trimming.{trimmed_least, trimmed_most}
 use Rattle.alt_rowchanges.proofs.OpeningOverEngine.{one_layout_in_hand}
 use Rattle.alt_rowchanges.proofs.OpeningKeptChanges.{are_small, trimmed_small}
-use Rattle.alt_rowchanges.proofs.OpeningOneState.{some}
 use Rattle.alt_rowchanges.specs.OpeningTrimmed.{number_at}
 use Rattle.alt_rowchanges.specs.Fronts.{IsFront, first_moment, front_at}
 use Rattle.alt_rowchanges.specs.Leftovers.{leftovers}
@@ -51,7 +51,7 @@ module _ (disk : DiskState) (tables : Tables) (s : State) (name : List ℕ) (t :
       → front_at name (fronts_of tables) ≡ Some f → IsFront l t f
   front_known l rows f told =
       let (u, at_u, front) = stands.fronts l rows name f told in
-      subst (λ v. IsFront l v f) (some _ _ (sym at_u ∙ at)) front
+      subst (λ v. IsFront l v f) (same_Some _ _ (sym at_u ∙ at)) front
 
   -- ---- the changes
 
@@ -239,7 +239,7 @@ module _ (disk : DiskState) (tables : Tables) (s : State) (name : List ℕ) (t :
         (record { number = number; oldest = oldest; leftovers = v; from = after })
     is_rest l number oldest v from after some_from above lowest g of =
         subst (λ f. drop 2 (leftovers l f number) ≡ leftovers_from l f after number)
-        (some family g (sym stream ∙ of))
+        (same_Some family g (sym stream ∙ of))
         (ap (drop 2) (left_from_there l family number from some_from above) ∙ lowest.rest)
 
     -- So what is read is what a write takes.
@@ -256,7 +256,7 @@ module _ (disk : DiskState) (tables : Tables) (s : State) (name : List ℕ) (t :
       oldest = λ g of. told.oldest;
       low = lowest.low;
       above = λ g of. subst (λ f. All (λ n. from ≤ n) (drop 2 (leftovers l f number)))
-          (some family g (sym stream ∙ of)) lowest.above;
+          (same_Some family g (sym stream ∙ of)) lowest.above;
     }
 
   -- nothing, without a stream

@@ -1,5 +1,6 @@
 -- A write by what it takes from the front of its table's stream, between a call that reads and a call that writes.
 use Rattle.std.proofs.Common.{◌≡◌, refl, sym, ap, subst, ◌∙◌, ℕ, false, T, List, drop, Option, Some, Result, Ok, Err, IfOk, OnOk}
+use Rattle.std.proofs.lemmas.Option.{same_Some}
 use Rattle.std.specs.FinMap as map
 use Rattle.alt_cells.specs.Batches.{is_distinct}
 use Rattle.alt_cells.specs.declared.batch.RowChange.{RowChange}
@@ -10,7 +11,6 @@ use Rattle.alt_machine.specs.Same.{is_same}
 use Rattle.alt_machine.specs.State.{State, Table}
 use Rattle.alt_rowchanges.specs.OpeningTrimmed.{number_at}
 use Rattle.alt_rowchanges.proofs.OpeningOverEngine.{one_layout_in_hand}
-use Rattle.alt_rowchanges.proofs.OpeningOneState.{some}
 use Rattle.alt_schema.specs.declared.schema.TableSchema.{TableSchema}
 use Rattle.alt_rowchanges.specs.Leftovers.{leftovers, lowest_left}
 use Rattle.alt_rowchanges.specs.RowChanges.{changed_rows, write_changes}
@@ -56,7 +56,7 @@ module _ (a b : DiskState) (old new : Tables) (s : State) (t : Table) (stands : 
   -- the rows that go are the lowest that are left over
   lowest_is : (l : Layout) → HasRows a old l → r.leftovers.items ≡ lowest_left l d after
   lowest_is l rows = (is l rows).lowest
-      ∙ (λ i. lowest_left l (some _ _ (sym (known a old s name t stands at) ∙ described) i)
+      ∙ (λ i. lowest_left l (same_Some _ _ (sym (known a old s name t stands at) ∙ described) i)
       (sym known_after i))
 
   pub made_is : (l : Layout) → HasRows a old l

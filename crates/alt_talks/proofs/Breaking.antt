@@ -2,6 +2,7 @@
 use Rattle.std.proofs.Common.{◌≡◌, ◌≤◌, ⊎_elim, inl, inr, ℕ, List, [], ◌∷◌, ◌++◌, length, Bool, true, false, Option, None, refl, sym, ap, subst, ◌∙◌, append_assoc, append-nil, arith, length-append}
 use Rattle.std.specs.Prelude.{◌||◌}
 use Rattle.std.proofs.lemmas.Bool.{true≢false}
+use Rattle.alt_base.proofs.Bools.{neither_first, or_grouped}
 use Rattle.alt_machine.specs.State.{State}
 use Rattle.alt_machine.specs.Wanted.{Lack}
 use Rattle.alt_shell.specs.Log.{Log, said_in, says_failed}
@@ -14,7 +15,7 @@ use Rattle.alt_talks.proofs.FileFaults.{file_more, reach_then, reach_wider}
 use Rattle.alt_talks.proofs.Stretching.{said_in-append}
 use Rattle.alt_talks.proofs.TalkFolds.{after-append, asks-append, text-append, wanted-append}
 use Rattle.alt_talks.proofs.TalkIdle.{exact_count}
-use Rattle.alt_talks.proofs.TalkLogs.{broken-append, or-assoc}
+use Rattle.alt_talks.proofs.TalkLogs.{broken-append}
 
 -- with entries that say the same
 pub breaks_same : (r : Rules) (fault : RunFault) (next : ℕ) (s : State) (m : Bool) (ts : List Turn) (es fs : Log)
@@ -54,11 +55,6 @@ some_wider r fault k l s m ts es ms le a = record {
   begins = a.begins;
 }
 
--- neither is so
-first_false : (a b : Bool) → (a || b) ≡ false → a ≡ false
-first_false true b e = absurd (true≢false e)
-first_false false b e = refl
-
 -- what was said where no say failed is all
 all_said : (n : Bool) (some whole : List ℕ) → n ≡ false → SaidOf n some whole → some ≡ whole
 all_said true some whole e said = absurd (true≢false e)
@@ -76,7 +72,7 @@ module _ (r : Rules) (fault : RunFault) (next : ℕ) (s t : State) (m n : Bool) 
   working : IsWorking r t n us fs ns → IsWorking r s m (ts ++ us) (es ++ fs) (ms ++ ns)
   working w =
       let last : List Turn = asked w.request ∷ [] in
-      let none : n ≡ false = first_false n (says_failed fs) w.heard in record {
+      let none : n ≡ false = neither_first n (says_failed fs) w.heard in record {
         before = ts ++ w.before;
         request = w.request;
         rest = w.rest;
@@ -86,7 +82,7 @@ module _ (r : Rules) (fault : RunFault) (next : ℕ) (s t : State) (m n : Bool) 
             let z = told in let k = w.count in omega (arith, same, x, y, z, k);
         enough = sym same_wanted ∙ w.enough;
         heard = ap (λ (b : Bool). m || b) (broken-append es fs)
-            ∙ or-assoc m (says_failed es) (says_failed fs)
+            ∙ or_grouped m (says_failed es) (says_failed fs)
             ∙ sym (ap (λ (b : Bool). b || says_failed fs) a.broke) ∙ w.heard;
         said = said_in-append es fs
             ∙ ap (λ (bs : List ℕ). bs ++ said_in fs)

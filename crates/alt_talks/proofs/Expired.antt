@@ -10,6 +10,7 @@ use Rattle.alt_machine.specs.Ops.ExpireItems.{expire_items}
 use Rattle.alt_machine.specs.Outcomes.{last_state, state_after}
 use Rattle.alt_machine.specs.State.{State}
 use Rattle.alt_machine.specs.Wanted.{Lack, wanted}
+use Rattle.alt_machine.proofs.Behind.{last_behind}
 use Rattle.alt_tables.specs.Images.{Leaves, StandsFor}
 use Rattle.alt_tables.specs.Faults.{AreMade, BreakOff, told_by_tables}
 use Rattle.alt_tables.specs.Stands.{Stands}
@@ -23,7 +24,7 @@ use Rattle.alt_talks.specs.Works.{Follows}
 use Rattle.alt_talks.specs.declared.fault.RunFault.{RunFault}
 use Rattle.alt_talks.proofs.Answering.{among_leaves, caused}
 use Rattle.alt_talks.proofs.Owning.{cause_first, follows_none}
-use Rattle.alt_talks.proofs.Stopping.{last_state-append, leaves-weaker, spans_two}
+use Rattle.alt_talks.proofs.Stopping.{leaves-weaker, spans_two}
 
 -- ---- some writes and then others
 
@@ -120,7 +121,7 @@ module _ (a b c : DiskState) (t u : Tables) (moment most left : ℕ) (s : State)
       to = last_state so.to atoms;
       stands = made.state;
       done = so.done ++ atoms;
-      last = last_state-append s so.done atoms ∙ ap (λ r. last_state r atoms) so.last;
+      last = last_behind s so.done atoms ∙ ap (λ r. last_state r atoms) so.last;
       atoms = so.atoms
           ∙ ap (λ (o : Own). so.done ++ (atoms ++ o.atoms)) rest_is
           ∙ sym (append_assoc so.done atoms
@@ -142,7 +143,7 @@ module _ (a b c : DiskState) (t u : Tables) (moment most left : ℕ) (s : State)
       to = last_state so.to atoms;
       stands = made.state;
       done = so.done ++ atoms;
-      last = last_state-append s so.done atoms ∙ ap (λ r. last_state r atoms) so.last;
+      last = last_behind s so.done atoms ∙ ap (λ r. last_state r atoms) so.last;
       atoms = so.atoms
           ∙ ap (λ (o : Own). so.done ++ (atoms ++ o.atoms)) rest_is
           ∙ sym (append_assoc so.done atoms []);

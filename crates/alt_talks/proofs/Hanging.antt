@@ -2,7 +2,7 @@
 use Rattle.alt_talks.specs.declared.fault.RunFault.{RunFault}
 use Rattle.alt_talks.specs.declared.fault.RunFault.TheVariants.{Failed}
 use Rattle.std.proofs.Common.{◌≡◌, ◌<◌, inl, inr, ℕ, List, [], ◌∷◌, ◌++◌, Bool, true, false, not, Option, refl, sym, ap, subst, ◌∙◌, append-nil, arith}
-use Rattle.std.specs.Prelude.{◌||◌}
+use Rattle.std.proofs.Math.Bool.{or-false}
 use Rattle.alt_disk.specs.Disk.{DiskState}
 use Rattle.alt_machine.specs.State.{State}
 use Rattle.alt_shell.specs.Calls.{Adds, Keeps}
@@ -23,10 +23,6 @@ use Rattle.alt_talks.proofs.TalkIdle.{idle_other, idle-append, counted_behind}
 use Rattle.alt_talks.proofs.TalkLogs.{stretch_one, over-append, broken-append, hushes-append}
 use Rattle.alt_talks.proofs.TalkCuts.{closes_end}
 
-or_false : (b : Bool) → (b || false) ≡ b
-or_false true = refl
-or_false false = refl
-
 not_false : (b c : Bool) → b ≡ not c → c ≡ false → b ≡ true
 not_false b c e f = e ∙ ap not f
 
@@ -41,10 +37,10 @@ module _ (r : Rules) (per : ℕ) (s : State) (es : Log) (ms : List ℕ) (from si
   same_said = said_in-append es (entry upto clocked hung_up ∷ []) ∙ append-nil (said_in es)
 
   same_broken : says_failed (es ++ entry upto clocked hung_up ∷ []) ≡ says_failed es
-  same_broken = broken-append es (entry upto clocked hung_up ∷ []) ∙ or_false (says_failed es)
+  same_broken = broken-append es (entry upto clocked hung_up ∷ []) ∙ or-false (says_failed es)
 
   same_ended : over (es ++ entry upto clocked hung_up ∷ []) ≡ over es
-  same_ended = over-append es (entry upto clocked hung_up ∷ []) ∙ or_false (over es)
+  same_ended = over-append es (entry upto clocked hung_up ∷ []) ∙ or-false (over es)
 
   hushed : Hushes es → Hushes (es ++ entry upto clocked hung_up ∷ [])
   hushed h = hushes-append es (entry upto clocked hung_up ∷ []) h (λ f. absurd (let g : ⊥ = cc in g), tt)

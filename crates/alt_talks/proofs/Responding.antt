@@ -1,5 +1,6 @@
 -- A request that was carried out and answered, and what follows it.
-use Rattle.std.proofs.Common.{◌≡◌, ◌∙◌, ◌≤◌, ◌+◌, ⊎_elim, ℕ, List, [], ◌∷◌, length, Bool, true, false, Option, Some, None, refl, sym, subst, arith}
+use Rattle.std.proofs.Common.{◌≡◌, ◌∙◌, ◌≤◌, ◌+◌, ⊎_elim, ℕ, List, [], ◌∷◌, length, Bool, true, false, Option, Some, None, sym, subst, arith}
+use Rattle.std.proofs.lemmas.Bool.{not-true}
 use Rattle.std.specs.Prelude.{not}
 use Rattle.alt_disk.specs.Disk.{DiskState}
 use Rattle.alt_machine.specs.Outcomes.{last_state}
@@ -111,10 +112,6 @@ asked_fault s q at next fault h =
     (sym (rules-atoms s q at))
     (answer_first next first behind (outcome_of s q at).atoms fault h)))
 
-not_true : (n : Bool) → not n ≡ true → n ≡ false
-not_true true e = absurd (let f : ⊥ = cc in f)
-not_true false e = refl
-
 -- that broke off
 pub follow_broke : (old done new last : DiskState) (s : State) (m n : Bool)
     (q : Request) (at : ℕ) (bytes : List ℕ) → Asked rules old done s q at
@@ -135,5 +132,5 @@ follow_broke old done new last s m n q at bytes front here keeps same said follo
     (answer_behind next (wanted s (outcome_of s q at)) behind.lacks behind.atoms fault enough cause))))
     (λ work. work_broke rules lawful old done new last s m n q at bytes front here keeps same said
     (own_follows new last s q at follows) fault next
-    (rules-wants s q at ∙ enough_both _ _ enough work.1) work.2 (not_true n work.0))
+    (rules-wants s q at ∙ enough_both _ _ enough work.1) work.2 (not-true n work.0))
     why

@@ -1,7 +1,7 @@
 -- What a stop leaves while turns are done, one list of turns after another.
 use Rattle.std.proofs.Common.{◌≡◌, ◌≤◌, ◌<◌, ◌⊎◌, ⊎_elim, inl, inr, ℕ, List, [], ◌∷◌, ◌++◌, cond, length, drop, Bool, true, false, ◌&&◌, IsTrue, refl, sym, ap, subst, ◌∙◌, arith, length-append, length-drop, append_assoc, append-nil}
 use Rattle.std.specs.Prelude.{nat_le, ◌||◌, ⊤}
-use Rattle.std.proofs.lemmas.Bool.{le-leb, true≢false}
+use Rattle.std.proofs.lemmas.Bool.{le-leb, cases_lt, or_parts}
 use Rattle.std.proofs.lemmas.List.Elements.{filter-append}
 use Rattle.std.proofs.Math.Seq.{take-length, drop-append_seam}
 use Rattle.alt_disk.specs.Fates.{Fates, Fits}
@@ -10,6 +10,8 @@ use Rattle.alt_disk.specs.Runs.{Spans}
 use Rattle.alt_machine.specs.Outcomes.{last_state}
 use Rattle.alt_machine.specs.State.{State}
 use Rattle.alt_base.specs.Prefix.{IsPrefix}
+use Rattle.alt_base.proofs.Lists.{length-none}
+use Rattle.alt_base.proofs.Prefixes.{prefix_trans}
 use Rattle.alt_shell.specs.Calls.{Aside, Keeps}
 use Rattle.alt_shell.proofs.Keeping.{keeps-none}
 use Rattle.alt_shell.specs.Log.{Log, until, said_in, taken, ended, event_of, bytes_said, bytes_taken, is_end}
@@ -32,11 +34,6 @@ IsPrefix-behind front xs ys p = (p.0, ap (λ zs. front ++ zs) p.1 ∙ sym (appen
 
 pub IsPrefix-longer : {A : Type 0} (xs ys zs : List A) → IsPrefix xs ys → IsPrefix xs (ys ++ zs)
 IsPrefix-longer xs ys zs p = (p.0 ++ zs, ap (λ ws. ws ++ zs) p.1 ∙ append_assoc xs p.0 zs)
-
-pub IsPrefix-then : {A : Type 0} (xs ys zs : List A) → IsPrefix xs ys → IsPrefix ys zs
-    → IsPrefix xs zs
-IsPrefix-then xs ys zs p q =
-    (p.0 ++ q.0, q.1 ∙ ap (λ ws. ws ++ q.0) p.1 ∙ append_assoc xs p.0 q.0)
 
 -- a front isn't longer
 pub prefix-within : {A : Type 0} (xs ys : List A) → IsPrefix xs ys → length xs ≤ length ys
@@ -96,19 +93,10 @@ taken-by t (e ∷ es) = by_test (taken-by t es) (nat_le e.0 t)
         let r = length-append (bytes_taken (event_of e.1)) (taken es) in
         omega (arith, h, r)
 
--- a list of no length is empty
-pub none-shorter : (bytes : List ℕ) → length bytes ≤ 0 → bytes ≡ []
-none-shorter [] le = refl
-none-shorter (b ∷ bytes) le = absurd (omega (arith, le))
-
 -- where nothing was taken at last, nothing was by then
 pub taken-until : (t : ℕ) (es : Log) → taken es ≡ [] → taken (until t es) ≡ []
-taken-until t es silent = none-shorter (taken (until t es))
+taken-until t es silent = length-none (taken (until t es))
     (let h = taken-by t es in let k = ap length silent in omega (arith, h, k))
-
-or-none : (a b : Bool) → (a || b) ≡ false → (a ≡ false) × (b ≡ false)
-or-none true b e = absurd (true≢false e)
-or-none false b e = (refl, e)
 
 -- nor was the end
 pub ended-until : (t : ℕ) (es : Log) → ended es ≡ false → ended (until t es) ≡ false
@@ -116,7 +104,7 @@ ended-until t [] e = refl
 ended-until t (x ∷ es) e = by_test (ended-until t es parts.1) (nat_le x.0 t)
   where
     parts : (is_end (event_of x.1) ≡ false) × (ended es ≡ false)
-    parts = or-none (is_end (event_of x.1)) (ended es) e
+    parts = or_parts (is_end (event_of x.1)) (ended es) e
 
     by_test : ended (until t es) ≡ false → (b : Bool)
         → ended (cond b (x ∷ until t es) (until t es)) ≡ false
@@ -203,11 +191,6 @@ answered-prefix (t ∷ ts) said = by_test (answered-prefix ts rest) (nat_le (len
 
 -- ---- the states behind turns
 
-pub last_state-append : (s : State) (xs ys : List State) → last_state s (xs ++ ys)
-    ≡ last_state (last_state s xs) ys
-last_state-append s [] ys = refl
-last_state-append s (x ∷ xs) ys = last_state-append x xs ys
-
 -- with all that the server does behind the last it is the state after them
 behind-whole : (s : State) (ts : List Turn) → (own : ℕ) × (state_behind own s ts ≡ after s ts)
 behind-whole s [] = (0, refl)
@@ -261,7 +244,7 @@ pub stands-fewer : (image : Image) (s : State) (ts fewer least : List Turn) → 
 stands-fewer image s ts fewer least p x = record {
   done = x.done;
   prefix = x.prefix;
-  contains = IsPrefix-then fewer least x.done p x.contains;
+  contains = prefix_trans fewer least x.done p x.contains;
   own = x.own;
   stands = x.stands;
 }
@@ -381,14 +364,6 @@ leaves-weaker a b P Q weaker leaves trusted =
       each = λ t image low high is_image. weaker t image (p.each t image low high is_image);
     }
 
--- a moment is up to another, or from it on
-before_or_from : (t m : ℕ) → (t ≤ m) ⊎ (m ≤ t)
-before_or_from t m = grind arith
-
--- a moment is before another, or from it on
-below_or_from : (t m : ℕ) → (t < m) ⊎ (m ≤ t)
-below_or_from t m = grind arith
-
 -- one stretch and then another
 pub spans_two : (a b c : DiskState) (P Q R : ℕ → Image → Type 0)
     → Spans a b (λ _. ⊤) P → Spans b c (λ _. ⊤) Q
@@ -405,7 +380,7 @@ spans_two a b c P Q R first then front behind = record {
       (λ f. subst (λ (s : Fates). Fits s (image f)) (then.past t f (omega (arith, before)))
       (is_image f))))
       (λ (from : b.moment ≤ t). behind t image from (then.each t image from high is_image))
-      (below_or_from t b.moment);
+      (cases_lt t b.moment);
 }
 
 -- a note or a look at the clock in front

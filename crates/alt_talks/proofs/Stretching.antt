@@ -1,7 +1,8 @@
 -- Logs and stretches, one after the other.
-use Rattle.std.proofs.Common.{◌≡◌, ℕ, List, [], ◌∷◌, ◌++◌, Bool, true, false, Option, refl, sym, ap, subst, ◌∙◌, append-nil, arith}
+use Rattle.std.proofs.Common.{◌≡◌, ℕ, List, [], ◌∷◌, ◌++◌, Option, refl, sym, ap, subst, ◌∙◌, append-nil, arith}
 use Rattle.std.specs.Prelude.{◌||◌}
 use Rattle.std.proofs.lemmas.Grind.{flat_map-append}
+use Rattle.alt_base.proofs.Bools.{or_grouped}
 use Rattle.alt_disk.specs.Disk.{DiskState, Goes}
 use Rattle.alt_disk.proofs.Runs.{trusted_on}
 use Rattle.alt_shell.specs.Calls.{Aside}
@@ -19,14 +20,10 @@ said_in-append es fs = flat_map-append (λ (e : ℕ × List ℕ). bytes_said (ev
 pub taken-append : (es fs : Log) → taken (es ++ fs) ≡ taken es ++ taken fs
 taken-append es fs = flat_map-append (λ (e : ℕ × List ℕ). bytes_taken (event_of e.1)) es fs
 
-or-assoc : (a b c : Bool) → (a || (b || c)) ≡ ((a || b) || c)
-or-assoc true b c = refl
-or-assoc false b c = refl
-
 pub ended-append : (es fs : Log) → ended (es ++ fs) ≡ (ended es || ended fs)
 ended-append [] fs = refl
 ended-append (e ∷ es) fs = ap (λ b. is_end (event_of e.1) || b) (ended-append es fs)
-    ∙ or-assoc (is_end (event_of e.1)) (ended es) (ended fs)
+    ∙ or_grouped (is_end (event_of e.1)) (ended es) (ended fs)
 
 -- ---- calls
 

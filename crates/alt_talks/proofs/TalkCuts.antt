@@ -3,6 +3,7 @@ use Rattle.std.proofs.Common.{◌≡◌, ◌≤◌, ◌<◌, ℕ, zero, suc, Lis
 use Rattle.std.specs.Prelude.{◌||◌, ◌==◌}
 use Rattle.std.proofs.lemmas.Bool.{leb-true, le-leb}
 use Rattle.std.proofs.lemmas.List.{drop-append-le, take-append-le}
+use Rattle.std.proofs.Math.Bool.{or-true}
 use Rattle.alt_talks.specs.Talks.{Head, Scanned, unread, bad, good, by_scan, Turn, onward, asked, refused, Rules, Place, at, turns, final, turns_at, final_at, greets, is_whole, size_of, request_of, closes}
 use Rattle.alt_talks.specs.private.Lawful.{Lawful}
 
@@ -177,10 +178,6 @@ at_short r left g bytes h e w l =
 
 -- ---- where no request may come any more, a turn ended the connection
 
-or_right : (b : Bool) → (b || true) ≡ true
-or_right true = refl
-or_right false = refl
-
 closes_greets : (g e : Bool) (ts : List Turn) → closes (greets g e ++ ts) ≡ closes ts
 closes_greets true true ts = refl
 closes_greets false true ts = refl
@@ -196,9 +193,11 @@ module _ (r : Rules) (n : ℕ) (a : List ℕ) (h : Head) (ih : (f : Bool) (c : L
   unfolding rest_turns
   by_rest m s true e z = ap (λ b. (b || (n == 0)) || closes (cond h.close [] (turns r n false (drop (size_of h) a)))) e
   by_rest zero s false e z = ap (λ k. (h.close || (k == 0)) || closes (cond h.close [] (turns r n false (drop (size_of h) a)))) (sym s)
-      ∙ ap (λ b. b || closes (cond h.close [] (turns r n false (drop (size_of h) a)))) (or_right h.close)
+      ∙ ap (λ b. b || closes (cond h.close [] (turns r n false (drop (size_of h) a))))
+      (or-true h.close)
   by_rest (suc m) s false e z = ap (λ b. (h.close || (n == 0)) || closes (cond b [] (turns r n false (drop (size_of h) a)))) e
-      ∙ ap (λ b. (h.close || (n == 0)) || b) (ih false (drop (size_of h) a) (omega (arith, s)) z) ∙ or_right (h.close || (n == 0))
+      ∙ ap (λ b. (h.close || (n == 0)) || b) (ih false (drop (size_of h) a) (omega (arith, s)) z)
+      ∙ or-true (h.close || (n == 0))
 
   by_whole : (g v : Bool) → (cond v (cond h.close (at 0 false (drop (size_of h) a)) (final r n false (drop (size_of h) a))) (at (suc n) (g || h.expect) a)).left ≡ 0
       → closes (cond v (asked (request_of h a n) ∷ cond h.close [] (turns r n false (drop (size_of h) a))) []) ≡ true

@@ -1,6 +1,8 @@
 -- What turns come to, one list of turns after another, and what a stop leaves of them.
 use Rattle.std.proofs.Common.{◌≡◌, ◌≤◌, inl, inr, ℕ, List, [], ◌∷◌, ◌++◌, length, Bool, true, false, refl, sym, ap, subst, ◌∙◌, append-nil, arith}
+use Rattle.std.proofs.Math.Nat.{suc_inj}
 use Rattle.alt_base.specs.Prefix.{IsPrefix}
+use Rattle.alt_base.proofs.Lists.{length-none}
 use Rattle.alt_disk.specs.Disk.{DiskState}
 use Rattle.alt_machine.specs.State.{State}
 use Rattle.alt_shell.specs.Log.{Log, until, said_in}
@@ -12,8 +14,8 @@ use Rattle.alt_talks.specs.TalkStops.{deeds, saying, carrying, LeftOn}
 use Rattle.alt_talks.specs.TalkTexts.{text, after, asks}
 use Rattle.alt_talks.specs.Turns.{answered, Turn as Deed, text_of, after as deed_after}
 use Rattle.alt_talks.proofs.Stretching.{said_in-append}
-use Rattle.alt_talks.proofs.Stopping.{AllSay, Meet, answered-front, answered-prefix, prefix-within, left-more, left-behind, none-shorter, said-by, spans_two, stands-behind, stands-fewer, until-append, until-before, until-behind, IsPrefix-longer}
-use Rattle.alt_talks.proofs.TalkFolds.{suc-same, asks-requests}
+use Rattle.alt_talks.proofs.Stopping.{AllSay, Meet, answered-front, answered-prefix, prefix-within, left-more, left-behind, said-by, spans_two, stands-behind, stands-fewer, until-append, until-before, until-behind, IsPrefix-longer}
+use Rattle.alt_talks.proofs.TalkFolds.{asks-requests}
 use Rattle.alt_talks.proofs.TurnLaws.{text_of-append}
 
 -- ---- one list after another
@@ -26,10 +28,10 @@ deeds-append r s (onward ∷ ts) us ms ns e =
     ap (λ ds. saying r.greeting ∷ ds) (deeds-append r s ts us ms ns e)
 deeds-append r s (asked q ∷ ts) us [] ns e = absurd (omega arith)
 deeds-append r s (asked q ∷ ts) us (m ∷ ms) ns e =
-    ap (λ ds. carrying r s q m ∷ ds) (deeds-append r (r.next s q m) ts us ms ns (suc-same e))
+    ap (λ ds. carrying r s q m ∷ ds) (deeds-append r (r.next s q m) ts us ms ns (suc_inj e))
 deeds-append r s (refused k ∷ ts) us [] ns e = absurd (omega arith)
 deeds-append r s (refused k ∷ ts) us (m ∷ ms) ns e =
-    ap (λ ds. saying (r.refusal k m) ∷ ds) (deeds-append r s ts us ms ns (suc-same e))
+    ap (λ ds. saying (r.refusal k m) ∷ ds) (deeds-append r s ts us ms ns (suc_inj e))
 
 -- their text is what is to be said
 pub text_of-deeds : (r : Rules) (s : State) (ts : List Turn) (ms : List ℕ)
@@ -142,7 +144,7 @@ module _ (r : Rules) (w : Lawful r) (a b c : DiskState) (s t : State) (m n : Boo
       → IsLeft t (deeds r t us ns) (said_in (until v fs)) image
       → IsLeft s (deeds r s ts ms ++ deeds r t us ns) (said_in es ++ said_in (until v fs)) image
   behind v image true is left =
-      let none : said_in (until v fs) ≡ [] = none-shorter (said_in (until v fs))
+      let none : said_in (until v fs) ≡ [] = length-none (said_in (until v fs))
       (let h = said-by v fs in let k = ap length (mute is) in omega (arith, h, k)) in
       let front : IsPrefix (said_in es) (text_of (deeds r s ts ms)) =
       subst (IsPrefix (said_in es)) (sym (text_of-deeds r s ts ms))

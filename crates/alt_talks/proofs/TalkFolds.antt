@@ -1,13 +1,11 @@
 -- The fold over turns, one list of turns after another.
 use Rattle.std.proofs.Common.{◌≡◌, ◌≤◌, ◌+◌, ℕ, suc, List, [], ◌∷◌, ◌++◌, length, false, Option, Some, None, refl, sym, ap, ◌∙◌, append_assoc, arith}
+use Rattle.std.proofs.Math.Nat.{suc_inj}
 use Rattle.alt_machine.specs.State.{State}
 use Rattle.alt_machine.specs.Wanted.{Lack}
 use Rattle.alt_talks.specs.Turns.{or_next}
 use Rattle.alt_talks.specs.Talks.{Turn, onward, asked, refused, Rules, has_refused}
 use Rattle.alt_talks.specs.TalkTexts.{text, after, requests, asks, wanted}
-
-pub suc-same : {m n : ℕ} → suc m ≡ suc n → m ≡ n
-suc-same e = omega arith
 
 pub asks-append : (ts us : List Turn) → asks (ts ++ us) ≡ asks ts + asks us
 asks-append [] us = omega arith
@@ -35,9 +33,11 @@ text-append r s [] us (m ∷ ms) ns e = absurd (omega arith)
 text-append r s (onward ∷ ts) us ms ns e = ap (λ t. r.greeting ++ t) (text-append r s ts us ms ns e) ∙ sym (append_assoc r.greeting _ _)
 text-append r s (asked q ∷ ts) us [] ns e = absurd (omega arith)
 text-append r s (asked q ∷ ts) us (m ∷ ms) ns e =
-    ap (λ t. r.reply s q m ++ t) (text-append r (r.next s q m) ts us ms ns (suc-same e)) ∙ sym (append_assoc (r.reply s q m) _ _)
+    ap (λ t. r.reply s q m ++ t) (text-append r (r.next s q m) ts us ms ns (suc_inj e))
+    ∙ sym (append_assoc (r.reply s q m) _ _)
 text-append r s (refused k ∷ ts) us [] ns e = absurd (omega arith)
-text-append r s (refused k ∷ ts) us (m ∷ ms) ns e = ap (λ t. r.refusal k m ++ t) (text-append r s ts us ms ns (suc-same e)) ∙ sym (append_assoc (r.refusal k m) _ _)
+text-append r s (refused k ∷ ts) us (m ∷ ms) ns e = ap (λ t. r.refusal k m ++ t)
+    (text-append r s ts us ms ns (suc_inj e)) ∙ sym (append_assoc (r.refusal k m) _ _)
 
 pub after-append : (r : Rules) (s : State) (ts us : List Turn) (ms ns : List ℕ) → length ms ≡ asks ts
     → after r s (ts ++ us) (ms ++ ns) ≡ after r (after r s ts ms) us ns
@@ -45,9 +45,10 @@ after-append r s [] us [] ns e = refl
 after-append r s [] us (m ∷ ms) ns e = absurd (omega arith)
 after-append r s (onward ∷ ts) us ms ns e = after-append r s ts us ms ns e
 after-append r s (asked q ∷ ts) us [] ns e = absurd (omega arith)
-after-append r s (asked q ∷ ts) us (m ∷ ms) ns e = after-append r (r.next s q m) ts us ms ns (suc-same e)
+after-append r s (asked q ∷ ts) us (m ∷ ms) ns e =
+    after-append r (r.next s q m) ts us ms ns (suc_inj e)
 after-append r s (refused k ∷ ts) us [] ns e = absurd (omega arith)
-after-append r s (refused k ∷ ts) us (m ∷ ms) ns e = after-append r s ts us ms ns (suc-same e)
+after-append r s (refused k ∷ ts) us (m ∷ ms) ns e = after-append r s ts us ms ns (suc_inj e)
 
 pub first_none : (v w : Option Lack) → or_next v w ≡ None → (v ≡ None) × (w ≡ None)
 first_none None w e = (refl, e)
@@ -61,9 +62,10 @@ wanted-append r s (onward ∷ ts) us ms ns e h = wanted-append r s ts us ms ns e
 wanted-append r s (asked q ∷ ts) us [] ns e h = absurd (omega arith)
 wanted-append r s (asked q ∷ ts) us (m ∷ ms) ns e h =
     let here = first_none (r.wants s q m) (wanted r (r.next s q m) ts ms) h in
-    ap (λ w. or_next w (wanted r (r.next s q m) (ts ++ us) (ms ++ ns))) here.0 ∙ wanted-append r (r.next s q m) ts us ms ns (suc-same e) here.1
+    ap (λ w. or_next w (wanted r (r.next s q m) (ts ++ us) (ms ++ ns))) here.0
+    ∙ wanted-append r (r.next s q m) ts us ms ns (suc_inj e) here.1
 wanted-append r s (refused k ∷ ts) us [] ns e h = absurd (omega arith)
-wanted-append r s (refused k ∷ ts) us (m ∷ ms) ns e h = wanted-append r s ts us ms ns (suc-same e) h
+wanted-append r s (refused k ∷ ts) us (m ∷ ms) ns e h = wanted-append r s ts us ms ns (suc_inj e) h
 
 -- turns past the moments aren't answered and want nothing
 pub text-more : (r : Rules) (s : State) (ts us : List Turn) (ms : List ℕ) → length ms ≤ asks ts → (rest : List ℕ) × (text r s (ts ++ us) ms ≡ text r s ts ms ++ rest)

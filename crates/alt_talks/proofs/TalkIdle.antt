@@ -1,6 +1,7 @@
 -- Where bytes are taken on a connection, one stretch after another.
 use Rattle.std.proofs.Common.{◌≡◌, ◌<◌, inl, inr, ℕ, List, [], ◌∷◌, ◌++◌, length, Bool, true, false, Option, Some, None, refl, sym, ap, subst, ◌∙◌, append-nil, append_assoc, arith, length-append}
 use Rattle.std.specs.Prelude.{◌||◌}
+use Rattle.alt_base.proofs.Bools.{neither_first, or_grouped, neither_second}
 use Rattle.alt_machine.specs.State.{State}
 use Rattle.alt_shell.specs.Log.{Log, Event, took, said, take_failed, say_failed, accepted, none_came, hung_up, event_of, bytes_taken, is_say_failed, bytes_said, taken, said_in, says_failed}
 use Rattle.alt_talks.specs.Talks.{Turn, onward, asked, refused, Rules, Place, turns, final, turns_at, final_at, has_refused}
@@ -11,7 +12,7 @@ use Rattle.alt_talks.specs.private.Rungs.{AtRest}
 use Rattle.alt_talks.proofs.Stretching.{taken-append, said_in-append}
 use Rattle.alt_talks.proofs.TalkCuts.{turns_cut, final_cut}
 use Rattle.alt_talks.proofs.TalkFolds.{asks-append, asks-requests, text-append}
-use Rattle.alt_talks.proofs.TalkLogs.{over-append, broken-append, or-assoc, left_false, right_false}
+use Rattle.alt_talks.proofs.TalkLogs.{over-append, broken-append}
 
 -- ---- entries among which nothing is taken
 
@@ -39,9 +40,9 @@ module _ (r : Rules) (p : Place) (s : State) (m : Bool) where
   idle_quiet told before [] e o = tt
   idle_quiet told before (x ∷ es) e o = (
     λ t. absurd (let n = no_take (event_of x.1) (taken es) e
-        (left_false (is_over (event_of x.1)) (over es) o) in let f : ⊥ = cc in f),
+        (neither_first (is_over (event_of x.1)) (over es) o) in let f : ⊥ = cc in f),
     idle_quiet told (before ++ x ∷ []) es (none_behind (bytes_taken (event_of x.1)) (taken es) e)
-        (right_false (is_over (event_of x.1)) (over es) o),
+        (neither_second (is_over (event_of x.1)) (over es) o),
   )
 
   -- one that is no take
@@ -178,7 +179,7 @@ module _ (r : Rules) (s t : State) (m n : Bool) (ts : List Turn) (es : Log) (ms 
       → (m || says_failed (es ++ before)) ≡ false
   well_both before e =
       ap (λ b. m || b) (broken-append es before)
-      ∙ or-assoc m (says_failed es) (says_failed before)
+      ∙ or_grouped m (says_failed es) (says_failed before)
       ∙ ap (λ b. b || says_failed before) (sym p.broke) ∙ e
 
   pub heard_then : (us : List Turn) (fs : Log) (ns : List ℕ) → Heard r t n us fs ns
@@ -195,7 +196,8 @@ module _ (r : Rules) (s t : State) (m n : Bool) (ts : List Turn) (es : Log) (ms 
     behind = x.behind;
     splits = ap (λ (l : Log). es ++ l) x.splits ∙ sym (append_assoc es x.before x.behind);
     well = well_both x.before x.well;
-    said = said_both x.first x.before x.moments (left_false n (says_failed x.before) x.well) x.said;
+    said =
+        said_both x.first x.before x.moments (neither_first n (says_failed x.before) x.well) x.said;
   }
 
 -- takes behind turns of which all were done
@@ -238,7 +240,7 @@ module _ (r : Rules) (w : Lawful r) (p q : Place) (s t : State) (m n : Bool) (es
             let same = ap asks (turns_both before) in
             omega (arith, sum, all, one, two, same);
         said = said_both r s t m n front es ms clear d back before i.first
-            (left_false n (says_failed before) i.heard) i.said
+            (neither_first n (says_failed before) i.heard) i.said
             ∙ ap (λ (ts : List Turn). text r s ts (ms ++ i.first)) (sym (turns_both before));
       }
 

@@ -3,6 +3,7 @@ use Rattle.std.proofs.Common.{◌≡◌, ◌≤◌, ◌<◌, ◌-◌, ◌⊎◌,
 use Rattle.std.specs.Prelude.{◌||◌, nat_le}
 use Rattle.std.proofs.lemmas.Bool.{true≢false, le-leb}
 use Rattle.alt_base.specs.Prefix.{IsPrefix}
+use Rattle.alt_base.proofs.Lists.{length-none}
 use Rattle.alt_disk.specs.Fates.{Fates, Fits}
 use Rattle.alt_disk.specs.Disk.{DiskState, Goes as DiskGoes, IsTrusted}
 use Rattle.alt_disk.proofs.Runs.{trusted_on}
@@ -28,7 +29,7 @@ use Rattle.alt_talks.proofs.Breaking.{broke_behind}
 use Rattle.alt_talks.proofs.FileFaults.{IsTurnFault}
 use Rattle.alt_talks.proofs.Stretching.{said_in-append, stretch_as, taken-append}
 use Rattle.alt_talks.proofs.Stepping.{answers_greeted, steps_short, steps_bad, steps_unread, moves_hello, moves_some, whole_at, fewer_left}
-use Rattle.alt_talks.proofs.Stopping.{AllSay, Meet, left-more, left-nothing-of, leaves-here, leaves-said, leaves-followed, leaves-unsaid, leaves-weaker, spans_two, keeps-spans, trusts-kept, until-append, until-before, until-behind, taken-until, within-then, within-wider, leaves-before-aside, leaves-behind-aside, none-shorter, said-by}
+use Rattle.alt_talks.proofs.Stopping.{AllSay, Meet, left-more, left-nothing-of, leaves-here, leaves-said, leaves-followed, leaves-unsaid, leaves-weaker, spans_two, keeps-spans, trusts-kept, until-append, until-before, until-behind, taken-until, within-then, within-wider, leaves-before-aside, leaves-behind-aside, said-by}
 use Rattle.alt_talks.proofs.TalkDeeds.{deeds_say, deeds-more, deeds-longer, both, behind, left_then}
 use Rattle.alt_talks.proofs.TalkLogs.{stretch_one, then_one, took_then}
 use Rattle.alt_talks.proofs.TalkPulls.{goes_failed, goes_start, goes_taken, goes_some_taken, goes_then, goes_break, joined}
@@ -443,7 +444,7 @@ module _ (r : Rules) (w : Lawful r) (p : Place) (s : State) where
   left_silent a b es ms keeps silent here trusted =
       keeps-spans a b (LeftTaken r p s es ms) keeps
       (λ u image low is. left_unsaid es ms u image
-      (none-shorter (said_in (until u es))
+      (length-none (said_in (until u es))
       (let h = said-by u es in let k = ap length silent in omega (arith, h, k)))
       (here trusted image is))
 

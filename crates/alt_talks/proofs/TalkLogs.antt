@@ -1,7 +1,9 @@
 -- Entries of a connection, one stretch after another.
 use Rattle.std.proofs.Common.{◌≡◌, ◌≤◌, ℕ, List, [], ◌∷◌, ◌++◌, Bool, true, false, Option, refl, ap, subst, ◌∙◌, append-nil, arith}
+use Rattle.std.proofs.Math.Bool.{or-true}
 use Rattle.std.specs.Prelude.{◌||◌}
 use Rattle.std.specs.List.{list_any}
+use Rattle.alt_base.proofs.Bools.{or_grouped}
 use Rattle.alt_disk.specs.Disk.{DiskState}
 use Rattle.alt_shell.specs.Calls.{Keeps}
 use Rattle.alt_shell.specs.Log.{Log, Grows, Tells, moments_of, event_of, Event, is_say_failed, is_bound, says_failed, crosses}
@@ -11,17 +13,13 @@ use Rattle.alt_talks.specs.Stops.{AreWithin}
 use Rattle.alt_talks.specs.Stretches.{is_over, over, is_say, says, Hushes}
 use Rattle.alt_talks.proofs.Stopping.{trusts-kept, within-then, within-wider}
 
-pub or-assoc : (a b c : Bool) → (a || (b || c)) ≡ ((a || b) || c)
-or-assoc true b c = refl
-or-assoc false b c = refl
-
 any-append : (test : Option Event → Bool) (es fs : Log)
     → list_any (λ (e : ℕ × List ℕ). test (event_of e.1)) (es ++ fs)
     ≡ (list_any (λ (e : ℕ × List ℕ). test (event_of e.1)) es
     || list_any (λ (e : ℕ × List ℕ). test (event_of e.1)) fs)
 any-append test [] fs = refl
 any-append test (e ∷ es) fs = ap (λ b. test (event_of e.1) || b) (any-append test es fs)
-    ∙ or-assoc (test (event_of e.1)) (list_any (λ (e : ℕ × List ℕ). test (event_of e.1)) es)
+    ∙ or_grouped (test (event_of e.1)) (list_any (λ (e : ℕ × List ℕ). test (event_of e.1)) es)
     (list_any (λ (e : ℕ × List ℕ). test (event_of e.1)) fs)
 
 pub over-append : (es fs : Log) → over (es ++ fs) ≡ (over es || over fs)
@@ -36,19 +34,6 @@ crosses-append es fs = any-append is_bound es fs
 pub says-append : (es fs : Log) → says (es ++ fs) ≡ (says es || says fs)
 says-append es fs = any-append is_say es fs
 
-pub or_right : (b : Bool) → (b || true) ≡ true
-or_right true = refl
-or_right false = refl
-
--- of two tests that fail together each fails
-pub left_false : (a b : Bool) → (a || b) ≡ false → a ≡ false
-left_false true b e = absurd (let f : ⊥ = cc in f)
-left_false false b e = refl
-
-pub right_false : (a b : Bool) → (a || b) ≡ false → b ≡ false
-right_false true b e = absurd (let f : ⊥ = cc in f)
-right_false false b e = e
-
 -- nothing is said behind a say that failed in the first entries, nor behind one in the others
 pub hushes-append : (es fs : Log) → Hushes es → Hushes fs → (says_failed es ≡ true → says fs ≡ false)
     → Hushes (es ++ fs)
@@ -58,7 +43,7 @@ hushes-append (e ∷ es) fs h k still = (
       ∙ still (ap (λ b. b || says_failed es) f),
   hushes-append es fs h.1 k
       (λ f. still (ap (λ b. is_say_failed (event_of e.1) || b) f
-      ∙ or_right (is_say_failed (event_of e.1)))),
+      ∙ or-true (is_say_failed (event_of e.1)))),
 )
 
 -- one call, which told no moment and left all files

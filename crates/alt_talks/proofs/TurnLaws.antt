@@ -1,9 +1,9 @@
 -- What turns come to, one list of turns after another.
-use Rattle.std.proofs.Common.{◌≡◌, List, [], ◌∷◌, ◌++◌, Option, Some, None, refl, ap, sym, ◌∙◌, append_assoc}
+use Rattle.std.proofs.Common.{◌≡◌, List, [], ◌∷◌, ◌++◌, None, refl, ap, sym, ◌∙◌, append_assoc}
 use Rattle.std.proofs.lemmas.Grind.{flat_map-append}
 use Rattle.alt_machine.specs.State.{State}
-use Rattle.alt_machine.specs.Wanted.{Lack}
 use Rattle.alt_talks.specs.Turns.{DoesWrite, Turn, WritesLast, text_of, after, after_turn, or_next, wanted}
+use Rattle.alt_talks.proofs.TalkFolds.{first_none}
 
 -- what is said in all
 pub text_of-append : (ts us : List Turn) → text_of (ts ++ us) ≡ text_of ts ++ text_of us
@@ -13,10 +13,6 @@ text_of-append ts us = flat_map-append (λ (t : Turn). t.text) ts us
 pub after-append : (s : State) (ts us : List Turn) → after s (ts ++ us) ≡ after (after s ts) us
 after-append s [] us = refl
 after-append s (t ∷ ts) us = after-append (after_turn s t) ts us
-
-first_none : (v w : Option Lack) → or_next v w ≡ None → (v ≡ None) × (w ≡ None)
-first_none None w e = (refl, e)
-first_none (Some n) w e = absurd (let f : ⊥ = cc in f)
 
 -- what is wanted where the first turns had all that they wanted
 pub wanted-append : (ts us : List Turn) → wanted ts ≡ None → wanted (ts ++ us) ≡ wanted us

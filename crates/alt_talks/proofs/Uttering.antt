@@ -6,6 +6,8 @@ use Rattle.alt_machine.specs.State.{State}
 use Rattle.alt_machine.specs.Wanted.{Lack}
 use Rattle.alt_shell.specs.Log.{Log, moments_of, talks, says_missed, entry, said, say_failed, said_in, taken, says_failed, crosses}
 use Rattle.std.proofs.lemmas.Bool.{true≢false}
+use Rattle.std.proofs.Math.Bool.{or-true}
+use Rattle.alt_base.proofs.Bools.{or_grouped}
 use Rattle.alt_disk.specs.Disk.{DiskState}
 use Rattle.alt_shell.specs.Calls.{Adds, Keeps, Untold, IsUntoldBy}
 use Rattle.alt_talks.specs.Runs.{Stretch}
@@ -21,7 +23,7 @@ use Rattle.alt_talks.proofs.Breaking.{breaks_behind}
 use Rattle.alt_talks.proofs.FileFaults.{IsTurnFault, file_more}
 use Rattle.alt_talks.proofs.Stretching.{said_in-append, taken-append}
 use Rattle.alt_talks.proofs.Stopping.{IsPrefix-self, one-by}
-use Rattle.alt_talks.proofs.TalkLogs.{Clocked, stretch_one, over-append, broken-append, crosses-append, says-append, hushes-append, or-assoc, or_right}
+use Rattle.alt_talks.proofs.TalkLogs.{Clocked, stretch_one, over-append, broken-append, crosses-append, says-append, hushes-append}
 use Rattle.alt_talks.proofs.TalkIdle.{exact_count, heard_then, refused_behind}
 use Rattle.alt_talks.proofs.TalkFolds.{asks-append, requests-append, asks-requests, text-append, after-append, wanted-append}
 
@@ -153,7 +155,7 @@ module _ (r : Rules) (s t u : State) (m n o : Bool) (ts us : List Turn) (es fs :
   ]
 
   broken_now : says_failed es ≡ true → n ≡ true
-  broken_now e = p.broke ∙ ap (λ b. m || b) e ∙ or_right m
+  broken_now e = p.broke ∙ ap (λ b. m || b) e ∙ or-true m
 
   pub does_then : Does r s m (ts ++ us) u o (es ++ fs) (ms ++ ns)
   does_then = record {
@@ -165,7 +167,8 @@ module _ (r : Rules) (s t u : State) (m n o : Bool) (ts us : List Turn) (es fs :
     state = q.state ∙ ap (λ v. after r v us ns) p.state ∙ sym (after-append r s ts us ms ns exact);
     count = counted;
     enough = wanted-append r s ts us ms ns exact p.enough ∙ ap (λ v. wanted r v us ns) (sym p.state) ∙ q.enough;
-    broke = q.broke ∙ ap (λ b. b || says_failed fs) p.broke ∙ sym (or-assoc m (says_failed es) (says_failed fs)) ∙ ap (λ b. m || b) (sym (broken-append es fs));
+    broke = q.broke ∙ ap (λ b. b || says_failed fs) p.broke ∙ sym (or_grouped m (says_failed es)
+        (says_failed fs)) ∙ ap (λ b. m || b) (sym (broken-append es fs));
     silent = λ e.
         let mute = or_true m (says_failed es) n p.broke e in (
           said_in-append es fs ∙ ap (λ bs. bs ++ said_in fs) (p.silent e).0 ∙ (q.silent mute).0,
@@ -359,7 +362,8 @@ module _ (r : Rules) (fault : RunFault) (next : ℕ) (s t : State) (m n : Bool) 
     most = let x = length-append ms ns in let y = asks-append ts us in let k = told_of in let z = b.most in omega (arith, x, y, k, z);
     wants = breaks_behind r fault next s t m n ts us es fs ms ns clear a b.wants;
     silent = λ e. said_in-append es fs ∙ ap (λ bs. bs ++ said_in fs) (a.silent e).0 ∙ b.silent (or_true m (says_failed es) n a.broke e);
-    hush = hushes-append es fs a.hush b.hush (λ e. b.still (a.broke ∙ ap (λ v. m || v) e ∙ or_right m));
+    hush =
+        hushes-append es fs a.hush b.hush (λ e. b.still (a.broke ∙ ap (λ v. m || v) e ∙ or-true m));
     still = λ e. says-append es fs ∙ ap (λ v. v || says fs) (a.still e) ∙ b.still (or_true m (says_failed es) n a.broke e);
     begins = begins_both;
   }

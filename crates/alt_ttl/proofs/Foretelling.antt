@@ -4,8 +4,10 @@ use Rattle.std.specs.Prelude.{◌&&◌, option_and_then}
 use Rattle.std.specs.FinMap as finite
 use Rattle.std.specs.Option.{option_map_or}
 use Rattle.std.specs.Ordering.{eq_by_cmp, is_le, is_lt, nat_cmp}
-use Rattle.std.proofs.lemmas.Bool.{false≢true, cases_lt}
-use Rattle.alt_decimal.proofs.Orders.{nat_cmp-greater}
+use Rattle.std.proofs.lemmas.Bool.{false≢true, cases_lt, and_from}
+use Rattle.std.specs.Cmp.{second_so}
+use Rattle.alt_base.proofs.Orderings.{nat_cmp-greater}
+use Rattle.alt_cells.proofs.SameKeys.{key_itself, one_key}
 use Rattle.alt_due.specs.Due.{FindsNext, IsReady, IsRipe, KeepsKnown, KeepsOthers, Knows, KnowsFrom, Lists, NoneDue, covers, is_before, is_behind, is_within}
 use Rattle.alt_due.specs.Order.{spot_cmp, spot_of}
 use Rattle.alt_due.specs.declared.due.Due.{Due}
@@ -15,30 +17,15 @@ use Rattle.alt_machine.specs.Keys.{place_of}
 use Rattle.alt_machine.specs.declared.Standing.{Standing}
 use Rattle.alt_machine.specs.State.{State, Table, Texts, descriptions}
 use Rattle.alt_machine.proofs.Descriptions.{get-descriptions}
-use Rattle.alt_request.proofs.TablesOpeningTies.{itself, tied}
 use Rattle.alt_schema.specs.declared.schema.TableSchema.{TableSchema}
 use Rattle.alt_request.specs.TablesForeseen.{Foresees, ForeseesItem, IsFrom, IsMetFrom}
 use Rattle.alt_request.specs.TablesSeveral.{Every}
+use Rattle.alt_request.proofs.TablesEach.{every_weaker}
 use Rattle.alt_ttl.specs.private.Foresight.{Defers, ForeseesPlaced, Settles, Suffices, is_over_at, spot_at}
 use Rattle.alt_ttl.proofs.Ordered.{NoneBetween, every_over, has_over, is_less, left_behind, left_none, left_other, left_own, less_trans, rise_all}
 use Rattle.alt_value.specs.Item.{at_name}
 use Rattle.alt_value.specs.Members.{text_order}
 use Rattle.alt_value.specs.Tree.{Pair}
-
--- ---- tests
-
-both_true : (a b : Bool) → a ≡ true → b ≡ true → (a && b) ≡ true
-both_true a b p q = ap (λ x. x && b) p ∙ q
-
-right_true : (a b : Bool) → (a && b) ≡ true → b ≡ true
-right_true true b h = h
-right_true false b h = absurd (false≢true h)
-
--- what holds of each element may be weakened
-every_so : {A : Type 0} (P Q : A → Type 0) → ((x : A) → P x → Q x) → (xs : List A) → Every P xs
-    → Every Q xs
-every_so P Q leads [] h = tt
-every_so P Q leads (x ∷ xs) h = (leads x h.0, every_so P Q leads xs h.1)
 
 -- ---- places that are ready
 
@@ -49,7 +36,7 @@ module _ (s : State) (due : Due) (moment : ℕ) (fits : moment < 2 ^ 64)
   ready_over y over before = by (finite.get s.tables y.table) refl over
     where
       lists : Lists due moment y → IsReady due y
-      lists (inl ready) = both_true _ (is_before due.end y) ready before
+      lists (inl ready) = and_from _ (is_before due.end y) ready before
       lists (inr waits) =
           let low = waits.1 in
           let high = ripe waits.0 y waits.2 in
@@ -60,7 +47,7 @@ module _ (s : State) (due : Due) (moment : ℕ) (fits : moment < 2 ^ 64)
           → option_map_or (is_expired t.description moment) o false ≡ true → IsReady due y
       in_table t at None at_i over = absurd (false≢true over)
       in_table t at (Some item) at_i is = lists (knows y.table y.place t item at at_i moment fits is
-          (both_true (is_within due moment) (is_before due.end y) enough.within before))
+          (and_from (is_within due moment) (is_before due.end y) enough.within before))
 
       by : (o : Option Table) → finite.get s.tables y.table ≡ o
           → option_map_or (λ (t : Table). option_map_or (is_expired t.description moment)
@@ -80,7 +67,7 @@ module _ (s : State) (due : Due) (moment : ℕ) (fits : moment < 2 ^ 64)
       by : (b : Bool) → is_less x y ≡ b → is_less x y ≡ false
       by false e = e
       by true e = next.2 x (ready_over x over
-          (before due.end (right_true _ (is_before due.end y) next.0) e))
+          (before due.end (second_so _ (is_before due.end y) next.0) e))
           behind
 
   -- what is left behind the one is that place, where an item there has expired, and what is left behind it
@@ -89,7 +76,7 @@ module _ (s : State) (due : Due) (moment : ℕ) (fits : moment < 2 ^ 64)
       ≡ record { table = y.table; place = y.place } ∷ left_behind (Some y) (all_expired s moment)
   left_over after y next over = left_own after y next.1 (all_expired s moment)
       (rise_all s moment)
-      (every_so (λ e. is_over_at s moment (spot_at e) ≡ true)
+      (every_weaker (λ e. is_over_at s moment (spot_at e) ≡ true)
       (NoneBetween after y next.1)
       (λ e is behind. none_between after y next (spot_at e) is behind) (all_expired s moment)
       (every_over s moment))
@@ -99,11 +86,11 @@ module _ (s : State) (due : Due) (moment : ℕ) (fits : moment < 2 ^ 64)
       → is_over_at s moment y ≡ false → left_behind after (all_expired s moment)
       ≡ left_behind (Some y) (all_expired s moment)
   left_stale after y next stale = left_other after y next.1 (all_expired s moment)
-      (every_so (λ e. is_over_at s moment (spot_at e) ≡ true)
+      (every_weaker (λ e. is_over_at s moment (spot_at e) ≡ true)
       (NoneBetween after y next.1)
       (λ e is behind. none_between after y next (spot_at e) is behind) (all_expired s moment)
       (every_over s moment))
-      (every_so (λ e. is_over_at s moment (spot_at e) ≡ true) (λ e. spot_at e ≡ y → ⊥)
+      (every_weaker (λ e. is_over_at s moment (spot_at e) ≡ true) (λ e. spot_at e ≡ y → ⊥)
       (λ e is same. false≢true (sym stale ∙ ap (is_over_at s moment) (sym same) ∙ is))
       (all_expired s moment) (every_over s moment))
 
@@ -111,7 +98,7 @@ module _ (s : State) (due : Due) (moment : ℕ) (fits : moment < 2 ^ 64)
   pub left_nothing : (after : Option Spot) → FindsNext due after None → is_some due.end ≡ false
       → left_behind after (all_expired s moment) ≡ []
   left_nothing after next endless = left_none after (all_expired s moment)
-      (every_so (λ e. is_over_at s moment (spot_at e) ≡ true)
+      (every_weaker (λ e. is_over_at s moment (spot_at e) ≡ true)
       (λ e. is_behind after (spot_at e) ≡ false)
       (λ e is. next (spot_at e) (ready_over (spot_at e) is (all_before due.end endless (spot_at e))))
       (all_expired s moment) (every_over s moment))
@@ -160,15 +147,16 @@ foresees_told s spot old new others own knows name place t item at there moment 
         (knows name place t item at there moment fits over)
 
     differs : (a b : List ℕ) → eq_by_cmp text_order a b ≡ false → a ≡ b → ⊥
-    differs a b apart same = false≢true (sym apart ∙ ap (eq_by_cmp text_order a) (sym same) ∙ itself a)
+    differs a b apart same =
+        false≢true (sym apart ∙ ap (eq_by_cmp text_order a) (sym same) ∙ key_itself a)
 
     by : (a : Bool) → eq_by_cmp text_order name spot.table ≡ a → (b : Bool)
         → eq_by_cmp text_order place spot.place ≡ b → Knows new moment (spot_of name place)
     by true e true f =
-        subst (Knows new moment) (λ i. spot_of (sym (tied name spot.table e) i)
-        (sym (tied place spot.place f) i))
-        (own t item (ap (finite.get s.tables) (sym (tied name spot.table e)) ∙ at)
-        (ap (finite.get t.items) (sym (tied place spot.place f)) ∙ there) moment fits over)
+        subst (Knows new moment) (λ i. spot_of (sym (one_key name spot.table e) i)
+        (sym (one_key place spot.place f) i))
+        (own t item (ap (finite.get s.tables) (sym (one_key name spot.table e)) ∙ at)
+        (ap (finite.get t.items) (sym (one_key place spot.place f)) ∙ there) moment fits over)
     by true e false f = apart (λ same. differs place spot.place f (ap (λ (x : Spot). x.place) same))
     by false e b f = apart (λ same. differs name spot.table e (ap (λ (x : Spot). x.table) same))
 

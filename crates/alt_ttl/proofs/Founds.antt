@@ -1,5 +1,6 @@
 -- Where expired items stand: each once, and in tables that are there.
 use Rattle.std.proofs.Common.{◌≡◌, ◌<◌, refl, sym, subst, ◌∙◌, ℕ, zero, suc, ◌+◌, ◌&&◌, ◌||◌, Bool, true, false, List, [], ◌∷◌, ◌++◌, map, length, drop, get_or, take, Option, Some, None, add-one, arith}
+use Rattle.std.proofs.lemmas.Bool.{or_parts}
 use Rattle.std.specs.Prelude.{if◌then◌else◌}
 use Rattle.std.specs.FinMap as finite
 use Rattle.std.specs.List.{list_any}
@@ -32,11 +33,6 @@ pub has_twice_from : (es : List Standing) (i : ℕ) (e : Standing) → i < lengt
     ≡ (list_any (is_one (get_or es i e)) (drop (i + 1) es) || has_twice (drop (i + 1) es))
 has_twice_from es i e h = rw add-one (has_twice_from_suc es i e h)
 
--- what doesn't hold of the first of two, and of neither
-neither : (a b : Bool) → (a || b) ≡ false → (a ≡ false) × (b ≡ false)
-neither true b e = absurd (let f : ⊥ = cc in f)
-neither false b e = (refl, e)
-
 -- two that aren't one are at different places
 two : (e f : Standing) → is_one e f ≡ false → AreApart (gone_at e) (gone_at f)
 two e f differ table place = by (bytes_eq e.table f.table) refl differ
@@ -50,14 +46,14 @@ apart_from : (e : Standing) (es : List Standing) → list_any (is_one e) es ≡ 
     → Every (AreApart (gone_at e)) (map gone_at es)
 apart_from e [] h = tt
 apart_from e (f ∷ fs) h =
-    let both = neither (is_one e f) (list_any (is_one e) fs) h in
+    let both = or_parts (is_one e f) (list_any (is_one e) fs) h in
     (two e f both.0, apart_from e fs both.1)
 
 -- and so are all, where none stands twice
 pub all_apart : (es : List Standing) → has_twice es ≡ false → AreAllApart (map gone_at es)
 all_apart [] h = tt
 all_apart (e ∷ es) h =
-    let both = neither (list_any (is_one e) es) (has_twice es) h in
+    let both = or_parts (list_any (is_one e) es) (has_twice es) h in
     (apart_from e es both.0, all_apart es both.1)
 
 -- ---- tables

@@ -31,8 +31,3 @@ pub take_step : {A : Type 0} (n : ℕ) (out xs ys next : List A) → next ≡ ta
     → take n (next ++ ys) ≡ take n (out ++ (xs ++ ys))
 take_step n out xs ys next is = ap (λ l. take n (l ++ ys)) is ∙ take_front n (out ++ xs) ys
     ∙ ap (take n) (append_assoc out xs ys)
-
--- what has no length is empty
-pub none_ahead : {A : Type 0} (xs : List A) → length xs ≡ 0 → xs ≡ []
-none_ahead [] e = refl
-none_ahead (x ∷ xs) e = absurd (omega (arith, e))

@@ -7,11 +7,11 @@ use Rattle.alt_machine.specs.declared.Standing.{Standing}
 use Rattle.alt_machine.specs.Expiry.{gone_at}
 use Rattle.alt_machine.specs.Ops.BatchWriteItem.{Written}
 use Rattle.alt_machine.specs.State.{State}
-use Rattle.alt_ops_batch.proofs.Finding.{every_more}
 use Rattle.alt_request.specs.TablesSeveral.{Every, written_at, IsFound}
 use Rattle.alt_request.specs.TablesDeclaredItemChange.{ItemChange}
 use Rattle.alt_request.specs.TablesStands.{KeepsCatalog, Reads, Stands, catalog_of}
 use Rattle.alt_request.specs.TablesDeclaredTables.{Tables}
+use Rattle.alt_request.proofs.TablesEach.{every_more}
 use Rattle.alt_request.proofs.TablesLeft.{reads_then}
 use Rattle.alt_ttl.specs.private.Searched.{AreNamed}
 

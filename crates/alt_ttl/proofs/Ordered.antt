@@ -9,16 +9,19 @@ use Rattle.std.specs.Ordering.{eq_by_cmp, is_lt, ordering_reverse, ordering_then
 use Rattle.std.specs.declared.cmp.Ordering.{Ordering}
 use Rattle.std.specs.declared.cmp.Ordering.TheVariants.{Less, Equal, Greater}
 use Rattle.std.proofs.lemmas.List.Elements.{All-head, All-tail}
+use Rattle.std.proofs.lemmas.Option.{same_Some}
+use Rattle.alt_base.proofs.Bools.{first_holds as first, holds_true, second_holds}
+use Rattle.alt_base.proofs.Orderings.{then-equal_both, is_lt-true}
 use Rattle.alt_cells.proofs.CellLaws.{key_exact, key_total}
-use Rattle.alt_cells.proofs.Entries.{first, second}
+use Rattle.alt_cells.proofs.SameKeys.{one_key}
 use Rattle.alt_due.specs.Due.{is_behind}
 use Rattle.alt_due.specs.Order.{spot_cmp, spot_of, spot_total}
 use Rattle.alt_due.specs.declared.spot.Spot.{Spot}
 use Rattle.alt_machine.specs.declared.Standing.{Standing}
 use Rattle.alt_machine.specs.Expiry.{all_expired, expired_in, is_expired}
 use Rattle.alt_machine.specs.State.{State, Table}
-use Rattle.alt_request.proofs.TablesOpeningTies.{tied}
 use Rattle.alt_request.specs.TablesSeveral.{Every}
+use Rattle.alt_request.proofs.TablesEach.{every_weaker}
 use Rattle.alt_ttl.specs.private.Foresight.{is_over_at, spot_at}
 use Rattle.alt_ttl.proofs.Founds.{every_both}
 use Rattle.alt_ttl.proofs.Searching.{each_found}
@@ -31,26 +34,14 @@ use Rattle.alt_value.specs.Tree.{Pair}
 abbrev pub is_less : Spot → Spot → Bool
 is_less x y = is_lt (spot_cmp x y)
 
--- an order that is told to be less is Less
-told_less : (o : Ordering) → is_lt o ≡ true → o ≡ Less
-told_less Less e = refl
-told_less Equal e = absurd (let f : ⊥ = cc e in f)
-told_less Greater e = absurd (let f : ⊥ = cc e in f)
-
 pub less_trans : (x y z : Spot) → is_less x y ≡ true → is_less y z ≡ true → is_less x z ≡ true
-less_trans x y z first then = ap is_lt (spot_total.trans x y z (told_less (spot_cmp x y) first)
-    (told_less (spot_cmp y z) then))
-
--- equal orders of two parts are equal both
-both_equal : (o p : Ordering) → ordering_then o p ≡ Equal → (o ≡ Equal) × (p ≡ Equal)
-both_equal Less p e = absurd (let no : Less ≡ Equal = e in let f : ⊥ = cc no in f)
-both_equal Equal p e = (refl, e)
-both_equal Greater p e = absurd (let no : Greater ≡ Equal = e in let f : ⊥ = cc no in f)
+less_trans x y z first then = ap is_lt (spot_total.trans x y z (is_lt-true (spot_cmp x y) first)
+    (is_lt-true (spot_cmp y z) then))
 
 -- places that tie are one
 pub same_spot : (x y : Spot) → spot_cmp x y ≡ Equal → x ≡ y
 same_spot x y e =
-    let parts = both_equal (text_order x.table y.table) (text_order x.place y.place) e in
+    let parts = then-equal_both (text_order x.table y.table) (text_order x.place y.place) e in
     λ i. record {
       table = key_exact x.table y.table parts.0 i;
       place = key_exact x.place y.place parts.1 i;
@@ -100,11 +91,6 @@ Entry = List ℕ × List Pair
 abbrev at : List ℕ → Entry → Standing
 at name e = record { table = name; place = e.0 }
 
--- a test that holds is true
-is_so : (b : Bool) → T b → b ≡ true
-is_so true h = refl
-is_so false h = absurd h
-
 -- in one table they lie as their places
 at_less : (name k q : List ℕ) → is_lt (text_order k q) ≡ true
     → is_less (spot_of name k) (spot_of name q) ≡ true
@@ -114,7 +100,7 @@ at_less name k q less =
 -- and in two as their names
 table_less : (x y : Spot) → is_lt (text_order x.table y.table) ≡ true → is_less x y ≡ true
 table_less x y less = ap (λ o. is_lt (ordering_then o (text_order x.place y.place)))
-    (told_less (text_order x.table y.table) less)
+    (is_lt-true (text_order x.table y.table) less)
 
 module _ (name : List ℕ) (p : Entry → Bool) where
   -- those of a table that pass a test
@@ -125,8 +111,9 @@ module _ (name : List ℕ) (p : Entry → Bool) where
       → Every (Before (at name (k, i))) (passing es)
   below_items k i [] low = tt
   below_items k i (e ∷ es) low = by (p e)
-      (at_less name k e.0 (is_so _ (first (is_lt (text_order k e.0)) (below_all text_order k es) low)))
-      (below_items k i es (second (is_lt (text_order k e.0)) (below_all text_order k es) low))
+      (at_less name k e.0
+      (holds_true _ (first (is_lt (text_order k e.0)) (below_all text_order k es) low)))
+      (below_items k i es (second_holds (is_lt (text_order k e.0)) (below_all text_order k es) low))
     where
       by : (b : Bool) → Before (at name (k, i)) (at name e)
           → Every (Before (at name (k, i))) (passing es)
@@ -138,7 +125,7 @@ module _ (name : List ℕ) (p : Entry → Bool) where
   rise_items [] sorted = tt
   rise_items (e ∷ es) sorted = by (p e)
       (below_items e.0 e.1 es (first (below_all text_order e.0 es) (is_sorted text_order es) sorted))
-      (rise_items es (second (below_all text_order e.0 es) (is_sorted text_order es) sorted))
+      (rise_items es (second_holds (below_all text_order e.0 es) (is_sorted text_order es) sorted))
     where
       by : (b : Bool) → Every (Before (at name e)) (passing es) → Rise (passing es)
           → Rise (map (at name) (cond b (e ∷ filter p es) (filter p es)))
@@ -184,15 +171,10 @@ above_name moment k (e ∷ es) low = every_both
     (expired_among moment es)
     (every_named e.0 (λ x. is_expired e.1.description moment x.1)
     (λ (y : Standing). is_lt (text_order k y.table) ≡ true)
-    (λ x. is_so _ (first (is_lt (text_order k e.0)) (below_all text_order k es) low))
+    (λ x. holds_true _ (first (is_lt (text_order k e.0)) (below_all text_order k es) low))
     (finite.entries e.1.items))
-    (above_name moment k es (second (is_lt (text_order k e.0)) (below_all text_order k es) low))
-
--- what holds of each element may be weakened
-every_so : {A : Type 0} (P Q : A → Type 0) → ((x : A) → P x → Q x) → (xs : List A) → Every P xs
-    → Every Q xs
-every_so P Q leads [] h = tt
-every_so P Q leads (x ∷ xs) h = (leads x h.0, every_so P Q leads xs h.1)
+    (above_name moment k es
+    (second_holds (is_lt (text_order k e.0)) (below_all text_order k es) low))
 
 rise_tables : (moment : ℕ) (es : List (List ℕ × Table)) → T (is_sorted text_order es)
     → Rise (expired_among moment es)
@@ -201,10 +183,11 @@ rise_tables moment (e ∷ es) sorted = rise_both (expired_in moment e.0 e.1)
     (expired_among moment es)
     (rise_items e.0 (λ x. is_expired e.1.description moment x.1) (finite.entries e.1.items)
     (finite.entries_sorted e.1.items))
-    (rise_tables moment es (second (below_all text_order e.0 es) (is_sorted text_order es) sorted))
+    (rise_tables moment es
+    (second_holds (below_all text_order e.0 es) (is_sorted text_order es) sorted))
     (every_named e.0 (λ x. is_expired e.1.description moment x.1)
     (λ x. Every (Before x) (expired_among moment es))
-    (λ x. every_so (λ (y : Standing). is_lt (text_order e.0 y.table) ≡ true) (Before (at e.0 x))
+    (λ x. every_weaker (λ (y : Standing). is_lt (text_order e.0 y.table) ≡ true) (Before (at e.0 x))
     (λ y less. table_less (spot_of e.0 x.0) (spot_at y) less) (expired_among moment es)
     (above_name moment e.0 es
     (first (below_all text_order e.0 es) (is_sorted text_order es) sorted)))
@@ -261,9 +244,6 @@ has_back : (y : Spot) (xs ys : List Standing) → Has y ys → Has y (xs ++ ys)
 has_back y [] ys h = h
 has_back y (x ∷ xs) ys h = inr (has_back y xs ys h)
 
-same_some : {A : Type 0} (x y : A) → Some x ≡ Some y → x ≡ y
-same_some x y e = cc
-
 has_item : (name : List ℕ) (p : Entry → Bool) (k : List ℕ) (item : List Pair) (es : List Entry)
     → find text_order k es ≡ Some item → p (k, item) ≡ true
     → Has (spot_of name k) (map (at name) (filter p es))
@@ -287,7 +267,7 @@ has_item name p k item (e ∷ es) found passes = by (eq_by_cmp text_order k e.0)
         → (find text_order k es ≡ Some item → Has (spot_of name k) (map (at name) (filter p es)))
         → Has (spot_of name k) (map (at name) (cond (p e) (e ∷ filter p es) (filter p es)))
     by true same is rest = here (p e) refl (subst (λ (x : Entry). p x ≡ true)
-        (λ i. (tied k e.0 same i, same_some item e.1 (sym is) i)) passes) (tied k e.0 same)
+        (λ i. (one_key k e.0 same i, same_Some item e.1 (sym is) i)) passes) (one_key k e.0 same)
     by false differs is rest = there (p e) (rest is)
 
 has_table : (moment : ℕ) (y : Spot) (t : Table) (es : List (List ℕ × Table))
@@ -304,7 +284,7 @@ has_table moment y t (e ∷ es) found has = by (eq_by_cmp text_order y.table e.0
         → Has y (expired_among moment (e ∷ es))
     by true same is rest = has_front y (expired_in moment e.0 e.1) (expired_among moment es)
         (subst (λ (x : List ℕ × Table). Has y (expired_in moment x.0 x.1))
-        (λ i. (tied y.table e.0 same i, same_some t e.1 (sym is) i)) has)
+        (λ i. (one_key y.table e.0 same i, same_Some t e.1 (sym is) i)) has)
     by false differs is rest = has_back y (expired_in moment e.0 e.1) (expired_among moment es)
         (rest is)
 

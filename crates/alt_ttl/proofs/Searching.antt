@@ -12,8 +12,11 @@ use Rattle.std.specs.declared.cmp.Ordering.TheVariants.{Less, Equal, Greater}
 use Rattle.std.specs.declared.ops.Bound.TheVariants.{Included, Unbounded}
 use Rattle.std.proofs.lemmas.List.{length-map, take_all}
 use Rattle.std.proofs.lemmas.List.Elements.{All-nil, All-cons, All-head, All-map, All-tail}
+use Rattle.alt_base.proofs.Bools.{first_holds, second_holds}
+use Rattle.alt_base.proofs.Lists.{filter-all}
 use Rattle.alt_cells.proofs.CellLaws.{key_total}
-use Rattle.alt_cells.proofs.Entries.{find_below, first, second}
+use Rattle.alt_cells.proofs.Entries.{find_below}
+use Rattle.alt_cells.proofs.SameKeys.{key_itself, one_key}
 use Rattle.alt_machine.specs.declared.Standing.{Standing}
 use Rattle.alt_machine.specs.declared.TheConstants.{MOST_EXPIRED, MOST_TABLES}
 use Rattle.alt_machine.specs.Expiry.{all_expired, expired_in, expiring, is_expired, is_over}
@@ -23,7 +26,6 @@ use Rattle.alt_machine.specs.State.{State, Table, Texts, descriptions}
 use Rattle.alt_machine.specs.Valid.{IsTable, IsValid}
 use Rattle.alt_machine.specs.Walks.{items_between}
 use Rattle.alt_machine.proofs.Descriptions.{keys-descriptions, there-descriptions}
-use Rattle.alt_request.proofs.TablesOpeningTies.{itself, tied}
 use Rattle.alt_ops_query.proofs.Beyond.{beyond_after}
 use Rattle.alt_ops_query.proofs.Lists.{each_entry}
 use Rattle.alt_ops_query.proofs.Rests.{contains_so}
@@ -32,6 +34,7 @@ use Rattle.alt_schema.specs.Rules.{is_name}
 use Rattle.alt_schema.specs.declared.schema.TableSchema.{TableSchema}
 use Rattle.alt_request.specs.TablesReading.{places_between}
 use Rattle.alt_request.specs.TablesSeveral.{Every}
+use Rattle.alt_schema.proofs.CutRows.{empty_before_name}
 use Rattle.alt_ttl.specs.private.Searched.{left_in, standing_of, standings_of}
 use Rattle.alt_ttl.proofs.Fronts.{take_step}
 use Rattle.alt_ttl.proofs.Founds.{every_take}
@@ -223,15 +226,16 @@ pub each_found : {X : Type 0} (P : List ℕ × X → Type 0) (es : List (List �
     → ((name : List ℕ) (t : X) → find text_order name es ≡ Some t → P (name, t)) → All P es
 each_found P [] sorted found = All-nil P
 each_found P (e ∷ es) sorted found = All-cons P e es
-    (found e.0 e.1 (ap (λ b. cond b (Some e.1) (find text_order e.0 es)) (itself e.0)))
-    (each_found P es (second (below_all text_order e.0 es) _ sorted)
+    (found e.0 e.1 (ap (λ b. cond b (Some e.1) (find text_order e.0 es)) (key_itself e.0)))
+    (each_found P es (second_holds (below_all text_order e.0 es) _ sorted)
     (λ name t at. found name t (later name t at (eq_by_cmp text_order name e.0) refl)))
   where
     later : (name : List ℕ) (t : _) → find text_order name es ≡ Some t → (b : Bool)
         → eq_by_cmp text_order name e.0 ≡ b → find text_order name (e ∷ es) ≡ Some t
     later name t at true same = absurd (let no : None ≡ Some t =
-        sym (find_below text_order key_total e.0 es (first _ (is_sorted text_order es) sorted))
-        ∙ ap (λ q. find text_order q es) (sym (tied name e.0 same)) ∙ at in cc no)
+        sym (find_below text_order key_total e.0 es
+        (first_holds _ (is_sorted text_order es) sorted))
+        ∙ ap (λ q. find text_order q es) (sym (one_key name e.0 same)) ∙ at in cc no)
     later name t at false differs =
         ap (λ b. cond b (Some e.1) (find text_order name es)) differs ∙ at
 
@@ -251,18 +255,6 @@ expired_all s moment = each (finite.entries s.tables)
         (All-head (λ x. finite.get s.tables x.0 ≡ Some x.1) e es all i) []
         ++ each es (All-tail (λ x. finite.get s.tables x.0 ≡ Some x.1) e es all) i
 
--- a good name isn't empty
-some_name : (name : List ℕ) → is_name name ≡ true → is_lt (text_order [] name) ≡ true
-some_name [] good = absurd (let f : ⊥ = cc in f)
-some_name (x ∷ xs) good = refl
-
--- what passes throughout is kept
-all_pass : {A : Type 0} (p : A → Bool) (xs : List A) → All (λ x. p x ≡ true) xs → filter p xs ≡ xs
-all_pass p [] all = refl
-all_pass p (x ∷ xs) all =
-    ap (λ b. cond b (x ∷ filter p xs) (filter p xs)) (All-head (λ y. p y ≡ true) x xs all)
-    ∙ ap (λ l. x ∷ l) (all_pass p xs (All-tail (λ y. p y ≡ true) x xs all))
-
 -- the names of tables behind the empty one are all their names
 pub all_names : (s : State) → IsValid s
     → take MOST_TABLES (names_after [] (descriptions s.tables))
@@ -270,14 +262,14 @@ pub all_names : (s : State) → IsValid s
 all_names s valid =
     ap (λ (ns : List (List ℕ)). take MOST_TABLES (filter (λ name. is_lt (text_order [] name)) ns))
     (keys-descriptions s.tables)
-    ∙ ap (take MOST_TABLES) (all_pass (λ name. is_lt (text_order [] name))
+    ∙ ap (take MOST_TABLES) (filter-all (λ name. is_lt (text_order [] name))
     (map (λ (e : List ℕ × Table). e.0) (finite.entries s.tables))
     (All-map (λ name. is_lt (text_order [] name) ≡ true) (λ (e : List ℕ × Table). e.0)
     (finite.entries s.tables)
     (each_found (λ e. is_lt (text_order [] e.0) ≡ true) (finite.entries s.tables)
     (finite.entries_sorted s.tables) (λ name t at.
     let is : IsTable s name t = valid.tables name t (finite.get-entries s.tables name ∙ at) in
-    some_name name (ap is_name (sym is.named) ∙ is.made.spelled)))))
+    empty_before_name name (ap is_name (sym is.named) ∙ is.made.spelled)))))
     ∙ take_all MOST_TABLES (map (λ (e : List ℕ × Table). e.0) (finite.entries s.tables)) (omega (
       arith,
       valid.few,

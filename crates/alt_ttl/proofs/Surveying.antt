@@ -13,6 +13,7 @@ use Rattle.std.specs.Cmp.{tied_itself}
 use Rattle.std.proofs.lemmas.Bool.{false≢true}
 use Rattle.std.proofs.lemmas.List.Elements.{All-head, All-tail}
 use Rattle.alt_cells.proofs.CellLaws.{key_total}
+use Rattle.alt_cells.proofs.SameKeys.{one_key}
 use Rattle.alt_due.specs.Due.{KeepsKnown, Knows, covers, is_before, is_within}
 use Rattle.alt_due.specs.Order.{spot_cmp, spot_of, spot_total}
 use Rattle.alt_due.specs.declared.due.Due.{Due}
@@ -20,7 +21,6 @@ use Rattle.alt_due.specs.declared.spot.Spot.{Spot}
 use Rattle.alt_machine.specs.Keys.{place_of}
 use Rattle.alt_machine.specs.State.{State, Table}
 use Rattle.alt_machine.specs.Walks.{items_between}
-use Rattle.alt_request.proofs.TablesOpeningTies.{tied}
 use Rattle.alt_ops_query.proofs.Beyond.{beyond_after}
 use Rattle.alt_ops_query.proofs.Lists.{each_entry}
 use Rattle.alt_ops_query.proofs.Rests.{contains_so}
@@ -86,7 +86,7 @@ find_every P (e ∷ es) h place item found = by (eq_by_cmp text_order place e.0)
         → cond b (Some e.1) (find text_order place es) ≡ Some item
         → (find text_order place es ≡ Some item → P (place, item)) → P (place, item)
     by true same is rest = subst P
-        (λ i. (sym (tied place e.0 same) i, same_some e.1 item is i)) h.0
+        (λ i. (sym (one_key place e.0 same) i, same_some e.1 item is i)) h.0
     by false differs is rest = rest is
 
 module _ (name : List ℕ) (t : Table)
@@ -244,7 +244,7 @@ among_found q t (e ∷ es) found =
         → cond b (Some e.1) (find text_order q es) ≡ Some t
         → (find text_order q es ≡ Some t → Among q (map (λ e. e.0) es))
         → Among q (map (λ e. e.0) (e ∷ es))
-    here true same is rest = inl (tied q e.0 same)
+    here true same is rest = inl (one_key q e.0 same)
     here false differs is rest = inr (rest is)
 
 -- that of a table that is there is one of them all

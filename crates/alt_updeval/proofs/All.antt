@@ -11,6 +11,7 @@ use Rattle.std.specs.Cmp.Lexicographic.{texts_ties}
 use Rattle.std.specs.declared.cmp.Ordering.TheVariants.{Less}
 use Rattle.std.proofs.lemmas.List.{append_assoc, map-append}
 use denote.Ref.{Bor}
+use Rattle.alt_base.proofs.Orderings.{is_eq-true}
 use Rattle.alt_value.specs.Members.{text_order}
 use Rattle.alt_value.specs.Stands.{tree_of}
 use Rattle.alt_value.specs.Tree.{Tree}
@@ -26,7 +27,6 @@ use Rattle.alt_updeval.specs.declared.update.AttrChange.{AttrChange}
 use Rattle.alt_updeval.specs.Changes.{changed_by}
 use Rattle.alt_updeval.specs.Shown.{shown, shown_at, named_edits}
 use Rattle.alt_updeval.proofs.Groups.{group_at, no_group}
-use Rattle.alt_updeval.proofs.Maps.{equal}
 use Rattle.alt_updeval.proofs.Steps.{str_cmp}
 use Rattle.alt_updeval.proofs.Under.{changed-none, named-under}
 
@@ -199,7 +199,7 @@ module _ (item : View) (pairs : List (Bor (List ℕ) × Rest))
       → cond b (option_map tree_of c.value) (changed_by cs item q)
       ≡ cond (is_seen gs q || b) (wanted item es q) (item q)) [
         | true ↦ λ e.
-            let same : q ≡ name = text_apart q name (equal (text_order q name) e) in
+            let same : q ≡ name = text_apart q name (is_eq-true (text_order q name) e) in
             new ∙ ap (wanted item es) (sym same)
             ∙ sym (any_true (is_seen gs q) (wanted item es q) (item q))
         | false ↦ λ e. was q ∙ any_false (is_seen gs q) (wanted item es q) (item q)

@@ -11,14 +11,7 @@ use Rattle.std.specs.Cmp.{IsTotalOrder, eq_by_cmp_equiv, on_total}
 use Rattle.std.proofs.lemmas.List.Folds.{list_any_more}
 use Rattle.std.proofs.lemmas.Map.Entries.{lookup_from_place}
 use Rattle.std.proofs.lemmas.Map.Keys.{IsDistinct-from_sorted}
-
-neither : (a b : Bool) → (a || b) ≡ false → a ≡ false
-neither true b e = e
-neither false b e = refl
-
-nor : (a b : Bool) → (a || b) ≡ false → b ≡ false
-nor true b e = cc
-nor false b e = e
+use Rattle.alt_base.proofs.Bools.{neither_first, neither_second}
 
 either_turned : (a b : Bool) → (a || b) ≡ cond b true a
 either_turned true true = refl
@@ -30,8 +23,8 @@ lookup-none : {K X : Type 0} (test : K → Bool) (es : List (K × X))
     → list_any (λ e. test e.0) es ≡ false → lookup test es ≡ None
 lookup-none test [] e = refl
 lookup-none test (p ∷ es) e =
-    ap (λ b. cond b (Some p.1) (lookup test es)) (neither (test p.0) _ e)
-    ∙ lookup-none test es (nor (test p.0) _ e)
+    ap (λ b. cond b (Some p.1) (lookup test es)) (neither_first (test p.0) _ e)
+    ∙ lookup-none test es (neither_second (test p.0) _ e)
 
 -- one element more was looked at
 pub any_more : {X : Type 0} (test : X → Bool) (xs : List X) (i : ℕ) (x : X) → i < length xs

@@ -2,16 +2,15 @@
 use Rattle.std.proofs.Common.{◌≡◌, refl, sym, ap, subst, ◌∙◌, ℕ, zero, suc, ◌+◌, ◌*◌, ◌<◌, ◌≤◌, nat_le, Bool, true, false, List, [], ◌∷◌, ◌++◌, drop, drop-cons, add-one, get_or, length, Some, None, arith}
 use Rattle.std.specs.Prelude.{slice_get, max, if◌then◌else◌}
 use Rattle.std.proofs.lemmas.Bool.{leb-true, leb-false, le-leb, lt-leb}
-use Rattle.std.proofs.lemmas.Option.{slice_get_read}
+use Rattle.std.proofs.lemmas.Option.{slice_get_read, same_Some}
 use denote.Ref.{Bor}
 use Rattle.alt_value.specs.Size.{depth, elements_depth, size, elements_size, within}
 use Rattle.alt_value.specs.Stands.{tree_of}
 use Rattle.alt_value.specs.Tree.{Tree, S_tree, N_tree, B_tree, BOOL_tree, NULL_tree, SS_tree, NS_tree, BS_tree, L_tree, M_tree, Trees, trees_of, elements}
 use Rattle.alt_value.specs.declared.attr.Attr.{Attr}
-use Rattle.alt_value.proofs.Trees.{elements-trees_of}
+use Rattle.alt_value.proofs.Trees.{elements-trees_of, trees_of-elements}
 use Rattle.alt_updeval.specs.Shown.{elements_of, joined_pieces, IsLarge, IsLargeList, is_number}
 use Rattle.alt_updeval.specs.StandsIn.{longest_key, as_key, StandsIn, nest}
-use Rattle.alt_updeval.proofs.Rebuilt.{trees_of-elements}
 
 -- ---- nests
 
@@ -115,14 +114,11 @@ large_first (NS_tree zs) ys h = absurd h
 large_first (BS_tree bs) ys h = absurd h
 large_first (M_tree fs) ys h = absurd h
 
-same_some : {A : Type 0} (x y : A) → Some x ≡ Some y → x ≡ y
-same_some x y e = cc
-
 large_among : (ps : List (Bor Attr)) (i : ℕ) (p : Bor Attr) → slice_get ps i ≡ Some p
     → IsLargeList (tree_of p.now) → longest_key < size (all_of ps)
 large_among [] i p e h = absurd (let f : ⊥ = cc in f)
 large_among (q ∷ ps) zero p e h = large_first (tree_of q.now) (joined_pieces ps)
-    (subst (λ (r : Bor Attr). IsLargeList (tree_of r.now)) (sym (same_some q p e)) h)
+    (subst (λ (r : Bor Attr). IsLargeList (tree_of r.now)) (sym (same_Some q p e)) h)
 large_among (q ∷ ps) (suc i) p e h =
     let a : 2048 < size (all_of ps) = large_among ps i p e h in
     let b = no_smaller q ps in

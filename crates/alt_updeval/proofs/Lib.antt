@@ -5,9 +5,7 @@ pub mod Large
 pub mod Lists
 pub mod Maps
 pub mod Pieces
-pub mod Rebuilt
 pub mod Sketches
-pub mod Smaller
 pub mod StandIns
 pub mod Steps
 pub mod Taking

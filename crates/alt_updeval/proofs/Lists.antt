@@ -1,5 +1,5 @@
 -- A list with edits within it, by the indexes that they name.
-use Rattle.std.proofs.Common.{◌≡◌, refl, sym, ap, ◌∙◌, ℕ, zero, suc, ◌+◌, ◌≤◌, Bool, true, false, cond, T, List, [], ◌∷◌, ◌++◌, map, take, length, Option, Some, None, arith}
+use Rattle.std.proofs.Common.{◌≡◌, refl, sym, ap, ◌∙◌, ℕ, suc, ◌+◌, ◌≤◌, Bool, true, false, cond, T, List, [], ◌∷◌, ◌++◌, map, take, length, Option, Some, None, arith}
 use Rattle.std.specs.Prelude.{option_to_list, nat_le, ◌==◌, if◌then◌else◌}
 use Rattle.std.specs.List.{AllByRecursion}
 use Rattle.std.specs.List.Sorted.{IsStrictlySortedBy}
@@ -9,14 +9,15 @@ use Rattle.std.specs.Ordering.{eq_by_cmp, is_eq, nat_cmp}
 use Rattle.std.specs.Cmp.{nat_cmp_total, unsigned_ties}
 use Rattle.std.specs.FinMap.{nat_cmp-IsAntisymmetric}
 use Rattle.std.specs.FinMap.Entries.{find, put, below_all, is_sorted, is_sorted-put, find-put, same_entries}
-use Rattle.std.specs.declared.cmp.Ordering.{Ordering}
-use Rattle.std.specs.declared.cmp.Ordering.TheVariants.{Less, Equal, Greater}
+use Rattle.std.specs.declared.cmp.Ordering.TheVariants.{Less}
 use Rattle.std.proofs.lemmas.List.{append_assoc, append-nil, map-append}
-use Rattle.alt_value.proofs.Places.{both, is_less}
-use Rattle.alt_value.specs.Tree.{Tree, Trees, trees_of, elements}
+use Rattle.alt_base.proofs.Bools.{both_hold}
+use Rattle.alt_base.proofs.Lists.{length-front}
+use Rattle.alt_base.proofs.Orderings.{less-holds, is_eq-true}
+use Rattle.alt_value.specs.Tree.{Tree, trees_of, elements}
 use Rattle.alt_expr.specs.declared.path.PathPart.TheVariants.{Name, Index}
-use Rattle.alt_expr.specs.Projected.{element_then}
 use Rattle.alt_expr.specs.Updated.{Edit, under, changed, changed_elements, put_here, past}
+use Rattle.alt_expr.proofs.Picked.{elements-then, passed}
 use Rattle.alt_updeval.specs.Shown.{indexed_edits, past_end}
 use Rattle.alt_updeval.proofs.Under.{at_key, at_filter, indexed-under}
 
@@ -24,12 +25,6 @@ use Rattle.alt_updeval.proofs.Under.{at_key, at_filter, indexed-under}
 abbrev pub walked : (ℕ → List Edit) → ℕ → List Tree → List Tree
 walked edits i [] = []
 walked edits i (t ∷ ts) = option_to_list (changed (edits i) t) ++ walked edits (suc i) ts
-
--- an element that may be there comes before the rest
-elements-then : (o : Option Tree) (ts : Trees)
-    → elements (element_then o ts) ≡ option_to_list o ++ elements ts
-elements-then None ts = refl
-elements-then (Some t) ts = refl
 
 -- a walk over a list makes of it what the edits do
 pub walked-elements : (es : List Edit) (i : ℕ) (ts : List Tree)
@@ -61,17 +56,12 @@ walked-append f i n (s ∷ ts) t e =
     ∙ sym (append_assoc (option_to_list (changed (f i) s)) (walked f (suc i) ts)
     (option_to_list (changed (f n) t)))
 
-length-upto : (xs : List Tree) (i : ℕ) → i ≤ length xs → length (take i xs) ≡ i
-length-upto xs zero le = refl
-length-upto [] (suc i) le = absurd (omega arith)
-length-upto (x ∷ xs) (suc i) le = ap suc (length-upto xs i (omega arith))
-
 -- one element more
 pub walked-more : (f : ℕ → List Edit) (xs : List Tree) (i : ℕ) (t : Tree) → i ≤ length xs
     → take (i + 1) xs ≡ take i xs ++ t ∷ []
     → walked f 0 (take (i + 1) xs) ≡ walked f 0 (take i xs) ++ option_to_list (changed (f i) t)
 walked-more f xs i t le e =
-    let place : i ≡ 0 + length (take i xs) = omega (arith, length-upto xs i le) in
+    let place : i ≡ 0 + length (take i xs) = omega (arith, length-front xs i le) in
     ap (walked f 0) e ∙ walked-append f 0 i (take i xs) t place
 
 -- ---- what is put past the end
@@ -86,13 +76,8 @@ sorted-past n ((Index i ∷ [], Some t) ∷ es) =
     ]
 sorted-past n (_ ∷ es) = sorted-past n es
 
-tied : (r : Ordering) → is_eq r ≡ true → r ≡ Equal
-tied Less e = cc
-tied Equal e = refl
-tied Greater e = cc
-
 same_index : (q i : ℕ) → eq_by_cmp nat_cmp q i ≡ true → q ≡ i
-same_index q i e = nat_cmp-IsAntisymmetric q i (tied (nat_cmp q i) e)
+same_index q i e = nat_cmp-IsAntisymmetric q i (is_eq-true (nat_cmp q i) e)
 
 abbrev from_n : ℕ → ℕ → Option Tree → Option Tree
 from_n n q o = if nat_le n q then o else None
@@ -100,12 +85,6 @@ from_n n q o = if nat_le n q then o else None
 nothing : (b : Bool) → ◌≡◌ {A = Option Tree} None (if b then None else None)
 nothing true = refl
 nothing false = refl
-
-passed : (e : Edit) (us : List Edit) (b : Bool)
-    → ((vs : List Edit) → put_here (e ∷ vs) ≡ put_here vs)
-    → put_here us ≡ put_here (cond b (e ∷ []) [] ++ us)
-passed e us true h = sym (h us)
-passed e us false h = refl
 
 -- an index past the end that is put, or isn't
 at_past : (n q i : ℕ) (t : Tree) (es : List Edit)
@@ -200,7 +179,7 @@ module _ {V : Type 0} (edits : V → List Edit) where
   below-kept : (x k : ℕ) (o : Option Tree) (ps : List (ℕ × Tree)) → nat_cmp x k ≡ Less
       → T (below_all nat_cmp x ps) → T (below_all nat_cmp x (kept k o ps))
   below-kept x k None ps p h = h
-  below-kept x k (Some t) ps p h = both _ _ (is_less _ p) h
+  below-kept x k (Some t) ps p h = both_hold _ _ (less-holds _ p) h
 
   below-puts : (x : ℕ) (gs : List (ℕ × V)) → AllByRecursion (λ y. nat_cmp x y ≡ Less) (keys_of gs)
       → T (below_all nat_cmp x (puts gs))
@@ -211,7 +190,7 @@ module _ {V : Type 0} (edits : V → List Edit) where
   sorted-kept : (k : ℕ) (o : Option Tree) (ps : List (ℕ × Tree)) → T (below_all nat_cmp k ps)
       → T (is_sorted nat_cmp ps) → T (is_sorted nat_cmp (kept k o ps))
   sorted-kept k None ps b h = h
-  sorted-kept k (Some t) ps b h = both _ _ b h
+  sorted-kept k (Some t) ps b h = both_hold _ _ b h
 
   sorted-puts : (gs : List (ℕ × V)) → IsStrictlySortedBy nat_cmp (keys_of gs)
       → T (is_sorted nat_cmp (puts gs))

@@ -1,38 +1,25 @@
 -- A map with edits within it, name by name.
-use Rattle.std.proofs.Common.{◌≡◌, refl, sym, ap, ◌∙◌, ℕ, zero, suc, ◌+◌, ◌<◌, Bool, true, false, cond, T, List, [], ◌∷◌, ◌++◌, take, length, Option, Some, None, arith}
+use Rattle.std.proofs.Common.{◌≡◌, refl, sym, ap, ◌∙◌, ℕ, ◌+◌, Bool, true, false, cond, T, List, [], ◌∷◌, ◌++◌, take, Option, Some, None}
 use Rattle.std.specs.Prelude.{option_and_then, slice_get, is_none, if◌then◌else◌}
 use Rattle.std.specs.Option.{option_or}
-use Rattle.std.specs.Ordering.{eq_by_cmp, is_eq, is_lt}
+use Rattle.std.specs.Ordering.{eq_by_cmp}
 use Rattle.std.specs.Str.{bytes_eq}
-use Rattle.std.specs.Cmp.Lexicographic.{texts_ties}
 use Rattle.std.specs.FinMap.Entries.{find-put, find-append, below_all, is_sorted, is_sorted-put, same_entries}
-use Rattle.std.specs.declared.cmp.Ordering.{Ordering}
-use Rattle.std.specs.declared.cmp.Ordering.TheVariants.{Less, Equal, Greater}
-use Rattle.std.proofs.lemmas.Option.{same_Some}
+use Rattle.alt_base.proofs.Bools.{first_holds, second_holds}
+use Rattle.alt_base.proofs.Orderings.{is_eq-true}
 use Rattle.alt_value.specs.Item.{IsItem, at_name}
 use Rattle.alt_value.specs.Members.{text_order}
 use Rattle.alt_value.specs.Tree.{Tree, Fields, Pair, fields_of, pairs}
-use Rattle.alt_value.proofs.Places.{first, second, both, less, turned}
 use Rattle.alt_value.proofs.Texts.{text_total, text_apart}
 use Rattle.alt_expr.specs.declared.path.PathPart.{PathPart}
 use Rattle.alt_expr.specs.declared.path.PathPart.TheVariants.{Name, Index}
 use Rattle.alt_expr.specs.Projected.{pair_then}
 use Rattle.alt_expr.specs.Updated.{Edit, under, changed, changed_fields, put_here, put_name, put_names}
+use Rattle.alt_expr.proofs.Picked.{below-picked, passed, sorted-picked}
 use Rattle.alt_updeval.specs.Shown.{put_at, new_at, put_if, put_new_if}
 use Rattle.alt_updeval.proofs.Under.{put-changed}
-
--- an order that is told to be equal is Equal
-pub equal : (r : Ordering) → is_eq r ≡ true → r ≡ Equal
-equal Less e = cc
-equal Equal e = refl
-equal Greater e = cc
-
--- a name below all pairs isn't among them
-not_there : (q : List ℕ) (ps : List Pair) → T (below_all text_order q ps) → at_name q ps ≡ None
-not_there q [] h = refl
-not_there q (p ∷ ps) h =
-    ap (λ r. cond (is_eq r) (Some p.1) (at_name q ps)) (less (text_order q p.0) (first _ _ h))
-    ∙ not_there q ps (second _ _ h)
+use Rattle.alt_value.proofs.NamedPairs.{none_before as gone, none_below_all}
+use Rattle.alt_value.proofs.TextTies.{text_ties}
 
 or-none : (o : Option Tree) → option_or o None ≡ o
 or-none None = refl
@@ -54,7 +41,7 @@ pub at_name-fields : (es : List Edit) (q : List ℕ) (ps : List Pair) → T (is_
     ≡ option_and_then (changed (under (Name q) es)) (at_name q ps)
 at_name-fields es q [] h = refl
 at_name-fields es q (p ∷ ps) h =
-    let rest = at_name-fields es q ps (second _ _ h) in
+    let rest = at_name-fields es q ps (second_holds _ _ h) in
     picked q p.0 (changed (under (Name p.0) es) p.1) (changed_fields es (fields_of ps)) ∙
     elim (eq_by_cmp text_order q p.0) as (λ b. eq_by_cmp text_order q p.0 ≡ b
     → cond b (option_or (changed (under (Name p.0) es) p.1)
@@ -62,9 +49,9 @@ at_name-fields es q (p ∷ ps) h =
     (at_name q (pairs (changed_fields es (fields_of ps))))
     ≡ option_and_then (changed (under (Name q) es)) (cond b (Some p.1) (at_name q ps))) [
       | true ↦ λ e.
-          let same : q ≡ p.0 = text_apart q p.0 (equal (text_order q p.0) e) in
+          let same : q ≡ p.0 = text_apart q p.0 (is_eq-true (text_order q p.0) e) in
           let gone : at_name q ps ≡ None = ap (λ (m : List ℕ). at_name m ps) same
-          ∙ not_there p.0 ps (first _ _ h) in
+          ∙ none_below_all p.0 ps (first_holds _ _ h) in
           ap (option_or (changed (under (Name p.0) es) p.1))
           (rest ∙ ap (option_and_then (changed (under (Name q) es))) gone)
           ∙ or-none (changed (under (Name p.0) es) p.1)
@@ -72,41 +59,21 @@ at_name-fields es q (p ∷ ps) h =
       | false ↦ λ e. rest
     ] refl
 
--- a name below all pairs is below one pair more that is above it
-below-picked : (x name : List ℕ) (o : Option Tree) (fs : Fields) → T (is_lt (text_order x name))
-    → T (below_all text_order x (pairs fs))
-    → T (below_all text_order x (pairs (pair_then name o fs)))
-below-picked x name None fs p h = h
-below-picked x name (Some t) fs p h = both _ _ p h
-
 below-fields : (x : List ℕ) (es : List Edit) (ps : List Pair) → T (below_all text_order x ps)
     → T (below_all text_order x (pairs (changed_fields es (fields_of ps))))
 below-fields x es [] h = tt
 below-fields x es (p ∷ ps) h =
     below-picked x p.0 (changed (under (Name p.0) es) p.1) (changed_fields es (fields_of ps))
-    (first _ _ h) (below-fields x es ps (second _ _ h))
-
-sorted-picked : (name : List ℕ) (o : Option Tree) (fs : Fields)
-    → T (below_all text_order name (pairs fs)) → T (is_sorted text_order (pairs fs))
-    → T (is_sorted text_order (pairs (pair_then name o fs)))
-sorted-picked name None fs b h = h
-sorted-picked name (Some t) fs b h = both _ _ b h
+    (first_holds _ _ h) (below-fields x es ps (second_holds _ _ h))
 
 sorted-fields : (es : List Edit) (ps : List Pair) → T (is_sorted text_order ps)
     → T (is_sorted text_order (pairs (changed_fields es (fields_of ps))))
 sorted-fields es [] h = tt
 sorted-fields es (p ∷ ps) h =
     sorted-picked p.0 (changed (under (Name p.0) es) p.1) (changed_fields es (fields_of ps))
-    (below-fields p.0 es ps (first _ _ h)) (sorted-fields es ps (second _ _ h))
+    (below-fields p.0 es ps (first_holds _ _ h)) (sorted-fields es ps (second_holds _ _ h))
 
 -- ---- what is put at names
-
--- an edit that puts nothing here is passed over, and so is one elsewhere
-passed : (e : Edit) (us : List Edit) (b : Bool)
-    → ((vs : List Edit) → put_here (e ∷ vs) ≡ put_here vs)
-    → put_here us ≡ put_here (cond b (e ∷ []) [] ++ us)
-passed e us true h = sym (h us)
-passed e us false h = refl
 
 skipped : (q n : List ℕ) (ss : List PathPart) (v : Option Tree) (es : List Edit)
     → ((vs : List Edit) → put_here ((ss, v) ∷ vs) ≡ put_here vs)
@@ -123,9 +90,6 @@ above : (q : List ℕ) (v : Option Tree) (es : List Edit) → put_at es q ≡ pu
 above [] v es = refl
 above (c ∷ cs) v es = refl
 
-same_text : (q n : List ℕ) → eq_by_cmp text_order q n ≡ bytes_eq q n
-same_text q n = sym (texts_ties q n)
-
 -- one name more is put
 named : (q n : List ℕ) (t : Tree) (es : List Edit) (ps : List Pair) (before : List Pair)
     → at_name q before ≡ option_or (put_at es q) (at_name q ps)
@@ -136,7 +100,7 @@ named (c ∷ cs) [] t es ps before is = is
 named [] (d ∷ ds) t es ps before is = find-put text_order text_total [] (d ∷ ds) t before ∙ is
 named (c ∷ cs) (d ∷ ds) t es ps before is =
     find-put text_order text_total (c ∷ cs) (d ∷ ds) t before
-    ∙ ap (λ b. cond b (Some t) (at_name (c ∷ cs) before)) (same_text (c ∷ cs) (d ∷ ds))
+    ∙ ap (λ b. cond b (Some t) (at_name (c ∷ cs) before)) (text_ties (c ∷ cs) (d ∷ ds))
     ∙ elim (bytes_eq (c ∷ cs) (d ∷ ds)) as (λ b. cond b (Some t) (at_name (c ∷ cs) before)
     ≡ option_or (put_here (cond b (([], Some t) ∷ []) [] ++ under (Name (c ∷ cs)) es))
     (at_name (c ∷ cs) ps)) [
@@ -210,25 +174,6 @@ at_name-put_if q name None ps = elim (eq_by_cmp text_order q name) as (λ b. at_
     ≡ cond b (at_name q ps) (at_name q ps)) [ true ↦ refl | false ↦ refl ]
 at_name-put_if q name (Some t) ps = find-put text_order text_total q name t ps
 
--- a name below all pairs is below each of them
-below_at : (x : List ℕ) (ps : List Pair) (i : ℕ) (name : List ℕ) (v : Tree)
-    → T (below_all text_order x ps) → slice_get ps i ≡ Some (name, v) → text_order x name ≡ Less
-below_at x [] i name v h e = cc
-below_at x (p ∷ ps) zero name v h e = ap (λ (r : Pair). text_order x r.0)
-    (sym (same_Some p (name, v) e)) ∙ less (text_order x p.0) (first _ _ h)
-below_at x (p ∷ ps) (suc i) name v h e = below_at x ps i name v (second _ _ h) e
-
--- a name doesn't stand before its place
-gone : (ps : List Pair) (i : ℕ) (name : List ℕ) (v : Tree) → T (is_sorted text_order ps)
-    → slice_get ps i ≡ Some (name, v) → at_name name (take i ps) ≡ None
-gone [] i name v h e = cc
-gone (p ∷ ps) zero name v h e = refl
-gone (p ∷ ps) (suc i) name v h e =
-    let over : text_order name p.0 ≡ Greater =
-    turned text_order text_total p.0 name Less (below_at p.0 ps i name v (first _ _ h) e) in
-    ap (λ r. cond (is_eq r) (Some p.1) (at_name name (take i ps))) over
-    ∙ gone ps i name v (second _ _ h) e
-
 module _ (es : List Edit) (ps : List Pair) where
   -- each name so far has what becomes of its value
   abbrev pub Upto : ℕ → List Pair → Type 0
@@ -251,7 +196,7 @@ module _ (es : List Edit) (ps : List Pair) where
       ≡ option_and_then (changed (under (Name q) es))
       (cond b (Some v) (at_name q (take i ps)))) [
         | true ↦ λ e.
-            let same : q ≡ name = text_apart q name (equal (text_order q name) e) in
+            let same : q ≡ name = text_apart q name (is_eq-true (text_order q name) e) in
             let none : at_name q (take i ps) ≡ None =
             ap (λ (m : List ℕ). at_name m (take i ps)) same ∙ gone ps i name v sorted stands in
             ap (option_or (changed (under (Name name) es) v))
@@ -296,7 +241,7 @@ module _ (es : List Edit) (ps out0 : List Pair) where
       → cond b (option_or (new_at es ps name) (at_name q before)) (at_name q before)
       ≡ cond (more q) (option_or (new_at es ps q) (at_name q out0)) (at_name q out0)) [
         | true ↦ λ e.
-            let same : q ≡ name = text_apart q name (equal (text_order q name) e) in
+            let same : q ≡ name = text_apart q name (is_eq-true (text_order q name) e) in
             ap (λ (m : List ℕ). option_or (new_at es ps m) (at_name q before)) (sym same)
             ∙ ap (option_or (new_at es ps q)) (was q)
             ∙ over_again (new_at es ps q) (at_name q out0) (seen q)
@@ -306,13 +251,3 @@ module _ (es : List Edit) (ps out0 : List Pair) where
             ∙ ap (λ b. cond b (option_or (new_at es ps q) (at_name q out0)) (at_name q out0))
             (sym (is q ∙ ap (λ b. cond b true (seen q)) e))
       ] refl
-
--- a name that stands in a map isn't empty
-pub name_some : (ps : List Pair) (i : ℕ) (name : List ℕ) (v : Tree) → IsItem ps
-    → slice_get ps i ≡ Some (name, v) → 0 < length name
-name_some ps i [] v item e = let below : text_order [] [] ≡ Less = below_at [] ps i [] v item.1 e in
-    absurd (not_below below)
-  where
-    not_below : text_order [] [] ≡ Less → ⊥
-    not_below e = cc
-name_some ps i (c ∷ cs) v item e = omega arith

@@ -1,5 +1,6 @@
 -- A sketch of an update: one edit more, and what it says of the item after it.
-use Rattle.std.proofs.Common.{◌≡◌, refl, sym, ap, subst, ◌∙◌, ℕ, suc, ◌+◌, ◌<◌, Bool, true, false, ◌&&◌, List, [], ◌∷◌, ◌++◌, drop, drop-cons, add-one, length, get_or, Ok, Err}
+use Rattle.std.proofs.Common.{◌≡◌, refl, sym, ap, subst, ◌∙◌, ℕ, suc, ◌+◌, ◌<◌, Bool, true, ◌&&◌, List, [], ◌∷◌, ◌++◌, drop, drop-cons, add-one, length, get_or, Ok, Err}
+use Rattle.std.proofs.lemmas.Bool.{and_parts}
 use Rattle.std.specs.Prelude.{Result}
 use Rattle.alt_expr.specs.Located.{View}
 use Rattle.alt_expr.specs.Updated.{Edit, Fault, ◌>>=◌, edit, edits, under, after, updated}
@@ -34,10 +35,6 @@ sketched-none item actions es begins none = record {
   begins = begins;
 }
 
-two : (a b : Bool) → (a && b) ≡ true → (a ≡ true) × (b ≡ true)
-two true b e = (refl, e)
-two false b e = absurd (let f : ⊥ = cc in f)
-
 -- one more
 pub sketched-more : (item : View) (actions : List Action) (i : ℕ) (a : Action) (es fs : List Edit)
     (f e : Edit) (whole same : Bool) → i < length actions → a ≡ get_or actions i a
@@ -50,7 +47,7 @@ sketched-more item actions i a es fs f e whole same lt is done here alike pushed
   stand_in = subst (λ (gs : List Edit). EachOfTwo StandsInEdit gs (so_far.all ++ e ∷ [])) (sym pushed)
       (each-append StandsInEdit es so_far.all (f ∷ []) (e ∷ []) so_far.stand_in (here, tt));
   same = λ h.
-      let both = two whole same h in
+      let both = and_parts whole same h in
       pushed ∙ (λ j. so_far.same both.0 j ++ alike both.1 j ∷ []);
   begins = begins_more actions i a lt so_far.begins;
 }

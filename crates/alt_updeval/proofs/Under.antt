@@ -3,30 +3,24 @@ use Rattle.std.proofs.Common.{◌≡◌, refl, sym, ap, ◌∙◌, ℕ, suc, Boo
 use Rattle.std.specs.Prelude.{filter, ◌==◌}
 use Rattle.std.specs.Option.{option_or}
 use Rattle.std.specs.Str.{bytes_eq}
-use Rattle.std.specs.Ordering.{eq_by_cmp, is_eq, nat_cmp}
+use Rattle.std.specs.Ordering.{eq_by_cmp, nat_cmp}
 use Rattle.std.specs.FinMap.{IsAntisymmetric}
 use Rattle.std.specs.declared.cmp.Ordering.{Ordering}
-use Rattle.std.specs.declared.cmp.Ordering.TheVariants.{Less, Equal, Greater}
 use Rattle.std.specs.Cmp.{unsigned_ties, nat_eq_equiv}
-use Rattle.std.specs.Cmp.Lexicographic.{texts_ties, nat_list_eq_equiv}
 use Rattle.std.proofs.lemmas.List.{append-nil}
+use Rattle.alt_base.proofs.Orderings.{is_eq-true}
 use Rattle.alt_value.specs.Members.{text_order}
 use Rattle.alt_value.specs.Tree.{Tree, L_tree, M_tree, Trees, no_trees, tree_then, Fields, no_fields, field_then, trees_of, fields_of, elements, pairs}
 use Rattle.alt_expr.specs.declared.path.PathPart.TheVariants.{Name, Index}
 use Rattle.alt_expr.specs.Projected.{element_then, pair_then}
 use Rattle.alt_expr.specs.Updated.{Edit, under, changed, changed_elements, changed_fields, put_here, is_taken, outcome}
-use Rattle.alt_updeval.proofs.Rebuilt.{trees_of-elements, fields_of-pairs}
 use Rattle.alt_updeval.specs.Shown.{named_edits, indexed_edits}
+use Rattle.alt_value.proofs.TextTies.{text_ties_turned}
+use Rattle.alt_value.proofs.Trees.{fields_of-pairs, trees_of-elements}
 
 -- the edits that come with a name, and with an index
 abbrev pub at_key : {K : Type 0} → (K → Bool) → List (K × Edit) → List Edit
 at_key {K} test es = map (λ (p : K × Edit). p.1) (filter (λ (p : K × Edit). test p.0) es)
-
--- an order that is told to be equal is Equal
-tied : (r : Ordering) → is_eq r ≡ true → r ≡ Equal
-tied Less e = cc
-tied Equal e = refl
-tied Greater e = cc
 
 nothing : (b : Bool) → ◌≡◌ {A = List Edit} [] (cond b [] [])
 nothing true = refl
@@ -49,7 +43,7 @@ module _ {K : Type 0} (R : K → K → Ordering) (apart : IsAntisymmetric R)
       (cond b (x ∷ filter (λ (y : K × Edit). eq_by_cmp R y.0 k) xs)
       (filter (λ (y : K × Edit). eq_by_cmp R y.0 k) xs))) []) [
         | true ↦ λ e.
-            let same = apart x.0 k (tied (R x.0 k) e) in
+            let same = apart x.0 k (is_eq-true (R x.0 k) e) in
             ap (λ b. at_k
             (cond b (x ∷ filter (λ (y : K × Edit). p y.0) xs)
             (filter (λ (y : K × Edit). p y.0) xs))) (ap p same)
@@ -80,10 +74,6 @@ module _ {K : Type 0} (R : K → K → Ordering) (apart : IsAntisymmetric R)
             ]
       ] refl
 
--- names that tie are equal byte by byte
-pub same_name : (m n : List ℕ) → eq_by_cmp text_order n m ≡ bytes_eq m n
-same_name m n = sym (texts_ties n m) ∙ nat_list_eq_equiv.symm n m
-
 -- the edits grouped at a name are those that go on from it
 pub named-under : (name : List ℕ) (es : List Edit)
     → at_key (λ n. eq_by_cmp text_order n name) (named_edits es) ≡ under (Name name) es
@@ -98,7 +88,7 @@ named-under name ((Name n ∷ ps, v) ∷ es) =
     ≡ cond b ((ps, v) ∷ []) [] ++ under (Name name) es) [
       | true ↦ λ e. rw e (ap (λ (l : List Edit). (ps, v) ∷ l) (named-under name es))
       | false ↦ λ e. rw e (named-under name es)
-    ] (same_name name n)
+    ] (text_ties_turned name n)
 
 -- the edits grouped at an index are those that go on from it
 pub indexed-under : (k : ℕ) (es : List Edit)

@@ -4,11 +4,11 @@ use Rattle.std.proofs.lemmas.Bool.{cases_lt, le-leb, lt-leb}
 use Rattle.alt_value.specs.Size.{left_after}
 
 -- a budget that is enough, and one that isn't
-enough : (budget n : ℕ) → n ≤ budget → left_after budget n ≡ Some (budget - n)
+pub enough : (budget n : ℕ) → n ≤ budget → left_after budget n ≡ Some (budget - n)
 enough budget n h = rw (le-leb n budget h) refl
 
 -- one that isn't
-wanting : (budget n : ℕ) → budget < n → left_after budget n ≡ None
+pub wanting : (budget n : ℕ) → budget < n → left_after budget n ≡ None
 wanting budget n h = rw (lt-leb n budget h) refl
 
 -- a budget that isn't enough for a part isn't for the whole

@@ -5,8 +5,9 @@ use Rattle.std.proofs.lemmas.List.{get_or_default}
 use Rattle.std.proofs.lemmas.Bool.{cases_order}
 use Rattle.std.specs.declared.cmp.Ordering.TheVariants.{Less, Equal, Greater}
 use Rattle.std.specs.Ordering.{eq_by_cmp}
-use Rattle.std.specs.Cmp.{tied_itself}
 use Rattle.std.specs.FinMap.Entries.{by_order, where_key, below_all, is_sorted, is_sorted-put, is_sorted-where_key}
+use Rattle.alt_base.proofs.Bools.{both_hold, first_holds, second_holds}
+use Rattle.alt_base.proofs.Orderings.{less-holds, is_lt-holds}
 use Rattle.alt_value.specs.declared.attr.Attr.{Attr}
 use Rattle.alt_value.specs.declared.attr.Pair.{Pair as Entry}
 use Rattle.alt_value.specs.Members.{text_order}
@@ -14,7 +15,8 @@ use Rattle.alt_value.specs.Tree.{Tree, Pair}
 use Rattle.alt_value.specs.Stands.{tree_of, pair_of}
 use Rattle.alt_value.specs.Item.{IsItem, at_name, with_pair, without}
 use Rattle.alt_value.specs.Place.{StandsAt, GoesTo}
-use Rattle.alt_value.proofs.Places.{first, second, both, less, is_less, turned, Rises, before_tied}
+use Rattle.alt_value.proofs.Places.{turned, Rises, before_tied}
+use Rattle.alt_value.proofs.TextTies.{same_text}
 use Rattle.alt_value.proofs.Texts.{text_total, text_apart}
 
 -- an entry by its name
@@ -26,17 +28,17 @@ pub below_at : (x : List ℕ) (es : List Entry) (k : ℕ) (d : Entry)
     → T (below_all text_order x (map pair_of es)) → k < length es
     → text_order x (get_or es k d).name ≡ Less
 below_at x [] k d h within = absurd (omega arith)
-below_at x (e ∷ es) zero d h within = less _ (first _ _ h)
-below_at x (e ∷ es) (suc k) d h within = below_at x es k d (second _ _ h) (omega arith)
+below_at x (e ∷ es) zero d h within = is_lt-holds _ (first_holds _ _ h)
+below_at x (e ∷ es) (suc k) d h within = below_at x es k d (second_holds _ _ h) (omega arith)
 
 rises-entries : (es : List Entry) → T (is_sorted text_order (map pair_of es))
     → Rises text_order text_total name_of es
 rises-entries [] h i j d below within = absurd (omega arith)
 rises-entries (e ∷ es) h i zero d below within = absurd (omega arith)
 rises-entries (e ∷ es) h zero (suc j) d below within =
-    below_at e.name es j d (first _ _ h) (omega arith)
+    below_at e.name es j d (first_holds _ _ h) (omega arith)
 rises-entries (e ∷ es) h (suc i) (suc j) d below within =
-    rises-entries es (second _ _ h) i j d (omega arith) (omega arith)
+    rises-entries es (second_holds _ _ h) i j d (omega arith) (omega arith)
 
 -- where the name is above an entry, it is above those before it too
 pub before_more : (name : List ℕ) (es : List Entry) (i : ℕ) (e : Entry) → IsItem (map pair_of es)
@@ -93,10 +95,6 @@ name_before : (name : List ℕ) (e : Entry) → text_order e.name name ≡ Great
     → text_order name e.name ≡ Less
 name_before name e h = turned text_order text_total e.name name Greater h
 
--- a name ties with itself
-name_itself : (name other : List ℕ) → other ≡ name → text_order name other ≡ Equal
-name_itself name other e = rw e (tied_itself text_total name)
-
 -- behind the first entry a name stands, or goes, one place earlier
 later_stands : (name : List ℕ) (e : Entry) (es : List Entry) (i : ℕ)
     → StandsAt name (e ∷ es) (suc i) → StandsAt name es i
@@ -130,8 +128,9 @@ without-above : (name other : List ℕ) (es : List Entry) → other ≡ name
     → without name (map pair_of es) ≡ map pair_of es
 without-above name other [] e h = refl
 without-above name other (f ∷ fs) e h =
-    let p : text_order name f.name ≡ Less = rw (← e) (less _ (first _ _ h)) in
-    rw p (ap (λ (ps : List Pair). pair_of f ∷ ps) (without-above name other fs e (second _ _ h)))
+    let p : text_order name f.name ≡ Less = rw (← e) (is_lt-holds _ (first_holds _ _ h)) in
+    rw p (ap (λ (ps : List Pair). pair_of f ∷ ps)
+    (without-above name other fs e (second_holds _ _ h)))
 
 -- ---- a name that stands there
 
@@ -139,7 +138,7 @@ without-above name other (f ∷ fs) e h =
 pub at_name-stands : (name : List ℕ) (es : List Entry) (i : ℕ) (d : Entry) → StandsAt name es i
     → at_name name (map pair_of es) ≡ Some (tree_of (get_or es i d).value)
 at_name-stands name [] i d s = let w : i < 0 = s.within in absurd (omega arith)
-at_name-stands name (e ∷ es) zero d s = rw (name_itself name e.name (s.same e)) refl
+at_name-stands name (e ∷ es) zero d s = rw (same_text name e.name (s.same e)) refl
 at_name-stands name (e ∷ es) (suc i) d s =
     rw (name_after name e (s.before 0 e (omega arith)))
     (at_name-stands name es i d (later_stands name e es i s))
@@ -150,7 +149,7 @@ pub with_pair-stands : (name : List ℕ) (a : Attr) (es : List Entry) (i : ℕ) 
     → with_pair name (tree_of a) (map pair_of es)
     ≡ map pair_of (set es i (record (get_or es i d) { value = a }))
 with_pair-stands name a [] i d s = let w : i < 0 = s.within in absurd (omega arith)
-with_pair-stands name a (e ∷ es) zero d s = rw (name_itself name e.name (s.same e)) refl
+with_pair-stands name a (e ∷ es) zero d s = rw (same_text name e.name (s.same e)) refl
 with_pair-stands name a (e ∷ es) (suc i) d s =
     rw (name_after name e (s.before 0 e (omega arith)))
     (ap (λ (ps : List Pair). pair_of e ∷ ps) (with_pair-stands name a es i d
@@ -162,12 +161,12 @@ pub without-stands : (name : List ℕ) (es : List Entry) (i : ℕ) → IsItem (m
     → without name (map pair_of es) ≡ map pair_of (remove es i)
 without-stands name [] i item s = let w : i < 0 = s.within in absurd (omega arith)
 without-stands name (e ∷ es) zero item s =
-    rw (name_itself name e.name (s.same e)) (without-above name e.name es (s.same e)
-    (first _ _ item.0))
+    rw (same_text name e.name (s.same e)) (without-above name e.name es (s.same e)
+    (first_holds _ _ item.0))
 without-stands name (e ∷ es) (suc i) item s =
     rw (name_after name e (s.before 0 e (omega arith)))
     (ap (λ (ps : List Pair). pair_of e ∷ ps) (without-stands name es i
-    (second _ _ item.0, second _ _ item.1) (later_stands name e es i s)))
+    (second_holds _ _ item.0, second_holds _ _ item.1) (later_stands name e es i s)))
 
 -- ---- a name that isn't there
 
@@ -212,13 +211,13 @@ without-goes name (e ∷ es) (suc i) g =
 below_put : (x name : List ℕ) (t : Tree) (ps : List Pair) → text_order x name ≡ Less
     → T (below_all text_order x ps)
     → T (below_all text_order x (with_pair name t ps))
-below_put x name t [] p h = both _ _ (is_less _ p) tt
+below_put x name t [] p h = both_hold _ _ (less-holds _ p) tt
 below_put x name t (q ∷ qs) p h =
     elim (text_order name q.0) as (λ o. T (below_all text_order x
     (by_order o ((name, t) ∷ q ∷ qs) ((q.0, t) ∷ qs) (q ∷ with_pair name t qs)))) [
-      | Less ↦ both _ _ (is_less _ p) h
+      | Less ↦ both_hold _ _ (less-holds _ p) h
       | Equal ↦ h
-      | Greater ↦ both _ _ (first _ _ h) (below_put x name t qs p (second _ _ h))
+      | Greater ↦ both_hold _ _ (first_holds _ _ h) (below_put x name t qs p (second_holds _ _ h))
     ]
 
 -- and below each that is left
@@ -227,10 +226,10 @@ below_where : (x : List ℕ) (p : List ℕ → Bool) (qs : List Pair) → T (bel
 below_where x p [] h = tt
 below_where x p (q ∷ qs) h =
     let rest : T (below_all text_order x (where_key text_order p qs)) =
-    below_where x p qs (second _ _ h) in
+    below_where x p qs (second_holds _ _ h) in
     elim (p q.0) as (λ b. T (below_all text_order x
     (cond b (q ∷ where_key text_order p qs) (where_key text_order p qs)))) [
-      | true ↦ both _ _ (first _ _ h) rest
+      | true ↦ both_hold _ _ (first_holds _ _ h) rest
       | false ↦ rest
     ]
 

@@ -1,5 +1,5 @@
 -- Members in any order, and the set of them: a list that rises is the set of each list with the same members.
-use Rattle.std.proofs.Common.{◌≡◌, refl, sym, ap, subst, ◌∙◌, ℕ, zero, suc, ◌+◌, ◌<◌, ◌≤◌, Bool, true, false, not, cond, ◌||◌, T, List, [], ◌∷◌, length, get_or, inl, inr, Some, None, arith, add-one}
+use Rattle.std.proofs.Common.{◌≡◌, refl, sym, ap, subst, ◌∙◌, ℕ, zero, suc, ◌+◌, ◌<◌, ◌≤◌, Bool, true, false, cond, ◌||◌, T, List, [], ◌∷◌, length, get_or, inl, inr, Some, None, arith, add-one}
 use Rattle.std.specs.List.{sum_by, IsAllAdjacentAnswer}
 use Rattle.std.specs.List.Sorted.{IsSorted, IsPermutation}
 use Rattle.std.specs.declared.cmp.Ordering.{Ordering}
@@ -11,19 +11,16 @@ use Rattle.std.specs.FinMap.Entries.{by_order}
 use Rattle.std.proofs.lemmas.Bool.{cases_Bool}
 use Rattle.std.proofs.lemmas.List.Sums.{sum_by-cons}
 use Rattle.std.proofs.lemmas.List.Sorted.{sum_by-IsPermutation, list_any-IsPermutation}
+use Rattle.std.specs.Bool.{passes, fails}
+use Rattle.alt_base.proofs.Bools.{both_hold, first_holds, not_holds_false, holds_true, second_holds}
+use Rattle.alt_base.proofs.Orderings.{is_eq-true, less-holds, is_lt-holds}
 use Rattle.alt_value.specs.Members.{is_below_each, is_rising, has_member, with_member, are_apart, gathered, set_of}
-use Rattle.alt_value.proofs.Places.{first, second, both, less, is_less, turned, below_each_below, is_rising-with_member}
+use Rattle.alt_value.proofs.Places.{turned, below_each_below, is_rising-with_member}
 
 -- 1 for true, 0 for false: a count of one
 abbrev mark : Bool → ℕ
 mark true = 1
 mark false = 0
-
--- what an order says by its tests
-equal : (r : Ordering) → is_eq r ≡ true → r ≡ Equal
-equal Less e = cc
-equal Equal e = refl
-equal Greater e = cc
 
 below : (r : Ordering) → true ≡ is_lt r → r ≡ Less
 below Less e = refl
@@ -35,23 +32,6 @@ level : (r : Ordering) → false ≡ is_lt r → is_lt (ordering_reverse r) ≡ 
 level Less e f = cc
 level Equal e f = refl
 level Greater e f = cc
-
--- tests and what they say
-is_true : (b : Bool) → T b → b ≡ true
-is_true true p = refl
-is_true false p = absurd p
-
-from_true : (b : Bool) → b ≡ true → T b
-from_true true e = tt
-from_true false e = cc
-
-from_not : (b : Bool) → T (not b) → b ≡ false
-from_not true p = absurd p
-from_not false p = refl
-
-not_from : (b : Bool) → b ≡ false → T (not b)
-not_from true e = cc
-not_from false e = tt
 
 -- counts that are zero, or one at most
 none_zero : (b rest : Bool) (n : ℕ) → (b || rest) ≡ false → (rest ≡ false → n ≡ 0) → mark b + n ≡ 0
@@ -113,7 +93,8 @@ module _ {K : Type 0} (R : K → K → Ordering) (o : IsTotalOrder R) where
   -- what is below each of them is none of them
   pub below_none : (x : K) (ys : List K) → T (is_below_each R x ys) → has_member R x ys ≡ false
   below_none x [] h = refl
-  below_none x (y ∷ ys) h = rw (less (R x y) (first _ _ h)) (below_none x ys (second _ _ h))
+  below_none x (y ∷ ys) h =
+      rw (is_lt-holds (R x y) (first_holds _ _ h)) (below_none x ys (second_holds _ _ h))
 
   -- what is equal to one that is below each of them isn't among them
   tied_none : (x y : K) (ys : List K) → R x y ≡ Equal → T (is_below_each R y ys) → times x ys ≡ 0
@@ -123,20 +104,22 @@ module _ {K : Type 0} (R : K → K → Ordering) (o : IsTotalOrder R) where
   once-rising x [] h = omega arith
   once-rising x (y ∷ ys) h =
       at_most_one (is_eq (R x y)) (times x ys)
-      (λ e. tied_none x y ys (equal (R x y) e) (first _ _ h)) (once-rising x ys (second _ _ h))
+      (λ e. tied_none x y ys (is_eq-true (R x y) e) (first_holds _ _ h))
+      (once-rising x ys (second_holds _ _ h))
 
   once-apart : (x : K) (ys : List K) → T (are_apart R ys) → times x ys ≤ 1
   once-apart x [] h = omega arith
   once-apart x (y ∷ ys) h =
       at_most_one (is_eq (R x y)) (times x ys)
-      (λ e. times-tied x y ys (equal (R x y) e) ∙ times-none y ys (from_not _ (first _ _ h)))
-      (once-apart x ys (second _ _ h))
+      (λ e. times-tied x y ys (is_eq-true (R x y) e)
+      ∙ times-none y ys (not_holds_false _ (first_holds _ _ h)))
+      (once-apart x ys (second_holds _ _ h))
 
   apart-once : (ys : List K) → ((x : K) → times x ys ≤ 1) → T (are_apart R ys)
   apart-once [] h = tt
   apart-once (y ∷ ys) h =
       let here : mark (is_eq (R y y)) ≡ 1 = ap mark (itself y) in
-      both _ _ (not_from _ (none-times y ys (omega (arith, here, h y))))
+      both_hold _ _ (fails _ (none-times y ys (omega (arith, here, h y))))
       (apart-once ys (λ x. omega (arith, h x)))
 
   -- ---- the members of a set
@@ -178,7 +161,7 @@ module _ {K : Type 0} (R : K → K → Ordering) (o : IsTotalOrder R) where
       → has_member R z xs ≡ has_member R z ys
   tails_alike x xs ys h k same z = elim (cases_Bool (is_eq (R z x))) [
     | inl e ↦
-        let tie : R z x ≡ Equal = equal (R z x) e in
+        let tie : R z x ≡ Equal = is_eq-true (R z x) e in
         none-times z xs (tied_none z x xs tie h) ∙ sym (none-times z ys (tied_none z x ys tie k))
     | inr e ↦ rw e at (same z)
   ]
@@ -193,18 +176,18 @@ module _ {K : Type 0} (R : K → K → Ordering) (o : IsTotalOrder R) where
     same_sets (x ∷ xs) (y ∷ ys) h k same =
         elim (R x y) as (λ r. R x y ≡ r → x ∷ xs ≡ y ∷ ys) [
           | Less ↦ λ e. let f = sym (head_there x xs) ∙ same x
-              ∙ lower_none x y ys e (first _ _ k) in cc
+              ∙ lower_none x y ys e (first_holds _ _ k) in cc
           | Equal ↦ λ e.
               let head : x ≡ y = apart x y e in
               let there : T (is_below_each R x ys) =
-              subst (λ u. T (is_below_each R u ys)) (sym head) (first _ _ k) in
+              subst (λ u. T (is_below_each R u ys)) (sym head) (first_holds _ _ k) in
               let alike : (z : K) → has_member R z (x ∷ xs) ≡ has_member R z (x ∷ ys) =
               λ z. same z ∙ ap (λ u. has_member R z (u ∷ ys)) (sym head) in
-              let tail : xs ≡ ys = same_sets xs ys (second _ _ h) (second _ _ k)
-              (tails_alike x xs ys (first _ _ h) there alike) in
+              let tail : xs ≡ ys = same_sets xs ys (second_holds _ _ h) (second_holds _ _ k)
+              (tails_alike x xs ys (first_holds _ _ h) there alike) in
               λ i. head i ∷ tail i
           | Greater ↦ λ e. let f = sym (head_there y ys) ∙ sym (same y)
-              ∙ lower_none y x xs (turned R o x y Greater e) (first _ _ h) in cc
+              ∙ lower_none y x xs (turned R o x y Greater e) (first_holds _ _ h) in cc
         ] refl
 
     -- a list with the members of one that rises
@@ -217,7 +200,7 @@ module _ {K : Type 0} (R : K → K → Ordering) (o : IsTotalOrder R) where
         let is : gathered R xs ≡ ys =
         same_sets (gathered R xs) ys (is_rising-gathered xs) h
         (λ z. has_member-gathered z xs ∙ list_any-IsPermutation (λ y. is_eq (R z y)) xs ys p) in
-        rw (is_true _ once, is) refl
+        rw (holds_true _ once, is) refl
 
   -- ---- neighbours
 
@@ -229,7 +212,8 @@ module _ {K : Type 0} (R : K → K → Ordering) (o : IsTotalOrder R) where
       let rest : T (is_rising R (z ∷ zs)) = rising_from (z ∷ zs)
       (λ k d l. h (suc k) d (omega arith)) in
       let next : R y z ≡ Less = h 0 y (omega arith) in
-      both _ _ (both _ _ (is_less _ next) (below_each_below R o y z zs next (first _ _ rest))) rest
+      both_hold _ _ (both_hold _ _ (less-holds _ next)
+      (below_each_below R o y z zs next (first_holds _ _ rest))) rest
 
   twice : (x : K) (ys : List K) (k : ℕ) → suc k < length ys
       → ((d : K) → R x (get_or ys k d) ≡ Equal)
@@ -259,7 +243,7 @@ module _ {K : Type 0} (R : K → K → Ordering) (o : IsTotalOrder R) where
           arith,
           more,
           times-permuted x xs (y ∷ ys) p,
-          once-apart x xs (from_true _ e),
+          once-apart x xs (passes _ e),
         ))
     | inr e ↦ rw e refl
   ]

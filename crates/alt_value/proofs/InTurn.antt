@@ -1,5 +1,5 @@
 -- Pairs put in turn: the last at a name counts, in whatever order the names come.
-use Rattle.std.proofs.Common.{◌≡◌, refl, sym, ap, subst, ◌∙◌, ℕ, zero, suc, ◌<◌, Bool, true, false, cond, not, ◌&&◌, T, List, [], ◌∷◌, ◌++◌, length, map, Some, None, append_assoc, append-nil, arith}
+use Rattle.std.proofs.Common.{◌≡◌, refl, sym, ap, subst, ◌∙◌, ℕ, zero, suc, Bool, true, false, cond, not, ◌&&◌, T, List, [], ◌∷◌, ◌++◌, map, Some, None, append_assoc, append-nil, arith}
 use Rattle.std.specs.Prelude.{Option}
 use Rattle.std.proofs.lemmas.List.{map-append}
 use Rattle.std.specs.List.{All, filter}
@@ -7,6 +7,8 @@ use Rattle.std.specs.List.Sorted.{IsStableBy, ties}
 use Rattle.std.specs.declared.cmp.Ordering.TheVariants.{Less, Equal, Greater}
 use Rattle.std.specs.Ordering.{is_lt, is_eq, eq_by_cmp}
 use Rattle.std.specs.FinMap.Entries.{find, below_all, is_sorted, is_sorted-put, find-put, same_entries}
+use Rattle.alt_base.proofs.Bools.{first_holds, second_holds}
+use Rattle.alt_base.proofs.Orderings.{is_lt-holds}
 use Rattle.alt_value.specs.declared.attr.Attr.TheVariants.{Null}
 use Rattle.alt_value.specs.declared.attr.Pair.{Pair as Entry}
 use Rattle.alt_value.specs.Named.{IsNamed}
@@ -15,7 +17,8 @@ use Rattle.alt_value.specs.Members.{text_order}
 use Rattle.alt_value.specs.Stands.{tree_of, pair_of}
 use Rattle.alt_value.specs.Tree.{Tree, Pair}
 use Rattle.alt_value.proofs.Entries.{below_at}
-use Rattle.alt_value.proofs.Places.{first, second, less, turned}
+use Rattle.alt_value.proofs.Places.{turned}
+use Rattle.alt_value.proofs.TextTies.{above_empty}
 use Rattle.alt_value.proofs.Texts.{text_total, text_apart}
 
 -- one entry's name is below another's
@@ -87,16 +90,16 @@ with_pairs-stable xs ys stable =
 -- a name below each of several is below one in their midst
 end_below : (x : List ℕ) (qs : List Pair) (p : Pair) (ps : List Pair)
     → T (below_all text_order x (qs ++ p ∷ ps)) → text_order x p.0 ≡ Less
-end_below x [] p ps h = less _ (first _ _ h)
-end_below x (q ∷ qs) p ps h = end_below x qs p ps (second _ _ h)
+end_below x [] p ps h = is_lt-holds _ (first_holds _ _ h)
+end_below x (q ∷ qs) p ps h = end_below x qs p ps (second_holds _ _ h)
 
 -- a name above all is put in at the end
 with_pair-end : (qs : List Pair) (p : Pair) (ps : List Pair)
     → T (is_sorted text_order (qs ++ p ∷ ps)) → with_pair p.0 p.1 qs ≡ qs ++ p ∷ []
 with_pair-end [] p ps h = refl
 with_pair-end (q ∷ qs) p ps h =
-    rw (turned text_order text_total q.0 p.0 Less (end_below q.0 qs p ps (first _ _ h)))
-    (ap (λ (l : List Pair). q ∷ l) (with_pair-end qs p ps (second _ _ h)))
+    rw (turned text_order text_total q.0 p.0 Less (end_below q.0 qs p ps (first_holds _ _ h)))
+    (ap (λ (l : List Pair). q ∷ l) (with_pair-end qs p ps (second_holds _ _ h)))
 
 -- pairs whose names rise are put in one behind the other
 with_pairs-end : (qs ps : List Pair) → T (is_sorted text_order (qs ++ ps))
@@ -130,11 +133,6 @@ with_pairs-push [] e item = refl
 with_pairs-push (f ∷ fs) e item = with_pairs-push fs e (with_pair f.name (tree_of f.value) item)
 
 -- ---- names that aren't empty
-
--- what is above the empty name isn't empty
-above_empty : (s : List ℕ) → text_order [] s ≡ Less → 0 < length s
-above_empty [] h = cc
-above_empty (c ∷ cs) h = omega arith
 
 -- no name of an item is empty
 pub named-item : (es : List Entry) → IsItem (map pair_of es) → All IsNamed es

@@ -10,3 +10,6 @@ pub mod Gathered
 pub mod Merged
 pub mod Values
 pub mod Depths
+pub mod NamedPairs
+pub mod Smaller
+pub mod TextTies

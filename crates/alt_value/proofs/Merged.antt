@@ -7,10 +7,12 @@ use Rattle.std.specs.Cmp.{IsTotalOrder}
 use Rattle.std.specs.FinMap.Entries.{by_order}
 use Rattle.std.proofs.lemmas.Bool.{cases_Bool}
 use Rattle.std.proofs.lemmas.List.{at_drop_all, at_drop_more, append_assoc, append-nil, get_or_default, take_rest}
+use Rattle.alt_base.proofs.Bools.{both_hold, first_holds, second_holds}
+use Rattle.alt_base.proofs.Orderings.{less-holds, is_lt-holds}
 use Rattle.alt_fields.specs.Bytes.{IsShort}
 use Rattle.alt_value.specs.Values.{AreMembers}
 use Rattle.alt_value.specs.Members.{is_below_each, is_rising, has_member, with_member, with_members, without_members}
-use Rattle.alt_value.proofs.Places.{first, second, both, less, is_less, turned, below_each_below, below_with_member, is_rising-with_member}
+use Rattle.alt_value.proofs.Places.{turned, below_each_below, below_with_member, is_rising-with_member}
 use Rattle.alt_value.proofs.Gathered.{below_none}
 
 module _ {K : Type 0} (R : K → K → Ordering) (o : IsTotalOrder R) where
@@ -18,37 +20,37 @@ module _ {K : Type 0} (R : K → K → Ordering) (o : IsTotalOrder R) where
 
   with_member-front : (x : K) (ys : List K) → T (is_below_each R x ys) → with_member R x ys ≡ x ∷ ys
   with_member-front x [] h = refl
-  with_member-front x (y ∷ ys) h = rw (less (R x y) (first _ _ h)) refl
+  with_member-front x (y ∷ ys) h = rw (is_lt-holds (R x y) (first_holds _ _ h)) refl
 
   below_with_members : (z : K) (xs ys : List K) → T (is_below_each R z xs)
       → T (is_below_each R z ys)
       → T (is_below_each R z (with_members R xs ys))
   below_with_members z [] ys h k = k
   below_with_members z (x ∷ xs) ys h k =
-      below_with_member R o z x (with_members R xs ys) (less _ (first _ _ h))
-      (below_with_members z xs ys (second _ _ h) k)
+      below_with_member R o z x (with_members R xs ys) (is_lt-holds _ (first_holds _ _ h))
+      (below_with_members z xs ys (second_holds _ _ h) k)
 
   -- what ties with the first is below the others too
   below_each_tied : (x y : K) (zs : List K) → R x y ≡ Equal → T (is_below_each R x zs)
       → T (is_below_each R y zs)
   below_each_tied x y [] e h = tt
   below_each_tied x y (z ∷ zs) e h =
-      both _ _ (is_less _ (sym (o.congr x y z e) ∙ less _ (first _ _ h)))
-      (below_each_tied x y zs e (second _ _ h))
+      both_hold _ _ (less-holds _ (sym (o.congr x y z e) ∙ is_lt-holds _ (first_holds _ _ h)))
+      (below_each_tied x y zs e (second_holds _ _ h))
 
   below_each_above : (x y : K) (xs : List K) → R x y ≡ Greater → T (is_below_each R x xs)
       → T (is_below_each R y (x ∷ xs))
   below_each_above x y xs e h =
       let turn : R y x ≡ Less = turned R o x y Greater e in
-      both _ _ (is_less _ turn) (below_each_below R o y x xs turn h)
+      both_hold _ _ (less-holds _ turn) (below_each_below R o y x xs turn h)
 
   -- a member below all that are put in stays in front
   with_members-behind : (y : K) (xs ys : List K) → T (is_below_each R y xs)
       → with_members R xs (y ∷ ys) ≡ y ∷ with_members R xs ys
   with_members-behind y [] ys h = refl
   with_members-behind y (x ∷ xs) ys h =
-      let turn : R x y ≡ Greater = turned R o y x Less (less (R y x) (first _ _ h)) in
-      ap (with_member R x) (with_members-behind y xs ys (second _ _ h)) ∙ rw turn refl
+      let turn : R x y ≡ Greater = turned R o y x Less (is_lt-holds (R y x) (first_holds _ _ h)) in
+      ap (with_member R x) (with_members-behind y xs ys (second_holds _ _ h)) ∙ rw turn refl
 
   -- ---- both together
 
@@ -57,14 +59,14 @@ module _ {K : Type 0} (R : K → K → Ordering) (o : IsTotalOrder R) where
       → with_members R (x ∷ xs) (y ∷ ys) ≡ x ∷ with_members R xs (y ∷ ys)
   together-less x y xs ys e h k =
       with_member-front x (with_members R xs (y ∷ ys))
-      (below_with_members x xs (y ∷ ys) (first _ _ h)
-      (both _ _ (is_less _ e) (below_each_below R o x y ys e (first _ _ k))))
+      (below_with_members x xs (y ∷ ys) (first_holds _ _ h)
+      (both_hold _ _ (less-holds _ e) (below_each_below R o x y ys e (first_holds _ _ k))))
 
   together-equal : (x y : K) (xs ys : List K) → R x y ≡ Equal → T (is_rising R (x ∷ xs))
       → with_members R (x ∷ xs) (y ∷ ys) ≡ with_members R xs (y ∷ ys)
   together-equal x y xs ys e h =
       let behind : with_members R xs (y ∷ ys) ≡ y ∷ with_members R xs ys =
-      with_members-behind y xs ys (below_each_tied x y xs e (first _ _ h)) in
+      with_members-behind y xs ys (below_each_tied x y xs e (first_holds _ _ h)) in
       let stays : with_member R x (y ∷ with_members R xs ys) ≡ y ∷ with_members R xs ys =
       rw e refl in
       ap (with_member R x) behind ∙ stays ∙ sym behind
@@ -72,12 +74,12 @@ module _ {K : Type 0} (R : K → K → Ordering) (o : IsTotalOrder R) where
   together-greater : (x y : K) (xs ys : List K) → R x y ≡ Greater → T (is_rising R (x ∷ xs))
       → with_members R (x ∷ xs) (y ∷ ys) ≡ y ∷ with_members R (x ∷ xs) ys
   together-greater x y xs ys e h = with_members-behind y (x ∷ xs) ys
-      (below_each_above x y xs e (first _ _ h))
+      (below_each_above x y xs e (first_holds _ _ h))
 
   together-none : (xs : List K) → T (is_rising R xs) → with_members R xs [] ≡ xs
   together-none [] h = refl
-  together-none (x ∷ xs) h = ap (with_member R x) (together-none xs (second _ _ h))
-      ∙ with_member-front x xs (first _ _ h)
+  together-none (x ∷ xs) h = ap (with_member R x) (together-none xs (second_holds _ _ h))
+      ∙ with_member-front x xs (first_holds _ _ h)
 
   -- ---- one alone
 
@@ -88,19 +90,20 @@ module _ {K : Type 0} (R : K → K → Ordering) (o : IsTotalOrder R) where
   alone-greater : (x y : K) (xs ys : List K) → R x y ≡ Greater → T (is_rising R (x ∷ xs))
       → without_members R (x ∷ xs) (y ∷ ys) ≡ y ∷ without_members R (x ∷ xs) ys
   alone-greater x y xs ys e h = rw (below_none R o y (x ∷ xs)
-      (below_each_above x y xs e (first _ _ h))) refl
+      (below_each_above x y xs e (first_holds _ _ h))) refl
 
   passed : (x : K) (xs ys : List K) → T (is_below_each R x ys)
       → without_members R (x ∷ xs) ys ≡ without_members R xs ys
   passed x xs [] h = refl
   passed x xs (y ∷ ys) h =
-      let turn : R y x ≡ Greater = turned R o x y Less (less (R x y) (first _ _ h)) in
-      rw turn (ap (λ l. cond (not (has_member R y xs)) (y ∷ l) l) (passed x xs ys (second _ _ h)))
+      let turn : R y x ≡ Greater = turned R o x y Less (is_lt-holds (R x y) (first_holds _ _ h)) in
+      rw turn
+      (ap (λ l. cond (not (has_member R y xs)) (y ∷ l) l) (passed x xs ys (second_holds _ _ h)))
 
   alone-less : (x y : K) (xs ys : List K) → R x y ≡ Less → T (is_rising R (y ∷ ys))
       → without_members R (x ∷ xs) (y ∷ ys) ≡ without_members R xs (y ∷ ys)
   alone-less x y xs ys e k = passed x xs (y ∷ ys)
-      (both _ _ (is_less _ e) (below_each_below R o x y ys e (first _ _ k)))
+      (both_hold _ _ (less-holds _ e) (below_each_below R o x y ys e (first_holds _ _ k)))
 
   alone-none : (ys : List K) → without_members R [] ys ≡ ys
   alone-none [] = refl
@@ -111,7 +114,7 @@ module _ {K : Type 0} (R : K → K → Ordering) (o : IsTotalOrder R) where
   rising-drop : (i : ℕ) (xs : List K) → T (is_rising R xs) → T (is_rising R (drop i xs))
   rising-drop zero xs h = h
   rising-drop (suc i) [] h = tt
-  rising-drop (suc i) (x ∷ xs) h = rising-drop i xs (second _ _ h)
+  rising-drop (suc i) (x ∷ xs) h = rising-drop i xs (second_holds _ _ h)
 
   front : (xs : List K) (i : ℕ) (x : K) → i < length xs → x ≡ get_or xs i x
       → drop i xs ≡ x ∷ drop (i + 1) xs
@@ -255,17 +258,18 @@ module _ {K : Type 0} (R : K → K → Ordering) (o : IsTotalOrder R) where
       → T (is_below_each R x (filter test ys))
   below_each-filter test x [] h = tt
   below_each-filter test x (y ∷ ys) h = elim (cases_Bool (test y)) [
-    | inl e ↦ rw e (both _ _ (first _ _ h) (below_each-filter test x ys (second _ _ h)))
-    | inr e ↦ rw e (below_each-filter test x ys (second _ _ h))
+    | inl e ↦ rw e
+        (both_hold _ _ (first_holds _ _ h) (below_each-filter test x ys (second_holds _ _ h)))
+    | inr e ↦ rw e (below_each-filter test x ys (second_holds _ _ h))
   ]
 
   is_rising-filter : (test : K → Bool) (ys : List K) → T (is_rising R ys)
       → T (is_rising R (filter test ys))
   is_rising-filter test [] h = tt
   is_rising-filter test (y ∷ ys) h = elim (cases_Bool (test y)) [
-    | inl e ↦ rw e (both _ _ (below_each-filter test y ys (first _ _ h))
-        (is_rising-filter test ys (second _ _ h)))
-    | inr e ↦ rw e (is_rising-filter test ys (second _ _ h))
+    | inl e ↦ rw e (both_hold _ _ (below_each-filter test y ys (first_holds _ _ h))
+        (is_rising-filter test ys (second_holds _ _ h)))
+    | inr e ↦ rw e (is_rising-filter test ys (second_holds _ _ h))
   ]
 
   -- what is left of a set is a set

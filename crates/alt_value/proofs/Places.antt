@@ -1,46 +1,17 @@
 -- Where a key stands, or is to stand, in a list whose keys rise.
-use Rattle.std.proofs.Common.{◌≡◌, refl, sym, ap, subst, ◌∙◌, ℕ, zero, suc, ◌<◌, ◌≤◌, Bool, true, false, ◌&&◌, ◌||◌, T, List, [], ◌∷◌, length, get_or, inl, inr, Result, Ok, Err, arith}
+use Rattle.std.proofs.Common.{◌≡◌, refl, sym, ap, subst, ◌∙◌, ℕ, zero, suc, ◌<◌, ◌≤◌, Bool, true, false, ◌||◌, T, List, [], ◌∷◌, length, get_or, inl, inr, Result, Ok, Err, arith}
 use Rattle.std.specs.List.{insert}
 use Rattle.std.specs.List.Sorted.{IsNonDecreasingBy, IsPartitionPoint, IsBinarySearchResult, IsSearchInRange}
 use Rattle.std.specs.Result.{is_ok}
 use Rattle.std.specs.declared.cmp.Ordering.{Ordering}
 use Rattle.std.specs.declared.cmp.Ordering.TheVariants.{Less, Equal, Greater}
-use Rattle.std.specs.Ordering.{is_lt, is_eq, ordering_index, ordering_reverse}
+use Rattle.std.specs.Ordering.{is_eq, ordering_index, ordering_reverse}
 use Rattle.std.specs.Cmp.{IsTotalOrder, alike_right}
 use Rattle.std.specs.FinMap.Entries.{by_order}
 use Rattle.std.proofs.lemmas.Bool.{cases_order}
+use Rattle.alt_base.proofs.Bools.{both_hold, first_holds, second_holds}
+use Rattle.alt_base.proofs.Orderings.{ordering_index-top, less-holds, is_lt-holds as less}
 use Rattle.alt_value.specs.Members.{is_below_each, is_rising, has_member, with_member}
-
--- both hold exactly where each does
-pub first : (a b : Bool) → T (a && b) → T a
-first true b p = tt
-first false b p = p
-
--- and so does the second
-pub second : (a b : Bool) → T (a && b) → T b
-second true b p = p
-second false b p = absurd p
-
--- and both where each does
-pub both : (a b : Bool) → T a → T b → T (a && b)
-both true b p q = q
-both false b p q = p
-
--- an order is Less where it says so
-pub less : (r : Ordering) → T (is_lt r) → r ≡ Less
-less Less p = refl
-less Equal p = absurd p
-less Greater p = absurd p
-
--- and says so where it is
-pub is_less : (r : Ordering) → r ≡ Less → T (is_lt r)
-is_less r e = subst (λ s. T (is_lt s)) (sym e) tt
-
--- no order stands above Greater
-index_top : (n : Ordering) → ordering_index n ≤ 2
-index_top Less = omega arith
-index_top Equal = omega arith
-index_top Greater = omega arith
 
 module _ {K : Type 0} (R : K → K → Ordering) (o : IsTotalOrder R) where
   -- the other way round
@@ -56,7 +27,7 @@ module _ {K : Type 0} (R : K → K → Ordering) (o : IsTotalOrder R) where
       → ordering_index (R e x) ≤ ordering_index r
   index_rises e y x Less p q = omega (arith, ap ordering_index (o.trans e y x p q))
   index_rises e y x Equal p q = omega (arith, ap ordering_index (less_tied e y x p q))
-  index_rises e y x Greater p q = index_top (R e x)
+  index_rises e y x Greater p q = ordering_index-top (R e x)
 
   module _ {E : Type 0} (key : E → K) where
     -- each key is below those after it
@@ -102,17 +73,17 @@ module _ {K : Type 0} (R : K → K → Ordering) (o : IsTotalOrder R) where
   below_at : (x : K) (ys : List K) (k : ℕ) (d : K) → T (is_below_each R x ys) → k < length ys
       → R x (get_or ys k d) ≡ Less
   below_at x [] k d h within = absurd (omega arith)
-  below_at x (y ∷ ys) zero d h within = less _ (first _ _ h)
-  below_at x (y ∷ ys) (suc k) d h within = below_at x ys k d (second _ _ h) (omega arith)
+  below_at x (y ∷ ys) zero d h within = less _ (first_holds _ _ h)
+  below_at x (y ∷ ys) (suc k) d h within = below_at x ys k d (second_holds _ _ h) (omega arith)
 
   -- each member of a set is below those behind it
   pub rises-is_rising : (ys : List K) → T (is_rising R ys) → Rises (λ y. y) ys
   rises-is_rising [] h i j d below within = absurd (omega arith)
   rises-is_rising (y ∷ ys) h i zero d below within = absurd (omega arith)
   rises-is_rising (y ∷ ys) h zero (suc j) d below within =
-      below_at y ys j d (first _ _ h) (omega arith)
+      below_at y ys j d (first_holds _ _ h) (omega arith)
   rises-is_rising (y ∷ ys) h (suc i) (suc j) d below within =
-      rises-is_rising ys (second _ _ h) i j d (omega arith) (omega arith)
+      rises-is_rising ys (second_holds _ _ h) i j d (omega arith) (omega arith)
 
   -- a member that is there
   pub with_member-present : (x : K) (ys : List K) (i : ℕ) → i < length ys → Before (λ y. y) x ys i
@@ -170,19 +141,20 @@ module _ {K : Type 0} (R : K → K → Ordering) (o : IsTotalOrder R) where
       → T (is_below_each R x ys)
   below_each_below x y [] p h = tt
   below_each_below x y (z ∷ zs) p h =
-      both _ _ (is_less _ (o.trans x y z p (less _ (first _ _ h))))
-      (below_each_below x y zs p (second _ _ h))
+      both_hold _ _ (less-holds _ (o.trans x y z p (less _ (first_holds _ _ h))))
+      (below_each_below x y zs p (second_holds _ _ h))
 
   -- what is below each of them and below x is below each, x more
   pub below_with_member : (y x : K) (ys : List K) → R y x ≡ Less → T (is_below_each R y ys)
       → T (is_below_each R y (with_member R x ys))
-  below_with_member y x [] p h = both _ _ (is_less _ p) tt
+  below_with_member y x [] p h = both_hold _ _ (less-holds _ p) tt
   below_with_member y x (z ∷ zs) p h =
       elim (R x z) as (λ r. T (is_below_each R y
       (by_order r (x ∷ z ∷ zs) (z ∷ zs) (z ∷ with_member R x zs)))) [
-        | Less ↦ both _ _ (is_less _ p) h
+        | Less ↦ both_hold _ _ (less-holds _ p) h
         | Equal ↦ h
-        | Greater ↦ both _ _ (first _ _ h) (below_with_member y x zs p (second _ _ h))
+        | Greater ↦ both_hold _ _ (first_holds _ _ h)
+            (below_with_member y x zs p (second_holds _ _ h))
       ]
 
   -- a set with a member more is a set
@@ -192,10 +164,12 @@ module _ {K : Type 0} (R : K → K → Ordering) (o : IsTotalOrder R) where
   is_rising-with_member x (y ∷ ys) h =
       elim (R x y) as (λ r. R x y ≡ r → T (is_rising R
       (by_order r (x ∷ y ∷ ys) (y ∷ ys) (y ∷ with_member R x ys)))) [
-        | Less ↦ λ p. both _ _ (both _ _ (is_less _ p) (below_each_below x y ys p (first _ _ h))) h
+        | Less ↦ λ p. both_hold _ _
+            (both_hold _ _ (less-holds _ p) (below_each_below x y ys p (first_holds _ _ h))) h
         | Equal ↦ λ p. h
-        | Greater ↦ λ p. both _ _ (below_with_member y x ys (turned x y Greater p) (first _ _ h))
-            (is_rising-with_member x ys (second _ _ h))
+        | Greater ↦ λ p. both_hold _ _
+            (below_with_member y x ys (turned x y Greater p) (first_holds _ _ h))
+            (is_rising-with_member x ys (second_holds _ _ h))
       ] refl
 
   -- What a search for m in the members found, where these rise. The list that was searched, the members and the set are one list.

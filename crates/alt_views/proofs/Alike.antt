@@ -9,6 +9,7 @@ use Rattle.std.specs.List.{list_any}
 use Rattle.std.specs.Str.{bytes_eq}
 use Rattle.std.specs.FinMap.{entries, get}
 use Rattle.std.specs.FinMap.Entries.{where_key, is_sorted-where_key, same_entries}
+use Rattle.alt_base.proofs.Lists.{bytes_eq-itself}
 use Rattle.alt_cells.specs.Changes.{Columns, change_between, gone_cells, cells_between, differs, is_changed, with_value, without_value}
 use Rattle.alt_cells.specs.Keys.{key_cmp}
 use Rattle.alt_cells.specs.declared.batch.RowChange.{RowChange}
@@ -28,7 +29,7 @@ use Rattle.alt_value.specs.Tree.{Pair}
 use Rattle.alt_value.proofs.Texts.{text_total, text_apart}
 use Rattle.alt_views.specs.private.Changed.{AreAlikeBeside, DifferAt, may_change}
 use Rattle.alt_views.specs.IndexRows.{KeyedRow, built_row, changes_in, if_said, index_columns, moved_changes, row_in_index}
-use Rattle.alt_views.proofs.Keeping.{hash_is_key, range_is_key, own_kept, own_place-cut, place-cut, same_name}
+use Rattle.alt_views.proofs.Keeping.{hash_is_key, range_is_key, own_kept, own_place-cut, place-cut}
 use Rattle.alt_views.proofs.Parts.{at_name-where}
 
 -- ---- a row that stays says nothing
@@ -49,7 +50,7 @@ unchanged m name = by (get m name)
   where
     by : (o : Option (List ℕ)) → option_map_or (differs o) o false ≡ false
     by None = refl
-    by (Some v) = ap not (same_name v)
+    by (Some v) = ap not (bytes_eq-itself v)
 
 -- so no cell does
 no_cells : (m : Columns) → cells_between (Some m) (Some m) ≡ []
@@ -61,7 +62,7 @@ no_cells m =
     ap is_none (get_entry m (entries m) n e refl within at)))
 
 -- a change without cells isn't made
-unsaid : (c : RowChange) → c.cells ≡ [] → if_said c ≡ []
+pub unsaid : (c : RowChange) → c.cells ≡ [] → if_said c ≡ []
 unsaid c none = subst (λ given. if_said (record c { cells = given }) ≡ []) (sym none) refl
 
 -- A row that stays changes nothing.
@@ -71,7 +72,7 @@ moved_changes-same family (Some r) =
     ap (λ b. if b
     then if_said (change_between family r.0 (Some r.1) (Some r.1))
     else change_between family r.0 (Some r.1) None ∷ change_between family r.0 None (Some r.1) ∷ [])
-    (is_eq-slice_cmp r.0 r.0 ∙ same_name r.0)
+    (is_eq-slice_cmp r.0 r.0 ∙ bytes_eq-itself r.0)
     ∙ unsaid (change_between family r.0 (Some r.1) (Some r.1)) (no_cells r.1)
 
 -- ---- what is kept

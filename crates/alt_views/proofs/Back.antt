@@ -1,6 +1,6 @@
 -- An item whose keys were taken out is the item again where their values are put back.
 use Rattle.std.proofs.Common.{◌≡◌, refl, sym, ap, ◌∙◌, ℕ, Bool, true, false, not, cond, List, [], ◌∷◌, ◌++◌, Option, Some, None, arith}
-use Rattle.std.proofs.lemmas.Bool.{false≢true}
+use Rattle.std.proofs.lemmas.Bool.{or_parts}
 use Rattle.std.proofs.lemmas.Slice.Eq.{bytes_eq-Decides}
 use Rattle.std.specs.Prelude.{◌||◌}
 use Rattle.std.specs.List.{list_any}
@@ -14,10 +14,11 @@ use Rattle.alt_value.specs.Item.{IsItem, at_name, with_pair}
 use Rattle.alt_value.specs.Members.{text_order}
 use Rattle.alt_value.specs.Tree.{Tree, Pair}
 use Rattle.alt_value.proofs.Entries.{IsItem-with_pair}
+use Rattle.alt_value.proofs.TextTies.{text_ties}
 use Rattle.alt_value.proofs.Texts.{text_total, text_apart}
 use Rattle.alt_views.specs.IndexRows.{beside}
 use Rattle.alt_views.specs.Read.{AreValuesOf, IsRangeOf, with_range, with_values}
-use Rattle.alt_views.proofs.Parts.{at_name-where, ties}
+use Rattle.alt_views.proofs.Parts.{at_name-where}
 use Rattle.alt_views.proofs.Values.{HasValues, StandsAt}
 
 -- a name is one of those
@@ -28,11 +29,6 @@ is_among names q = list_any (λ n. bytes_eq n q) names
 pub AgreesBut : List Pair → List (List ℕ) → List Pair → Type 0
 AgreesBut whole names item = (q : List ℕ) → is_among names q ≡ false
     → at_name q item ≡ at_name q whole
-
--- where not one of two tests passes, neither does
-either : (a b : Bool) → (a || b) ≡ false → (a ≡ false) × (b ≡ false)
-either true b h = absurd (false≢true (sym h))
-either false b h = (refl, h)
 
 -- the names of a key
 abbrev pub names_of : KeyAttr → Option KeyAttr → List (List ℕ)
@@ -45,13 +41,13 @@ pub agrees-beside : (whole item : List Pair) (names : List (List ℕ)) (hash : K
     → AgreesBut whole (names_of hash range ++ names) (beside hash range item)
 unfolding AgreesBut is_among
 agrees-beside whole item names hash None agrees q other =
-    let tests = either (bytes_eq hash.name q) (is_among names q) other in
+    let tests = or_parts (bytes_eq hash.name q) (is_among names q) other in
     at_name-where (λ n. not (is_key hash None n)) q item
     ∙ ap (λ b. cond (not (b || false)) (at_name q item) None) tests.0
     ∙ agrees q tests.1
 agrees-beside whole item names hash (Some r) agrees q other =
-    let front = either (bytes_eq hash.name q) (bytes_eq r.name q || is_among names q) other in
-    let tests = either (bytes_eq r.name q) (is_among names q) front.1 in
+    let front = or_parts (bytes_eq hash.name q) (bytes_eq r.name q || is_among names q) other in
+    let tests = or_parts (bytes_eq r.name q) (is_among names q) front.1 in
     at_name-where (λ n. not (is_key hash (Some r) n)) q item
     ∙ (λ j. cond (not (front.0 j || tests.0 j)) (at_name q item) None)
     ∙ agrees q tests.1
@@ -69,10 +65,10 @@ agrees-put whole item name names t at agrees q other =
     by_name true e = sym at ∙ ap (λ n. at_name n whole) (sym (equal e))
       where
         equal : eq_by_cmp text_order q name ≡ true → q ≡ name
-        equal e = let same : bytes_eq q name ≡ true = sym (ties q name) ∙ e in
+        equal e = let same : bytes_eq q name ≡ true = sym (text_ties q name) ∙ e in
             grind (arith, bytes_eq-Decides)
     by_name false e =
-        let differs : bytes_eq q name ≡ false = sym (ties q name) ∙ e in
+        let differs : bytes_eq q name ≡ false = sym (text_ties q name) ∙ e in
         let turned : bytes_eq name q ≡ false = turn name q differs in
         agrees q (ap (λ b. b || is_among names q) turned ∙ other)
       where

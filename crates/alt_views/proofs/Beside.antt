@@ -1,35 +1,21 @@
 -- The names at which two items differ, found place by place.
 use Rattle.std.proofs.Common.{◌≡◌, ◌<◌, ◌+◌, ◌⊎◌, inl, inr, refl, sym, ap, subst, ◌∙◌, ℕ, zero, suc, Bool, true, false, cond, List, [], ◌∷◌, ◌++◌, map, length, take, get_or, slice_get, Option, Some, None, Bor, add-one, arith}
 use Rattle.std.proofs.Math.Seq.{take-length}
-use Rattle.std.proofs.lemmas.Bool.{false≢true}
+use Rattle.std.proofs.lemmas.Bool.{false≢true, or_right}
 use Rattle.std.proofs.lemmas.List.Folds.{list_any-append}
 use Rattle.std.proofs.lemmas.Slice.Eq.{bytes_eq-Decides}
 use Rattle.std.specs.Prelude.{◌||◌, is_some, unwrap_or}
 use Rattle.std.specs.List.{list_any}
 use Rattle.std.specs.Ordering.{eq_by_cmp}
 use Rattle.std.specs.Str.{bytes_eq}
+use Rattle.alt_base.proofs.Bools.{neither_first, neither_second}
+use Rattle.alt_base.proofs.Lists.{bytes_eq-itself}
 use Rattle.alt_schema.specs.Indexes.{stands_in}
 use Rattle.alt_value.specs.Item.{IsItem, at_name}
 use Rattle.alt_value.specs.Members.{text_order}
 use Rattle.alt_value.specs.Tree.{Tree, Pair}
+use Rattle.alt_value.proofs.TextTies.{text_ties}
 use Rattle.alt_views.specs.private.Changed.{AreAlikeBeside}
-use Rattle.alt_views.proofs.Keeping.{same_name}
-use Rattle.alt_views.proofs.Parts.{ties}
-
--- of two tests that fail together the first does
-first_false : (a b : Bool) → (a || b) ≡ false → a ≡ false
-first_false true b h = h
-first_false false b h = refl
-
--- and the second
-second_false : (a b : Bool) → (a || b) ≡ false → b ≡ false
-second_false true b h = absurd (false≢true (sym h))
-second_false false b h = h
-
--- one passes where the second does
-second_true : (a b : Bool) → b ≡ true → (a || b) ≡ true
-second_true true b h = refl
-second_true false b h = h
 
 -- ---- names that pass a test
 
@@ -39,7 +25,7 @@ pub passes_here : {A B : Type 0} (f : A → B) (test : B → Bool) (xs : List A)
 passes_here f test [] k d within passes = absurd (omega (arith, within))
 passes_here f test (x ∷ xs) zero d within passes =
     ap (λ b. b || list_any test (map f xs)) passes
-passes_here f test (x ∷ xs) (suc k) d within passes = second_true (test (f x)) _
+passes_here f test (x ∷ xs) (suc k) d within passes = or_right (test (f x)) _
     (passes_here f test xs k d (omega (arith, within)) passes)
 
 -- ---- names at which items differ
@@ -66,7 +52,7 @@ found_more (p ∷ ps) zero e q t at found =
     by : (b : Bool) → eq_by_cmp text_order q p.0 ≡ b → cond b (Some p.1) None ≡ Some t
         → (None ≡ Some t) ⊎ ((q ≡ p.0) × (p.1 ≡ t))
     by true tie found =
-        let same : bytes_eq q p.0 ≡ true = sym (ties q p.0) ∙ tie in
+        let same : bytes_eq q p.0 ≡ true = sym (text_ties q p.0) ∙ tie in
         inr ((grind (arith, same, bytes_eq-Decides)), ap (λ o. unwrap_or o p.1) found)
     by false tie found = inl found
 found_more (p ∷ ps) (suc k) e q t at found =
@@ -84,7 +70,7 @@ module _ (names : List (List ℕ)) (P : List ℕ → Tree → Type 0) where
   pub beside-more : (ps : List Pair) (n : List ℕ) → HoldsBeside names P ps
       → HoldsBeside (names ++ n ∷ []) P ps
   beside-more ps n h = λ q t free found. h q t
-      (first_false (stands_in names q) _
+      (neither_first (stands_in names q) _
       (sym (list_any-append (λ other. bytes_eq other q) names (n ∷ [])) ∙ free)) found
 
   module _ (ps : List Pair) (k : ℕ) (e : Pair) (at : Some e ≡ slice_get ps k)
@@ -109,10 +95,10 @@ module _ (names : List (List ℕ)) (P : List ℕ → Tree → Type 0) where
       where
         by : (q : List ℕ) (t : Tree) → (stands_in names q || (bytes_eq e.0 q || false)) ≡ false
             → (at_name q (take k ps) ≡ Some t) ⊎ ((q ≡ e.0) × (e.1 ≡ t)) → P q t
-        by q t free (inl before) = h q t (first_false (stands_in names q) _ free) before
+        by q t free (inl before) = h q t (neither_first (stands_in names q) _ free) before
         by q t free (inr is) = absurd (false≢true
-            (sym (first_false (bytes_eq e.0 q) _ (second_false (stands_in names q) _ free))
-            ∙ ap (bytes_eq e.0) is.0 ∙ same_name e.0))
+            (sym (neither_first (bytes_eq e.0 q) _ (neither_second (stands_in names q) _ free))
+            ∙ ap (bytes_eq e.0) is.0 ∙ bytes_eq-itself e.0))
 
 -- the old item has the value that the new one has at a name
 abbrev pub IsOld : List Pair → List ℕ → Tree → Type 0

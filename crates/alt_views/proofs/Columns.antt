@@ -1,16 +1,16 @@
 -- The columns of an item's row, in order, and the item that is read from them.
-use Rattle.std.proofs.Common.{◌≡◌, ◌<◌, ◌≤◌, ◌+◌, refl, sym, ap, subst, ◌∙◌, ℕ, zero, suc, T, List, [], ◌∷◌, ◌++◌, map, length, get_or, take, drop, Some, None, Result, Ok, Err, slice_get, add-one, arith}
+use Rattle.std.proofs.Common.{◌≡◌, ◌<◌, ◌≤◌, ◌+◌, refl, sym, ap, subst, ◌∙◌, ℕ, zero, suc, T, List, [], ◌∷◌, ◌++◌, map, length, get_or, take, drop, Some, None, slice_get, add-one, arith}
 use Rattle.std.proofs.Math.Seq.{take-suc}
 use Rattle.std.proofs.lemmas.List.{map-append, take-append-drop}
-use Rattle.std.specs.Result.{IsErr, IsErrAnd}
 use Rattle.std.specs.Ordering.{is_lt}
 use Rattle.std.specs.Prelude.{◌&&◌}
 use Rattle.std.specs.FinMap.{entries, entries_sorted, entries-from_sorted, from_entries, from_sorted, get-from_entries, get-from_sorted, same_entries_map, same_map}
 use Rattle.std.specs.FinMap.Entries.{below_all, is_sorted}
+use Rattle.alt_base.proofs.Bools.{both_hold, first_holds, second_holds}
+use Rattle.alt_base.proofs.Lists.{cons_rest}
 use Rattle.alt_cells.specs.Changes.{Columns}
 use Rattle.alt_cells.specs.Keys.{key_cmp}
 use Rattle.alt_cells.proofs.CellLaws.{key_total, key_exact}
-use Rattle.alt_cells.proofs.Entries.{both, first, second}
 use Rattle.alt_cellbytes.proofs.Rising.{item_front, with_pair-last}
 use Rattle.alt_machine.specs.Valid.{deepest}
 use Rattle.alt_views.specs.ItemRows.{column_of, item_columns, IsAttribute, IsReadItem}
@@ -34,14 +34,14 @@ sorted-columns (p ∷ ps) = λ i. below-columns p.0 ps i && sorted-columns ps i
 -- behind the marker stand the columns of an item, which rise
 pub columns_rise : (ps : List Pair) → IsItem ps
     → T (is_sorted key_cmp (([], []) ∷ map column_of ps))
-columns_rise ps is = both _ _ (subst T (sym (below-columns [] ps)) is.1)
+columns_rise ps is = both_hold _ _ (subst T (sym (below-columns [] ps)) is.1)
     (subst T (sym (sorted-columns ps)) is.0)
 
 -- and what rises so is an item
 pub rise_item : (ps : List Pair) → T (is_sorted key_cmp (([], []) ∷ map column_of ps)) → IsItem ps
 rise_item ps h = (
-  subst T (sorted-columns ps) (second (below_all key_cmp [] (map column_of ps)) _ h),
-  subst T (below-columns [] ps) (first _ (is_sorted key_cmp (map column_of ps)) h),
+  subst T (sorted-columns ps) (second_holds (below_all key_cmp [] (map column_of ps)) _ h),
+  subst T (below-columns [] ps) (first_holds _ (is_sorted key_cmp (map column_of ps)) h),
 )
 
 -- the entries of a map that was made of entries in order
@@ -69,16 +69,16 @@ row_is row ps is same = same_entries_map row (item_columns ps)
 below_front : (q : List ℕ) (xs ys : List (List ℕ × List ℕ)) → T (below_all key_cmp q (xs ++ ys))
     → T (below_all key_cmp q xs)
 below_front q [] ys h = tt
-below_front q (x ∷ xs) ys h = both _ _ (first _ (below_all key_cmp q (xs ++ ys)) h)
-    (below_front q xs ys (second (is_lt (key_cmp q x.0)) _ h))
+below_front q (x ∷ xs) ys h = both_hold _ _ (first_holds _ (below_all key_cmp q (xs ++ ys)) h)
+    (below_front q xs ys (second_holds (is_lt (key_cmp q x.0)) _ h))
 
 -- the front of entries in order is in order
 pub sorted_front : (xs ys : List (List ℕ × List ℕ)) → T (is_sorted key_cmp (xs ++ ys))
     → T (is_sorted key_cmp xs)
 sorted_front [] ys h = tt
-sorted_front (x ∷ xs) ys h = both _ _
-    (below_front x.0 xs ys (first _ (is_sorted key_cmp (xs ++ ys)) h))
-    (sorted_front xs ys (second (below_all key_cmp x.0 (xs ++ ys)) _ h))
+sorted_front (x ∷ xs) ys h = both_hold _ _
+    (below_front x.0 xs ys (first_holds _ (is_sorted key_cmp (xs ++ ys)) h))
+    (sorted_front xs ys (second_holds (below_all key_cmp x.0 (xs ++ ys)) _ h))
 
 -- and so are the first of them, so many
 pub sorted_first : (k : ℕ) (es : List (List ℕ × List ℕ))
@@ -121,9 +121,9 @@ put_more ps new p es k e sorted within at so_far is put =
 -- no set in it is empty, where none is in what was there and in what came
 pub full_more : (ps : List Pair) (p : Pair) → T (fields_full (fields_of ps)) → T (sets_full p.1)
     → T (fields_full (fields_of (ps ++ p ∷ [])))
-full_more [] p h new = both _ _ new tt
-full_more (q ∷ ps) p h new = both _ _ (first _ (fields_full (fields_of ps)) h)
-    (full_more ps p (second (sets_full q.1) _ h) new)
+full_more [] p h new = both_hold _ _ new tt
+full_more (q ∷ ps) p h new = both_hold _ _ (first_holds _ (fields_full (fields_of ps)) h)
+    (full_more ps p (second_holds (sets_full q.1) _ h) new)
 
 -- nor is anything too deep
 pub depth_more : (ps : List Pair) (p : Pair) (n : ℕ) → fields_depth (fields_of ps) ≤ n
@@ -144,9 +144,9 @@ attribute_at [] fields full below deep k e within at = absurd (omega arith)
 attribute_at (p ∷ ps) fields full below deep zero e within at = (
   p,
   record {
-    named = named p.0 (first _ (below_all text_order [] ps) below);
+    named = named p.0 (first_holds _ (below_all text_order [] ps) below);
     name = fields.0;
-    value = (fields.1, first _ (fields_full (fields_of ps)) full);
+    value = (fields.1, first_holds _ (fields_full (fields_of ps)) full);
     depth = omega (arith, deep);
   },
   at,
@@ -156,8 +156,8 @@ attribute_at (p ∷ ps) fields full below deep zero e within at = (
     named [] h = absurd h
     named (b ∷ name) h = omega arith
 attribute_at (p ∷ ps) fields full below deep (suc k) e within at =
-    attribute_at ps fields.2 (second (sets_full p.1) _ full)
-    (second (is_lt (text_order [] p.0)) _ below) (omega (arith, deep)) k e
+    attribute_at ps fields.2 (second_holds (sets_full p.1) _ full)
+    (second_holds (is_lt (text_order [] p.0)) _ below) (omega (arith, deep)) k e
     (omega (arith, within)) at
 
 -- each column of an item that was read is an attribute
@@ -201,22 +201,12 @@ take_all [] (suc k) h = refl
 take_all (p ∷ ps) zero h = absurd (omega arith)
 take_all (p ∷ ps) (suc k) h = ap (λ qs. p ∷ qs) (take_all ps k (omega arith))
 
--- what was passed on is what was told
-pub bad_is : {A B : Type 0} (r : Result A B) (e b : B) → IsErr r × IsErrAnd r (λ x. x ≡ e)
-    → r ≡ Err b → e ≡ b
-bad_is (Ok x) e b passed is = absurd (let f : ⊥ = cc in f)
-bad_is {A} {B} (Err x) e b passed is = sym passed.1 ∙ (let same : x ≡ b = cc in same)
-
 -- ---- the row that is read
-
--- lists that are equal have equal rests
-tail_of : {A : Type 0} (x y : A) (xs ys : List A) → x ∷ xs ≡ y ∷ ys → xs ≡ ys
-tail_of x y xs ys e = ap (λ zs. drop 1 zs) e
 
 -- the columns behind the marker of a row that is an item's
 pub behind_is : (row : Columns) (es rest : List (List ℕ × List ℕ)) (ps : List Pair) → IsItem ps
     → es ≡ entries row → es ≡ ([], []) ∷ rest → row ≡ item_columns ps → rest ≡ map column_of ps
-behind_is row es rest ps is at marked same = tail_of _ _ rest (map column_of ps)
+behind_is row es rest ps is at marked same = cons_rest _ _ rest (map column_of ps)
     (sym marked ∙ at ∙ ap entries same ∙ entries-item_columns ps is)
 
 -- there is a marker

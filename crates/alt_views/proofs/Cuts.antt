@@ -1,33 +1,15 @@
 -- An item cut to some of its names, place by place.
-use Rattle.std.proofs.Common.{◌≡◌, refl, sym, ap, ◌∙◌, ℕ, zero, suc, ◌<◌, Bool, true, false, cond, T, List, [], ◌∷◌, length, take, Some, None, arith}
+use Rattle.std.proofs.Common.{◌≡◌, refl, ap, ℕ, zero, suc, ◌<◌, Bool, true, false, cond, T, List, [], ◌∷◌, length, take, Some, None, arith}
 use Rattle.std.specs.declared.cmp.Ordering.TheVariants.{Less, Greater}
 use Rattle.std.specs.List.{slice_get}
-use Rattle.std.specs.FinMap.Entries.{where_key, below_all, is_sorted}
+use Rattle.std.specs.FinMap.Entries.{where_key, is_sorted}
+use Rattle.alt_base.proofs.Bools.{first_holds, second_holds}
 use Rattle.alt_value.specs.Members.{text_order}
 use Rattle.alt_value.specs.Tree.{Tree, Pair}
-use Rattle.alt_value.specs.Item.{IsItem, with_pair}
-use Rattle.alt_value.proofs.Places.{first, second, less, turned}
+use Rattle.alt_value.specs.Item.{with_pair}
+use Rattle.alt_value.proofs.NamedPairs.{below_at}
+use Rattle.alt_value.proofs.Places.{turned}
 use Rattle.alt_value.proofs.Texts.{text_total}
-
--- a name that is below all is below each
-below_get : (x : List ℕ) (ps : List Pair) (i : ℕ) (name : List ℕ) (t : Tree)
-    → T (below_all text_order x ps) → slice_get ps i ≡ Some (name, t)
-    → text_order x name ≡ Less
-below_get x [] i name t h at = cc
-below_get x (p ∷ ps) zero name t h at =
-    let same : p ≡ (name, t) = cc in
-    ap (λ (q : Pair). text_order x q.0) (sym same) ∙ less _ (first _ _ h)
-below_get x (p ∷ ps) (suc i) name t h at = below_get x ps i name t (second _ _ h) at
-
--- a name behind the empty one has a byte
-not_empty : (name : List ℕ) → text_order [] name ≡ Less → 0 < length name
-not_empty [] h = cc
-not_empty (c ∷ cs) h = omega arith
-
--- no name of an item is empty
-pub name_not_empty : (ps : List Pair) (i : ℕ) (name : List ℕ) (t : Tree) → IsItem ps
-    → slice_get ps i ≡ Some (name, t) → 0 < length name
-name_not_empty ps i name t item at = not_empty name (below_get [] ps i name t item.1 at)
 
 -- within the item there is a pair
 pub pair_within : (ps : List Pair) (i : ℕ) → i < length ps → None ≡ slice_get ps i → ⊥
@@ -47,8 +29,9 @@ module _ (test : List ℕ → Bool) where
       rw (same, passes) refl
   kept (p ∷ ps) (suc i) name t h at passes =
       let above : text_order name p.0 ≡ Greater =
-      turned text_order text_total p.0 name Less (below_get p.0 ps i name t (first _ _ h) at) in
-      let rest = kept ps i name t (second _ _ h) at passes in
+      turned text_order text_total p.0 name Less
+      (below_at p.0 ps i name t (first_holds _ _ h) at) in
+      let rest = kept ps i name t (second_holds _ _ h) at passes in
       elim (test p.0) as (λ b. with_pair name t
       (cond b (p ∷ where_key text_order test (take i ps))
       (where_key text_order test (take i ps)))

@@ -5,11 +5,13 @@ use Rattle.std.specs.Prelude.{◌==◌, if◌then◌else◌, option_map, unwrap_
 use Rattle.std.specs.Ordering.{eq_by_cmp}
 use Rattle.std.specs.FinMap.{get, len, get-empty, get-from_entries, empty_of_len}
 use Rattle.std.specs.FinMap.Entries.{find, same_entries}
+use Rattle.alt_base.proofs.Bools.{first_holds, second_holds}
+use Rattle.alt_base.proofs.Orderings.{is_eq-holds}
 use Rattle.alt_cells.specs.Changes.{Columns, CanShow}
 use Rattle.alt_cells.specs.Keys.{key_cmp}
 use Rattle.alt_cells.proofs.CellLaws.{key_total, key_exact}
 use Rattle.alt_cells.proofs.ChangeLaws.{none_shown}
-use Rattle.alt_cells.proofs.Entries.{find_below, equal, first, second}
+use Rattle.alt_cells.proofs.Entries.{find_below}
 use Rattle.alt_cellbytes.proofs.Apart.{cell_bytes-apart}
 use Rattle.alt_cellbytes.proofs.WholeValues.{whole_has}
 use Rattle.alt_views.specs.ItemRows.{column_of, item_columns}
@@ -69,13 +71,13 @@ pub value_of : (q : List ℕ) (t : Tree) (item : List Pair) → AreFields (field
     → T (fields_full (fields_of item)) → find key_cmp q item ≡ Some t → IsWhole t
 value_of q t [] fields full at = let none : None ≡ Some t = at in cc none
 value_of q t (p ∷ ps) fields full at =
-    by_name (λ at. value_of q t ps fields.2 (second (sets_full p.1) _ full) at)
+    by_name (λ at. value_of q t ps fields.2 (second_holds (sets_full p.1) _ full) at)
     (eq_by_cmp key_cmp q p.0) at
   where
     by_name : (find key_cmp q ps ≡ Some t → IsWhole t) → (b : Bool)
         → cond b (Some p.1) (find key_cmp q ps) ≡ Some t → IsWhole t
     by_name behind true at = subst IsWhole (ap (λ o. unwrap_or o t) at)
-        (fields.1, first (sets_full p.1) (fields_full (fields_of ps)) full)
+        (fields.1, first_holds (sets_full p.1) (fields_full (fields_of ps)) full)
     by_name behind false at = behind at
 
 -- No two items have the same row.
@@ -96,7 +98,7 @@ item_columns-one a b is_a is_b same = same_entries key_cmp key_total key_exact a
     by_name : (q : List ℕ) (is_marker : Bool) → eq_by_cmp key_cmp q [] ≡ is_marker
         → find key_cmp q a ≡ find key_cmp q b
     by_name q true e =
-        let nothing : q ≡ [] = key_exact q [] (equal _ (holds _ e)) in
+        let nothing : q ≡ [] = key_exact q [] (is_eq-holds _ (holds _ e)) in
         none a q is_a nothing ∙ sym (none b q is_b nothing)
     by_name q false e = same_value _ _
         (λ t at. value_of q t a is_a.0.fields is_a.1 at)

@@ -1,20 +1,22 @@
 -- What an index keeps of an item stands at its row's key.
-use Rattle.std.proofs.Common.{◌≡◌, ◌<◌, refl, sym, ap, subst, ◌∙◌, ℕ, zero, suc, Bool, true, false, cond, List, [], ◌∷◌, length, Option, Some, None, option_map, slice_get, nat_lt, arith}
-use Rattle.std.proofs.lemmas.Bool.{false≢true}
-use Rattle.std.proofs.lemmas.Slice.Eq.{bytes_eq-Decides}
-use Rattle.std.specs.Prelude.{◌&&◌, ◌||◌, not, if◌then◌else◌, option_and_then, unwrap_or}
-use Rattle.std.specs.List.{list_all}
+use Rattle.std.proofs.Common.{◌≡◌, ◌<◌, refl, sym, ap, subst, ◌∙◌, ℕ, true, cond, List, length, Option, Some, None, option_map, nat_lt, arith}
+use Rattle.std.proofs.lemmas.Bool.{or_right, or_left}
+use Rattle.std.proofs.lemmas.Option.{none-some, same_Some}
+use Rattle.std.specs.Cmp.{first_so, second_so}
+use Rattle.std.specs.Prelude.{◌&&◌, not, if◌then◌else◌, option_and_then}
 use Rattle.std.specs.Str.{bytes_eq}
+use Rattle.alt_base.proofs.Lists.{all_at, bytes_eq-itself}
 use Rattle.alt_keyorder.specs.Place.{place_bytes, place_in_table}
 use Rattle.alt_machine.specs.Indexed.{values_beside, values_of, place_of_both, index_place, index_entry}
 use Rattle.alt_machine.specs.Keys.{if_key, key_value, place_beside, place_of}
 use Rattle.alt_machine.specs.Sources.{index_at}
 use Rattle.alt_machine.specs.Valid.{IsMade, is_pair}
 use Rattle.alt_machine.proofs.Indexing.{is_entry}
-use Rattle.alt_schema.specs.Indexes.{indexes, is_key, is_included, is_projected, is_in_index, cut, index_row, of_range}
+use Rattle.alt_schema.specs.Indexes.{indexes, is_key, is_included, is_projected, cut, of_range}
 use Rattle.alt_schema.specs.declared.schema.IndexSchema.{IndexSchema}
 use Rattle.alt_schema.specs.declared.schema.KeyAttr.{KeyAttr}
 use Rattle.alt_schema.specs.declared.schema.TableSchema.{TableSchema}
+use Rattle.alt_schema.proofs.CutRows.{is_cut}
 use Rattle.alt_value.specs.Item.{at_name}
 use Rattle.alt_value.specs.Tree.{Tree, Pair}
 use Rattle.alt_value.specs.Values.{IsItemOfValues}
@@ -23,59 +25,27 @@ use Rattle.alt_views.specs.ItemRows.{IsReadItem}
 use Rattle.alt_views.specs.Read.{AreNamed, IsKeptAt}
 use Rattle.alt_views.proofs.Parts.{at_name-where, read-where, values-where}
 
--- options that are equal have equal values
-some : {A : Type 0} (x y : A) → Some x ≡ Some y → x ≡ y
-some x y e = ap (λ o. unwrap_or o x) e
-
--- an option without a value isn't one with a value
-none : {A : Type 0} (x : A) → None ≡ Some x → ⊥
-none x e = let no : None ≡ Some x = e in cc no
-
--- where two tests pass together the first does
-first_true : (a b : Bool) → (a && b) ≡ true → a ≡ true
-first_true true b h = refl
-first_true false b h = absurd (false≢true h)
-
--- and the second
-second_true : (a b : Bool) → (a && b) ≡ true → b ≡ true
-second_true true b h = h
-second_true false b h = absurd (false≢true h)
-
 -- ---- keys are kept
-
--- a name is equal to itself
-pub same_name : (n : List ℕ) → bytes_eq n n ≡ true
-same_name n = grind (arith, bytes_eq-Decides)
-
--- one of two tests passes where the second does
-or_true : (a b : Bool) → b ≡ true → (a || b) ≡ true
-or_true true b h = refl
-or_true false b h = h
-
--- and where the first does
-true_or : (a b : Bool) → a ≡ true → (a || b) ≡ true
-true_or true b h = refl
-true_or false b h = absurd (false≢true h)
 
 -- the HASH and the RANGE attribute are keys
 pub hash_is_key : (hash : KeyAttr) (range : Option KeyAttr) → is_key hash range hash.name ≡ true
-hash_is_key hash range = true_or (bytes_eq hash.name hash.name) _ (same_name hash.name)
+hash_is_key hash range = or_left (bytes_eq hash.name hash.name) _ (bytes_eq-itself hash.name)
 
 -- the RANGE attribute is one beside any HASH attribute
 pub range_is_key : (hash range : KeyAttr) → is_key hash (Some range) range.name ≡ true
-range_is_key hash range = or_true (bytes_eq hash.name range.name) _ (same_name range.name)
+range_is_key hash range = or_right (bytes_eq hash.name range.name) _ (bytes_eq-itself range.name)
 
 -- keys of the index and of its table are projected
 pub own_kept : (d : TableSchema) (i : IndexSchema) (name : List ℕ)
     → is_key i.hash i.range name ≡ true → is_projected d i name ≡ true
-own_kept d i name h = or_true (is_included i.projection name) _
-    (or_true (is_key d.hash d.range name) _ h)
+own_kept d i name h = or_right (is_included i.projection name) _
+    (or_right (is_key d.hash d.range name) _ h)
 
 -- those of the table, whatever keys the index has
 pub table_kept : (d : TableSchema) (i : IndexSchema) (name : List ℕ)
     → is_key d.hash d.range name ≡ true → is_projected d i name ≡ true
-table_kept d i name h = or_true (is_included i.projection name) _
-    (true_or (is_key d.hash d.range name) _ h)
+table_kept d i name h = or_right (is_included i.projection name) _
+    (or_left (is_key d.hash d.range name) _ h)
 
 -- so the value of a key attribute is that of the item
 pub value-cut : (d : TableSchema) (i : IndexSchema) (item : List Pair) (key : KeyAttr)
@@ -145,41 +115,25 @@ has_bytes n h = grind arith
 -- keys of a pair have names
 pair_named : (hash : KeyAttr) (range : Option KeyAttr) → is_pair hash range ≡ true
     → (0 < length hash.name) × ((r : KeyAttr) → range ≡ Some r → 0 < length r.name)
-pair_named hash range h = (has_bytes _ (first_true _ _ h), beside range (second_true _ _ h))
+pair_named hash range h = (has_bytes _ (first_so _ _ h), beside range (second_so _ _ h))
   where
     beside : (o : Option KeyAttr)
         → of_range (λ r. nat_lt 0 (length r.name) && not (bytes_eq hash.name r.name)) true o ≡ true
         → (r : KeyAttr) → o ≡ Some r → 0 < length r.name
-    beside None h r e = absurd (none r e)
-    beside (Some q) h r e = subst (λ (k : KeyAttr). 0 < length k.name) (some q r e)
-        (has_bytes _ (first_true _ _ h))
-
--- what each of a list passes, the one at a place does
-at_each : {A : Type 0} (test : A → Bool) (xs : List A) (n : ℕ) (x : A) → list_all test xs ≡ true
-    → slice_get xs n ≡ Some x → test x ≡ true
-at_each test [] n x all e = absurd (none x e)
-at_each test (y ∷ ys) zero x all e = ap test (sym (some y x e)) ∙ first_true _ _ all
-at_each test (y ∷ ys) (suc n) x all e = at_each test ys n x (second_true _ _ all) e
+    beside None h r e = absurd (none-some r e)
+    beside (Some q) h r e = subst (λ (k : KeyAttr). 0 < length k.name) (same_Some q r e)
+        (has_bytes _ (first_so _ _ h))
 
 -- the keys of a table that is made have names, and so have those of its indexes
 pub are_named : (d : TableSchema) (number : ℕ) (i : IndexSchema) → IsMade d
     → index_at d (Some number) ≡ Some i → AreNamed d i
 are_named d number i made at =
-    let own = pair_named i.hash i.range (at_each (λ (i : IndexSchema). is_pair i.hash i.range)
+    let own = pair_named i.hash i.range (all_at (λ (i : IndexSchema). is_pair i.hash i.range)
     (indexes d) number i made.index_keys at) in
     let of_table = pair_named d.hash d.range made.keys in
     record { hash = of_table.0; range = of_table.1; own_hash = own.0; own_range = own.1 }
 
 -- ---- what is kept
-
--- the row of an item is the item, cut to what the index keeps
-is_cut : (d : TableSchema) (i : IndexSchema) (item row : List Pair)
-    → index_row d item i ≡ Some row → cut d i item ≡ row
-is_cut d i item row e = by_test (is_in_index i item) e
-  where
-    by_test : (b : Bool) → (if b then Some (cut d i item) else None) ≡ Some row → cut d i item ≡ row
-    by_test true e = some (cut d i item) row e
-    by_test false e = absurd (none row e)
 
 -- What an index has at a key is what it keeps of an item there.
 pub kept_at : (d : TableSchema) (number : ℕ) (i : IndexSchema) (item : List Pair) (key : List ℕ)

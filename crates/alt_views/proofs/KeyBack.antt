@@ -1,6 +1,7 @@
 -- A key of a table, which needn't be that of an item, is read back from its place.
 use Rattle.std.proofs.Common.{◌≡◌, ◌<◌, refl, sym, ap, subst, ◌∙◌, ℕ, Bool, true, false, not, cond, T, List, [], ◌∷◌, ◌++◌, drop, length, is_eq, Option, Some, None, option_map, append-nil, Result, Err, arith}
 use Rattle.std.proofs.lemmas.Bool.{false≢true}
+use Rattle.std.proofs.lemmas.Option.{none-some, same_Some}
 use Rattle.std.specs.Prelude.{◌&&◌, if◌then◌else◌, option_and_then}
 use Rattle.std.specs.FinMap.Entries.{below_all, where_key}
 use Rattle.std.specs.List.{flat_map, list_all}
@@ -9,13 +10,14 @@ use Rattle.std.specs.Str.{bytes_eq}
 use Rattle.std.specs.Result.{IsErr, IsErrAnd}
 use Rattle.std.specs.declared.cmp.Ordering.{Ordering}
 use Rattle.std.specs.declared.cmp.Ordering.TheVariants.{Less, Equal, Greater}
+use Rattle.alt_base.proofs.Bools.{first_holds, second_holds}
+use Rattle.alt_base.proofs.Lists.{bytes_eq-itself}
 use Rattle.alt_keyorder.specs.KeyBytes.{IsKeyOf, key_bytes}
 use Rattle.alt_keyorder.specs.Place.{key_values, place_bytes, place_in_table}
 use Rattle.alt_keyorder.specs.Token.{token_of}
 use Rattle.alt_machine.specs.Building.{built_place}
 use Rattle.alt_machine.specs.Indexed.{KeyValues}
 use Rattle.alt_machine.specs.Lists.{has_keys_alone, is_of_kind, place_there, start_beside, start_value}
-use Rattle.alt_machine.proofs.Placed.{field_value}
 use Rattle.alt_schema.specs.Indexes.{is_key}
 use Rattle.alt_schema.specs.declared.schema.KeyAttr.{KeyAttr}
 use Rattle.alt_schema.specs.declared.schema.TableSchema.{TableSchema}
@@ -25,14 +27,13 @@ use Rattle.alt_value.specs.Tree.{Tree, Pair, S_tree, N_tree, B_tree}
 use Rattle.alt_value.specs.Values.{IsItemOfValues, IsValue}
 use Rattle.alt_value.specs.declared.kind.KeyKind.{KeyKind}
 use Rattle.alt_value.specs.declared.kind.KeyKind.TheVariants.{S, N, B}
+use Rattle.alt_value.proofs.NamedPairs.{value_at}
 use Rattle.alt_views.specs.Read.{IsValueOf, Takes, with_values}
 use Rattle.alt_views.specs.declared.item_row.Unread.{Unread}
 use Rattle.alt_views.specs.declared.item_row.Unread.TheVariants.{Bad, NoMemory}
 use Rattle.alt_views.proofs.Back.{AgreesBut, agrees-beside, agrees-values, agrees_all, agrees_itself, names_of, values_item}
-use Rattle.alt_views.proofs.Keeping.{same_name}
-use Rattle.alt_views.proofs.Parts.{first, second}
 use Rattle.alt_views.proofs.Reading.{behind_token}
-use Rattle.alt_views.proofs.Values.{HasValues, none, some}
+use Rattle.alt_views.proofs.Values.{HasValues}
 
 -- ---- the values of a key
 
@@ -40,9 +41,9 @@ use Rattle.alt_views.proofs.Values.{HasValues, none, some}
 named : (name : List ℕ) (item : List Pair) (t : Tree) → T (below_all text_order [] item)
     → at_name name item ≡ Some t → 0 < length name
 named (b ∷ name) item t below at = omega arith
-named [] [] t below at = absurd (none t at)
+named [] [] t below at = absurd (none-some t at)
 named [] (q ∷ qs) t below at =
-    by (text_order [] q.0) (first _ _ below) (named [] qs t (second _ _ below)) at
+    by (text_order [] q.0) (first_holds _ _ below) (named [] qs t (second_holds _ _ below)) at
   where
     by : (o : Ordering) → T (is_lt o) → (at_name [] qs ≡ Some t → 0 < length {A = ℕ} [])
         → cond (is_eq o) (Some q.1) (at_name [] qs) ≡ Some t → 0 < length {A = ℕ} []
@@ -73,25 +74,25 @@ module _ (key : List Pair) (is : IsItemOfValues key) where
       by : (o : Option Tree) → at_name a.name key ≡ o
           → option_and_then (λ u. if is_of_kind a.kind u then Some u else None) o ≡ Some t
           → (at_name a.name key ≡ Some t) × IsValueOf a t
-      by None at f = absurd (none t f)
+      by None at f = absurd (none-some t f)
       by (Some u) at f = by_kind (is_of_kind a.kind u) refl f
         where
           by_kind : (b : Bool) → is_of_kind a.kind u ≡ b → (if b then Some u else None) ≡ Some t
               → (at_name a.name key ≡ Some t) × IsValueOf a t
           by_kind true c g = (
             at ∙ g,
-            subst (IsValueOf a) (some u t g) (
-              key_of a.kind u (field_value a.name key u is.fields at) c,
+            subst (IsValueOf a) (same_Some u t g) (
+              key_of a.kind u (value_at a.name key u is.fields at) c,
               named a.name key u is.names.1 at,
             ),
           )
-          by_kind false c g = absurd (none t g)
+          by_kind false c g = absurd (none-some t g)
 
   module _ (place : List ℕ) where
     -- behind the token of a place stand the parts of its values
     parts_behind : (h : Tree) (r : Option Tree) → Some (place_bytes (place_in_table h r)) ≡ Some place
         → drop 8 place ≡ flat_map key_bytes (key_values h r) ++ []
-    parts_behind h r e = ap (drop 8) (sym (some (place_bytes (place_in_table h r)) place e))
+    parts_behind h r e = ap (drop 8) (sym (same_Some (place_bytes (place_in_table h r)) place e))
         ∙ behind_token (token_of h) (flat_map key_bytes (key_values h r))
         ∙ sym (append-nil (flat_map key_bytes (key_values h r)))
 
@@ -109,7 +110,7 @@ module _ (key : List Pair) (is : IsItemOfValues key) where
         by : (o : Option Tree) → start_value key r ≡ o
             → option_map place_bytes (option_map (λ t. place_in_table h (Some t)) o) ≡ Some place
             → HasKey key hash (Some r) place
-        by None none_at f = absurd (none place f)
+        by None none_at f = absurd (none-some place f)
         by (Some t) there f =
             let stands = at_start r t there in
             record {
@@ -126,7 +127,7 @@ module _ (key : List Pair) (is : IsItemOfValues key) where
         by : (o : Option Tree) → start_value key hash ≡ o
             → option_map place_bytes (option_and_then (start_beside key range) o) ≡ Some place
             → HasKey key hash range place
-        by None at f = absurd (none place f)
+        by None at f = absurd (none-some place f)
         by (Some h) at f = has_beside hash range h (at_start hash h at) f
 
 -- ---- the key
@@ -155,7 +156,7 @@ alone_and_there d key place e = by (has_keys_alone d None key) e
         → (if b then option_map place_bytes (place_there d None key) else None) ≡ Some place
         → (b ≡ true) × (option_map place_bytes (place_there d None key) ≡ Some place)
     by true f = (refl, f)
-    by false f = absurd (none place f)
+    by false f = absurd (none-some place f)
 
 module _ (d : TableSchema) (key : List Pair) (place : List ℕ) (is : IsItemOfValues key)
     (there : built_place d key ≡ Some place) where
@@ -193,4 +194,4 @@ passed_bad r e passed bad = sym (subst (λ x. IsErrAnd x (λ y. y ≡ e)) bad pa
 -- bytes that are equal don't differ
 pub same_bytes : (a b : List ℕ) → a ≡ b → false ≡ bytes_eq a b → ⊥
 same_bytes a b same differ =
-    false≢true (differ ∙ ap (bytes_eq a) (sym same) ∙ same_name a)
+    false≢true (differ ∙ ap (bytes_eq a) (sym same) ∙ bytes_eq-itself a)

@@ -18,7 +18,7 @@ use Rattle.alt_views.proofs.Batched.{has_row-append}
 -- ---- a change that may say nothing
 
 -- a change with a cell is made
-is_said : (c : RowChange) → (c.cells ≡ [] → ⊥) → if_said c ≡ c ∷ []
+pub is_said : (c : RowChange) → (c.cells ≡ [] → ⊥) → if_said c ≡ c ∷ []
 is_said c some = by c.cells refl
   where
     by : (cells : List (List ℕ × Option (List ℕ))) → c.cells ≡ cells → if_said c ≡ c ∷ []

@@ -4,10 +4,9 @@ use Rattle.std.proofs.lemmas.Bool.{false≢true, cases_lt, le-leb, lt-leb}
 use Rattle.std.proofs.lemmas.List.{length-map}
 use Rattle.std.specs.Option.{option_map_or}
 use Rattle.std.specs.Prelude.{◌&&◌}
-use Rattle.std.specs.Ordering.{eq_by_cmp, is_eq}
+use Rattle.std.specs.Ordering.{eq_by_cmp}
 use Rattle.std.specs.FinMap.Entries.{is_sorted, find-put}
-use Rattle.std.specs.declared.cmp.Ordering.{Ordering}
-use Rattle.std.specs.declared.cmp.Ordering.TheVariants.{Less, Equal, Greater}
+use Rattle.alt_base.proofs.Orderings.{is_eq-true}
 use Rattle.alt_cells.specs.Keys.{key_cmp}
 use Rattle.alt_fields.specs.Bytes.{IsShort}
 use Rattle.alt_keyorder.specs.Place.{place_in_table, place_bytes}
@@ -21,7 +20,7 @@ use Rattle.alt_value.specs.Members.{text_order}
 use Rattle.alt_value.specs.Size.{size, fields_depth, item_size, left_after, within}
 use Rattle.alt_value.specs.Tree.{Tree, Pair, fields_of}
 use Rattle.alt_value.specs.Values.{AreFields, fields_full}
-use Rattle.alt_value.proofs.Budget.{left_short, left_on}
+use Rattle.alt_value.proofs.Budget.{left_short, left_on, enough, wanting}
 use Rattle.alt_value.proofs.Texts.{text_total, text_apart}
 use Rattle.alt_views.specs.ItemRows.{IsAttribute, IsReadItem, column_of}
 use Rattle.alt_views.specs.OwnKeys.{HasKeyOf}
@@ -30,13 +29,6 @@ use Rattle.alt_views.proofs.Columns.{put_more, full_more, depth_more, rise_item}
 use Rattle.alt_views.proofs.Keeping.{hash_is_key, range_is_key}
 
 -- ---- budgets
-
--- a budget that is enough, and one that isn't
-enough : (budget n : ℕ) → n ≤ budget → left_after budget n ≡ Some (budget - n)
-enough budget n h = rw (le-leb n budget h) refl
-
-wanting : (budget n : ℕ) → budget < n → left_after budget n ≡ None
-wanting budget n h = rw (lt-leb n budget h) refl
 
 -- what a difference that is none tells of it, and one that is there
 pub over : (budget n : ℕ) → (n ≤ budget → ⊥) → None ≡ left_after budget n
@@ -125,12 +117,6 @@ left_more : (most s a : ℕ) (o : Option ℕ) → o ≡ left_after most s
 left_more most s a None e = left_short most s a e
 left_more most s a (Some n) e = left_on most s a n e
 
--- a comparison that ties is `Equal`
-tied : (o : Ordering) → is_eq o ≡ true → o ≡ Equal
-tied Less e = absurd (let f : ⊥ = cc in f)
-tied Equal e = refl
-tied Greater e = absurd (let f : ⊥ = cc in f)
-
 module _ (d : TableSchema) (item key : List Pair) (p : Pair) (has : HasKeyOf d item key) where
   -- a key attribute is put into both
   pub has_put : HasKeyOf d (with_pair p.0 p.1 item) (with_pair p.0 p.1 key)
@@ -149,7 +135,8 @@ module _ (d : TableSchema) (item key : List Pair) (p : Pair) (has : HasKeyOf d i
           → eq_by_cmp text_order name p.0 ≡ false
       apart false e = e
       apart true e = absurd (false≢true (sym other
-          ∙ ap (is_key d.hash d.range) (sym (text_apart name p.0 (tied (text_order name p.0) e))) ∙ is))
+          ∙ ap (is_key d.hash d.range)
+          (sym (text_apart name p.0 (is_eq-true (text_order name p.0) e))) ∙ is))
 
   -- so the key stays that of the item
   pub has_more : (new : List Pair) → new ≡ kept d p key

@@ -1,34 +1,21 @@
 -- A part of an item: the attributes whose names pass a test.
 use Rattle.std.proofs.Common.{◌≡◌, ◌≤◌, ◌+◌, refl, sym, ap, ◌∙◌, ℕ, Bool, true, false, not, cond, T, List, [], ◌∷◌, length, Some, None, max, arith}
-use Rattle.std.proofs.lemmas.Map.Text.{is_eq-slice_cmp}
-use Rattle.std.specs.Prelude.{◌&&◌, ◌||◌}
+use Rattle.std.proofs.Math.Bool.{or-false}
+use Rattle.std.specs.Prelude.{◌||◌}
 use Rattle.std.specs.Ordering.{eq_by_cmp, is_lt}
 use Rattle.std.specs.Str.{bytes_eq}
 use Rattle.std.specs.FinMap.Entries.{where_key, below_all, is_sorted-where_key, find-where_key}
+use Rattle.alt_base.proofs.Bools.{both_hold, first_holds, second_holds}
 use Rattle.alt_schema.specs.declared.schema.KeyAttr.{KeyAttr}
 use Rattle.alt_value.specs.Item.{IsItem, at_name, without}
 use Rattle.alt_value.specs.Members.{text_order}
 use Rattle.alt_value.specs.Size.{depth, fields_depth, size, item_size}
 use Rattle.alt_value.specs.Tree.{Pair, fields_of}
 use Rattle.alt_value.specs.Values.{AreFields, IsItemOfValues, sets_full, fields_full}
+use Rattle.alt_value.proofs.TextTies.{text_ties}
 use Rattle.alt_value.proofs.Texts.{text_apart}
 use Rattle.alt_views.specs.IndexRows.{beside}
 use Rattle.alt_views.specs.ItemRows.{IsReadItem}
-
--- two tests that pass pass together
-both : (a b : Bool) → T a → T b → T (a && b)
-both true b p q = q
-both false b p q = p
-
--- where two tests pass together the first does
-pub first : (a b : Bool) → T (a && b) → T a
-first true b p = tt
-first false b p = p
-
--- and the second
-pub second : (a b : Bool) → T (a && b) → T b
-second true b p = p
-second false b p = absurd p
 
 module _ (p : List ℕ → Bool) where
   -- its names are above one that the item's are above
@@ -38,9 +25,9 @@ module _ (p : List ℕ → Bool) where
   below-where name (q ∷ qs) h =
       elim (p q.0) as (λ b. T (below_all text_order name
       (cond b (q ∷ where_key text_order p qs) (where_key text_order p qs)))) [
-        | true ↦ both (is_lt (text_order name q.0)) _ (first _ _ h)
-            (below-where name qs (second _ _ h))
-        | false ↦ below-where name qs (second _ _ h)
+        | true ↦ both_hold (is_lt (text_order name q.0)) _ (first_holds _ _ h)
+            (below-where name qs (second_holds _ _ h))
+        | false ↦ below-where name qs (second_holds _ _ h)
       ]
 
   -- it is an item
@@ -84,8 +71,9 @@ module _ (p : List ℕ → Bool) where
   full-where (q ∷ qs) h =
       elim (p q.0) as (λ b. T (fields_full (fields_of
       (cond b (q ∷ where_key text_order p qs) (where_key text_order p qs))))) [
-        | true ↦ both (sets_full q.1) _ (first _ _ h) (full-where qs (second _ _ h))
-        | false ↦ full-where qs (second _ _ h)
+        | true ↦ both_hold (sets_full q.1) _ (first_holds _ _ h)
+            (full-where qs (second_holds _ _ h))
+        | false ↦ full-where qs (second_holds _ _ h)
       ]
 
   -- it is no deeper
@@ -126,10 +114,6 @@ module _ (p : List ℕ → Bool) where
 
 -- ---- tests of names
 
--- names that tie are equal
-pub ties : (a b : List ℕ) → eq_by_cmp text_order a b ≡ bytes_eq a b
-ties a b = is_eq-slice_cmp a b
-
 -- tests that agree on each name choose the same attributes
 pub where-alike : (p q : List ℕ → Bool) (xs : List Pair) → ((n : List ℕ) → p n ≡ q n)
     → where_key text_order p xs ≡ where_key text_order q xs
@@ -166,16 +150,11 @@ where-twice a b (x ∷ xs) = by (where-twice a b xs) (a x.0)
 
 -- ---- an item without its keys
 
--- a test or one that fails is that test
-is_nothing : (b : Bool) → (b || false) ≡ b
-is_nothing true = refl
-is_nothing false = refl
-
 -- the attributes beside a HASH key alone are those without the one of its name
 pub beside-hash : (hash : KeyAttr) (item : List Pair)
     → beside hash None item ≡ without hash.name item
 beside-hash hash item = where-alike _ _ item
-    (λ n. ap not (is_nothing (bytes_eq hash.name n) ∙ sym (ties hash.name n)))
+    (λ n. ap not (or-false (bytes_eq hash.name n) ∙ sym (text_ties hash.name n)))
 
 -- beside both keys, they are those without the two of their names
 pub beside-both : (hash range : KeyAttr) (item : List Pair)
@@ -183,7 +162,7 @@ pub beside-both : (hash range : KeyAttr) (item : List Pair)
 beside-both hash range item =
     where-twice (λ n. bytes_eq hash.name n) (λ n. bytes_eq range.name n) item
     ∙ where-alike (λ n. not (bytes_eq range.name n))
-    (λ n. not (eq_by_cmp text_order range.name n)) _ (λ n. ap not (sym (ties range.name n)))
+    (λ n. not (eq_by_cmp text_order range.name n)) _ (λ n. ap not (sym (text_ties range.name n)))
     ∙ ap (where_key text_order (λ n. not (eq_by_cmp text_order range.name n)))
     (where-alike (λ n. not (bytes_eq hash.name n)) (λ n. not (eq_by_cmp text_order hash.name n))
-    item (λ n. ap not (sym (ties hash.name n))))
+    item (λ n. ap not (sym (text_ties hash.name n))))

@@ -1,10 +1,11 @@
 -- An index row read back: the keys from the row's key, and the other attributes from its columns.
-use Rattle.std.proofs.Common.{◌≡◌, refl, sym, ap, subst, ◌∙◌, ℕ, List, [], ◌++◌, drop, Option, Some, None, option_map, Result, Ok, Err}
+use Rattle.std.proofs.Common.{◌≡◌, refl, sym, ap, subst, ◌∙◌, ℕ, List, [], ◌++◌, drop, Result, Ok, Err}
 use Rattle.std.proofs.lemmas.Bool.{false≢true}
-use Rattle.std.specs.Prelude.{not, unwrap_or}
+use Rattle.std.specs.Prelude.{not}
 use Rattle.std.specs.Int.{w64, to_be_bytes}
 use Rattle.std.specs.List.{flat_map}
 use Rattle.std.specs.Result.{IsErr, IsErrAnd}
+use Rattle.alt_base.proofs.Options.{mapped_some}
 use Rattle.alt_cells.specs.Changes.{Columns}
 use Rattle.alt_keyorder.specs.KeyBytes.{key_bytes}
 use Rattle.alt_keyorder.specs.Place.{key_values, place_bytes}
@@ -51,12 +52,6 @@ reads_none wanted key behind item NoMemory kept takes = tt
 pub behind_token : (n : ℕ) (rest : List ℕ) → drop 8 (to_be_bytes w64 n ++ rest) ≡ rest
 behind_token n rest = refl
 
--- a mapped option that has a value has it from one that was there
-mapped : {A B : Type 0} (f : A → B) (o : Option A) (y : B) → option_map f o ≡ Some y
-    → (x : A) × (o ≡ Some x) × (f x ≡ y)
-mapped f None y e = absurd (let no : None ≡ Some y = e in cc no)
-mapped f (Some x) y e = (x, refl, ap (λ o. unwrap_or o (f x)) e)
-
 -- Both keys of what an index keeps have their values, and these stand behind the token.
 pub record HasBoth (d : TableSchema) (i : IndexSchema) (kept : List Pair) (key : List ℕ) : Type 0 where
   pub own : KeyValues
@@ -70,7 +65,7 @@ module _ (d : TableSchema) (i : IndexSchema) (kept : List Pair) (key : List ℕ)
     (is : IsKeptAt d i kept key columns) where
   pub has_both : HasBoth d i kept key
   has_both =
-      let placed = mapped place_bytes (index_place d i kept) key is.place in
+      let placed = mapped_some place_bytes (index_place d i kept) key is.place in
       let both = has_keys d i kept placed.0 placed.1 in
       record {
         own = both.own;

@@ -3,11 +3,7 @@ use Rattle.std.proofs.Common.{◌≡◌, ◌<◌, ◌≤◌, ◌+◌, refl, sym,
 use Rattle.std.specs.Prelude.{slice_get}
 use Rattle.std.specs.List.{list_all}
 use Rattle.std.proofs.lemmas.List.{take_all}
-
--- where the second of two tests fails they don't pass together
-and_false : (b : Bool) → (b && false) ≡ false
-and_false true = refl
-and_false false = refl
+use Rattle.std.proofs.Math.Bool.{and-false}
 
 -- where one doesn't pass not all do
 pub not_all : {A : Type 0} (p : A → Bool) (xs : List A) (n : ℕ) (x : A) → slice_get xs n ≡ Some x
@@ -17,7 +13,7 @@ not_all p (y ∷ ys) zero x at fails =
     let same : y ≡ x = cc in
     ap (λ b. b && list_all p ys) (ap p same ∙ fails)
 not_all p (y ∷ ys) (suc n) x at fails = ap (λ b. p y && b) (not_all p ys n x at fails)
-    ∙ and_false (p y)
+    ∙ and-false (p y)
 
 -- those before the next one pass, and so does it
 more_suc : {A : Type 0} (p : A → Bool) (xs : List A) (n : ℕ) (x : A) → slice_get xs n ≡ Some x

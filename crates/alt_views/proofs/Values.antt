@@ -1,6 +1,8 @@
 -- The values of a key as an item has them.
-use Rattle.std.proofs.Common.{◌≡◌, ◌<◌, refl, ap, subst, ◌∙◌, Bool, true, false, List, length, Option, Some, None, option_map}
-use Rattle.std.specs.Prelude.{if◌then◌else◌, option_and_then, unwrap_or}
+use Rattle.std.proofs.Common.{◌≡◌, ◌<◌, refl, ap, subst, ◌∙◌, List, length, Option, Some, None, option_map}
+use Rattle.std.proofs.lemmas.Option.{none-some, same_Some}
+use Rattle.std.specs.Prelude.{if◌then◌else◌, option_and_then}
+use Rattle.alt_base.proofs.Options.{some_if}
 use Rattle.alt_keyorder.specs.KeyBytes.{IsKeyOf}
 use Rattle.alt_machine.specs.Indexed.{KeyValues, values_beside, values_of}
 use Rattle.alt_machine.specs.Keys.{can_be_key, if_key, key_value}
@@ -10,34 +12,21 @@ use Rattle.alt_value.specs.Tree.{Tree, Pair, S_tree, N_tree, B_tree, fields_of}
 use Rattle.alt_value.specs.Values.{IsValue, AreFields}
 use Rattle.alt_value.specs.declared.kind.KeyKind.{KeyKind}
 use Rattle.alt_value.specs.declared.kind.KeyKind.TheVariants.{S, N, B}
-use Rattle.alt_machine.proofs.Placed.{field_value}
+use Rattle.alt_value.proofs.NamedPairs.{value_at}
 use Rattle.alt_views.specs.Read.{AreValuesOf}
-
--- options that are equal have equal values
-pub some : {A : Type 0} (x y : A) → Some x ≡ Some y → x ≡ y
-some x y e = ap (λ o. unwrap_or o x) e
-
--- an option without a value isn't one with a value
-pub none : {A : Type 0} (x : A) → None ≡ Some x → ⊥
-none x e = let no : None ≡ Some x = e in cc no
-
--- a value that is taken where a test passes is that value, where one is taken
-if_so : (b : Bool) (u t : Tree) → (if b then Some u else None) ≡ Some t → u ≡ t
-if_so true u t e = some u t e
-if_so false u t e = absurd (none t e)
 
 -- a value that can be a key is one of its kind
 key_of_kind : (kind : KeyKind) (u t : Tree) → IsValue u → if_key kind u ≡ Some t → IsKeyOf kind t
 key_of_kind S (S_tree s) t v e = subst (IsKeyOf S)
-    (if_so (can_be_key S (S_tree s)) (S_tree s) t e) v.0
-key_of_kind N (N_tree z) t v e = subst (IsKeyOf N) (some (N_tree z) t e) v
+    (some_if (can_be_key S (S_tree s)) (S_tree s) t e) v.0
+key_of_kind N (N_tree z) t v e = subst (IsKeyOf N) (same_Some (N_tree z) t e) v
 key_of_kind B (B_tree b) t v e = subst (IsKeyOf B)
-    (if_so (can_be_key B (B_tree b)) (B_tree b) t e) tt
-key_of_kind kind u t v e = absurd (none t e)
+    (some_if (can_be_key B (B_tree b)) (B_tree b) t e) tt
+key_of_kind kind u t v e = absurd (none-some t e)
 
 -- what is taken of a value as a key is the value itself
 same_value : (kind : KeyKind) (u t : Tree) → if_key kind u ≡ Some t → u ≡ t
-same_value kind u t e = if_so (can_be_key kind u) u t e
+same_value kind u t e = some_if (can_be_key kind u) u t e
 
 -- the value of a key attribute stands at its name, and is of its kind
 pub at_key : (item : List Pair) (key : KeyAttr) (t : Tree) → AreFields (fields_of item)
@@ -47,10 +36,10 @@ at_key item key t fields e = by_value (at_name key.name item) refl e
     by_value : (o : Option Tree) → at_name key.name item ≡ o
         → option_and_then (if_key key.kind) o ≡ Some t
         → (at_name key.name item ≡ Some t) × IsKeyOf key.kind t
-    by_value None at e = absurd (none t e)
+    by_value None at e = absurd (none-some t e)
     by_value (Some u) at e = (
       at ∙ ap (λ x. Some x) (same_value key.kind u t e),
-      key_of_kind key.kind u t (field_value key.name item u fields at) e,
+      key_of_kind key.kind u t (value_at key.name item u fields at) e,
     )
 
 -- the values of a key stand at its names
@@ -77,18 +66,18 @@ has_values item hash range values fields named range_named e = by_hash (key_valu
         → (at_name hash.name item ≡ Some h) × IsKeyOf hash.kind h
         → values_beside (key_value item) r h ≡ Some values → HasValues item hash r values
     beside None h named_r at e =
-        subst (HasValues item hash None) (some (record { hash = h; range = None }) values e)
+        subst (HasValues item hash None) (same_Some (record { hash = h; range = None }) values e)
         (record { hash_at = at.0; range_at = tt; are = ((at.1, named), tt) })
     beside (Some r) h named_r at e = by_range (key_value item r) refl e
       where
         by_range : (o : Option Tree) → key_value item r ≡ o
             → option_map (λ t. record { hash = h; range = Some t }) o ≡ Some values
             → HasValues item hash (Some r) values
-        by_range None there e = absurd (none values e)
+        by_range None there e = absurd (none-some values e)
         by_range (Some t) there e =
             let stands = at_key item r t fields there in
             subst (HasValues item hash (Some r))
-            (some (record { hash = h; range = Some t }) values e)
+            (same_Some (record { hash = h; range = Some t }) values e)
             (record {
               hash_at = at.0;
               range_at = stands.0;
@@ -98,5 +87,5 @@ has_values item hash range values fields named range_named e = by_hash (key_valu
     by_hash : (o : Option Tree) → key_value item hash ≡ o
         → option_and_then (values_beside (key_value item) range) o ≡ Some values
         → HasValues item hash range values
-    by_hash None at e = absurd (none values e)
+    by_hash None at e = absurd (none-some values e)
     by_hash (Some h) at e = beside range h range_named (at_key item hash h fields at) e

@@ -1,6 +1,7 @@
 -- The bytes of a write and of a group, piece by piece.
 use Rattle.std.proofs.Common.{◌≡◌, ℕ, List, [], ◌∷◌, Option, ◌++◌, length, ap, ◌∙◌, append_assoc}
 use Rattle.std.specs.Int.{w32, w64, to_be_bytes}
+use Rattle.alt_base.proofs.Lists.{append_five}
 use Rattle.alt_cells.specs.declared.batch.RowChange.{RowChange}
 use Rattle.alt_fields.specs.Field.{field}
 use Rattle.alt_writes.specs.Writes.{Write}
@@ -9,12 +10,6 @@ use Rattle.alt_writes.specs.Bytes.{clear_byte, cells_bytes, change_bytes, change
 -- three parts put one behind another
 pub three_put : (out a b c : List ℕ) → ((out ++ a) ++ b) ++ c ≡ out ++ (a ++ (b ++ c))
 three_put out a b c = append_assoc (out ++ a) b c ∙ append_assoc out a (b ++ c)
-
--- and five
-pub five_put : (out a b c d e : List ℕ) → ((((out ++ a) ++ b) ++ c) ++ d) ++ e
-    ≡ out ++ (a ++ (b ++ (c ++ (d ++ e))))
-five_put out a b c d e = append_assoc (((out ++ a) ++ b) ++ c) d e
-    ∙ append_assoc ((out ++ a) ++ b) c (d ++ e) ∙ three_put out a b (c ++ (d ++ e))
 
 -- the five parts of a change are its bytes
 pub change_bytes_put : (change : RowChange) (key : List ℕ) (cells : List (List ℕ × Option (List ℕ)))
@@ -27,7 +22,7 @@ unfolding change_bytes
 change_bytes_put change key cells byte out a b c d e same_key same_cells same_byte p q r s t =
     t ∙ ap (λ x. x ++ cells_bytes cells) (s ∙ ap (λ x. x ++ to_be_bytes w64 (length cells))
     (r ∙ ap (λ x. x ++ byte ∷ []) (q ∙ ap (λ x. x ++ field key) p)))
-    ∙ five_put out (to_be_bytes w32 change.family) (field key) (byte ∷ [])
+    ∙ append_five out (to_be_bytes w32 change.family) (field key) (byte ∷ [])
     (to_be_bytes w64 (length cells)) (cells_bytes cells)
     ∙ (λ i. out ++ (to_be_bytes w32 change.family
     ++ (field (same_key i) ++ ((same_byte i ∷ [])

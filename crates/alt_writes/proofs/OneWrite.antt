@@ -1,46 +1,12 @@
 -- Bytes are those of one write at most, and of one group of writes.
-use Rattle.std.proofs.Common.{◌≡◌, ◌<◌, ◌^◌, ℕ, Bool, true, false, List, [], ◌∷◌, ◌++◌, length, take, drop, Option, Some, None, refl, sym, ap, ◌∙◌, arith, append_assoc}
-use Rattle.std.proofs.lemmas.List.{append-nil, take_at, drop_at}
-use Rattle.std.proofs.lemmas.Nat.{from_be_bytes-to_be_bytes_4, from_be_bytes-to_be_bytes_8}
-use Rattle.std.specs.Int.{w32, w64, to_be_bytes, from_be_bytes}
+use Rattle.std.proofs.Common.{◌≡◌, ◌<◌, ◌^◌, ℕ, Bool, true, false, List, [], ◌∷◌, ◌++◌, length, drop, Option, Some, None, refl, sym, ap, ◌∙◌, arith, append_assoc}
+use Rattle.std.proofs.lemmas.List.{append-nil}
+use Rattle.std.specs.Int.{w32, w64, to_be_bytes}
 use Rattle.alt_cells.specs.declared.batch.RowChange.{RowChange}
 use Rattle.alt_fields.specs.Field.{field}
-use Rattle.alt_fields.specs.Bytes.{IsShort}
+use Rattle.alt_fields.proofs.Apart.{number-apart, field-apart, number_four-apart}
 use Rattle.alt_writes.specs.Writes.{Write}
 use Rattle.alt_writes.specs.Bytes.{clear_byte, value_bytes, cells_bytes, change_bytes, changes_bytes, write_bytes, writes_bytes, group_bytes, IsShortValue, AreShortCells, IsHeldChange, AreHeldChanges, IsHeldWrite, AllHeld, IsHeldGroup}
-
--- two numbers of eight bytes at the front, told apart
-pub eight_apart : (m n : ℕ) (x y : List ℕ) → m < 2 ^ 64 → n < 2 ^ 64
-    → to_be_bytes w64 m ++ x ≡ to_be_bytes w64 n ++ y → (m ≡ n) × (x ≡ y)
-eight_apart m n x y small_m small_n e = (
-  sym (from_be_bytes-to_be_bytes_8 m small_m)
-      ∙ ap (from_be_bytes w64) (sym (take_at (to_be_bytes w64 m) x 8 refl) ∙ ap (take 8) e
-      ∙ take_at (to_be_bytes w64 n) y 8 refl) ∙ from_be_bytes-to_be_bytes_8 n small_n,
-  sym (drop_at (to_be_bytes w64 m) x 8 refl) ∙ ap (drop 8) e ∙ drop_at (to_be_bytes w64 n) y 8 refl,
-)
-
--- and of four
-pub four_apart : (m n : ℕ) (x y : List ℕ) → m < 2 ^ 32 → n < 2 ^ 32
-    → to_be_bytes w32 m ++ x ≡ to_be_bytes w32 n ++ y → (m ≡ n) × (x ≡ y)
-four_apart m n x y small_m small_n e = (
-  sym (from_be_bytes-to_be_bytes_4 m small_m)
-      ∙ ap (from_be_bytes w32) (sym (take_at (to_be_bytes w32 m) x 4 refl) ∙ ap (take 4) e
-      ∙ take_at (to_be_bytes w32 n) y 4 refl) ∙ from_be_bytes-to_be_bytes_4 n small_n,
-  sym (drop_at (to_be_bytes w32 m) x 4 refl) ∙ ap (drop 4) e ∙ drop_at (to_be_bytes w32 n) y 4 refl,
-)
-
--- two fields
-pub field_apart : (a b x y : List ℕ) → IsShort a → IsShort b → field a ++ x ≡ field b ++ y
-    → (a ≡ b) × (x ≡ y)
-field_apart a b x y short_a short_b e =
-    let parts = eight_apart (length a) (length b) (a ++ x) (b ++ y) short_a short_b
-    (sym (append_assoc (to_be_bytes w64 (length a)) a x) ∙ e
-    ∙ append_assoc (to_be_bytes w64 (length b)) b y) in (
-      sym (take_at a x (length a) refl) ∙ ap (take (length a)) parts.1
-          ∙ take_at b y (length a) (sym parts.0),
-      sym (drop_at a x (length a) refl) ∙ ap (drop (length a)) parts.1
-          ∙ drop_at b y (length a) (sym parts.0),
-    )
 
 -- two values, or none
 pub value_apart : (a b : Option (List ℕ)) (x y : List ℕ) → IsShortValue a → IsShortValue b
@@ -48,7 +14,7 @@ pub value_apart : (a b : Option (List ℕ)) (x y : List ℕ) → IsShortValue a 
 value_apart None None x y h k e = (refl, ap (drop 1) e)
 value_apart None (Some b) x y h k e = let no : 0 ∷ x ≡ 1 ∷ (field b ++ y) = e in cc no
 value_apart (Some a) None x y h k e = let no : 1 ∷ (field a ++ x) ≡ 0 ∷ y = e in cc no
-value_apart (Some a) (Some b) x y h k e = let parts = field_apart a b x y h k (ap (drop 1) e) in
+value_apart (Some a) (Some b) x y h k e = let parts = field-apart a b x y h k (ap (drop 1) e) in
     (ap (λ v. Some v) parts.0, parts.1)
 
 -- two lists of columns, of one length
@@ -59,7 +25,7 @@ cells_apart [] [] x y h k n e = (refl, e)
 cells_apart [] (b ∷ fs) x y h k n e = absurd (omega arith)
 cells_apart (a ∷ es) [] x y h k n e = absurd (omega arith)
 cells_apart (a ∷ es) (b ∷ fs) x y h k n e =
-    let front = field_apart a.0 b.0 (value_bytes a.1 ++ (cells_bytes es ++ x))
+    let front = field-apart a.0 b.0 (value_bytes a.1 ++ (cells_bytes es ++ x))
     (value_bytes b.1 ++ (cells_bytes fs ++ y)) h.0 k.0
     (sym (pieces a es x) ∙ e ∙ pieces b fs y) in
     let value = value_apart a.1 b.1 (cells_bytes es ++ x) (cells_bytes fs ++ y) h.1 k.1 front.1 in
@@ -98,11 +64,11 @@ change_pieces c x =
 pub change_apart : (c d : RowChange) (x y : List ℕ) → IsHeldChange c → IsHeldChange d
     → change_bytes c ++ x ≡ change_bytes d ++ y → (c ≡ d) × (x ≡ y)
 change_apart c d x y h k e =
-    let family = four_apart c.family d.family _ _ h.family k.family
+    let family = number_four-apart c.family d.family _ _ h.family k.family
     (sym (change_pieces c x) ∙ e ∙ change_pieces d y) in
-    let key = field_apart c.key d.key _ _ h.key k.key family.1 in
+    let key = field-apart c.key d.key _ _ h.key k.key family.1 in
     let clear = clear_apart c.clear d.clear _ _ key.1 in
-    let count = eight_apart (length c.cells) (length d.cells) _ _ h.count k.count clear.1 in
+    let count = number-apart (length c.cells) (length d.cells) _ _ h.count k.count clear.1 in
     let cells = cells_apart c.cells d.cells x y h.cells k.cells count.0 count.1 in (
       (λ i. record { family = family.0 i; key = key.0 i; clear = clear.0 i; cells = cells.0 i }),
       cells.1,
@@ -136,9 +102,9 @@ write_pieces w x =
 pub write_apart : (v w : Write) (x y : List ℕ) → IsHeldWrite v → IsHeldWrite w
     → write_bytes v ++ x ≡ write_bytes w ++ y → (v ≡ w) × (x ≡ y)
 write_apart v w x y h k e =
-    let number = eight_apart v.number w.number _ _ (fits v h) (fits w k)
+    let number = number-apart v.number w.number _ _ (fits v h) (fits w k)
     (sym (write_pieces v x) ∙ e ∙ write_pieces w y) in
-    let count = eight_apart (length v.changes) (length w.changes) (changes_bytes v.changes ++ x)
+    let count = number-apart (length v.changes) (length w.changes) (changes_bytes v.changes ++ x)
     (changes_bytes w.changes ++ y) h.count k.count number.1 in
     let changes = changes_apart v.changes w.changes x y h.changes k.changes count.0 count.1 in
     ((λ i. record { number = number.0 i; changes = changes.0 i }), changes.1)
@@ -170,7 +136,7 @@ pub one_group : (vs ws : List Write) → IsHeldGroup vs → IsHeldGroup ws
     → group_bytes vs ≡ group_bytes ws → vs ≡ ws
 unfolding group_bytes
 one_group vs ws h k e =
-    let count = eight_apart (length vs) (length ws) (writes_bytes vs) (writes_bytes ws) h.count
+    let count = number-apart (length vs) (length ws) (writes_bytes vs) (writes_bytes ws) h.count
     k.count e in
     (writes_apart vs ws [] [] h.writes k.writes count.0
     (append-nil (writes_bytes vs) ∙ count.1 ∙ sym (append-nil (writes_bytes ws)))).0

@@ -2,17 +2,18 @@
 use Rattle.std.proofs.Common.{◌≡◌, ◌<◌, ◌≤◌, ◌+◌, ◌-◌, ◌^◌, ℕ, Bool, true, false, List, [], ◌∷◌, ◌++◌, length, Option, Some, None, sym, ap, refl, subst, suc, ◌∙◌, arith, append_assoc, length-append}
 use Rattle.std.proofs.lemmas.List.{append-nil}
 use Rattle.std.specs.Int.{w32, w64, to_be_bytes}
+use Rattle.alt_base.proofs.Lists.{length-zero}
 use Rattle.alt_cells.specs.declared.batch.RowChange.{RowChange}
 use Rattle.alt_fields.specs.Bytes.{IsShort}
 use Rattle.alt_fields.specs.Field.{field, told_length}
-use Rattle.alt_fields.proofs.Apart.{field_whole}
+use Rattle.alt_fields.proofs.Apart.{field_whole, number-apart, field-apart, number_four-apart}
 use Rattle.alt_writes.specs.Writes.{AreRising, Write, past}
 use Rattle.alt_writes.specs.Bytes.{clear_byte, value_bytes, cells_bytes, change_bytes, changes_bytes, write_bytes, writes_bytes, group_bytes, IsShortValue, AreShortCells, IsHeldChange, AreHeldChanges, IsHeldWrite, AllHeld, IsHeldGroup}
 use Rattle.alt_writes.specs.Reading.{IsNoGroup, IsNoWrite, IsNone, NoNumber, NoFamily, NoField, NoFlag, NoValue, NoCells, NoChange, NoChanges, NoWrite, NoWrites, write_of, writes_of}
 use Rattle.alt_writes.specs.declared.read.LoggedWrite.{LoggedWrite}
 use Rattle.alt_writes.specs.declared.read.Stop.{Stop}
 use Rattle.alt_writes.specs.declared.read.Stop.TheVariants.{Bad, NoMemory}
-use Rattle.alt_writes.proofs.OneWrite.{eight_apart, four_apart, field_apart, value_apart, clear_apart, change_pieces, change_apart, write_apart, write_pieces, writes_apart}
+use Rattle.alt_writes.proofs.OneWrite.{value_apart, clear_apart, change_pieces, change_apart, write_apart, write_pieces, writes_apart}
 
 -- what is true of the bytes where one thing is bad is true where another is
 pub none_map : (P Q : Type 0) (s : Stop) → (P → Q) → IsNone P s → IsNone Q s
@@ -100,7 +101,7 @@ next_cell [] (b ∷ es) rest y h k less e = record {
 }
 next_cell (a ∷ done) [] rest y h k less e = absurd (omega arith)
 next_cell (a ∷ done) (b ∷ es) rest y h k less e =
-    let name = field_apart a.0 b.0 (value_bytes a.1 ++ (cells_bytes done ++ rest))
+    let name = field-apart a.0 b.0 (value_bytes a.1 ++ (cells_bytes done ++ rest))
     (value_bytes b.1 ++ (cells_bytes es ++ y)) h.0 k.0
     (sym (pieces a done rest) ∙ e ∙ pieces b es y) in
     let value = value_apart a.1 b.1 (cells_bytes done ++ rest) (cells_bytes es ++ y) h.1 k.1 name.1
@@ -127,7 +128,7 @@ module _ (count : ℕ) (done : List (List ℕ × Option (List ℕ))) (bytes rest
     no_cells-value name flagged short_name named non es y h n e =
         let next = next_cell done es rest y short h (omega (arith, n)) (sym is ∙ e) in
         non next.value next.more next.given
-        (field_apart name next.name flagged (value_bytes next.value ++ next.more) short_name
+        (field-apart name next.name flagged (value_bytes next.value ++ next.more) short_name
         next.short (sym named ∙ next.is)).1
 
 -- ---- a change
@@ -142,7 +143,7 @@ module _ (bytes : List ℕ) where
     behind_family : (d : RowChange) (y : List ℕ) → IsHeldChange d → bytes ≡ change_bytes d ++ y
         → keyed ≡ field d.key ++ (clear_byte d.clear ∷ (to_be_bytes w64 (length d.cells)
         ++ (cells_bytes d.cells ++ y)))
-    behind_family d y h e = (four_apart family d.family keyed _ small h.family
+    behind_family d y h e = (number_four-apart family d.family keyed _ small h.family
         (sym is ∙ e ∙ change_pieces d y)).1
 
     pub no_change-key : NoField keyed → NoChange bytes
@@ -153,7 +154,7 @@ module _ (bytes : List ℕ) where
         behind_key : (d : RowChange) (y : List ℕ) → IsHeldChange d → bytes ≡ change_bytes d ++ y
             → flagged ≡ clear_byte d.clear ∷ (to_be_bytes w64 (length d.cells)
             ++ (cells_bytes d.cells ++ y))
-        behind_key d y h e = (field_apart key d.key flagged _ short h.key
+        behind_key d y h e = (field-apart key d.key flagged _ short h.key
             (sym named ∙ behind_family d y h e)).1
 
         pub no_change-flag : NoFlag flagged → NoChange bytes
@@ -173,7 +174,7 @@ module _ (bytes : List ℕ) where
               (told : counted ≡ to_be_bytes w64 count ++ listed) where
             pub no_change-cells : NoCells count listed → NoChange bytes
             no_change-cells non d y h e =
-                let parts = eight_apart count (length d.cells) listed
+                let parts = number-apart count (length d.cells) listed
                 (cells_bytes d.cells ++ y) fits
                 h.count (sym told ∙ behind_flag d y h e) in
                 non d.cells y h.cells (sym parts.0) parts.1
@@ -254,7 +255,7 @@ module _ (least : ℕ) (bytes : List ℕ) where
         → (number ≡ w.number)
         × (counted ≡ to_be_bytes w64 (length w.changes) ++ (changes_bytes w.changes ++ y))
     behind_number w y h e = let low = h.number in
-        eight_apart number w.number counted _ fits (omega (arith, low))
+        number-apart number w.number counted _ fits (omega (arith, low))
         (sym is ∙ e ∙ write_pieces w y)
 
     pub no_write-early : number < least → NoWrite least bytes
@@ -272,7 +273,7 @@ module _ (least : ℕ) (bytes : List ℕ) where
         (told : counted ≡ to_be_bytes w64 count ++ rest) where
       behind_count : (w : Write) (y : List ℕ) → IsHeldWrite w → bytes ≡ write_bytes w ++ y
           → (count ≡ length w.changes) × (rest ≡ changes_bytes w.changes ++ y)
-      behind_count w y h e = eight_apart count (length w.changes) rest _ small h.count
+      behind_count w y h e = number-apart count (length w.changes) rest _ small h.count
           (sym told ∙ (behind_number w y h e).1)
 
       pub no_write-changes : NoChanges count rest → NoWrite least bytes
@@ -287,11 +288,6 @@ module _ (least : ℕ) (bytes : List ℕ) where
           is ∙ ap (λ x. to_be_bytes w64 number ++ x) (told
           ∙ (λ i. to_be_bytes w64 (sym n i) ++ read i))
           ∙ sym (write_pieces (record { number = number; changes = done }) behind)
-
--- no bytes
-no_length : (xs : List ℕ) → length xs ≡ 0 → xs ≡ []
-no_length [] e = refl
-no_length (x ∷ xs) e = absurd (omega arith)
 
 -- ---- an entry that is one write
 
@@ -312,7 +308,7 @@ none_behind least bytes v behind k is some w h later e =
 pub whole : (front bytes behind : List ℕ) → bytes ≡ front ++ behind → length behind ≡ 0
     → bytes ≡ front
 whole front bytes behind is none =
-    is ∙ ap (λ x. front ++ x) (no_length behind none) ∙ append-nil front
+    is ∙ ap (λ x. front ++ x) (length-zero behind none) ∙ append-nil front
 
 -- ---- writes
 
@@ -390,7 +386,7 @@ module _ (least : ℕ) (bytes : List ℕ) where
     behind_groups : (ws : List Write) → IsHeldGroup ws → bytes ≡ group_bytes ws
         → (count ≡ length ws) × (rest ≡ writes_bytes ws)
     unfolding group_bytes
-    behind_groups ws h e = eight_apart count (length ws) rest (writes_bytes ws) small h.count
+    behind_groups ws h e = number-apart count (length ws) rest (writes_bytes ws) small h.count
         (sym is ∙ e)
 
     pub no_group-empty : count ≡ 0 → IsNoGroup least bytes

@@ -2,16 +2,17 @@
 use Rattle.std.proofs.Common.{◌-◌, refl, sym, ap, subst, ◌∙◌, List, ℕ, ◌∷◌, ◌++◌, length, get_or, rules, arith}
 use Rattle.std.specs.List.{flat_map}
 use Rattle.std.proofs.lemmas.Result.{err_from_is_err_and, IfErr-weaker}
+use Rattle.alt_base.proofs.Lists.{head_tail, cons_same}
 use Rattle.alt_value.specs.Item.{with_pair}
 use Rattle.alt_value.specs.Stands.{tree_of}
 use Rattle.alt_value.specs.Tree.{Tree}
 use Rattle.alt_cellbytes.specs.Places.{Stops, TooDeep, StopsHere, no_count, entry_bytes}
-use Rattle.alt_cellbytes.proofs.Kept.{stop_into, both_map, kind_is}
+use Rattle.alt_cellbytes.proofs.Kept.{stop_into, both_map}
 use Rattle.alt_cellbytes.proofs.Deep.{elements_within, fields_within}
 use Rattle.alt_cellbytes.proofs.DeepFirst.{deep_kind, other_kind, list_deeper, map_deeper, list_uncounted, map_uncounted, elements_ahead, entries_ahead, ahead_stop, name_stop, behind_name, never_ok}
 use Rattle.alt_cellbytes.proofs.OneMore.{entry_more, entry_shallow, name_length}
 use Rattle.alt_cellbytes.proofs.Stopped.{stops_here, list_stops, map_stops, list_deep, map_deep}
-use Rattle.alt_cellbytes.proofs.Wholes.{list_whole, map_whole, head_tail}
+use Rattle.alt_cellbytes.proofs.Wholes.{list_whole, map_whole}
 use Rattle.alt_cellbytes.proofs.reading.+reading.Goals as goal
 
 pub take_entries-put-requires : goal.take_entries-put-requires
@@ -61,7 +62,7 @@ take_list-returns-in-Err-clause-stop t c =
     let most = c.args.most in
     let count = c.in_ok-count.count in
     let rest = c.in_ok-count.rest.now in
-    let told = kind_is 9 9 bytes _ refl c.in_ok-count.ensures.count.1 in
+    let told = cons_same 9 9 bytes _ refl c.in_ok-count.ensures.count.1 in
     both_map _ (Stops (9 ∷ bytes)) _ (TooDeep most (9 ∷ bytes)) c.in-Err.stop
     (λ n h. list_stops count (9 ∷ bytes) rest n c.in_ok-count.ensures.count.0 told h)
     (λ n h. list_deep most count (9 ∷ bytes) rest n c.requires c.in_ok-count.ensures.count.0 told h)
@@ -90,7 +91,7 @@ take_map-returns-in-Err-clause-stop t c =
     let most = c.args.most in
     let count = c.in_ok-count.count in
     let rest = c.in_ok-count.rest.now in
-    let told = kind_is 10 10 bytes _ refl c.in_ok-count.ensures.count.1 in
+    let told = cons_same 10 10 bytes _ refl c.in_ok-count.ensures.count.1 in
     both_map _ (Stops (10 ∷ bytes)) _ (TooDeep most (10 ∷ bytes)) c.in-Err.stop
     (λ n h. map_stops count (10 ∷ bytes) rest n c.in_ok-count.ensures.count.0 told h)
     (λ n h. map_deep most count (10 ∷ bytes) rest n c.requires c.in_ok-count.ensures.count.0 told h)

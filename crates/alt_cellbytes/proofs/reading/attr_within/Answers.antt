@@ -1,13 +1,15 @@
 -- The whole is one value, or stops within it, or is nested too deep, or goes on behind it.
 use Rattle.std.proofs.Common.{◌-◌, [], inl, inr, refl, sym, ◌∙◌, length, rules}
 use Rattle.std.proofs.lemmas.List.{append-nil}
+use Rattle.alt_base.proofs.Numbers.{above_zero_from_test, zero_from_test}
 use Rattle.alt_value.specs.CellBytes.{cell_bytes}
 use Rattle.alt_value.specs.Stands.{tree_of}
 use Rattle.alt_cellbytes.proofs.DeepFirst.{left_shallow, deep_least}
 use Rattle.alt_cellbytes.proofs.Stopped.{deep-refuted}
 use Rattle.alt_cellbytes.proofs.WholeValues.{whole_has, full_of}
-use Rattle.alt_cellbytes.proofs.Wholes.{one_place, same_read, nothing_left, zero_from, some_from, stop_place, behind_place, deep_place, first_place}
+use Rattle.alt_cellbytes.proofs.Wholes.{same_read, nothing_left, stop_place, behind_place, deep_place, first_place}
 use Rattle.alt_cellbytes.proofs.reading.attr_within.Goals as goal
+use Rattle.alt_fields.proofs.Faults.{one_place}
 
 pub returns-then-is_empty-clause-value : goal.returns-then-is_empty-clause-value
 returns-then-is_empty-clause-value c =
@@ -15,7 +17,7 @@ returns-then-is_empty-clause-value c =
       (c.held.ensures.value, full_of (tree_of c.in-Ok.a) value.0),
       value.1,
       nothing_left c.args.bytes.now c.in-Ok.rest.now (tree_of c.in-Ok.a) value.2
-          (zero_from (length c.in-Ok.rest.now) c.if-is_empty.ensures),
+          (zero_from_test (length c.in-Ok.rest.now) c.if-is_empty.ensures),
     )
 
 pub returns-then-is_empty-clause-taken : goal.returns-then-is_empty-clause-taken
@@ -23,26 +25,28 @@ returns-then-is_empty-clause-taken c = λ t w d e.
     let value = c.in-Ok.ensures.value in
     same_read c.args.bytes.now (tree_of c.in-Ok.a) t value.0 (whole_has t w)
     (nothing_left c.args.bytes.now c.in-Ok.rest.now (tree_of c.in-Ok.a) value.2
-    (zero_from (length c.in-Ok.rest.now) c.if-is_empty.ensures)) e
+    (zero_from_test (length c.in-Ok.rest.now) c.if-is_empty.ensures)) e
 
 pub returns-else-is_empty-clause-taken : goal.returns-else-is_empty-clause-taken
 returns-else-is_empty-clause-taken c = λ t w d e.
     let value = c.in-Ok.ensures.value in
     absurd ((behind_place c.args.bytes.now c.in-Ok.rest.now (tree_of c.in-Ok.a) _ value.0 value.2
-    (some_from (length c.in-Ok.rest.now) c.if-is_empty.ensures) refl).1 t (whole_has t w) e)
+    (above_zero_from_test (length c.in-Ok.rest.now) c.if-is_empty.ensures) refl).1 t
+    (whole_has t w) e)
 
 pub returns-else-is_empty-clause-place : goal.returns-else-is_empty-clause-place
 returns-else-is_empty-clause-place c = λ at e.
     let value = c.in-Ok.ensures.value in
     inl (behind_place c.args.bytes.now c.in-Ok.rest.now (tree_of c.in-Ok.a) at value.0 value.2
-    (some_from (length c.in-Ok.rest.now) c.if-is_empty.ensures)
+    (above_zero_from_test (length c.in-Ok.rest.now) c.if-is_empty.ensures)
     (sym (one_place (length c.args.bytes.now - length c.in-Ok.rest.now) at e))).0
 
 pub returns-else-is_empty-clause-none : goal.returns-else-is_empty-clause-none
 returns-else-is_empty-clause-none c = λ at f t w d e.
     let value = c.in-Ok.ensures.value in
     (behind_place c.args.bytes.now c.in-Ok.rest.now (tree_of c.in-Ok.a) _ value.0 value.2
-    (some_from (length c.in-Ok.rest.now) c.if-is_empty.ensures) refl).1 t (whole_has t w) e
+    (above_zero_from_test (length c.in-Ok.rest.now) c.if-is_empty.ensures) refl).1 t
+    (whole_has t w) e
 
 pub returns-in-Err-Left-clause-taken : goal.returns-in-Err-Left-clause-taken
 returns-in-Err-Left-clause-taken c = λ t w d e.

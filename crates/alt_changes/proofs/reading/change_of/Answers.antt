@@ -2,8 +2,9 @@
 use Rattle.std.proofs.Common.{◌≡◌, true, false, Err, ap, subst, refl, codes}
 use Rattle.std.specs.FinMap.{entries}
 use Rattle.std.specs.List.{list_all}
+use Rattle.alt_base.proofs.Options.{told_error}
 use Rattle.alt_changes.specs.NoChange.{IsBadItem, IsBadMoment, IsBadWriter, in_moment, in_new, in_old, in_writer, is_column}
-use Rattle.alt_changes.proofs.Found.{MomentRead, bad_is, change_read, item_good, moment_good, no_bad_moment, no_bad_new, no_bad_old, no_bad_writer, no_others, some_moment}
+use Rattle.alt_changes.proofs.Found.{MomentRead, change_read, item_good, moment_good, no_bad_moment, no_bad_new, no_bad_old, no_bad_writer, no_others, some_moment}
 use Rattle.alt_changes.proofs.reading.change_of.Goals as goal
 use Rattle.alt_fields.specs.declared.bytes.BytesFault.TheVariants.{Bad}
 
@@ -12,13 +13,13 @@ use Rattle.alt_fields.specs.declared.bytes.BytesFault.TheVariants.{Bad}
 pub returns-in_err-moment-clause-none : goal.returns-in_err-moment-clause-none
 returns-in_err-moment-clause-none c at bad other read is =
     no_bad_moment c.args.row.now other is at (c.in_err-moment.ensures.bad at
-    (ap Err (bad_is c.from_residual.result c.in_err-moment.field-0.0 (Bad at)
+    (ap Err (told_error c.from_residual.result c.in_err-moment.field-0.0 (Bad at)
     c.from_residual.ensures bad)))
 
 pub returns-in_err-moment-clause-place : goal.returns-in_err-moment-clause-place
 returns-in_err-moment-clause-place c at bad =
     let there : IsBadMoment c.args.row.now at = c.in_err-moment.ensures.bad at
-    (ap Err (bad_is c.from_residual.result c.in_err-moment.field-0.0 (Bad at)
+    (ap Err (told_error c.from_residual.result c.in_err-moment.field-0.0 (Bad at)
     c.from_residual.ensures bad)) in
     in_moment there.0 there.1 there.2
 
@@ -27,13 +28,13 @@ returns-in_err-moment-clause-place c at bad =
 pub returns-in_err-new-clause-none : goal.returns-in_err-new-clause-none
 returns-in_err-new-clause-none c at bad other read is =
     no_bad_new c.args.row.now other is at read (c.in_err-new.ensures.bad at
-    (ap Err (bad_is c.from_residual-in_err-new.result c.in_err-new.field-0.0 (Bad at)
+    (ap Err (told_error c.from_residual-in_err-new.result c.in_err-new.field-0.0 (Bad at)
     c.from_residual-in_err-new.ensures bad)))
 
 pub returns-in_err-new-clause-place : goal.returns-in_err-new-clause-place
 returns-in_err-new-clause-place c at bad =
     let there : IsBadItem c.args.row.now (codes "n") at = c.in_err-new.ensures.bad at
-    (ap Err (bad_is c.from_residual-in_err-new.result c.in_err-new.field-0.0 (Bad at)
+    (ap Err (told_error c.from_residual-in_err-new.result c.in_err-new.field-0.0 (Bad at)
     c.from_residual-in_err-new.ensures bad)) in
     in_new (moment_good c.args.row.now c.in_ok-moment.moment c.in_ok-moment.ensures.moment)
     there.0 there.1 there.2
@@ -43,13 +44,13 @@ returns-in_err-new-clause-place c at bad =
 pub returns-in_err-old-clause-none : goal.returns-in_err-old-clause-none
 returns-in_err-old-clause-none c at bad other read is =
     no_bad_old c.args.row.now other is at read (c.in_err-old.ensures.bad at
-    (ap Err (bad_is c.from_residual-in_err-old.result c.in_err-old.field-0.0 (Bad at)
+    (ap Err (told_error c.from_residual-in_err-old.result c.in_err-old.field-0.0 (Bad at)
     c.from_residual-in_err-old.ensures bad)))
 
 pub returns-in_err-old-clause-place : goal.returns-in_err-old-clause-place
 returns-in_err-old-clause-place c at bad =
     let there : IsBadItem c.args.row.now (codes "o") at = c.in_err-old.ensures.bad at
-    (ap Err (bad_is c.from_residual-in_err-old.result c.in_err-old.field-0.0 (Bad at)
+    (ap Err (told_error c.from_residual-in_err-old.result c.in_err-old.field-0.0 (Bad at)
     c.from_residual-in_err-old.ensures bad)) in
     in_old (moment_good c.args.row.now c.in_ok-moment.moment c.in_ok-moment.ensures.moment)
     (item_good c.args.row.now (codes "n") c.in_ok-new.new c.in_ok-new.ensures.item)
@@ -60,13 +61,13 @@ returns-in_err-old-clause-place c at bad =
 pub returns-in_err-by-clause-none : goal.returns-in_err-by-clause-none
 returns-in_err-by-clause-none c at bad other read is =
     no_bad_writer c.args.row.now other is at (c.in_err-by.ensures.bad at
-    (ap Err (bad_is c.from_residual-in_err-by.result c.in_err-by.field-0.0 (Bad at)
+    (ap Err (told_error c.from_residual-in_err-by.result c.in_err-by.field-0.0 (Bad at)
     c.from_residual-in_err-by.ensures bad)))
 
 pub returns-in_err-by-clause-place : goal.returns-in_err-by-clause-place
 returns-in_err-by-clause-place c at bad =
     let there : IsBadWriter c.args.row.now at = c.in_err-by.ensures.bad at
-    (ap Err (bad_is c.from_residual-in_err-by.result c.in_err-by.field-0.0 (Bad at)
+    (ap Err (told_error c.from_residual-in_err-by.result c.in_err-by.field-0.0 (Bad at)
     c.from_residual-in_err-by.ensures bad)) in
     in_writer (moment_good c.args.row.now c.in_ok-moment.moment c.in_ok-moment.ensures.moment)
     (item_good c.args.row.now (codes "n") c.in_ok-new.new c.in_ok-new.ensures.item)

@@ -1,8 +1,8 @@
 -- Eight bytes are read, and nothing stands behind them.
 use Rattle.std.proofs.Common.{rules, sym, arith}
-use Rattle.alt_cellbytes.proofs.Wholes.{one_place}
 use Rattle.alt_changes.proofs.Found.{moment_behind, moment_whole}
 use Rattle.alt_changes.proofs.reading.moment_of.Goals as goal
+use Rattle.alt_fields.proofs.Faults.{one_place}
 
 pub returns-in-Ok-clause-moment : goal.returns-in-Ok-clause-moment
 returns-in-Ok-clause-moment c = (

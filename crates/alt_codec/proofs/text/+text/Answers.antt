@@ -1,10 +1,10 @@
 -- An element more is written; at the end all are. What stands in a list or an item is less deep.
 use Rattle.std.proofs.Common.{◌∙◌, arith}
 use Rattle.std.proofs.lemmas.Result.{on_ok_weaker}
+use Rattle.alt_base.proofs.Lists.{get-past}
 use Rattle.alt_value.specs.Stands.{tree_of}
 use Rattle.alt_codec.specs.Writing.{json_of}
 use Rattle.alt_value.proofs.Depths.{element_depth, value_depth}
-use Rattle.alt_codec.proofs.Written.{past_end}
 use Rattle.alt_codec.proofs.Tokens.{element_more, array_whole, trees_tokens, pair_more, object_whole}
 use Rattle.alt_codec.proofs.text.+text.Goals as goal
 use Rattle.alt_codec.proofs.text.+text.Goals.{write_elements-else-loop-place-test, write_elements-then-loop-place-test+in_default, write_item-else-loop-place-test, write_item-then-loop-place-test+in_default}
@@ -36,7 +36,7 @@ write_elements-returns-clause-written t c = on_ok_weaker c.end_array_of_kind.res
     c.loop-place.invariant.written
     (elim c.loop-place-test.branch [
       | write_elements-else-loop-place-test w ↦ omega (arith, c.len-place-end.ensures.count)
-      | write_elements-then-loop-place-test+in_default w ↦ past_end c.args.list.now
+      | write_elements-then-loop-place-test+in_default w ↦ get-past c.args.list.now
           c.loop-place.place w.in_default.ensures.element
     ])
     (trees_tokens c.args.list.now) e) c.end_array_of_kind.ensures.written
@@ -68,7 +68,7 @@ write_item-returns-clause-written t c = object_whole c.args.item.now c.loop-plac
     c.end_object.new.self.tokens c.in_ok-begin_object.ensures.ok c.loop-place.invariant.written
     (elim c.loop-place-test.branch [
       | write_item-else-loop-place-test w ↦ omega (arith, c.len-place-end.ensures.count)
-      | write_item-then-loop-place-test+in_default w ↦ past_end c.args.item.now
+      | write_item-then-loop-place-test+in_default w ↦ get-past c.args.item.now
           c.loop-place.place w.in_default.ensures.pair
     ])
     c.in_ok-end_object.ensures.ok

@@ -2,10 +2,10 @@
 use Rattle.std.proofs.Common.{◌∙◌, ap, [], ◌∷◌, ◌++◌, arith}
 use Rattle.json.specs.Token.{Token}
 use Rattle.std.proofs.lemmas.Result.{on_ok_weaker}
+use Rattle.alt_base.proofs.Lists.{get-past}
 use Rattle.serde_json.specs.Data.{string}
 use Rattle.base64.specs.Engines.{standard}
 use Rattle.base64.specs.GeneralPurpose.{encode_of}
-use Rattle.alt_codec.proofs.Written.{past_end}
 use Rattle.alt_codec.proofs.Tokens.{element_more, array_whole, made_tokens}
 use Rattle.alt_codec.proofs.text.write_byte_strings.Goals as goal
 use Rattle.alt_codec.proofs.text.write_byte_strings.Goals.{else-loop-place-test, then-loop-place-test+in_default}
@@ -30,7 +30,7 @@ returns-clause-written c = on_ok_weaker c.end_array_of_kind.result (λ e. array_
     c.loop-place.invariant.written
     (elim c.loop-place-test.branch [
       | else-loop-place-test w ↦ omega (arith, c.len-place-end.ensures.count)
-      | then-loop-place-test+in_default w ↦ past_end c.args.set.now c.loop-place.place
+      | then-loop-place-test+in_default w ↦ get-past c.args.set.now c.loop-place.place
           w.in_default.ensures.member
     ])
     (made_tokens (encode_of standard) c.args.set.now) e) c.end_array_of_kind.ensures.written

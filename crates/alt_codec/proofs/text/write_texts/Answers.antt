@@ -1,8 +1,8 @@
 -- A member more is written; at the end all are.
 use Rattle.std.proofs.Common.{◌∙◌, arith}
 use Rattle.std.proofs.lemmas.Result.{on_ok_weaker}
+use Rattle.alt_base.proofs.Lists.{get-past}
 use Rattle.serde_json.specs.Data.{string}
-use Rattle.alt_codec.proofs.Written.{past_end}
 use Rattle.alt_codec.proofs.Tokens.{element_more, array_whole, texts_tokens}
 use Rattle.alt_codec.proofs.text.write_texts.Goals as goal
 use Rattle.alt_codec.proofs.text.write_texts.Goals.{else-loop-place-test, then-loop-place-test+in_default}
@@ -25,7 +25,7 @@ returns-clause-written c = on_ok_weaker c.end_array_of_kind.result (λ e. array_
     c.loop-place.invariant.written
     (elim c.loop-place-test.branch [
       | else-loop-place-test w ↦ omega (arith, c.len-place-end.ensures.count)
-      | then-loop-place-test+in_default w ↦ past_end c.args.set.now c.loop-place.place
+      | then-loop-place-test+in_default w ↦ get-past c.args.set.now c.loop-place.place
           w.in_default.ensures.member
     ])
     (texts_tokens c.args.set.now) e) c.end_array_of_kind.ensures.written

@@ -1,5 +1,6 @@
 -- An element more is written; at the end all are. What stands in a list or an item is less deep.
 use Rattle.std.proofs.Common.{◌∙◌, ap, map, arith}
+use Rattle.alt_base.proofs.Lists.{get-past}
 use Rattle.serde_json.specs.Data.{Data, Members, put}
 use Rattle.serde_json.specs.View.{view, members_view}
 use Rattle.alt_value.specs.Stands.{tree_of}
@@ -8,7 +9,7 @@ use Rattle.alt_codec.specs.Writing.{json_of}
 use Rattle.alt_value.proofs.Depths.{element_depth, value_depth}
 use Rattle.alt_codec.specs.Returning.{Returns}
 use Rattle.alt_codec.proofs.ReadBack.{list_returns, item_returns, each_more, each_whole, when_ok}
-use Rattle.alt_codec.proofs.Written.{written_more, written_whole, past_end, items_of-trees, put_more, put_whole}
+use Rattle.alt_codec.proofs.Written.{written_more, written_whole, items_of-trees, put_more, put_whole}
 use Rattle.alt_codec.proofs.writing.+writing.Goals as goal
 use Rattle.alt_codec.proofs.writing.+writing.Goals.{json_of_elements-else-loop-place-test, json_of_elements-then-loop-place-test+in_default, json_of_members-else-loop-place-test, json_of_members-then-loop-place-test+in_default}
 
@@ -43,7 +44,7 @@ json_of_elements-returns-clause-read_back t c =
       | json_of_elements-else-loop-place-test w ↦ each_whole Returns ts i
           c.loop-place.invariant.returns (omega (arith, c.len-place-end.ensures.count))
       | json_of_elements-then-loop-place-test+in_default w ↦ each_whole Returns ts i
-          c.loop-place.invariant.returns (past_end ts i w.in_default.ensures.element)
+          c.loop-place.invariant.returns (get-past ts i w.in_default.ensures.element)
     ]
 
 pub json_of_elements-returns-clause-json : goal.json_of_elements-returns-clause-json
@@ -56,7 +57,7 @@ json_of_elements-returns-clause-json t c =
           (omega (arith, c.len-place-end.ensures.count))
       | json_of_elements-then-loop-place-test+in_default w ↦ written_whole json_of ts i
           c.loop-place.values.items c.loop-place.invariant.written
-          (past_end ts i w.in_default.ensures.element)
+          (get-past ts i w.in_default.ensures.element)
     ] ∙ items_of-trees ts
 
 pub json_of_members-json_of_value-requires : goal.json_of_members-json_of_value-requires
@@ -97,7 +98,7 @@ json_of_members-returns-clause-json t c =
       | json_of_members-else-loop-place-test w ↦ put_whole ps i
           (omega (arith, c.len-place-end.ensures.count))
       | json_of_members-then-loop-place-test+in_default w ↦ put_whole ps i
-          (past_end ps i w.in_default.ensures.pair)
+          (get-past ps i w.in_default.ensures.pair)
     ]
 
 pub json_of_members-returns-clause-read_back : goal.json_of_members-returns-clause-read_back
@@ -110,7 +111,7 @@ json_of_members-returns-clause-read_back t c =
           (omega (arith, c.len-place-end.ensures.count))
       | json_of_members-then-loop-place-test+in_default w ↦ each_whole
           (λ p. Returns p.1) ps i c.loop-place.invariant.returns
-          (past_end ps i w.in_default.ensures.pair)
+          (get-past ps i w.in_default.ensures.pair)
     ])
 
 pub json_of_value-returns-in_ok-json_of_byte_strings-in-Bs-clause-read_back :

@@ -1,5 +1,6 @@
 -- A member more is written; at the end all are.
 use Rattle.std.proofs.Common.{◌∙◌, ap, map, arith}
+use Rattle.alt_base.proofs.Lists.{get-past}
 use Rattle.serde_json.specs.Data.{string}
 use Rattle.serde_json.specs.View.{view}
 use Rattle.serde_json.specs.declared.value.Value.{String as Text}
@@ -7,7 +8,7 @@ use Rattle.base64.specs.Engines.{standard}
 use Rattle.base64.specs.GeneralPurpose.{encode_of}
 use Rattle.alt_codec.specs.Returning.{BytesReturn}
 use Rattle.alt_codec.proofs.ReadBack.{binaries_return, each_more, each_whole, bytes_back}
-use Rattle.alt_codec.proofs.Written.{written_more, written_whole, past_end, text_written, items_of-texts}
+use Rattle.alt_codec.proofs.Written.{written_more, written_whole, text_written, items_of-texts}
 use Rattle.alt_codec.proofs.writing.json_of_byte_strings.Goals as goal
 use Rattle.alt_codec.proofs.writing.json_of_byte_strings.Goals.{else-loop-place-test, then-loop-place-test+in_default}
 
@@ -36,7 +37,7 @@ returns-clause-json c =
           c.loop-place.invariant.written (omega (arith, c.len-place-end.ensures.count))
       | then-loop-place-test+in_default w ↦ written_whole
           (λ b. string (encode_of standard b)) ss i c.loop-place.values.items
-          c.loop-place.invariant.written (past_end ss i w.in_default.ensures.member)
+          c.loop-place.invariant.written (get-past ss i w.in_default.ensures.member)
     ] ∙ items_of-texts (encode_of standard) ss
 
 pub returns-clause-read_back : goal.returns-clause-read_back
@@ -47,5 +48,5 @@ returns-clause-read_back c =
       | else-loop-place-test w ↦ each_whole BytesReturn ss i c.loop-place.invariant.returns
           (omega (arith, c.len-place-end.ensures.count))
       | then-loop-place-test+in_default w ↦ each_whole BytesReturn ss i
-          c.loop-place.invariant.returns (past_end ss i w.in_default.ensures.member)
+          c.loop-place.invariant.returns (get-past ss i w.in_default.ensures.member)
     ])

@@ -1,12 +1,13 @@
 -- A member more is written; at the end all are.
 use Rattle.std.proofs.Common.{◌∙◌, ap, map, arith}
+use Rattle.alt_base.proofs.Lists.{get-past}
 use Rattle.serde_json.specs.Data.{string}
 use Rattle.serde_json.specs.View.{view}
 use Rattle.serde_json.specs.declared.value.Value.{String as Text}
 use Rattle.alt_decimal.specs.Printed.{printed}
 use Rattle.alt_codec.specs.Returning.{NumberReturns}
 use Rattle.alt_codec.proofs.ReadBack.{numbers_return, each_more, each_whole}
-use Rattle.alt_codec.proofs.Written.{written_more, written_whole, past_end, text_written, items_of-texts}
+use Rattle.alt_codec.proofs.Written.{written_more, written_whole, text_written, items_of-texts}
 use Rattle.alt_codec.proofs.writing.json_of_numbers.Goals as goal
 use Rattle.alt_codec.proofs.writing.json_of_numbers.Goals.{else-loop-place-test, then-loop-place-test+in_default}
 
@@ -34,7 +35,7 @@ returns-clause-json c =
           (omega (arith, c.len-place-end.ensures.count))
       | then-loop-place-test+in_default w ↦ written_whole
           (λ z. string (printed z)) ss i c.loop-place.values.items c.loop-place.invariant.written
-          (past_end ss i w.in_default.ensures.member)
+          (get-past ss i w.in_default.ensures.member)
     ] ∙ items_of-texts printed ss
 
 pub returns-clause-read_back : goal.returns-clause-read_back
@@ -45,5 +46,5 @@ returns-clause-read_back c =
       | else-loop-place-test w ↦ each_whole NumberReturns ss i c.loop-place.invariant.returns
           (omega (arith, c.len-place-end.ensures.count))
       | then-loop-place-test+in_default w ↦ each_whole NumberReturns ss i
-          c.loop-place.invariant.returns (past_end ss i w.in_default.ensures.member)
+          c.loop-place.invariant.returns (get-past ss i w.in_default.ensures.member)
     ])

@@ -1,10 +1,11 @@
 -- A member more is written; at the end all are.
 use Rattle.std.proofs.Common.{◌∙◌, ap, map, arith}
+use Rattle.alt_base.proofs.Lists.{get-past}
 use Rattle.serde_json.specs.Data.{string}
 use Rattle.serde_json.specs.View.{view}
 use Rattle.serde_json.specs.declared.value.Value.{String as Text}
 use Rattle.alt_codec.proofs.ReadBack.{texts_return}
-use Rattle.alt_codec.proofs.Written.{written_more, written_whole, past_end, text_written, items_of-strings}
+use Rattle.alt_codec.proofs.Written.{written_more, written_whole, text_written, items_of-strings}
 use Rattle.alt_codec.proofs.writing.json_of_texts.Goals as goal
 use Rattle.alt_codec.proofs.writing.json_of_texts.Goals.{else-loop-place-test, then-loop-place-test+in_default}
 
@@ -26,7 +27,7 @@ returns-clause-json c =
           (omega (arith, c.len-place-end.ensures.count))
       | then-loop-place-test+in_default w ↦ written_whole
           (λ s. string s) ss i c.loop-place.values.items c.loop-place.invariant
-          (past_end ss i w.in_default.ensures.member)
+          (get-past ss i w.in_default.ensures.member)
     ] ∙ items_of-strings ss
 
 pub returns-clause-read_back : goal.returns-clause-read_back

@@ -1,12 +1,12 @@
 -- What the reader gives of all tokens is what the grammar gives.
 use Rattle.std.proofs.Common.{◌≡◌, ℕ, sym, ap, subst, [], map, length, Some, None, arith}
 use Rattle.std.proofs.lemmas.List.{length-map}
+use Rattle.alt_base.proofs.Lists.{length-zero}
 use Rattle.alt_expr.specs.Tokens.{tok_of}
 use Rattle.alt_expr.specs.Lookups.{given_to}
 use Rattle.alt_expr.specs.Reader.{left}
 use Rattle.alt_expr.specs.CondReader.{any, one}
 use Rattle.alt_expr.proofs.CondWhole.{read_all, read_part, read_none}
-use Rattle.alt_expr.proofs.PlainFacts.{length_none}
 use Rattle.alt_condparse.proofs.text.read_whole.Goals as goal
 
 pub returns-in-Err : goal.returns-in-Err
@@ -35,7 +35,7 @@ returns-else-len-ne0 c =
     let toks = map tok_of c.args.tokens.now in
     let n : ℕ = length c.args.tokens.now in
     let rest = left c.any.new.tokens in
-    let none : rest ≡ [] = length_none rest (omega (arith, c.len.ensures, c.if-len-ne0.false)) in
+    let none : rest ≡ [] = length-zero rest (omega (arith, c.len.ensures, c.if-len-ne0.false)) in
     let h = subst (λ i. any (one g n) i ≡ Some (c.in-Ok.condition, rest)) c.new-cursor.ensures
     c.in-Ok.ensures in
     read_all g toks n c.in-Ok.condition

@@ -1,7 +1,8 @@
 use Rattle.std.proofs.Common.{ℕ, ◌<◌, ◌+◌, ◌-◌, arith, ap, sym, ◌∙◌, nat_cmp}
+use Rattle.alt_base.proofs.Orderings.{nat_cmp-greater, nat_cmp-less}
 use Rattle.alt_decimal.specs.Digits.{width}
 use Rattle.alt_decimal.proofs.Widths.{width-le}
-use Rattle.alt_decimal.proofs.Orders.{lt-by_first, nat_cmp-less, nat_cmp-greater, nat_cmp-filled, nat_cmp-filled_second}
+use Rattle.alt_decimal.proofs.Orders.{lt-by_first, nat_cmp-filled, nat_cmp-filled_second}
 use Rattle.alt_decimal.proofs.order.magnitude_order.Goals as goal
 
 pub filled-requires : goal.filled-requires

@@ -1,11 +1,12 @@
 -- A number more.
 use Rattle.std.proofs.Common.{inl, inr, ◌∷◌, ◌++◌, ◌∙◌, [], List, ℕ, ap, subst, sym}
-use Rattle.alt_layout.proofs.FileLaws.{in_back, in_either, in_front}
+use Rattle.alt_layout.proofs.FileLaws.{in_either}
 use Rattle.alt_manifest.proofs.RuleLaws.{tells_no, tells_yes}
 use Rattle.alt_manifest.specs.Versions.{IsIn}
 use Rattle.alt_drafts.specs.Drafting.{AreDead}
 use Rattle.alt_drafts.proofs.DeadLaws.{dead_push, in_push}
 use Rattle.alt_drafts.proofs.dead.put_if_dead.Goals as goal
+use Rattle.alt_manifest.proofs.Among.{in_back, in_front}
 
 pub returns-clause-dead : goal.returns-clause-dead
 returns-clause-dead c =

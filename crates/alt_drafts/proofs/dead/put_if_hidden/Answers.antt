@@ -1,12 +1,12 @@
 -- A number more, or a family without rows.
 use Rattle.std.proofs.Common.{inl, inr, ◌∷◌, [], List, ℕ, subst, sym, ap, ◌∙◌}
 use Rattle.alt_families.specs.Families.{rows_in}
-use Rattle.alt_layout.proofs.FileLaws.{in_front}
 use Rattle.alt_manifest.proofs.RuleLaws.{tells_no}
 use Rattle.alt_manifest.specs.Versions.{IsIn}
 use Rattle.alt_drafts.specs.Drafting.{AreDead}
 use Rattle.alt_drafts.proofs.DeadLaws.{dead_push, in_push, no_rows_in}
 use Rattle.alt_drafts.proofs.dead.put_if_hidden.Goals as goal
+use Rattle.alt_manifest.proofs.Among.{in_front}
 
 pub returns-in_ok-push-in-Some-clause-dead : goal.returns-in_ok-push-in-Some-clause-dead
 returns-in_ok-push-in-Some-clause-dead c =

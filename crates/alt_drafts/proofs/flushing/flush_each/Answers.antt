@@ -4,11 +4,10 @@ use Rattle.std.specs.BTreeMap.{get}
 use Rattle.std.specs.Ordering.{nat_cmp}
 use Rattle.alt_disk.specs.Disk.{DiskState}
 use Rattle.alt_disk.specs.Runs.{Spans}
-use Rattle.alt_disk.proofs.Calls.{goes_refl}
+use Rattle.alt_disk.proofs.Calls.{goes_refl, goes_on}
 use Rattle.alt_disk.proofs.Runs.{spans_on, spans_weaker, trusted_back, trusted_on}
 use Rattle.alt_flush.specs.Drafts.{From}
 use Rattle.alt_flush.proofs.RemoveLaws.{in_more, none_removed}
-use Rattle.alt_flush.proofs.WriteLaws.{goes_then}
 use Rattle.alt_manifest.specs.Versions.{IsIn}
 use Rattle.alt_drafts.specs.Drafting.{IsFlushed}
 use Rattle.alt_drafts.proofs.DeadLaws.{others_more}
@@ -101,6 +100,6 @@ loop-family-preserved g c =
           one.apart other at.1 ∙ before.apart other at.0;
       spans = λ trusted. spans_later a b d c.loop-family.draft.next_file c.args.draft.next_file
           before.low (before.spans trusted) (one.spans (trusted_on a b before.goes trusted));
-      goes = goes_then a b d before.goes one.goes;
+      goes = goes_on a b d before.goes one.goes;
       well = one.well ∙ before.well;
     }

@@ -2,11 +2,12 @@
 use Rattle.std.proofs.Common.{◌≡◌, ◌≤◌, ⊎_elim, take, get_or, subst, arith}
 use Rattle.std.specs.BTreeMap.{get}
 use Rattle.std.specs.Ordering.{nat_cmp}
-use Rattle.alt_flush.proofs.RemoveLaws.{in_at, in_more}
+use Rattle.alt_flush.proofs.RemoveLaws.{in_more}
 use Rattle.alt_manifest.specs.Versions.{IsIn}
 use Rattle.alt_drafts.specs.InHand.{bytes_in}
 use Rattle.alt_drafts.proofs.NeedLaws.{in_before}
 use Rattle.alt_drafts.proofs.full.first_full.Goals as goal
+use Rattle.alt_manifest.proofs.Among.{in_at}
 
 pub returns-then-bytes_of-flush-clause-lives : goal.returns-then-bytes_of-flush-clause-lives
 returns-then-bytes_of-flush-clause-lives c =

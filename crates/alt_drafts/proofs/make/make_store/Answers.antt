@@ -1,10 +1,11 @@
 use Rattle.std.proofs.Common.{◌≡◌, ◌≢◌, ℕ, List, [], Some, sym, ap, subst, ◌∙◌, arith}
 use Rattle.alt_disk.specs.Disk.{DiskState, IsTrusted, IsSettled}
 use Rattle.alt_disk.proofs.Runs.{trusted_on, tells_of}
+use Rattle.alt_disk.proofs.Staying.{settled_on}
 use Rattle.alt_gatelog.specs.Log.{log_after, log_bytes}
 use Rattle.alt_gatelog.specs.declared.form.Form.{Form}
 use Rattle.alt_layout.specs.Fresh.{first_version}
-use Rattle.alt_drafts.proofs.Fresh.{fresh_layout, settled_on, rest_none}
+use Rattle.alt_drafts.proofs.Fresh.{fresh_layout, rest_none}
 use Rattle.alt_drafts.proofs.make.make_store.Goals as goal
 
 pub returns-clause-fresh : goal.returns-clause-fresh

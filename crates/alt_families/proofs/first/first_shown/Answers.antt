@@ -3,12 +3,13 @@ use Rattle.std.proofs.Common.{◌≡◌, ◌+◌, ◌∷◌, ℕ, rules, refl, s
 use Rattle.std.specs.BTreeMap.Range.{entries_between}
 use Rattle.std.specs.Ordering.{nat_cmp}
 use Rattle.std.specs.declared.ops.Bound.TheVariants.{Included, Unbounded}
-use Rattle.alt_cells.proofs.Keeping.{tells_on}
 use Rattle.alt_disk.specs.Disk.{DiskState}
+use Rattle.alt_disk.proofs.Calls.{goes_refl, goes_on}
 use Rattle.alt_disk.proofs.Runs.{quiet_start, quiet_then}
+use Rattle.alt_disk.proofs.Staying.{tells_on}
 use Rattle.alt_families.specs.declared.family.Family.{Family}
 use Rattle.alt_families.proofs.FirstLaws.{AreFrom, FamilyList, among-before, among-from, families_from, lower_from, shown_among, shown_at, tree_shows, without_first}
-use Rattle.alt_families.proofs.OpenLaws.{goes_start, goes_then, reads_still}
+use Rattle.alt_families.proofs.OpenLaws.{reads_still}
 use Rattle.alt_families.proofs.first.first_shown.Goals as goal
 
 pub loop-number-init : goal.loop-number-init
@@ -25,7 +26,7 @@ loop-number-init g c =
       from = subst (AreFrom c.args.family) (sym between)
           (families_from families c.args.family c.range-ahead.ensures.ordered);
       quiet = λ told. quiet_start s;
-      goes = goes_start s;
+      goes = goes_refl s;
       well = refl;
     }
 
@@ -49,7 +50,7 @@ loop-number-preserved g c =
       from = lower_from next c.args.family (number + 1) (omega (arith, from.0)) from.1;
       quiet = λ told. quiet_then s a b (so_far.quiet told)
           (c.first_key.ensures.quiet (tells_on s a so_far.goes told));
-      goes = goes_then s a b so_far.goes c.first_key.ensures.goes;
+      goes = goes_on s a b so_far.goes c.first_key.ensures.goes;
       well = c.in-Ok-None.ensures.well (search rules) ∙ so_far.well;
     }
 

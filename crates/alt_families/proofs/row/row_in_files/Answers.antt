@@ -2,11 +2,12 @@
 use Rattle.std.proofs.Common.{◌<◌, ◌≤◌, List, length, get_or, arith, rules, refl, sym, ap, subst, ◌∙◌, drop_of_length-le}
 use Rattle.alt_rowfile.specs.declared.rowfile.RowFile.{RowFile}
 use Rattle.std.specs.FinMap.{entries, get-entries}
-use Rattle.alt_cells.proofs.Keeping.{tells_on}
 use Rattle.alt_disk.specs.Disk.{DiskState}
+use Rattle.alt_disk.proofs.Calls.{goes_refl, goes_on}
 use Rattle.alt_merge.specs.Merges.{all_rows}
 use Rattle.alt_disk.proofs.Runs.{quiet_start, quiet_then}
-use Rattle.alt_families.proofs.OpenLaws.{open_quiet, row_first, row_more, row_last, some_open, goes_start, goes_then}
+use Rattle.alt_disk.proofs.Staying.{tells_on}
+use Rattle.alt_families.proofs.OpenLaws.{open_quiet, row_first, row_more, row_last, some_open}
 use Rattle.alt_families.proofs.row.row_in_files.Goals as goal
 
 pub loop-file-init : goal.loop-file-init
@@ -14,7 +15,7 @@ loop-file-init g c =
     let s : DiskState = g.D.Disk.state c.args.disk.now in record {
       left = λ told maps each. row_first s c.args.family.now.files.items c.args.key.now maps each;
       quiet = λ told. quiet_start s;
-      goes = goes_start s;
+      goes = goes_refl s;
       reads = omega arith;
       well = refl;
     }
@@ -36,7 +37,7 @@ loop-file-preserved g c =
           c.in_ok-row-in-Ok.ensures;
       quiet = λ told. quiet_then s a b (so_far.quiet told)
           (c.row.ensures.quiet (tells_on s a so_far.goes told));
-      goes = goes_then s a b so_far.goes c.row.ensures.goes;
+      goes = goes_on s a b so_far.goes c.row.ensures.goes;
       reads = let one = c.row.ensures.reads in let before = so_far.reads in omega (arith, one, before);
       well = c.in-Ok.ensures.well (search rules) ∙ so_far.well;
     }

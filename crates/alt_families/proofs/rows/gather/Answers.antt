@@ -1,10 +1,10 @@
 -- Step by step.
 use Rattle.std.proofs.Common.{rules, ◌∙◌}
 use Rattle.alt_base.proofs.Prefixes.{prefix_trans}
-use Rattle.alt_cells.proofs.Keeping.{tells_on}
 use Rattle.alt_disk.specs.Disk.{DiskState}
+use Rattle.alt_disk.proofs.Calls.{goes_on}
 use Rattle.alt_disk.proofs.Runs.{quiet_then}
-use Rattle.alt_families.proofs.OpenLaws.{goes_then}
+use Rattle.alt_disk.proofs.Staying.{tells_on}
 use Rattle.alt_families.proofs.rows.gather.Goals as goal
 
 pub rows-preserved : goal.rows-preserved
@@ -24,7 +24,7 @@ rows-preserved g c =
           (so_far.holds told rows held);
       quiet = λ told. quiet_then s a b (so_far.quiet told)
           (c.take_one.ensures.quiet (tells_on s a so_far.goes told));
-      goes = goes_then s a b so_far.goes c.take_one.ensures.goes;
+      goes = goes_on s a b so_far.goes c.take_one.ensures.goes;
       well = c.in-Ok-Some.ensures.well (search rules) ∙ so_far.well;
     }
 

@@ -2,9 +2,9 @@
 use Rattle.std.proofs.Common.{◌≡◌, ◌≤◌, ◌+◌, ◌∷◌, ◌++◌, ℕ, Bool, List, map, take, Option, Some, refl, subst, sym, ap, ◌∙◌}
 use Rattle.std.proofs.lemmas.Result.{on_ok_weaker}
 use Rattle.std.specs.Prelude.{IsTrue, OnOk}
-use Rattle.alt_cells.proofs.Keeping.{tells_on}
 use Rattle.alt_cells.specs.Walks.{RowMap, rows_from}
 use Rattle.alt_disk.specs.Disk.{DiskState}
+use Rattle.alt_disk.proofs.Staying.{tells_on}
 use Rattle.alt_merge.specs.Costs.{HasLists}
 use Rattle.alt_merge.specs.Merges.{HoldsEach}
 use Rattle.alt_merge.specs.Whole.{heads_of, sources_of}

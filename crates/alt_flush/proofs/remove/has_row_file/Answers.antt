@@ -1,10 +1,11 @@
 -- A family more.
 use Rattle.std.proofs.Common.{◌+◌, drop, subst, sym}
-use Rattle.alt_layout.proofs.FileLaws.{in_back, in_either, in_front}
+use Rattle.alt_layout.proofs.FileLaws.{in_either}
 use Rattle.alt_manifest.proofs.RuleLaws.{tells_no, tells_yes}
 use Rattle.alt_manifest.specs.Versions.{IsIn, row_files}
 use Rattle.alt_flush.proofs.RemoveLaws.{row_files_at}
 use Rattle.alt_flush.proofs.remove.has_row_file.Goals as goal
+use Rattle.alt_manifest.proofs.Among.{in_back, in_front}
 
 pub returns-then-has : goal.returns-then-has
 returns-then-has c =

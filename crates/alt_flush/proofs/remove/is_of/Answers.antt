@@ -2,11 +2,12 @@
 use Rattle.std.proofs.Common.{◌≡◌, ⊎_elim, inr, subst, rules}
 use Rattle.alt_layout.specs.Files.{IsOf}
 use Rattle.alt_layout.specs.Fresh.{versions_file}
-use Rattle.alt_layout.proofs.FileLaws.{in_back, in_either, in_front}
+use Rattle.alt_layout.proofs.FileLaws.{in_either}
 use Rattle.alt_manifest.proofs.RuleLaws.{tells_both, tells_no, tells_yes}
 use Rattle.alt_manifest.specs.Rules.{Tells}
 use Rattle.alt_manifest.specs.Versions.{IsIn, files_named, row_files}
 use Rattle.alt_flush.proofs.remove.is_of.Goals as goal
+use Rattle.alt_manifest.proofs.Among.{in_back, in_front}
 
 pub returns-then-has : goal.returns-then-has
 returns-then-has c =

@@ -1,10 +1,10 @@
 -- One file more.
 use Rattle.std.proofs.Common.{IsTrue, ◌∙◌}
-use Rattle.alt_cells.proofs.Keeping.{tells_on}
 use Rattle.alt_disk.specs.Disk.{DiskState}
+use Rattle.alt_disk.proofs.Calls.{goes_on}
 use Rattle.alt_disk.proofs.Runs.{trusted_on}
+use Rattle.alt_disk.proofs.Staying.{tells_on}
 use Rattle.alt_flush.proofs.RemoveLaws.{more_gone, more_removed}
-use Rattle.alt_flush.proofs.WriteLaws.{goes_then}
 use Rattle.alt_flush.proofs.remove.remove_left_over.Goals as goal
 
 pub returns-in_err-remove_one-clause-spans : goal.returns-in_err-remove_one-clause-spans
@@ -32,6 +32,6 @@ loop-file-preserved g c =
           ∙ c.loop-file.invariant.kept told f of;
       none = λ told f missing. c.remove_one.ensures.none (told_b told) f
           (c.loop-file.invariant.none told f missing);
-      goes = goes_then a b d c.loop-file.invariant.goes c.in_ok-remove_one.ensures.goes;
+      goes = goes_on a b d c.loop-file.invariant.goes c.in_ok-remove_one.ensures.goes;
       well = c.in_ok-remove_one.ensures.well ∙ c.loop-file.invariant.well;
     }

@@ -1,5 +1,6 @@
 use Rattle.std.proofs.Common.{◌≡◌, ◌<◌, ◌+◌, ◌-◌, ◌^◌, ℕ, List, IsTrue, length, sym, ◌∙◌, ap, subst, arith}
 use Rattle.std.specs.List.{All}
+use Rattle.alt_base.proofs.Options.{ok_is_no_error}
 use Rattle.alt_disk.specs.Disk.{DiskState, contents, bytes_or_none}
 use Rattle.alt_disk.proofs.Calls.{goes_on}
 use Rattle.alt_disk.proofs.Runs.{quiet_then}
@@ -7,7 +8,6 @@ use Rattle.alt_gatelog.specs.Parse.{GateIs, HasRoom, HasEntry, IsCutAt}
 use Rattle.alt_gatelog.specs.declared.frame.Gate.TheVariants.{Open}
 use Rattle.alt_gatelog.proofs.Append.{below_push}
 use Rattle.alt_gatelog.specs.declared.fault.LogFault.TheVariants.{Failed}
-use Rattle.alt_gatelog.proofs.Around.{ok_is_none}
 use Rattle.alt_gatelog.proofs.Entries.{ReadSoFar, read_more, cut_explains}
 use Rattle.alt_gatelog.proofs.read.walk.Goals as goal
 
@@ -42,7 +42,7 @@ gates-preserved g c =
       small = subst (All (λ at. at < 2 ^ 62)) (sym c.in_ok-push-in-Ok-Open.ensures.items)
           (below_push c.gates.places.items c.gates.at inv.small
           (omega (arith, room, c.requires.bound.1)));
-      well = gate.well (ok_is_none c.in-Ok-Open.field-0 Failed) ∙ inv.well;
+      well = gate.well (ok_is_no_error c.in-Ok-Open.field-0 Failed) ∙ inv.well;
       goes = goes_on a b d inv.goes c.gate_at.ensures.goes;
       quiet = λ told. quiet_then a b d (inv.quiet told) (c.gate_at.ensures.quiet (told_b told));
       read = λ told.

@@ -1,7 +1,7 @@
 -- The versions, and then what the last one names.
 use Rattle.std.proofs.Common.{sym, subst}
-use Rattle.alt_cells.proofs.Keeping.{tells_on}
 use Rattle.alt_disk.specs.Disk.{DiskState}
+use Rattle.alt_disk.proofs.Staying.{tells_on}
 use Rattle.alt_gatelog.proofs.OneList.{if_err}
 use Rattle.alt_layout.specs.Files.{Image}
 use Rattle.alt_hand.specs.Recovery.{ExplainsStore}

@@ -1,7 +1,7 @@
 -- The families, and then the segments.
 use Rattle.std.proofs.Common.{ℕ, List, refl, sym, ap, subst, ◌∙◌}
-use Rattle.alt_cells.proofs.Keeping.{tells_on}
 use Rattle.alt_disk.specs.Disk.{DiskState}
+use Rattle.alt_disk.proofs.Staying.{tells_on}
 use Rattle.alt_layout.specs.Families.{flushed_of}
 use Rattle.alt_layout.specs.Files.{Image}
 use Rattle.alt_manifest.specs.InHand.{version_of}

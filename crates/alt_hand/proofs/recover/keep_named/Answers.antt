@@ -2,9 +2,9 @@
 use Rattle.std.proofs.Common.{◌≡◌, ◌==◌, ◌≤◌, ℕ, List, sym, subst, ◌∙◌, true}
 use Rattle.std.specs.Prelude.{⊤}
 use Rattle.std.specs.List.{list_any}
-use Rattle.alt_cells.proofs.Keeping.{tells_on}
 use Rattle.alt_disk.specs.Disk.{DiskState}
 use Rattle.alt_disk.proofs.Runs.{quiet_on, quiet_spans, quiet_start, spans_on, spans_weaker, tells_of, trusted_on}
+use Rattle.alt_disk.proofs.Staying.{tells_on}
 use Rattle.alt_manifest.specs.declared.version.Version.{Version}
 use Rattle.alt_layout.specs.Files.{IsOf}
 use Rattle.alt_flush.specs.Drafts.{IsLeftOver}

@@ -2,16 +2,16 @@
 use Rattle.std.proofs.Common.{ℕ, List, IsTrue, get_or, refl, sym, subst, ◌∙◌, arith}
 use Rattle.alt_base.specs.Counts.{Rose}
 use Rattle.alt_disk.specs.Disk.{DiskState}
-use Rattle.alt_disk.proofs.Calls.{goes_on}
+use Rattle.alt_disk.proofs.Calls.{goes_on, goes_refl}
 use Rattle.alt_disk.proofs.Runs.{trusted_on, tells_of}
-use Rattle.alt_hand.proofs.SyncLaws.{goes_start, narrows_start, narrows_sync, synced_none, synced_more, synced_all}
+use Rattle.alt_hand.proofs.SyncLaws.{narrows_start, narrows_sync, synced_none, synced_more, synced_all}
 use Rattle.alt_hand.proofs.sync.sync_files.Goals as goal
 
 pub loop-f-init : goal.loop-f-init
 loop-f-init g c =
     let a : DiskState = g.D.Disk.state c.args.disk.now in
     record {
-      goes = goes_start a;
+      goes = goes_refl a;
       well = refl;
       files = λ told f. refl;
       narrows = λ trusted. narrows_start a;

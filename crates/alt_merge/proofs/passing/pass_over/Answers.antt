@@ -2,7 +2,7 @@
 use Rattle.std.proofs.Common.{map, arith}
 use Rattle.std.specs.Option.{option_copied}
 use Rattle.alt_cells.specs.Walks.{RowMap, rows_from}
-use Rattle.alt_cells.proofs.Keeping.{tells_on}
+use Rattle.alt_disk.proofs.Staying.{tells_on}
 use Rattle.alt_merge.proofs.Costs.{due_le, same_times}
 use Rattle.alt_merge.proofs.passing.pass_over.Goals as goal
 

@@ -4,7 +4,7 @@ use Rattle.std.specs.Prelude.{◌||◌}
 use Rattle.alt_disk.specs.Disk.{DiskState, IsTrusted}
 use Rattle.alt_disk.proofs.Calls.{goes_on, goes_refl}
 use Rattle.alt_disk.proofs.Runs.{trusted_back, trusted_on}
-use Rattle.alt_flush.proofs.RemoveLaws.{in_at, in_more}
+use Rattle.alt_flush.proofs.RemoveLaws.{in_more}
 use Rattle.alt_manifest.specs.Versions.{IsIn}
 use Rattle.alt_hand.specs.Carrying.{AreStill}
 use Rattle.alt_hand.specs.Merging.{files_at}
@@ -16,6 +16,7 @@ use Rattle.alt_merging.specs.Merged.{AreMerged}
 use Rattle.alt_layout.proofs.MomentLaws.{same_or_not}
 use Rattle.alt_hand.specs.Adding.{Adds, LeavesOut}
 use Rattle.alt_hand.proofs.LeftOutLaws.{in_first, in_less}
+use Rattle.alt_manifest.proofs.Among.{in_at}
 use Rattle.alt_merging.proofs.EachLaws.{adds_then, leaves_then, merged_on, still_back, works_on, works_then}
 use Rattle.alt_merging.proofs.each.merge_each.Goals as goal
 

@@ -1,11 +1,11 @@
 -- One row more.
 use Rattle.std.proofs.Common.{◌≡◌, sym, ap, subst, ◌∙◌, ◌++◌, ◌∷◌, [], None, IsTrue}
 use Rattle.std.proofs.lemmas.Bool.{false≢true}
+use Rattle.std.proofs.lemmas.Option.{same_Some}
 use Rattle.alt_schema.specs.declared.schema.IndexSchema.{IndexSchema}
 use Rattle.alt_opening.specs.private.IndexScans.{HasRow}
 use Rattle.alt_opening.specs.Scans.{IsFirstFrom, IsNextRow, Walked}
 use Rattle.alt_opening.proofs.IndexSteps.{foreign_first, foreign_none}
-use Rattle.alt_opening.proofs.OneState.{some}
 use Rattle.alt_opening.proofs.Ahead.{ahead_then, none_ahead}
 use Rattle.alt_opening.proofs.Scanning.{walk_start, walk_then, reads_on, rows_none, rows_next, rows_all, rows_more}
 use Rattle.alt_opening.proofs.index_scan.first_foreign.Goals as goal
@@ -23,7 +23,7 @@ rows-init g c = record {
 pub returns-in-Ok-None-clause-first : goal.returns-in-Ok-None-clause-first
 returns-in-Ok-None-clause-first g c tells l i reads at made read =
     let family : c.index_at.result.now.family ≡ i.family = ap (λ (x : IndexSchema). x.family)
-    (some _ _ (c.index_at.ensures.index ∙ at)) in
+    (same_Some _ _ (c.index_at.ensures.index ∙ at)) in
     foreign_none l c.args.schema.now i (rows_all l i.family (HasRow l c.args.schema.now i)
     c.rows.from (c.rows.invariant.own tells l i reads at made read)
     (subst (λ f. IsNextRow l f c.rows.from None) family
@@ -37,7 +37,7 @@ returns-in-Ok-None-clause-first g c tells l i reads at made read =
 pub returns-in-Ok-false-clause-first : goal.returns-in-Ok-false-clause-first
 returns-in-Ok-false-clause-first g c tells l i reads at made read =
     let family : c.index_at.result.now.family ≡ i.family = ap (λ (x : IndexSchema). x.family)
-    (some _ _ (c.index_at.ensures.index ∙ at)) in
+    (same_Some _ _ (c.index_at.ensures.index ∙ at)) in
     let first : IsFirstFrom l i.family c.rows.from c.in-Ok-Some.next.0 c.in-Ok-Some.next.1 =
     subst (λ f. IsFirstFrom l f c.rows.from c.in-Ok-Some.next.0 c.in-Ok-Some.next.1) family
     (subst (IsNextRow l c.index_at.result.now.family c.rows.from) c.in-Ok-Some.field-0-is
@@ -70,7 +70,7 @@ rows-preserved g c =
           c.is_own.new.engine walked c.is_own.ensures.walked;
       own = λ tells l i reads at made read.
           let family : c.index_at.result.now.family ≡ i.family = ap (λ (x : IndexSchema). x.family)
-          (some _ _ (c.index_at.ensures.index ∙ at)) in
+          (same_Some _ _ (c.index_at.ensures.index ∙ at)) in
           let first : IsFirstFrom l i.family c.rows.from c.in-Ok-Some.next.0
           c.in-Ok-Some.next.1 =
           subst (λ f. IsFirstFrom l f c.rows.from c.in-Ok-Some.next.0 c.in-Ok-Some.next.1) family

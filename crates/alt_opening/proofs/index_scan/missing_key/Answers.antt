@@ -1,15 +1,15 @@
 -- The item's row isn't shown.
 use Rattle.std.proofs.Common.{◌≡◌, sym, ◌∙◌}
 use Rattle.std.proofs.lemmas.Bool.{false≢true}
+use Rattle.std.proofs.lemmas.Option.{same_Some}
 use Rattle.alt_layout.specs.Layout.{shown}
 use Rattle.alt_opening.proofs.IndexOwn.{is_missing}
-use Rattle.alt_opening.proofs.OneState.{some}
 use Rattle.alt_opening.proofs.DeviceFaults.{device_walk}
 use Rattle.alt_opening.proofs.index_scan.missing_key.Goals as goal
 
 pub returns-else-shows-clause-missing : goal.returns-else-shows-clause-missing
 returns-else-shows-clause-missing g c tells l i reads at =
-    let index : c.index_at.result.now ≡ i = some _ _ (c.index_at.ensures.index ∙ at) in
+    let index : c.index_at.result.now ≡ i = same_Some _ _ (c.index_at.ensures.index ∙ at) in
     is_missing l c.args.schema.now i c.args.row.now c.in-Ok-Some.field-0
     (λ item is_read of_item. c.in-Ok-Some.ensures.row i item at is_read of_item)
     c.in-Ok-Some.own c.in-Ok-Some.field-0-is

@@ -1,8 +1,8 @@
 -- The lesser of both keys is the first wrong one.
 use Rattle.std.proofs.Common.{sym, ap, subst, ◌∙◌, IsTrue}
+use Rattle.std.proofs.lemmas.Option.{same_Some}
 use Rattle.alt_schema.specs.declared.schema.IndexSchema.{IndexSchema}
 use Rattle.alt_opening.proofs.IndexSteps.{index_read, index_wrong}
-use Rattle.alt_opening.proofs.OneState.{some}
 use Rattle.alt_opening.proofs.Scanning.{reads_on, walk_then}
 use Rattle.alt_opening.proofs.DeviceFaults.{device_index}
 use Rattle.alt_opening.proofs.index_scan.read_index.Goals as goal
@@ -27,7 +27,7 @@ returns-in-Some-clause-wrong g c tells l i reads at made read =
     c.args.engine.now c.least_missing.new.engine l c.in-Ok.ensures.walked tells reads)
     at made read) c.in-Some.key (sym c.lesser.ensures ∙ c.in-Some.is)
     c.index_at.result.now.family
-    (ap (λ (x : IndexSchema). x.family) (some _ _ (c.index_at.ensures.index ∙ at)))
+    (ap (λ (x : IndexSchema). x.family) (same_Some _ _ (c.index_at.ensures.index ∙ at)))
 
 pub returns-in-Err-first_foreign-clause-walked : goal.returns-in-Err-first_foreign-clause-walked
 returns-in-Err-first_foreign-clause-walked g c =

@@ -1,6 +1,7 @@
 -- The page that was filled is answered.
 use Rattle.std.proofs.Common.{ap, ◌∙◌, List, option_map}
 use Rattle.std.specs.FinMap as map
+use Rattle.alt_base.proofs.Options.{on_ok_holds}
 use Rattle.serde_json.specs.Data.{Members}
 use Rattle.serde_json.specs.View.{members_view}
 use Rattle.alt_machine.specs.Members.{table_name}
@@ -9,7 +10,7 @@ use Rattle.alt_machine.specs.Outcomes.{says}
 use Rattle.alt_machine.specs.Sources.{index_at}
 use Rattle.alt_machine.specs.Walks.{items_between}
 use Rattle.alt_machine.proofs.Descriptions.{get-descriptions}
-use Rattle.alt_ops_query.proofs.Answering.{page_does, does_fault, on_ok, told_at}
+use Rattle.alt_ops_query.proofs.Answering.{page_does, does_fault, told_at}
 use Rattle.alt_ops_query.specs.private.Paged.{answer_with}
 use Rattle.alt_request.specs.TablesStands.{Stands, catalog_of, bounds_of}
 use Rattle.alt_value.specs.Tree.{Pair}
@@ -50,6 +51,6 @@ returns-in_err-fill-clause-does g c s t stands at =
 
 pub returns-clause-reads : goal.returns-clause-reads
 returns-clause-reads g c s t maps stands at has =
-    on_ok c.answered.result (c.in_ok-fill.ensures.reads s t c.args.ask maps stands
+    on_ok_holds c.answered.result (c.in_ok-fill.ensures.reads s t c.args.ask maps stands
     (ap (map.get s.tables) c.table_name-name.ensures.name ∙ at)
     c.new-pager.ensures.offered has)

@@ -1,5 +1,6 @@
 -- The list isn't reached, or its page is answered.
 use Rattle.std.proofs.Common.{◌≡◌, sym, subst, ◌∙◌, false, Ok, Err, option_map}
+use Rattle.alt_base.proofs.Bools.{neither_second}
 use Rattle.serde_json.specs.Data.{Members}
 use Rattle.serde_json.specs.View.{members_view}
 use Rattle.alt_machine.specs.Body.{paired_refusals}
@@ -11,7 +12,7 @@ use Rattle.alt_machine.specs.Sources.{index_at}
 use Rattle.alt_ops_query.specs.private.Asked.{Segments}
 use Rattle.alt_ops_query.specs.private.Tokens.{segment_in}
 use Rattle.alt_ops_query.proofs.Answering.{within_of}
-use Rattle.alt_ops_query.proofs.Limited.{none_broken, none_mismatched, second_false, scan_limit}
+use Rattle.alt_ops_query.proofs.Limited.{none_broken, none_mismatched, scan_limit}
 use Rattle.alt_ops_query.proofs.PageReading.{scan_reads}
 use Rattle.alt_ops_query.proofs.Whole.{scan_is, scan_done, scan_stopped, segments_unfailed}
 use Rattle.alt_request.proofs.Listing.{list_passed, list_unfailed}
@@ -60,7 +61,7 @@ pub returns-in-Ok-clause-carried : goal.returns-in-Ok-clause-carried
 returns-in-Ok-clause-carried g c =
     let ms : Members = members_view c.args.body.now.entries in
     let odd : is_segment_odd ms ≡ false =
-    second_false (is_mismatched ms) (is_segment_odd ms) (sym c.are_odd-mismatched.ensures.odd
+    neither_second (is_mismatched ms) (is_segment_odd ms) (sym c.are_odd-mismatched.ensures.odd
     ∙ none_mismatched c.scan-broken.result c.are_odd-mismatched.result rules ms
     c.in_ok-target.ensures.target.listed.body) in
     scan_done (bounds_of c.args.tables.now).file (g.D.Disk.state c.args.disk.now) c.args.tables.now
@@ -84,7 +85,7 @@ returns-in-Ok-clause-moves g c =
 pub returns-clause-carried : goal.returns-clause-carried
 returns-clause-carried g c =
     let ms : Members = members_view c.args.body.now.entries in
-    let odd : is_segment_odd ms ≡ false = second_false (is_mismatched ms) (is_segment_odd ms)
+    let odd : is_segment_odd ms ≡ false = neither_second (is_mismatched ms) (is_segment_odd ms)
     (sym c.are_odd-mismatched.ensures.odd
     ∙ none_mismatched c.scan-broken.result c.are_odd-mismatched.result rules ms
     c.in_ok-target.ensures.target.listed.body) in
@@ -118,7 +119,7 @@ returns-in-Ok-clause-reads g c s stands =
     let ms : Members = members_view c.args.body.now.entries in
     let target = c.in_ok-target.target in
     let odd : is_segment_odd ms ≡ false =
-    second_false (is_mismatched ms) (is_segment_odd ms) (sym c.are_odd-mismatched.ensures.odd
+    neither_second (is_mismatched ms) (is_segment_odd ms) (sym c.are_odd-mismatched.ensures.odd
     ∙ none_mismatched c.scan-broken.result c.are_odd-mismatched.result rules ms
     c.in_ok-target.ensures.target.listed.body) in
     scan_reads (g.D.Disk.state c.args.disk.now) (g.D.Disk.state c.page_of_range.new.disk)

@@ -1,13 +1,14 @@
 use Rattle.std.proofs.Common.{◌+◌, sym, ap, ◌∙◌, List, arith}
+use Rattle.alt_base.proofs.Lists.{take_one_more}
 use Rattle.alt_value.specs.Stands.{tree_of}
 use Rattle.alt_expr.specs.Projected.{chosen}
 use Rattle.alt_expr.specs.declared.path.PathPart.{PathPart}
 use Rattle.alt_projection.specs.Ways.{tails}
 use Rattle.alt_projection.proofs.Chosen.{chosen-none, one_more, all_looked_at}
 use Rattle.alt_projection.proofs.Kept.{chosen-list, chosen-map}
-use Rattle.alt_projection.proofs.Loops.{take-one_more, list_more, list_all}
+use Rattle.alt_projection.proofs.Loops.{list_more, list_all}
 use Rattle.alt_projection.proofs.Order.{none_left}
-use Rattle.alt_projection.proofs.Smaller.{depth-element, depth-pair}
+use Rattle.alt_value.proofs.Smaller.{depth-element, depth-pair}
 use Rattle.alt_projection.proofs.choosing.+choosing.Goals as goal
 
 pub chosen-returns-in-Ok-chosen_elements : goal.chosen-returns-in-Ok-chosen_elements
@@ -53,7 +54,7 @@ chosen_fields-loop-i-preserved t c =
     let v = tree_of c.pair.result.1.now in
     one_more (tails c.args.depth c.args.ways.now) c.args.item.now c.loop-i.i name v c.loop-i.out
     c.put_chosen.new.out c.pair.ensures.item.0 (sym c.pair.ensures.pair)
-    (take-one_more c.args.item.now c.loop-i.i (name, v) c.pair.ensures.pair)
+    (take_one_more c.args.item.now c.loop-i.i (name, v) c.pair.ensures.pair)
     c.loop-i.invariant c.in_ok-put_chosen.ensures
 
 pub chosen_fields-returns : goal.chosen_fields-returns

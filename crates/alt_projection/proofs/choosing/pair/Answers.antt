@@ -1,6 +1,6 @@
 use Rattle.std.proofs.Common.{sym}
-use Rattle.alt_projection.proofs.Chosen.{name_some}
 use Rattle.alt_projection.proofs.choosing.pair.Goals as goal
+use Rattle.alt_value.proofs.NamedPairs.{name_some}
 
 pub returns-clause-named : goal.returns-clause-named
 returns-clause-named c =

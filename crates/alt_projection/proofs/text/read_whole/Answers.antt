@@ -1,11 +1,11 @@
 -- What the reader gives of all tokens is what the grammar gives.
 use Rattle.std.proofs.Common.{◌≡◌, ap, subst, [], map, length, Some, None, arith}
+use Rattle.alt_base.proofs.Lists.{length-zero}
 use Rattle.alt_expr.specs.Tokens.{tok_of}
 use Rattle.alt_expr.specs.Lookups.{names_alone}
 use Rattle.alt_expr.specs.NamesGiven.{given_names}
 use Rattle.alt_expr.specs.Reader.{left, listed, path}
 use Rattle.alt_expr.proofs.PathsWhole.{read_all, read_part, read_none}
-use Rattle.alt_expr.proofs.PlainFacts.{length_none}
 use Rattle.alt_projection.proofs.text.read_whole.Goals as goal
 
 pub returns-in-Err : goal.returns-in-Err
@@ -29,7 +29,7 @@ returns-else-len-ne0 c =
     let g = names_alone (given_names c.args.names.now) in
     let toks = map tok_of c.args.tokens.now in
     let rest = left c.read_paths.new.tokens in
-    let none : rest ≡ [] = length_none rest (omega (arith, c.len.ensures, c.if-len-ne0.false)) in
+    let none : rest ≡ [] = length-zero rest (omega (arith, c.len.ensures, c.if-len-ne0.false)) in
     let h = subst (λ i. listed (path g.names) i ≡ Some (c.in-Ok.paths, rest)) c.new-cursor.ensures
     c.in-Ok.ensures in
     read_all g toks c.in-Ok.paths

@@ -5,8 +5,9 @@ use Rattle.alt_layout.specs.Entries.{IsEntry, IsNoEntry}
 use Rattle.alt_writes.specs.Bytes.{AllHeld}
 use Rattle.alt_writes.specs.Reading.{IsNoWrite, write_of, writes_of}
 use Rattle.alt_writes.specs.Writes.{AreRising, Write}
-use Rattle.alt_recovery.proofs.EntryLaws.{none_alone, none_map}
+use Rattle.alt_recovery.proofs.EntryLaws.{none_alone}
 use Rattle.alt_recovery.proofs.entries.read_alone.Goals as goal
+use Rattle.alt_writes.proofs.ReadLaws.{none_map}
 
 pub returns-in-Err-clause-none : goal.returns-in-Err-clause-none
 returns-in-Err-clause-none c =

@@ -7,8 +7,9 @@ use Rattle.alt_layout.specs.Entries.{IsEntry, IsNoEntry}
 use Rattle.alt_manifest.proofs.RecoverLaws.{if_both}
 use Rattle.alt_writes.specs.Bytes.{AllHeld, IsHeldGroup, group_bytes}
 use Rattle.alt_writes.specs.Reading.{IsNoGroup, IsNone, writes_of}
-use Rattle.alt_recovery.proofs.EntryLaws.{none_group, none_map}
+use Rattle.alt_recovery.proofs.EntryLaws.{none_group}
 use Rattle.alt_recovery.proofs.entries.read_writes.Goals as goal
+use Rattle.alt_writes.proofs.ReadLaws.{none_map}
 
 pub returns-in-One-clause-entry : goal.returns-in-One-clause-entry
 returns-in-One-clause-entry c =

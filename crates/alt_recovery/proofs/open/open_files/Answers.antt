@@ -1,9 +1,9 @@
 -- One file more.
 use Rattle.std.proofs.Common.{rules, ◌+◌, List, IsTrue, get_or, take, inr, refl, sym, subst, ◌∙◌}
-use Rattle.alt_cells.proofs.Keeping.{tells_on}
 use Rattle.alt_disk.specs.Disk.{DiskState}
 use Rattle.alt_disk.proofs.Calls.{goes_on}
 use Rattle.alt_disk.proofs.Runs.{quiet_then}
+use Rattle.alt_disk.proofs.Staying.{tells_on}
 use Rattle.alt_rowfile.specs.declared.fault.RowFileFault.TheVariants.{NoMemory}
 use Rattle.alt_rowfile.specs.declared.rowfile.RowFile.{RowFile}
 use Rattle.alt_recovery.proofs.OpenLaws.{OpenedSoFar, opened_more, opening_explained}

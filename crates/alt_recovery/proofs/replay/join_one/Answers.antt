@@ -1,7 +1,7 @@
 -- A change that a row file has, and one that none has.
 use Rattle.std.proofs.Common.{List, subst, arith}
+use Rattle.std.proofs.lemmas.Result.{on_ok_weaker}
 use Rattle.alt_cells.specs.declared.batch.RowChange.{RowChange}
-use Rattle.alt_disk.proofs.Calls.{on_ok}
 use Rattle.alt_families.specs.Memory.{IsWrittenTo}
 use Rattle.alt_recovery.proofs.JoinLaws.{joined_above, joined_below}
 use Rattle.alt_recovery.proofs.replay.join_one.Goals as goal
@@ -13,7 +13,7 @@ returns-then-number-flushed_of c =
 
 pub returns : goal.returns
 returns c =
-    on_ok c.put_changes.result
+    on_ok_weaker c.put_changes.result
     (λ (written : IsWrittenTo c.args.families.now c.put_changes.new.families c.args.number
     c.from_ref.result.now).
     joined_above c.args.flushed.now c.args.families.now c.put_changes.new.families c.args.number

@@ -1,9 +1,9 @@
 -- One entry more.
 use Rattle.std.proofs.Common.{rules, ◌<◌, [], IsTrue, get_or, length, sym, subst, ◌∙◌, arith}
-use Rattle.alt_cells.proofs.Keeping.{tells_on}
 use Rattle.alt_disk.specs.Disk.{DiskState}
 use Rattle.alt_disk.proofs.Calls.{goes_on}
 use Rattle.alt_disk.proofs.Runs.{quiet_then}
+use Rattle.alt_disk.proofs.Staying.{tells_on}
 use Rattle.alt_gatelog.specs.InHand.{form_of, Reads}
 use Rattle.alt_gatelog.specs.declared.gatelog.GateLog.{GateLog}
 use Rattle.alt_recovery.specs.Entries.{ExplainsEntry}

@@ -1,7 +1,7 @@
 -- The log of a segment, and then its entries.
 use Rattle.std.proofs.Common.{ℕ, sym, subst}
-use Rattle.alt_cells.proofs.Keeping.{tells_on}
 use Rattle.alt_disk.specs.Disk.{DiskState}
+use Rattle.alt_disk.proofs.Staying.{tells_on}
 use Rattle.alt_gatelog.specs.InHand.{form_of, Reads}
 use Rattle.alt_gatelog.specs.declared.gatelog.GateLog.{GateLog}
 use Rattle.alt_gatelog.proofs.Elsewhere.{reads_log}

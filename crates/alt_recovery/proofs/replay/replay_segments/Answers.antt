@@ -1,9 +1,9 @@
 -- The first segments, and then the last one.
 use Rattle.std.proofs.Common.{◌≡◌, ◌<◌, ◌-◌, ◌++◌, ◌∷◌, [], ℕ, List, IsTrue, get_or, length, sym, ap, take, ◌∙◌, arith}
 use Rattle.std.proofs.lemmas.Bool.Decides.{nat_tests}
-use Rattle.alt_cells.proofs.Keeping.{tells_on}
 use Rattle.alt_disk.specs.Disk.{DiskState}
 use Rattle.alt_disk.proofs.Runs.{quiet_then}
+use Rattle.alt_disk.proofs.Staying.{tells_on}
 use Rattle.alt_gatelog.specs.InHand.{file_of}
 use Rattle.alt_gatelog.specs.declared.gatelog.GateLog.{GateLog}
 use Rattle.alt_gatelog.proofs.OneList.{if_err}

@@ -5,12 +5,12 @@ use Rattle.serde_json.specs.Data.{Members}
 use Rattle.serde_json.specs.View.{members_view}
 use Rattle.alt_machine.specs.Body.{paired_refusals}
 use Rattle.alt_machine.specs.Members.{table_name}
+use Rattle.alt_machine.proofs.Chains.{found_is}
 use Rattle.alt_request.specs.Steps.{rules_of}
 use Rattle.alt_request.specs.Targets.{OnList}
 use Rattle.alt_said.specs.Words.{given_of, texts_of}
 use Rattle.alt_request.specs.declared.body.Rules.{Rules}
 use Rattle.alt_request.proofs.Listing.{list_untaken, list_no_words, list_no_start, list_no_table, list_no_index, list_unsaid}
-use Rattle.alt_request.proofs.Named.{some_found}
 use Rattle.alt_request.proofs.Reaching.{err_is}
 use Rattle.alt_shape.specs.Refusals.{Answer, not_found}
 use Rattle.alt_shape.specs.declared.rule.Broken.{Broken}
@@ -98,7 +98,7 @@ pub returns-clause-target : goal.returns-clause-target
 returns-clause-target c =
     let ms : Members = members_view c.args.body.now.entries in
     record {
-      there = some_found not_found (map.get (catalog_of c.args.tables.now) (table_name ms))
+      there = found_is not_found (map.get (catalog_of c.args.tables.now) (table_name ms))
           c.in_ok-schema.schema.now c.in_ok-schema.ensures.found;
       listed = record {
         body = c.in_ok-paired_refusal.ensures.tested;

@@ -8,10 +8,10 @@ use Rattle.alt_machine.specs.declared.Expressions.{Expressions}
 use Rattle.alt_machine.specs.Members.{table_name}
 use Rattle.alt_machine.specs.Refusals.{or_refused}
 use Rattle.alt_machine.specs.State.{Texts}
+use Rattle.alt_machine.proofs.Chains.{found_is}
 use Rattle.alt_request.specs.Steps.{Comes}
 use Rattle.alt_said.specs.Words.{given_of, texts_of}
 use Rattle.alt_said.specs.declared.words.Given.{Given}
-use Rattle.alt_request.proofs.Named.{some_found}
 use Rattle.alt_request.proofs.Reaching.{passed_on, no_words, no_table, unsaid, unplaced, fits_so}
 use Rattle.alt_schema.specs.declared.schema.TableSchema.{TableSchema}
 use Rattle.alt_shape.specs.Refusals.{Answer, not_found}
@@ -92,7 +92,7 @@ returns-in-Ok c = record {
       let d : TableSchema = c.in_ok-schema.schema.now in
       let g : expr.Given = given_of c.in_ok-given.given in
       let fits = fits_so d c.args.item c.args.sought c.in-Ok.place c.in-Ok.ensures.place in record {
-        there = some_found not_found (map.get catalog (table_name ms)) d
+        there = found_is not_found (map.get catalog (table_name ms)) d
             (there catalog ms bs d same.table c.in_ok-schema.ensures.found);
         placed = record {
           body = free;

@@ -2,8 +2,9 @@
 use Rattle.std.proofs.Common.{◌≡◌, ◌∙◌, ◌+◌, ◌==◌, ◌++◌, sym, ap, arith, take, drop, length, List, ℕ}
 use Rattle.alt_fields.specs.Field.{field}
 use Rattle.alt_disk.specs.Disk.{DiskState, contents}
+use Rattle.alt_disk.proofs.Staying.{tells_on}
 use Rattle.alt_rowblocks.proofs.BlockLaws.{next_whole, no_next_block, no_next_field, rows_few}
-use Rattle.alt_rowblocks.proofs.StreamLaws.{same_bytes, told_on, field_up_to, length_up_to, at_end}
+use Rattle.alt_rowblocks.proofs.StreamLaws.{same_bytes, field_up_to, length_up_to, at_end}
 use Rattle.alt_rowblocks.proofs.blocks.next_block.Goals as goal
 
 pub returns-in-Ok-Some-clause-some : goal.returns-in-Ok-Some-clause-some
@@ -21,7 +22,7 @@ returns-in-Ok-Some-clause-some g c = λ told room.
     let fits = rw c.in-Some.is at c.in_ok-count.ensures.room in
     let content : block ≡ take n (drop (at + 8) bytes) =
     (rw c.in-Some-2.is at
-    (c.in_ok-block-in-Some.ensures.bytes (told_on s t c.in_ok-count.ensures.goes told)))
+    (c.in_ok-block-in-Some.ensures.bytes (tells_on s t c.in_ok-count.ensures.goes told)))
     ∙ ap (λ (l : List ℕ). take n (drop (at + 8) l)) same in
     let whole : drop at (take end bytes) ≡ field c.deref.result.now ++ behind =
     field_up_to bytes at n end block fits room counted content
@@ -50,7 +51,7 @@ returns-in-Ok-None-clause-none g c = λ told room.
     let fits = rw c.in-Some.is at c.in_ok-count.ensures.room in
     let content : block ≡ take n (drop (at + 8) bytes) =
     (rw c.in-Some-2.is at
-    (c.in_ok-block-in-Some.ensures.bytes (told_on s t c.in_ok-count.ensures.goes told)))
+    (c.in_ok-block-in-Some.ensures.bytes (tells_on s t c.in_ok-count.ensures.goes told)))
     ∙ ap (λ (l : List ℕ). take n (drop (at + 8) l)) same in
     let whole : drop at (take end bytes) ≡ field c.deref.result.now ++ behind =
     field_up_to bytes at n end block fits room counted content

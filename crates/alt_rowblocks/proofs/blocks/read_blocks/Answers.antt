@@ -1,13 +1,15 @@
 -- One block more, or none that could be the next.
 use Rattle.std.proofs.Common.{◌∙◌, refl, ap, subst, arith, take, drop, length, List, ℕ, IsTrue}
+use Rattle.alt_base.proofs.Options.{ok_is_no_error}
 use Rattle.alt_disk.specs.Disk.{DiskState, contents}
 use Rattle.alt_disk.specs.declared.disk.DiskFault.TheVariants.{Failed}
 use Rattle.alt_disk.proofs.Calls.{goes_refl, goes_on}
 use Rattle.alt_disk.proofs.Runs.{quiet_start, quiet_then}
+use Rattle.alt_disk.proofs.Staying.{tells_on}
 use Rattle.alt_rowblocks.specs.Format.{Entry}
 use Rattle.alt_rowblocks.specs.Blocks.{IsNext, IsReadBlock}
 use Rattle.alt_rowblocks.proofs.BlockLaws.{no_blocks_yet, one_block_more, no_more_blocks}
-use Rattle.alt_rowblocks.proofs.StreamLaws.{same_bytes, told_on, length_up_to, ok_is_none}
+use Rattle.alt_rowblocks.proofs.StreamLaws.{same_bytes, length_up_to}
 use Rattle.alt_rowblocks.proofs.blocks.read_blocks.Goals as goal
 
 pub each-init : goal.each-init
@@ -34,11 +36,11 @@ each-preserved g c =
     let next = c.in-Some.next in
     let inv = c.each.invariant in
     let place = rw c.in-Some.is at c.in_ok-read.ensures.place in
-    let told_b = λ (told : IsTrue a.tells). told_on a b inv.goes told in
+    let told_b = λ (told : IsTrue a.tells). tells_on a b inv.goes told in
     record {
       within = place.1;
       few = omega (arith, place.0, inv.few);
-      well = c.in_ok-read.ensures.well (ok_is_none c.in_ok-read.field-0 Failed) ∙ inv.well;
+      well = c.in_ok-read.ensures.well (ok_is_no_error c.in_ok-read.field-0 Failed) ∙ inv.well;
       goes = goes_on a b d inv.goes c.next_block.ensures.goes;
       quiet = λ told. quiet_then a b d (inv.quiet told) (c.next_block.ensures.quiet (told_b told));
       read = λ told room.
@@ -75,7 +77,7 @@ returns-in-None-clause-none g c = λ told room.
     let bytes = contents a f in
     let same = same_bytes a b f (inv.quiet told) in
     let none = rw c.in-None.is at
-    (c.in_ok-read.ensures.none (told_on a b inv.goes told)
+    (c.in_ok-read.ensures.none (tells_on a b inv.goes told)
     (omega (arith, room, ap length same))) in
     no_more_blocks (drop 8 (take end bytes))
     (drop at (take end bytes)) at c.each.after c.each.marks.items c.each.rows

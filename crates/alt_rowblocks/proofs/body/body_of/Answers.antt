@@ -3,10 +3,11 @@ use Rattle.std.proofs.Common.{◌≡◌, ◌∙◌, ◌-◌, ◌≤◌, ◌<◌,
 use Rattle.std.specs.Int.{w64, to_be_bytes}
 use Rattle.std.proofs.lemmas.List.{take-take, length-take-le}
 use Rattle.alt_disk.specs.Disk.{DiskState, contents}
+use Rattle.alt_disk.proofs.Staying.{tells_on}
 use Rattle.alt_rowblocks.specs.Format.{tail_bytes}
 use Rattle.alt_rowblocks.specs.Blocks.{AreBlocksOf}
 use Rattle.alt_rowblocks.proofs.BodyLaws.{other_tail, body_parts, body_whole}
-use Rattle.alt_rowblocks.proofs.StreamLaws.{same_bytes, told_on}
+use Rattle.alt_rowblocks.proofs.StreamLaws.{same_bytes}
 use Rattle.alt_rowblocks.proofs.body.body_of.Goals as goal
 
 pub returns-then-branch-clause-some : goal.returns-then-branch-clause-some
@@ -19,7 +20,7 @@ returns-then-branch-clause-some g c = λ told room.
     let bytes = contents s f in
     let whole = take size bytes in
     let first = same_bytes s t f (c.in_ok-end.ensures.quiet told) in
-    let told_t = told_on s t c.in_ok-end.ensures.goes told in
+    let told_t = tells_on s t c.in_ok-end.ensures.goes told in
     let place = rw c.in-Some.is at (c.in_ok-end.ensures.some told room) in
     let bounds = rw c.in-Some.is at c.in_ok-end.ensures.bounds in
     let long : size ≡ length whole = sym (length-take-le size bytes room) in
@@ -34,7 +35,7 @@ returns-then-branch-clause-some g c = λ told room.
     let blocks = rw c.in-Some-2.is at (c.in_ok-found-in-Some.ensures.some told_t room_t) in
     let are : AreBlocksOf blocks.0 (drop 8 (take end whole)) =
     subst (λ (l : List ℕ). AreBlocksOf blocks.0 (drop 8 l)) (sym inner) blocks.1 in
-    let told_u = told_on t u c.in_ok-found-in-Some.ensures.goes told_t in
+    let told_u = tells_on t u c.in_ok-found-in-Some.ensures.goes told_t in
     let second : contents u f ≡ bytes =
     same_bytes t u f (c.in_ok-found-in-Some.ensures.quiet told_t) ∙ first in
     let room_u : size ≤ length (contents u f) = omega (arith, room, ap length second) in
@@ -57,7 +58,7 @@ returns-else-branch-clause-none g c = λ told room.
     let bytes = contents s f in
     let whole = take size bytes in
     let first = same_bytes s t f (c.in_ok-end.ensures.quiet told) in
-    let told_t = told_on s t c.in_ok-end.ensures.goes told in
+    let told_t = tells_on s t c.in_ok-end.ensures.goes told in
     let place = rw c.in-Some.is at (c.in_ok-end.ensures.some told room) in
     let bounds = rw c.in-Some.is at c.in_ok-end.ensures.bounds in
     let long : size ≡ length whole = sym (length-take-le size bytes room) in
@@ -72,7 +73,7 @@ returns-else-branch-clause-none g c = λ told room.
     let blocks = rw c.in-Some-2.is at (c.in_ok-found-in-Some.ensures.some told_t room_t) in
     let are : AreBlocksOf blocks.0 (drop 8 (take end whole)) =
     subst (λ (l : List ℕ). AreBlocksOf blocks.0 (drop 8 l)) (sym inner) blocks.1 in
-    let told_u = told_on t u c.in_ok-found-in-Some.ensures.goes told_t in
+    let told_u = tells_on t u c.in_ok-found-in-Some.ensures.goes told_t in
     let second : contents u f ≡ bytes =
     same_bytes t u f (c.in_ok-found-in-Some.ensures.quiet told_t) ∙ first in
     let room_u : size ≤ length (contents u f) = omega (arith, room, ap length second) in
@@ -93,7 +94,7 @@ returns-in-None-2-clause-none g c = λ told room blocks is.
     let bytes = contents s f in
     let whole = take size bytes in
     let first = same_bytes s t f (c.in_ok-end.ensures.quiet told) in
-    let told_t = told_on s t c.in_ok-end.ensures.goes told in
+    let told_t = tells_on s t c.in_ok-end.ensures.goes told in
     let place = rw c.in-Some.is at (c.in_ok-end.ensures.some told room) in
     let bounds = rw c.in-Some.is at c.in_ok-end.ensures.bounds in
     let long : size ≡ length whole = sym (length-take-le size bytes room) in

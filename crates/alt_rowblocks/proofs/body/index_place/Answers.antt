@@ -2,8 +2,9 @@
 use Rattle.std.proofs.Common.{◌≡◌, ◌∙◌, ◌-◌, ap, sym, arith, take, drop, length}
 use Rattle.std.proofs.lemmas.List.{length-take, length-take-le, take-take}
 use Rattle.alt_disk.specs.Disk.{contents, DiskState}
+use Rattle.alt_disk.proofs.Staying.{tells_on}
 use Rattle.alt_rowblocks.proofs.BodyLaws.{too_short}
-use Rattle.alt_rowblocks.proofs.StreamLaws.{same_bytes, told_on, up_to}
+use Rattle.alt_rowblocks.proofs.StreamLaws.{same_bytes, up_to}
 use Rattle.alt_rowblocks.proofs.BodyLaws.{if_some_weaker, if_none_weaker}
 use Rattle.alt_rowblocks.proofs.body.index_place.Goals as goal
 
@@ -24,7 +25,7 @@ pub returns-then-not-branch-2-clause-none : goal.returns-then-not-branch-2-claus
 returns-then-not-branch-2-clause-none g c = λ told room blocks is.
     let s : DiskState = g.D.Disk.state c.args.disk.now in
     let t : DiskState = g.D.Disk.state c.fill.new.disk in
-    let told_t = told_on s t c.in_ok-fill.ensures.goes told in
+    let told_t = tells_on s t c.in_ok-fill.ensures.goes told in
     omega (
       arith,
       c.in_ok-fill-2.ensures.short told_t c.if-not-branch-2.true,
@@ -39,7 +40,7 @@ returns-clause-some g c = λ told room.
     let t : DiskState = g.D.Disk.state c.fill.new.disk in
     let f = c.args.f in
     let size = c.args.size in
-    let told_t = told_on s t c.in_ok-fill.ensures.goes told in
+    let told_t = tells_on s t c.in_ok-fill.ensures.goes told in
     let head : c.fill.new.buf ≡ take 8 (take size (contents s f)) =
     c.in_ok-fill.ensures.filled told c.if-not-branch.false
     ∙ sym (take-take 8 size (contents s f) (omega (arith, c.if-size-lt32.false))) in
@@ -57,7 +58,7 @@ returns-clause-none g c = λ told room.
     let t : DiskState = g.D.Disk.state c.fill.new.disk in
     let f = c.args.f in
     let size = c.args.size in
-    let told_t = told_on s t c.in_ok-fill.ensures.goes told in
+    let told_t = tells_on s t c.in_ok-fill.ensures.goes told in
     let head : c.fill.new.buf ≡ take 8 (take size (contents s f)) =
     c.in_ok-fill.ensures.filled told c.if-not-branch.false
     ∙ sym (take-take 8 size (contents s f) (omega (arith, c.if-size-lt32.false))) in

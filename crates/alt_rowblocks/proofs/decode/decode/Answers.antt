@@ -1,9 +1,10 @@
 -- One row more, or none that could be the next.
 use Rattle.std.proofs.Common.{refl, sym, subst, length, List, ◌-◌}
 use Rattle.std.proofs.lemmas.Bool.{false≢true}
+use Rattle.alt_base.proofs.Numbers.{above_zero_from_test}
 use Rattle.alt_rowblocks.specs.Format.{Entry}
 use Rattle.alt_rowblocks.specs.Decoding.{IsNextKey}
-use Rattle.alt_rowblocks.proofs.DecodeLaws.{one_row_more, no_rows_next, no_key_next, left_shorter, some_left}
+use Rattle.alt_rowblocks.proofs.DecodeLaws.{one_row_more, no_rows_next, no_key_next, left_shorter}
 use Rattle.alt_rowblocks.proofs.decode.decode.Goals as goal
 
 pub returns-then-not-is_next_key-clause-none : goal.returns-then-not-is_next_key-clause-none
@@ -34,4 +35,4 @@ pub returns-in-None-clause-none : goal.returns-in-None-clause-none
 returns-in-None-clause-none c =
     let p = rw c.in-None.is at c.in_ok-key.ensures.none in
     no_rows_next c.args.bytes.now c.rows.rest.now c.rows.before c.rows.rows.items c.rows.invariant
-    (some_left (length c.rows.rest.now) c.rows-test.ensures) p
+    (above_zero_from_test (length c.rows.rest.now) c.rows-test.ensures) p

@@ -1,11 +1,13 @@
 -- One piece more.
 use Rattle.std.proofs.Common.{◌≡◌, ◌∙◌, ◌+◌, ◌++◌, ap, subst, arith, take, drop, List, ℕ, IsTrue}
+use Rattle.alt_base.proofs.Options.{ok_is_no_error}
 use Rattle.sha2.specs.Hashers.{Holds256}
 use Rattle.alt_disk.specs.Disk.{DiskState, contents}
 use Rattle.alt_disk.proofs.Calls.{goes_on}
 use Rattle.alt_disk.proofs.Runs.{quiet_then}
-use Rattle.alt_rowblocks.proofs.StreamLaws.{same_bytes, told_on, one_piece, ok_is_none}
+use Rattle.alt_rowblocks.proofs.StreamLaws.{same_bytes, one_piece}
 use Rattle.alt_disk.specs.declared.disk.DiskFault.TheVariants.{Failed}
+use Rattle.alt_disk.proofs.Staying.{tells_on}
 use Rattle.alt_rowblocks.proofs.digest.digest_up_to.Goals as goal
 
 pub pieces-preserved : goal.pieces-preserved
@@ -15,10 +17,10 @@ pieces-preserved g c =
     let d : DiskState = g.D.Disk.state c.bytes_at.new.disk in
     let f = c.args.f in
     let inv = c.pieces.invariant in
-    let told_b = λ (told : IsTrue a.tells). told_on a b inv.goes told in
+    let told_b = λ (told : IsTrue a.tells). tells_on a b inv.goes told in
     record {
       within = omega (arith, c.min-count.ensures, inv.within, c.pieces-test.true);
-      well = c.in_ok-piece.ensures.well (ok_is_none c.in_ok-piece.field-0 Failed) ∙ inv.well;
+      well = c.in_ok-piece.ensures.well (ok_is_no_error c.in_ok-piece.field-0 Failed) ∙ inv.well;
       goes = goes_on a b d inv.goes c.bytes_at.ensures.goes;
       quiet = λ told. quiet_then a b d (inv.quiet told) (c.bytes_at.ensures.quiet (told_b told));
       holds = λ told.

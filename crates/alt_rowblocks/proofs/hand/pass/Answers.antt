@@ -2,8 +2,8 @@
 use Rattle.std.proofs.Common.{◌-◌, refl, length, false}
 use Rattle.std.specs.Option.{option_copied}
 use Rattle.std.proofs.lemmas.Bool.{false≢true}
-use Rattle.alt_rowblocks.proofs.DecodeLaws.{some_left}
-use Rattle.alt_rowblocks.proofs.HandLaws.{none_passed, one_passed, no_piece_there, cut_there, cut_end, begun_there, begun_end, none_left}
+use Rattle.alt_base.proofs.Numbers.{zero_from_test, above_zero_from_test}
+use Rattle.alt_rowblocks.proofs.HandLaws.{none_passed, one_passed, no_piece_there, cut_there, cut_end, begun_there, begun_end}
 use Rattle.alt_rowblocks.proofs.hand.pass.Goals as goal
 
 pub passed-init : goal.passed-init
@@ -32,13 +32,13 @@ pub returns-in-None-clause-none : goal.returns-in-None-clause-none
 returns-in-None-clause-none c =
     no_piece_there c.args.bytes.now c.args.all.now c.passed.rest.now (option_copied c.args.to)
     c.passed.places.items c.passed.invariant
-    (some_left (length c.passed.rest.now) c.passed-test.ensures) c.in-None.ensures.none
+    (above_zero_from_test (length c.passed.rest.now) c.passed-test.ensures) c.in-None.ensures.none
 
 pub returns-clause-passed : goal.returns-clause-passed
 returns-clause-passed c = λ front b are is whole.
     cut_end c.args.bytes.now c.args.all.now c.passed.rest.now (option_copied c.args.to)
     c.passed.places.items c.passed.invariant front b (length c.args.bytes.now) are is whole
-    (none_left (length c.passed.rest.now) c.passed-test.ensures) refl
+    (zero_from_test (length c.passed.rest.now) c.passed-test.ensures) refl
 
 pub returns-then-not-is_passed-clause-begun : goal.returns-then-not-is_passed-clause-begun
 returns-then-not-is_passed-clause-begun c = λ front whole.
@@ -52,4 +52,4 @@ pub returns-clause-begun : goal.returns-clause-begun
 returns-clause-begun c = λ front whole.
     begun_end c.args.bytes.now c.args.all.now c.passed.rest.now (option_copied c.args.to)
     c.passed.places.items c.passed.invariant front (length c.args.bytes.now) whole
-    (none_left (length c.passed.rest.now) c.passed-test.ensures) refl
+    (zero_from_test (length c.passed.rest.now) c.passed-test.ensures) refl

@@ -2,7 +2,7 @@
 use Rattle.std.proofs.Common.{refl, length}
 use Rattle.std.specs.Option.{option_copied}
 use Rattle.std.proofs.lemmas.Bool.{false≢true}
-use Rattle.alt_rowblocks.proofs.DecodeLaws.{some_left}
+use Rattle.alt_base.proofs.Numbers.{above_zero_from_test}
 use Rattle.alt_rowblocks.proofs.PickLaws.{one_piece_more, no_piece_next, no_key_next}
 use Rattle.alt_rowblocks.proofs.pick.bytes_at_key.Goals as goal
 
@@ -26,4 +26,4 @@ pub returns-in-None-clause-none : goal.returns-in-None-clause-none
 returns-in-None-clause-none c =
     no_piece_next c.args.bytes.now c.pieces.rest.now c.args.key.now (option_copied c.pieces.last)
     (option_copied c.pieces.found) c.pieces.invariant
-    (some_left (length c.pieces.rest.now) c.pieces-test.ensures) c.in-None.ensures.none
+    (above_zero_from_test (length c.pieces.rest.now) c.pieces-test.ensures) c.in-None.ensures.none

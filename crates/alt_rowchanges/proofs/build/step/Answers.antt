@@ -1,10 +1,9 @@
 -- The row of each item that is in the index comes.
 use Rattle.std.proofs.Common.{◌≡◌, ◌+◌, ◌++◌, refl, sym, ap, subst, ◌∙◌, false, [], ◌∷◌, List, Some, None, length, get_or, option_map, slice_get, arith}
 use Rattle.std.proofs.lemmas.List.{take_all}
-use Rattle.std.proofs.lemmas.Option.{slice_get_read}
+use Rattle.std.proofs.lemmas.Option.{slice_get_read, same_Some}
 use Rattle.alt_cells.specs.Batches.{has_row}
 use Rattle.alt_cells.specs.Changes.{change_between}
-use Rattle.alt_opening.proofs.OneState.{some}
 use Rattle.alt_schema.specs.declared.schema.IndexSchema.{IndexSchema}
 use Rattle.alt_rowchanges.specs.Steps.{step_of}
 use Rattle.alt_rowchanges.proofs.StepParts.{row_of, step_none, step_row}
@@ -24,7 +23,7 @@ loop-n-preserved c i building low apart =
     row_of d i building c.building_number-at.result c.building_number-at.ensures.there
     (length c.as_slice-locals.result.now) (ap length c.as_slice-locals.ensures.members) x
     (option_map row_at c.in_ok-row.field-0) c.in_ok-row.ensures.row in
-    let own : c.index-globals-at.result ≡ i = some _ _
+    let own : c.index-globals-at.result ≡ i = same_Some _ _
     (sym (slice_get_read d.globals (length d.globals) c.building_number-at.result
     c.index-globals-at.result refl c.building_number-at.ensures.within
     (subst (λ (ys : List IndexSchema). c.index-globals-at.result

@@ -1,10 +1,11 @@
 -- The digest is right, and then the body decides.
 use Rattle.std.proofs.Common.{◌≡◌, ◌∙◌, ◌-◌, ◌≤◌, ap, sym, subst, refl, inr, arith, length, List, ℕ, take}
 use Rattle.alt_disk.specs.Disk.{DiskState, contents, bytes_or_none}
+use Rattle.alt_disk.proofs.Staying.{tells_on}
 use Rattle.alt_rowblocks.specs.Blocks.{IsBody}
 use Rattle.alt_rowfile.specs.Recovery.{HasDigest, ExplainsFile}
 use Rattle.alt_rowfile.proofs.FileLaws.{file_of_body, no_file}
-use Rattle.alt_rowblocks.proofs.StreamLaws.{same_bytes, told_on}
+use Rattle.alt_rowblocks.proofs.StreamLaws.{same_bytes}
 use Rattle.alt_rowfile.proofs.recover.recover_file.Goals as goal
 
 pub returns-in-Ok-Some-clause-reads : goal.returns-in-Ok-Some-clause-reads
@@ -14,11 +15,11 @@ returns-in-Ok-Some-clause-reads g c = λ told.
     let u : DiskState = g.D.Disk.state c.test_digest.new.disk in
     let f = c.args.f in
     let size = c.in_ok-size.size in
-    let told_t = told_on s t c.in_ok-size.ensures.call.call.goes told in
+    let told_t = tells_on s t c.in_ok-size.ensures.call.call.goes told in
     let first : contents t f ≡ contents s f =
     ap bytes_or_none ((c.in_ok-size.ensures.same told).file f) in
     let long : length (contents s f) ≡ size = sym (c.in_ok-size.ensures.size told) in
-    let told_u = told_on t u c.in-Ok.ensures.goes told_t in
+    let told_u = tells_on t u c.in-Ok.ensures.goes told_t in
     let second : contents u f ≡ contents s f = same_bytes t u f (c.in-Ok.ensures.quiet told_t)
     ∙ first in
     let digest : HasDigest (contents s f) =
@@ -40,11 +41,11 @@ returns-in-Ok-None-clause-explained g c = λ told.
     let u : DiskState = g.D.Disk.state c.test_digest.new.disk in
     let f = c.args.f in
     let size = c.in_ok-size.size in
-    let told_t = told_on s t c.in_ok-size.ensures.call.call.goes told in
+    let told_t = tells_on s t c.in_ok-size.ensures.call.call.goes told in
     let first : contents t f ≡ contents s f =
     ap bytes_or_none ((c.in_ok-size.ensures.same told).file f) in
     let long : length (contents s f) ≡ size = sym (c.in_ok-size.ensures.size told) in
-    let told_u = told_on t u c.in-Ok.ensures.goes told_t in
+    let told_u = tells_on t u c.in-Ok.ensures.goes told_t in
     let second : contents u f ≡ contents s f = same_bytes t u f (c.in-Ok.ensures.quiet told_t)
     ∙ first in
     let digest : HasDigest (contents s f) =
@@ -70,7 +71,7 @@ returns-in-Err-clause-explained g c = λ told.
     let u : DiskState = g.D.Disk.state c.test_digest.new.disk in
     let f = c.args.f in
     let size = c.in_ok-size.size in
-    let told_t = told_on s t c.in_ok-size.ensures.call.call.goes told in
+    let told_t = tells_on s t c.in_ok-size.ensures.call.call.goes told in
     let first : contents t f ≡ contents s f =
     ap bytes_or_none ((c.in_ok-size.ensures.same told).file f) in
     let long : length (contents s f) ≡ size = sym (c.in_ok-size.ensures.size told) in

@@ -1,9 +1,9 @@
 -- The six parts of a description, one behind another.
 use Rattle.std.proofs.Common.{◌∙◌, ◌∷◌, ◌++◌, ap}
-use Rattle.std.proofs.lemmas.Result.{on_ok_weaker}
+use Rattle.std.proofs.lemmas.Result.{on_ok_weaker, on_err_weaker}
 use Rattle.alt_schemabytes.specs.Format.{counted, view_byte, stream_bytes, definition_bytes, index_bytes, keys_bytes, head_bytes, description_bytes}
 use Rattle.alt_base.proofs.Prefixes.{prefix_trans}
-use Rattle.alt_schemabytes.proofs.Pieces.{six_pieces, on_err_map}
+use Rattle.alt_schemabytes.proofs.Pieces.{six_pieces}
 use Rattle.alt_schemabytes.proofs.format.schema_bytes.Goals as goal
 
 pub returns-clause-appended : goal.returns-clause-appended
@@ -29,7 +29,7 @@ returns-clause-appended c =
 
 pub returns-clause-begun : goal.returns-clause-begun
 returns-clause-begun c =
-    on_err_map c.put_indexes-2.result
+    on_err_weaker c.put_indexes-2.result
     (λ last. prefix_trans c.args.out.now.items c.put_head.new.out.items
     c.put_indexes-2.new.out.items (_, c.in_ok-put_head.ensures.appended)
     (prefix_trans c.put_head.new.out.items c.put_stream.new.out.items c.put_indexes-2.new.out.items

@@ -2,9 +2,10 @@
 use Rattle.std.proofs.Common.{◌∙◌, map, ◌++◌, ◌∷◌, All, subst, sym}
 use Rattle.std.proofs.lemmas.List.Elements.{All-head, All-tail}
 use Rattle.std.specs.Vec.Iter.{into_iter_items}
+use Rattle.alt_base.proofs.Lists.{length-zero}
 use Rattle.alt_changes.specs.ChangeRows.{change_in}
 use Rattle.alt_streams.specs.private.Paged.{IsFit}
-use Rattle.alt_streams.proofs.Pieces.{SoFar, all_put, next_fit, none_ahead, one_more, one_last, read_passed}
+use Rattle.alt_streams.proofs.Pieces.{SoFar, all_put, next_fit, one_more, one_last, read_passed}
 use Rattle.alt_streams.proofs.paging.put_all.Goals as goal
 
 pub loop-change-preserved : goal.loop-change-preserved
@@ -57,6 +58,6 @@ returns-clause-puts c shows most from seen is h all =
     let changes = map change_in c.args.changes.items in
     all_put d shows most from seen changes c.loop-change.page
     (subst (λ l. SoFar d shows most from seen changes c.loop-change.page (map change_in l))
-    (none_ahead (into_iter_items c.loop-change.change-iterator)
+    (length-zero (into_iter_items c.loop-change.change-iterator)
     (sym c.loop-change.change-iterator.rest.ok.0 ∙ c.in-None.ensures.steps.0))
     (c.loop-change.invariant.put shows most from seen is h all))

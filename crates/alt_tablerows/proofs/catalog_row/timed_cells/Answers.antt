@@ -2,8 +2,9 @@
 use Rattle.std.proofs.Common.{◌≡◌, refl, Bool, true, false, not, Some, sym, ◌∙◌, arith}
 use Rattle.std.proofs.lemmas.Bool.{false≢true}
 use Rattle.std.specs.Prelude.{codes}
+use Rattle.alt_base.proofs.Lists.{bytes_eq-true}
 use Rattle.alt_tablerows.specs.CatalogRows.{described_row}
-use Rattle.alt_tablerows.proofs.OneColumn.{bytes_differ, same_bytes}
+use Rattle.alt_tablerows.proofs.OneColumn.{bytes_differ}
 use Rattle.alt_tablerows.proofs.TableRow.{double, names_two, not_two, two_cells}
 use Rattle.alt_tablerows.proofs.catalog_row.timed_cells.Goals as goal
 
@@ -45,8 +46,8 @@ returns-clause-cells c = two_cells c.args.row.now c.as_slice-columns.result.now
     c.index-columns-0.result c.index-columns-1.result c.as_slice-columns.ensures
     (double c.as_slice-columns.result.now c.index-columns-0.result c.index-columns-1.result
     (omega (arith, c.if-columns-ne2.false)) c.index-columns-0.is c.index-columns-1.is)
-    (sym c.as_slice.ensures.same ∙ same_bytes c.as_slice.result.now (codes "l")
+    (sym c.as_slice.ensures.same ∙ bytes_eq-true c.as_slice.result.now (codes "l")
     (truth _ (sym c.ne.ensures ∙ c.if-ne.false)))
-    (sym c.as_slice-2.ensures.same ∙ same_bytes c.as_slice-2.result.now (codes "t")
+    (sym c.as_slice-2.ensures.same ∙ bytes_eq-true c.as_slice-2.result.now (codes "t")
     (truth _ (sym c.ne-2.ensures ∙ c.if-ne-2.false)))
     ∙ (λ i. described_row (Some (sym c.as_slice-3.ensures.same i)) (sym c.as_slice-4.ensures.same i))

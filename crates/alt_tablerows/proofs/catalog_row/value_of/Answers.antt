@@ -1,6 +1,7 @@
 -- The row has that entry, or none that is it.
 use Rattle.std.proofs.Common.{◌∙◌, [], ◌∷◌, ℕ, List, sym, ap, arith}
-use Rattle.alt_tablerows.proofs.OneColumn.{one_entry, same_entry, one_long, single, same_bytes, bytes_differ}
+use Rattle.alt_base.proofs.Lists.{bytes_eq-true}
+use Rattle.alt_tablerows.proofs.OneColumn.{one_entry, same_entry, one_long, single, bytes_differ}
 use Rattle.alt_tablerows.proofs.catalog_row.value_of.Goals as goal
 
 pub returns-then-columns-ne1-clause-none : goal.returns-then-columns-ne1-clause-none
@@ -14,7 +15,7 @@ returns-then-eq-clause-value c = one_entry c.args.row.now c.args.name.now _
     ∙ single c.as_slice-columns.result.now c.index-columns-0.result (omega arith) (omega arith)
     c.index-columns-0.is
     ∙ (λ i. (
-      (sym c.as_slice.ensures.same ∙ same_bytes c.as_slice.result.now
+      (sym c.as_slice.ensures.same ∙ bytes_eq-true c.as_slice.result.now
           c.args.name.now (sym c.eq.ensures ∙ c.if-eq.true)) i,
       sym c.as_slice-then-eq.ensures.same i,
     ) ∷ []))

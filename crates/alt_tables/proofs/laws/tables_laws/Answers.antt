@@ -1,8 +1,9 @@
 -- The laws, from their lemmas.
-use Rattle.alt_tables.proofs.Left.{stands_left, stands_made, stands_quiet, stands_read}
+use Rattle.alt_tables.proofs.Left.{stands_left, stands_quiet, stands_read}
 use Rattle.alt_rowchanges.proofs.OpeningOneState.{one_state_of_image}
 use Rattle.alt_tables.proofs.Standing.{one_stands}
 use Rattle.alt_rowchanges.proofs.WriteLaws.{item_turns}
+use Rattle.alt_tables.proofs.Starting.{image_made}
 use Rattle.alt_tables.proofs.laws.tables_laws.Goals as goal
 
 pub returns : goal.returns
@@ -12,6 +13,6 @@ returns c = record {
   files = stands_read;
   left = stands_left;
   stays_quiet = stands_quiet;
-  made = stands_made;
+  made = image_made;
   item_turns = item_turns;
 }

@@ -2,6 +2,7 @@
 use Rattle.std.proofs.Common.{◌≡◌, ◌++◌, ◌∷◌, [], true, sym, ap, subst, ◌∙◌, ℕ, List, take, length, arith}
 use Rattle.std.specs.FinMap as map
 use Rattle.std.specs.Vec.Iter.{into_iter_items}
+use Rattle.alt_base.proofs.Lists.{length-zero}
 use Rattle.alt_disk.specs.Disk.{DiskState}
 use Rattle.alt_machine.specs.declared.TheConstants.{MOST_EXPIRED, MOST_TABLES}
 use Rattle.alt_machine.specs.Ops.ListTables.{names_after}
@@ -11,7 +12,7 @@ use Rattle.alt_request.proofs.TablesLeft.{reads_nothing, reads_then, ready_on}
 use Rattle.alt_request.specs.TablesSeveral.{Every}
 use Rattle.alt_request.specs.TablesStands.{catalog_of}
 use Rattle.alt_ttl.specs.private.Searched.{AreNamed}
-use Rattle.alt_ttl.proofs.Fronts.{none_ahead, take_step, take_whole}
+use Rattle.alt_ttl.proofs.Fronts.{take_step, take_whole}
 use Rattle.alt_ttl.proofs.Looking.{keeps_none, keeps_then, stays_then}
 use Rattle.alt_ttl.proofs.Searching.{IsThere, expired_at, expired_of, found_all, is_there, names_there}
 use Rattle.alt_ttl.proofs.search.searched.Goals as goal
@@ -99,6 +100,6 @@ returns-clause-standings g c s stands =
     let so = c.loop-name.invariant in
     sym (take_whole MOST_EXPIRED c.loop-name.out.items so.few)
     ∙ ap (λ l. take MOST_EXPIRED (c.loop-name.out.items ++ expired_of s c.args.moment l))
-    (sym (none_ahead (into_iter_items c.loop-name.name-iterator)
+    (sym (length-zero (into_iter_items c.loop-name.name-iterator)
     (sym c.loop-name.name-iterator.rest.ok.0 ∙ c.in-None.ensures.steps.0)))
     ∙ so.left s stands

@@ -1,10 +1,11 @@
 -- One more is put; at the end nothing is left.
 use Rattle.std.proofs.Common.{◌≤◌, ◌++◌, sym, ap, subst, ◌∙◌, List, take, length}
 use Rattle.std.specs.Vec.Iter.{into_iter_items}
+use Rattle.alt_base.proofs.Lists.{length-zero}
 use Rattle.alt_machine.specs.declared.Standing.{Standing}
 use Rattle.alt_machine.specs.declared.TheConstants.{MOST_EXPIRED}
 use Rattle.alt_ttl.specs.private.Searched.{standing_of, standings_of}
-use Rattle.alt_ttl.proofs.Fronts.{none_ahead, take_few, take_step, take_whole}
+use Rattle.alt_ttl.proofs.Fronts.{take_few, take_step, take_whole}
 use Rattle.alt_ttl.proofs.standings.put_expired.Goals as goal
 
 pub loop-item-preserved : goal.loop-item-preserved
@@ -30,7 +31,7 @@ returns c =
     record {
       put = sym (take_whole MOST_EXPIRED old so.few)
           ∙ ap (λ l. take MOST_EXPIRED (old ++ st l))
-          (sym (none_ahead (into_iter_items c.loop-item.item-iterator)
+          (sym (length-zero (into_iter_items c.loop-item.item-iterator)
           (sym c.loop-item.item-iterator.rest.ok.0 ∙ c.in-None.ensures.steps.0)))
           ∙ so.put;
     }

@@ -1,9 +1,9 @@
 -- One more is noted; at the end none is left.
 use Rattle.std.proofs.Common.{sym, subst, ◌∙◌}
 use Rattle.std.specs.Vec.Iter.{into_iter_items}
+use Rattle.alt_base.proofs.Lists.{length-zero}
 use Rattle.alt_request.specs.TablesSeveral.{Every}
 use Rattle.alt_ttl.specs.private.Foresight.{ForeseesPlaced}
-use Rattle.alt_ttl.proofs.Fronts.{none_ahead}
 use Rattle.alt_ttl.proofs.Surveying.{placed_on}
 use Rattle.alt_ttl.proofs.survey.note_items.Goals as goal
 
@@ -35,5 +35,5 @@ returns-clause-known c =
     let so = c.loop-item.invariant in
     so.known c.loop-item.due (λ moment spot knows. knows)
     (subst (Every (ForeseesPlaced c.args.schema.now c.args.name.now c.loop-item.due))
-    (sym (none_ahead (into_iter_items c.loop-item.item-iterator)
+    (sym (length-zero (into_iter_items c.loop-item.item-iterator)
     (sym c.loop-item.item-iterator.rest.ok.0 ∙ c.in-None.ensures.steps.0))) tt)

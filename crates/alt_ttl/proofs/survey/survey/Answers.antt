@@ -2,6 +2,7 @@
 use Rattle.std.proofs.Common.{◌≡◌, ◌⊎◌, inl, inr, ◌∷◌, [], true, sym, ap, subst, ◌∙◌, ℕ, List, take}
 use Rattle.std.specs.FinMap as map
 use Rattle.std.specs.Vec.Iter.{into_iter_items}
+use Rattle.alt_base.proofs.Lists.{length-zero}
 use Rattle.alt_disk.specs.Disk.{DiskState}
 use Rattle.alt_due.specs.declared.due.Due.{Due}
 use Rattle.alt_machine.specs.declared.TheConstants.{MOST_TABLES}
@@ -12,7 +13,6 @@ use Rattle.alt_request.proofs.TablesLeft.{reads_nothing, reads_then, ready_on}
 use Rattle.alt_request.specs.TablesSeveral.{Every}
 use Rattle.alt_request.specs.TablesStands.{catalog_of}
 use Rattle.alt_ttl.specs.private.Foresight.{ForeseesTable}
-use Rattle.alt_ttl.proofs.Fronts.{none_ahead}
 use Rattle.alt_ttl.proofs.Looking.{keeps_none, keeps_then, stays_then}
 use Rattle.alt_ttl.proofs.Searching.{all_names, names_there}
 use Rattle.alt_ttl.proofs.Surveying.{Among, among_all, table_on}
@@ -99,6 +99,6 @@ none_left q names t due none (inr known) = known
 pub returns-clause-known : goal.returns-clause-known
 returns-clause-known g c s stands q place t item at =
     none_left q (into_iter_items c.loop-name.name-iterator) t c.loop-name.due
-    (none_ahead (into_iter_items c.loop-name.name-iterator)
+    (length-zero (into_iter_items c.loop-name.name-iterator)
     (sym c.loop-name.name-iterator.rest.ok.0 ∙ c.in-None.ensures.steps.0))
     (c.loop-name.invariant.known s stands q t at) place item

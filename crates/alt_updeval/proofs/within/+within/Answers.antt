@@ -10,9 +10,9 @@ use Rattle.alt_expr.specs.Updated.{Edit, under, put_here, past, changed}
 use Rattle.alt_updeval.specs.Shown.{made_tree, way_of, ways_in, new_at, put_if}
 use Rattle.alt_updeval.proofs.Here.{list_is}
 use Rattle.alt_updeval.proofs.Maps.{one_more, map-from}
-use Rattle.alt_updeval.proofs.Smaller.{depth-element, depth-pair}
 use Rattle.alt_updeval.proofs.Steps.{at_index, at_text, list_more, list_all}
 use Rattle.alt_updeval.proofs.Taking.{take-one_more}
+use Rattle.alt_value.proofs.Smaller.{depth-element, depth-pair}
 use Rattle.alt_updeval.proofs.within.+within.Goals as goal
 
 -- nothing is put where no value is found

@@ -1,7 +1,7 @@
 -- A key of that place is read back.
 use Rattle.std.proofs.Common.{[], sym, ap, ◌∙◌}
+use Rattle.std.proofs.lemmas.Option.{same_Some}
 use Rattle.alt_views.proofs.KeyBack.{key_there, passed_bad, same_bytes, taken_there, takes_bad}
-use Rattle.alt_views.proofs.Values.{some}
 use Rattle.alt_views.specs.Read.{with_values}
 use Rattle.alt_views.proofs.indexed.key_of_place.Goals as goal
 use Rattle.alt_views.proofs.indexed.key_of_place.Goals.{in_default-via-in-Some+else-eq, in_default-via-in_default}
@@ -27,7 +27,7 @@ returns-in_default-clause-none c = λ bad key is there.
     (taken.0 ∙ ap (with_values d.hash d.range known.values) c.new-key.ensures.empty) in
     elim c.in_default.branch [
       | in_default-via-in-Some+else-eq w ↦ same_bytes w.as_slice.result.now place
-          (w.as_slice.ensures.same ∙ some w.in-Some.own place (sym w.in-Some.is ∙ own))
+          (w.as_slice.ensures.same ∙ same_Some w.in-Some.own place (sym w.in-Some.is ∙ own))
           w.if-eq.ensures
       | in_default-via-in_default w ↦ w.in_default.not-Some place own
     ]

@@ -1,7 +1,8 @@
 -- One column more.
 use Rattle.std.proofs.Common.{◌≤◌, List, Err, sym, ap, subst, T, arith}
+use Rattle.alt_base.proofs.Options.{told_error}
 use Rattle.alt_machine.specs.Valid.{deepest}
-use Rattle.alt_views.proofs.Columns.{put_more, full_more, depth_more, read_attribute, bad_is}
+use Rattle.alt_views.proofs.Columns.{put_more, full_more, depth_more, read_attribute}
 use Rattle.alt_value.specs.Size.{fields_depth}
 use Rattle.alt_value.specs.Stands.{tree_of}
 use Rattle.alt_value.specs.Tree.{Pair, fields_of}
@@ -13,7 +14,7 @@ returns-in_err-name-clause-none c bad item is same =
     let (p, attribute, at) = read_attribute item is c.args.columns.now same
     c.loop-column.column-index c.column-item.result (omega arith) c.column-item.is in
     c.in_err-name.ensures.none
-    (ap Err (bad_is c.from_residual-in_err-name.result c.in_err-name.field-0.0 _
+    (ap Err (told_error c.from_residual-in_err-name.result c.in_err-name.field-0.0 _
     c.from_residual-in_err-name.ensures bad))
     p attribute at
 

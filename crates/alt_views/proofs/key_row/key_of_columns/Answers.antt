@@ -1,6 +1,7 @@
 -- One column more.
 use Rattle.std.proofs.Common.{◌≡◌, ◌≤◌, ◌+◌, Err, Some, ap, arith, rules, sym, subst, ◌∙◌}
-use Rattle.alt_views.proofs.Columns.{bad_is, read_attribute}
+use Rattle.alt_base.proofs.Options.{told_error}
+use Rattle.alt_views.proofs.Columns.{read_attribute}
 use Rattle.alt_views.proofs.OwnKeys.{IsReadTo, all_read, left_within, none_read, none_within, read_more}
 use Rattle.alt_value.specs.Size.{item_size}
 use Rattle.alt_value.specs.Stands.{tree_of}
@@ -12,7 +13,8 @@ returns-in_err-name-clause-none c bad item is same =
     let (p, attribute, at) = read_attribute item is c.args.columns.now same
     c.loop-column.column-index c.column-item.result (omega arith) c.column-item.is in
     c.in_err-name.ensures.none
-    (ap Err (bad_is c.from_residual.result c.in_err-name.field-0.0 _ c.from_residual.ensures bad))
+    (ap Err
+    (told_error c.from_residual.result c.in_err-name.field-0.0 _ c.from_residual.ensures bad))
     p attribute at
 
 pub loop-column-init : goal.loop-column-init

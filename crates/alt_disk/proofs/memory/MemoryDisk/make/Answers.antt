@@ -1,10 +1,10 @@
 use Rattle.std.proofs.Common.{◌≡◌, ◌≤◌, inl, List, ◌∙◌, sym, subst, arith}
+use Rattle.std.proofs.lemmas.Result.{on_err_weaker, on_ok_weaker}
 use Rattle.alt_base.specs.Counts.{Rose}
 use Rattle.alt_disk.specs.Disk.{Same}
 use Rattle.alt_disk.specs.Acted.{PushedSome}
 use Rattle.alt_disk.specs.MemoryState.{memory_state, state_of}
 use Rattle.alt_disk.specs.declared.made.Made.{Made}
-use Rattle.alt_disk.proofs.Calls.{on_ok, on_err}
 use Rattle.alt_disk.proofs.MemoryCalls.{acted_some, counts_some, counts_fault, counts_either, same_list}
 use Rattle.alt_disk.proofs.memory.MemoryDisk.make.Goals as goal
 
@@ -41,7 +41,7 @@ returns-clause-ok c =
     let mid = c.start.new.self in
     let n = c.keep.new.self in
     let ok = c.in_ok-start.ensures.ok in
-    on_ok c.keep.result
+    on_ok_weaker c.keep.result
     (λ (pushed : PushedSome mid.history.calls.items n.history.calls.items mid.moment c.args.f
     c.args.done).
     acted_some d.history.calls.items mid.history.calls.items n.history.calls.items d.moment
@@ -57,7 +57,7 @@ returns-clause-unlisted c unlisted =
     let mid = c.start.new.self in
     let n = c.keep.new.self in
     let ok = c.in_ok-start.ensures.ok in
-    on_err c.keep.result
+    on_err_weaker c.keep.result
     (λ (lost : (n.history.calls.items ≡ mid.history.calls.items) × Rose mid.faults n.faults).
     let stays : n.history.calls.items ≡ d.history.calls.items = lost.0 ∙ c.start.ensures.calls in
     let later : d.moment ≤ n.moment = omega (arith, c.keep.ensures.moment, ok.2) in
@@ -72,4 +72,4 @@ returns-clause-err c =
     let d = c.args.self.now in
     let n = c.keep.new.self in
     let same = returns-clause-unlisted c (sym c.in_ok-start.ensures.ok.0 ∙ c.if-branch.false) in
-    on_err c.keep.result (λ (s : Same (state_of d) (state_of n)). inl s) same
+    on_err_weaker c.keep.result (λ (s : Same (state_of d) (state_of n)). inl s) same

@@ -2,9 +2,10 @@
 use Rattle.std.proofs.Common.{◌≡◌, false, true, Some, sym, ◌∙◌}
 use Rattle.std.specs.Cmp.{first_so, second_so}
 use Rattle.std.proofs.Math.Logic.{⊎_map}
+use Rattle.std.proofs.lemmas.Bool.{and_from}
 use Rattle.alt_due.specs.Due.{is_before, is_within}
 use Rattle.alt_due.specs.Order.{spot_of}
-use Rattle.alt_due.proofs.Known.{both, before_before, before_apart, end_apart, waits_as}
+use Rattle.alt_due.proofs.Known.{before_before, before_apart, end_apart, waits_as}
 use Rattle.alt_due.proofs.Orders.{spots_apart}
 use Rattle.alt_due.proofs.due.Due.make_room.Goals as goal
 
@@ -19,7 +20,7 @@ returns-then-is_before_end-clause-keeps c moment spot known covered =
     ∙ c.if-is_before_end.true in
     ⊎_map (λ r. c.in-Some-pop_last.ensures.updates.2 spot (before_apart spot last before) ∙ r)
     (waits_as due.waiting c.pop_last.new.self moment spot c.in_default.ensures.unchanged)
-    (known (both within (is_before due.end spot)
+    (known (and_from within (is_before due.end spot)
     (first_so within (is_before (Some last) spot) covered)
     (before_before due.end spot last before inside)))
 

@@ -26,12 +26,13 @@ use Rattle.alt_flush.specs.Laws.{DropsOnly}
 use Rattle.alt_flush.proofs.NamedLaws.{log_drops, log_names}
 use Rattle.alt_flush.proofs.NewLogLaws.{named_new_log}
 use Rattle.alt_layout.specs.Fresh.{versions_file}
-use Rattle.alt_layout.proofs.FileLaws.{apart, in_back, in_front, named_later}
+use Rattle.alt_layout.proofs.FileLaws.{apart, named_later}
 use Rattle.alt_layout.proofs.FlushLaws.{above_all}
 use Rattle.alt_manifest.specs.Versions.{files_named, numbers_of, row_files}
 use Rattle.alt_hand.proofs.AddingLaws.{adds_draft, drops_first, makes_none, no_version, one_version}
-use Rattle.alt_drafts.proofs.LeftOutLaws.{drops_then, in_or_not}
+use Rattle.alt_drafts.proofs.LeftOutLaws.{drops_then}
 use Rattle.alt_hand.proofs.hand.Hand.flush_all.Goals as goal
+use Rattle.alt_manifest.proofs.Among.{in_back, in_front, in_or_not}
 
 pub returns-in_err-first-clause-any_moment : goal.returns-in_err-first-clause-any_moment
 returns-in_err-first-clause-any_moment g c trusted l stands =

@@ -1,10 +1,11 @@
 -- All files synced, then read, and then those removed that aren't named.
 use Rattle.std.proofs.Common.{◌≡◌, inl, inr, ℕ, List, None, IsTrue, sym, subst, ap, ◌∙◌}
+use Rattle.std.proofs.lemmas.Result.{IfOk-weaker, on_ok_weaker}
 use Rattle.std.specs.Prelude.{⊤}
-use Rattle.alt_cells.proofs.Keeping.{tells_on}
+use Rattle.alt_base.proofs.Prefixes.{on_err_holds}
 use Rattle.alt_disk.specs.Disk.{DiskState, IsNames, IsTrusted}
-use Rattle.alt_disk.proofs.Calls.{on_ok}
 use Rattle.alt_disk.proofs.Runs.{spans_on, tells_of, trusted_on}
+use Rattle.alt_disk.proofs.Staying.{tells_on}
 use Rattle.alt_layout.specs.Files.{Image, IsLayout}
 use Rattle.alt_layout.specs.Fresh.{versions_file}
 use Rattle.alt_layout.specs.Layout.{Layout}
@@ -18,7 +19,7 @@ use Rattle.alt_hand.specs.Recovery.{ExplainsStore, IsNextFile, LeavesStore, Left
 use Rattle.alt_hand.specs.Syncing.{AllSynced}
 use Rattle.alt_hand.specs.declared.hand.Hand.{Hand}
 use Rattle.alt_hand.proofs.KeepLaws.{found_layout, found_version, layout_kept, synced_kept, synced_stands}
-use Rattle.alt_hand.proofs.RecoverLaws.{if_ok, no_layout, ok_if, on_err_of, spans_narrow, spans_removed}
+use Rattle.alt_hand.proofs.RecoverLaws.{no_layout, ok_if, spans_narrow, spans_removed}
 use Rattle.alt_hand.proofs.SyncLaws.{narrows_quiet, synced_quiet}
 use Rattle.alt_hand.proofs.hand.Hand.recover.Goals as goal
 
@@ -37,7 +38,7 @@ returns-in-Ok-read_store-clause-ok g c =
     let d : DiskState = g.D.Disk.state c.read_store.new.disk in
     let n : DiskState = g.D.Disk.state c.keep_named.new.disk in
     let old = c.in-Ok-read_store.engine in
-    if_ok c.keep_named.result
+    IfOk-weaker c.keep_named.result
     (λ (e : Hand). IsTrue d.tells → (l : Layout) → Found d old l → Reads n e l)
     (λ (e : Hand). IsTrue a.tells → (l : Layout) × IsLayout a.file l × Reads n e l)
     (λ e reads told.
@@ -58,7 +59,7 @@ returns-in-Ok-read_store-clause-synced g c =
     let d : DiskState = g.D.Disk.state c.read_store.new.disk in
     let n : DiskState = g.D.Disk.state c.keep_named.new.disk in
     let v : Version = version_in c.in-Ok-read_store.engine in
-    on_ok c.keep_named.result
+    on_ok_weaker c.keep_named.result
     (λ (gone : IsTrue d.tells → (f : ℕ) → IsOther v f → n.file f ≡ None) (trusted : IsTrusted a).
     let trusted_b = trusted_on a b c.sync_all.ensures.goes trusted in
     let trusted_d = trusted_on b d c.read_store.ensures.goes trusted_b in
@@ -82,7 +83,7 @@ returns-in-Ok-read_store-clause-next_file g c =
     let b : DiskState = g.D.Disk.state c.sync_all.new.disk in
     let d : DiskState = g.D.Disk.state c.read_store.new.disk in
     let old = c.in-Ok-read_store.engine in
-    if_ok c.keep_named.result
+    IfOk-weaker c.keep_named.result
     (λ (e : Hand). IsTrue d.tells → (names : List ℕ) × IsNames names d.file
     × (next_file_of e ≡ next_past (next_file_of old) names))
     (λ (e : Hand). IsTrue a.tells → (v : Version) → HasVersion v (a.file versions_file)
@@ -109,7 +110,7 @@ returns-in-Ok-read_store-clause-removed g c =
     let d : DiskState = g.D.Disk.state c.read_store.new.disk in
     let n : DiskState = g.D.Disk.state c.keep_named.new.disk in
     let old = c.in-Ok-read_store.engine in
-    on_ok c.keep_named.result
+    on_ok_weaker c.keep_named.result
     (λ (gone : IsTrue d.tells → (f : ℕ) → IsOther (version_in old) f → n.file f ≡ None)
     (told : IsTrue a.tells) (v : Version) (has : HasVersion v (a.file versions_file)).
     let told_b = tells_on a b c.sync_all.ensures.goes told in
@@ -148,7 +149,7 @@ returns-in-Ok-read_store-clause-none_before g c told =
     let n : DiskState = g.D.Disk.state c.keep_named.new.disk in
     let told_b = tells_on a b c.sync_all.ensures.goes told in
     let found = c.in-Ok-read_store.ensures.ok told_b in
-    on_err_of c.keep_named.result (inr (
+    on_err_holds c.keep_named.result (inr (
       found.0,
       subst (λ (files : Image). IsLayout files found.0)
           (λ i f. ((c.read_store.ensures.quiet told_b).file f ∙ c.sync_all.ensures.files told f) i)

@@ -1,6 +1,7 @@
 use Rattle.std.proofs.Common.{◌∙◌, length, arith}
+use Rattle.alt_base.proofs.Numbers.{told_zero}
 use Rattle.alt_shell.specs.States.{kept_entries, streams_by}
-use Rattle.alt_shell.proofs.Ending.{hand_ends, is_zero, none_is, streams-took, taken_push}
+use Rattle.alt_shell.proofs.Ending.{hand_ends, none_is, streams-took, taken_push}
 use Rattle.alt_shell.proofs.memory.MemoryShell.give.Goals as goal
 
 pub advance-requires : goal.advance-requires
@@ -9,7 +10,7 @@ advance-requires c none =
     let bytes = c.in_ok-bytes.bytes in
     let ending = hand_ends t.talking t.talk.pieces t.standard.pieces bytes.items c.len-count.result
     (length c.args.buf.now) c.requires (c.len-count.ensures ∙ bytes.ok.0) c.in_ok-bytes.ensures.0 in
-    ending.0 (is_zero c.len-count.result none)
+    ending.0 (told_zero c.len-count.result none)
 
 pub returns-clause-end : goal.returns-clause-end
 returns-clause-end c =

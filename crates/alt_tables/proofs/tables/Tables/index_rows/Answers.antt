@@ -1,20 +1,21 @@
 -- The rows of the walk are those of what the index keeps, and nothing else changed.
 use Rattle.std.proofs.Common.{◌≡◌, ◌++◌, ◌≤◌, ◌+◌, ℕ, true, List, Some, option_map, refl, sym, ap, subst, ◌∙◌, take, OnOk, IfOk}
 use Rattle.std.proofs.Math.Nat.{le_refl}
+use Rattle.std.proofs.lemmas.Option.{same_Some}
 use Rattle.std.specs.FinMap as map
+use Rattle.alt_base.proofs.Options.{on_ok_holds}
 use Rattle.alt_rowchanges.specs.OpeningEngineInHand.{hand_of}
 use Rattle.alt_families.specs.Reads.{most_reads}
 use Rattle.alt_rowchanges.specs.OpeningHandInHand.{file_rows}
 use Rattle.alt_layout.specs.Layout.{rows_between, shown}
 use Rattle.alt_machine.specs.Indexed.{index_items}
 use Rattle.alt_views.specs.IndexRows.{index_columns}
-use Rattle.alt_tables.proofs.Paying.{last_given, on_ok, walk_paid}
+use Rattle.alt_tables.proofs.Paying.{last_given, walk_paid}
 use Rattle.alt_machine.specs.Sources.{index_at}
 use Rattle.alt_machine.specs.Walks.{items_between}
 use Rattle.alt_schema.specs.Bare.{is_whole}
 use Rattle.alt_schema.specs.declared.schema.IndexSchema.{IndexSchema}
 use Rattle.alt_schema.specs.declared.schema.TableSchema.{TableSchema}
-use Rattle.alt_rowchanges.proofs.OpeningOneState.{some}
 use Rattle.alt_tables.proofs.Pages.{find_fault, page_kept, page_rows, same_table, engine_fault, whole_rows}
 use Rattle.alt_tables.proofs.Standing.{stays, there}
 use Rattle.alt_disk.proofs.Runs.{tells_of}
@@ -28,7 +29,7 @@ index_at-index-requires g c = record {
 pub returns-in-Ok-clause-rows : goal.returns-in-Ok-clause-rows
 returns-in-Ok-clause-rows g c s t i stands at at_index =
     let known_as = sym c.in-Some.ensures.table in
-    let same : c.index_at-index.result.now ≡ i = some _ _ (c.index_at-index.ensures.index
+    let same : c.index_at-index.result.now ≡ i = same_Some _ _ (c.index_at-index.ensures.index
     ∙ ap (λ (d : TableSchema). index_at d (Some c.args.number))
     (same_table (g.D.Disk.state c.args.disk.now) c.args.self.now s c.args.table.now t
     c.in-Some.schema.now stands at known_as) ∙ at_index) in
@@ -48,7 +49,7 @@ returns-in-Ok-clause-last g c s t i stands at at_index =
     let known_as = sym c.in-Some.ensures.table in
     let l = stands.rows.layout in
     let items = index_items t.description i t.items in
-    let same : c.index_at-index.result.now ≡ i = some _ _ (c.index_at-index.ensures.index
+    let same : c.index_at-index.result.now ≡ i = same_Some _ _ (c.index_at-index.ensures.index
     ∙ ap (λ (d : TableSchema). index_at d (Some c.args.number))
     (same_table (g.D.Disk.state c.args.disk.now) c.args.self.now s c.args.table.now t
     c.in-Some.schema.now stands at known_as) ∙ at_index) in
@@ -76,7 +77,7 @@ returns-in-Ok-clause-reads g c s t i maps stands at at_index has =
     let known_as = sym c.in-Some.ensures.table in
     let l = stands.rows.layout in
     let reads = stands.rows.is.hand.reads in
-    let same : c.index_at-index.result.now ≡ i = some _ _ (c.index_at-index.ensures.index
+    let same : c.index_at-index.result.now ≡ i = same_Some _ _ (c.index_at-index.ensures.index
     ∙ ap (λ (d : TableSchema). index_at d (Some c.args.number))
     (same_table (g.D.Disk.state c.args.disk.now) c.args.self.now s c.args.table.now t
     c.in-Some.schema.now stands at known_as) ∙ at_index) in
@@ -86,7 +87,7 @@ returns-in-Ok-clause-reads g c s t i maps stands at at_index has =
     (sym c.index_at-index.ensures.index)) in
     let paid = c.in-Ok.ensures.reads
     (tells_of (g.D.Disk.state c.args.disk.now) stands.rows.trusted) l reads in
-    on_ok c.read_index_page.result (walk_paid (index_columns t.description i) l i.family
+    on_ok_holds c.read_index_page.result (walk_paid (index_columns t.description i) l i.family
     (index_items t.description i t.items)
     (λ key. stands.rows.shows.indexes c.args.table.now t c.args.number i at at_index key
     ∙ whole_rows t i whole key)

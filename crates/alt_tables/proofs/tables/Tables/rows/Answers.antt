@@ -1,10 +1,10 @@
 -- An index that is asked is one of the table's.
 use Rattle.std.proofs.Common.{◌≡◌, ◌<◌, ◌≤◌, ◌+◌, ◌++◌, None, IfSome, IfOk, OnOk, length, take, sym, ap, subst, ◌∙◌}
 use Rattle.std.specs.List.{last_or}
+use Rattle.alt_base.proofs.Lists.{get-within}
 use Rattle.alt_machine.specs.Sources.{index_at}
 use Rattle.alt_machine.specs.Walks.{items_between}
 use Rattle.alt_schema.specs.Indexes.{indexes}
-use Rattle.alt_tables.proofs.Pages.{within_some}
 use Rattle.alt_tables.proofs.Standing.{known}
 use Rattle.alt_tables.specs.Reading.{HasRowFiles, family_read, places_between, walk_reads}
 use Rattle.alt_views.specs.Readable.{CanRead}
@@ -20,7 +20,7 @@ returns-in-Some-clause-rows g c s t stands at =
     (subst (λ o. IfSome o (λ number. CanRead t.description number)) c.in-Some.is
     (c.requires.index t.description (known (g.D.Disk.state c.args.disk.now) c.args.self.now s
     c.args.table.now t stands at))).0 in
-    let (i, is) = within_some (indexes t.description) c.in-Some.number within in
+    let (i, is) = get-within (indexes t.description) c.in-Some.number within in
     subst (λ o. OnOk c.index_rows.result (c.index_rows.new.out.items ≡ c.args.out.now.items
     ++ take c.args.most (items_between t o c.args.range.now.from c.args.range.now.to
     c.args.forward))) (sym is ∙ ap (index_at t.description) (sym c.in-Some.is))
@@ -39,7 +39,7 @@ returns-in-Some-clause-last g c s t stands at =
     (subst (λ o. IfSome o (λ number. CanRead t.description number)) c.in-Some.is
     (c.requires.index t.description (known (g.D.Disk.state c.args.disk.now) c.args.self.now s
     c.args.table.now t stands at))).0 in
-    let (i, is) = within_some (indexes t.description) c.in-Some.number within in
+    let (i, is) = get-within (indexes t.description) c.in-Some.number within in
     subst (λ o. IfOk c.index_rows.result (λ last. last ≡ last_or None (take c.args.most
     (places_between t o c.args.range.now.from c.args.range.now.to c.args.forward))))
     (sym is ∙ ap (index_at t.description) (sym c.in-Some.is))
@@ -58,7 +58,7 @@ returns-in-Some-clause-reads g c s t maps stands at =
     let within : c.in-Some.number < length (indexes t.description) =
     (subst (λ o. IfSome o (λ number. CanRead t.description number)) c.in-Some.is
     (c.requires.index t.description (known a c.args.self.now s c.args.table.now t stands at))).0 in
-    let (i, is) = within_some (indexes t.description) c.in-Some.number within in
+    let (i, is) = get-within (indexes t.description) c.in-Some.number within in
     subst (λ o. HasRowFiles a.file (family_read t.description o) maps
     → OnOk c.index_rows.result (b.reads ≤ a.reads
     + walk_reads c.args.forward c.args.range.now.from c.args.range.now.to c.args.most

@@ -1,21 +1,23 @@
 -- The rows of the walk are those of the items, and nothing else changed.
 use Rattle.std.proofs.Common.{◌≡◌, ◌∙◌, refl, sym, ap, subst, IfOk}
 use Rattle.std.proofs.Math.Nat.{le_refl}
+use Rattle.std.proofs.lemmas.Result.{on_ok_weaker}
 use Rattle.std.specs.Prelude.{◌≤◌, ◌+◌}
+use Rattle.alt_base.proofs.Options.{on_ok_holds}
 use Rattle.alt_rowchanges.specs.OpeningEngineInHand.{hand_of}
 use Rattle.alt_families.specs.Reads.{most_reads}
 use Rattle.alt_rowchanges.specs.OpeningHandInHand.{file_rows}
 use Rattle.alt_layout.specs.Layout.{rows_between, shown}
 use Rattle.alt_schema.specs.declared.schema.TableSchema.{TableSchema}
 use Rattle.alt_views.specs.ItemRows.{item_columns}
-use Rattle.alt_tables.proofs.Pages.{find_fault, ok_then, page_items, page_reads, page_rows, same_table, engine_fault}
-use Rattle.alt_tables.proofs.Paying.{last_given, on_ok, walk_paid}
+use Rattle.alt_tables.proofs.Pages.{find_fault, page_items, page_reads, page_rows, same_table, engine_fault}
+use Rattle.alt_tables.proofs.Paying.{last_given, walk_paid}
 use Rattle.alt_tables.proofs.Standing.{stays, there}
 use Rattle.alt_disk.proofs.Runs.{tells_of}
 use Rattle.alt_tables.proofs.tables.Tables.table_rows.Goals as goal
 
 pub returns-in-Ok-clause-rows : goal.returns-in-Ok-clause-rows
-returns-in-Ok-clause-rows g c s t stands at = ok_then c.read_page.result
+returns-in-Ok-clause-rows g c s t stands at = on_ok_weaker c.read_page.result
     (page_items (g.D.Disk.state c.args.disk.now) c.args.self.now s c.args.table.now t
     c.in-Some.schema.now stands at (sym c.in-Some.ensures.table) c.args.range.now.from
     c.args.range.now.to c.args.forward c.args.most c.new-page.result.items c.rows.new.out.items
@@ -47,7 +49,7 @@ returns-in-Ok-clause-reads g c s t maps stands at has =
     c.in-Some.schema.now stands at known_as in
     let paid = c.in-Ok.ensures.reads
     (tells_of (g.D.Disk.state c.args.disk.now) stands.rows.trusted) l reads in
-    on_ok c.read_page.result (walk_paid item_columns l t.description.family t.items
+    on_ok_holds c.read_page.result (walk_paid item_columns l t.description.family t.items
     (stands.rows.shows.items c.args.table.now t at) c.args.range.now.from c.args.range.now.to
     c.args.forward (g.D.Disk.state c.args.disk.now) c.args.self.now.engine reads c.args.most
     (g.D.Disk.state c.args.disk.now).reads (g.D.Disk.state c.rows.new.disk).reads

@@ -1,7 +1,7 @@
 -- The next rows that are left over are read, and nothing is trimmed.
 use Rattle.std.proofs.Common.{◌≡◌, refl, sym, ap, subst, ◌∙◌, ℕ, Some, IsSome}
+use Rattle.std.proofs.lemmas.Option.{same_Some}
 use Rattle.alt_disk.specs.Disk.{DiskState}
-use Rattle.alt_rowchanges.proofs.OpeningOneState.{some}
 use Rattle.alt_schema.specs.declared.schema.TableSchema.{TableSchema}
 use Rattle.alt_tables.specs.declared.tables.Tables.{Tables}
 use Rattle.alt_tables.proofs.Ahead.{again_with}
@@ -18,7 +18,7 @@ returns-in-Ok-clause-trim g c s l m t stands rows known touched =
     let old : Tables = c.args.self.now in
     let schema : TableSchema = c.in-Some.schema.now in
     let family : ℕ = c.in-Some-stream_family.family in
-    let same : t.description ≡ schema = some _ _ (sym known ∙ sym c.in-Some.ensures.table) in
+    let same : t.description ≡ schema = same_Some _ _ (sym known ∙ sym c.in-Some.ensures.table) in
     let (u, at, of_u) = there a old s c.args.table.now schema stands (sym c.in-Some.ensures.table) in
     again_with l m t c.args.moment c.args.last.now touched _ refl
     (ap (λ n. Some n) c.unwrap_or.ensures) family

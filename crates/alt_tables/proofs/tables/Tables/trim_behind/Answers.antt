@@ -1,10 +1,10 @@
 -- What the last of the writes to the table noted goes on, and else the front is read.
 use Rattle.std.proofs.Common.{◌≡◌, sym, subst, ◌∙◌, Some}
+use Rattle.std.proofs.lemmas.Option.{same_Some}
 use Rattle.std.specs.FinMap as map
 use Rattle.alt_disk.specs.Disk.{DiskState}
 use Rattle.alt_layout.specs.Layout.{Layout}
 use Rattle.alt_machine.specs.State.{Table}
-use Rattle.alt_rowchanges.proofs.OpeningOneState.{some}
 use Rattle.alt_tables.specs.Several.{with_batches}
 use Rattle.alt_tables.specs.Stands.{catalog_of, number_of}
 use Rattle.alt_tables.specs.declared.several.Noted.{Noted}
@@ -27,7 +27,7 @@ returns-in-Ok-clause-trim g c s r l batches t stands rows distinct ahead at =
     let last : Noted = c.in-Some.last.now in
     let (u, at_u, touched) = touched_by l s c.args.moment c.args.notes.now batches r ahead
     c.args.table.now last c.in-Some.ensures in
-    let same : u ≡ t = some u t (sym at_u ∙ at) in
+    let same : u ≡ t = same_Some u t (sym at_u ∙ at) in
     let is : IsTouched l m c.args.moment last.trim t =
     subst (λ (v : Table). IsTouched l m c.args.moment last.trim v) same touched in
     record {

@@ -2,11 +2,12 @@
 use Rattle.std.proofs.Common.{◌∙◌, sym, ap, add-one, take}
 use Rattle.alt_value.specs.Item.{with_pair}
 use Rattle.alt_schema.specs.Indexes.{is_projected, cut}
-use Rattle.alt_views.proofs.Cuts.{name_not_empty, kept, skipped, pair_within}
+use Rattle.alt_value.proofs.NamedPairs.{name_some}
+use Rattle.alt_views.proofs.Cuts.{kept, skipped, pair_within}
 use Rattle.alt_views.proofs.rows.projection.keep.Goals as goal
 
 pub put-requires : goal.put-requires
-put-requires c = name_not_empty c.args.item.now c.args.i c.in-Some.name.now _ c.requires.whole
+put-requires c = name_some c.args.item.now c.args.i c.in-Some.name.now _ c.requires.whole
     (sym c.in-Some.ensures.pair)
 
 pub returns-in_ok-put : goal.returns-in_ok-put

@@ -130,7 +130,7 @@ fn put_row(rows: &mut BTreeMap<Bytes, RowCells>, key: Bytes, row: RowCells) -> R
         }
         Entry::Occupied(mut place) => {
             let mut joined = place.get().copy()?;
-            joined.join(&row)?;
+            joined.absorb(row)?;
             drop(place.insert(joined));
             Ok(())
         }

@@ -38,7 +38,7 @@ fn cells_given(
     let (front, back) = given.split_at(given.len() / 2);
     let mut cells = cells_given(alloc, number, front)?;
     let more = cells_given(alloc, number, back)?;
-    cells.join(&more)?;
+    cells.absorb(more)?;
     Ok(cells)
 }
 
@@ -106,7 +106,7 @@ impl RowChange {
                 }
                 let given = RowCells::of_change(alloc, 1, self)?;
                 let mut cells = cells_of(alloc, row)?;
-                cells.join(&given)?;
+                cells.absorb(given)?;
                 cells.into_shown(alloc)
             }
             None => self.shown_alone(alloc),

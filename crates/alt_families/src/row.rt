@@ -144,7 +144,7 @@ fn shown_with(
     match found {
         Some(found) => {
             let mut row = row.copy()?;
-            row.join(&found)?;
+            row.absorb(found)?;
             row.into_shown(alloc)
         }
         None => row.shown(),
@@ -170,7 +170,7 @@ fn joined(row: Option<RowCells>, more: Option<RowCells>) -> Result<Option<RowCel
         (row, None) => Ok(row),
         (Some(row), Some(more)) => {
             let mut row = row;
-            row.join(&more)?;
+            row.absorb(more)?;
             Ok(Some(row))
         }
     }

@@ -16,6 +16,7 @@ use Rattle.alt_cells.specs.Walks.{RowList}
 use Rattle.alt_cells.proofs.CellLaws.{key_total, key_exact}
 use Rattle.alt_cells.proofs.RowLaws.{get-joined_map}
 use Rattle.alt_memtable.proofs.Ordered.{is_sorted_keys}
+use Rattle.alt_memtable.specs.Rows.{joined_with}
 
 -- an entry put in its place, in the words of a tree
 insert_put : (es : RowList) (k : List ℕ) (v : RowCells)
@@ -29,14 +30,21 @@ pub find_lookup : (es : RowList) (k : List ℕ) → find key_cmp k es ≡ lookup
 find_lookup [] k = refl
 find_lookup (e ∷ es) k = ap (cond (eq_by_cmp key_cmp k e.0) (Some e.1)) (find_lookup es k)
 
+-- a row that stands after a put, in the words of rows that are joined
+joined_either : (old : Option RowCells) (row : RowCells)
+    → Some (joined_with old row) ≡ either join_row old (Some row)
+joined_either None row = refl
+joined_either (Some old) row = refl
+
 -- the row that is put is the joined one
-pub put_joined : (es : RowList) (key : List ℕ) (row new : RowCells)
+pub put_joined : (es : RowList) (key : List ℕ) (row : RowCells)
     → IsStrictlySortedBy key_cmp (map (λ e. e.0) es)
-    → Some new ≡ either join_row (lookup (is_at (key_cmp key)) es) (Some row)
-    → from_sorted {R = key_cmp} (insert_entry key_cmp es key new)
+    → from_sorted {R = key_cmp} (insert_entry key_cmp es key
+    (joined_with (lookup (is_at (key_cmp key)) es) row))
     ≡ joined_map join_row (from_sorted es) (from_sorted ((key, row) ∷ []))
-put_joined es key row new ordered is =
+put_joined es key row ordered =
     let sorted = is_sorted_keys key_cmp es ordered in
+    let new = joined_with (lookup (is_at (key_cmp key)) es) row in
     same_map key_total key_exact _ _ (λ q.
     ap (λ l. get (from_sorted {R = key_cmp} l) q) (insert_put es key new)
     ∙ get-from_sorted key_cmp (put key_cmp key new es) q
@@ -58,12 +66,15 @@ put_joined es key row new ordered is =
     equal Greater p = cc
 
     at : (q : List ℕ) → T (is_sorted key_cmp es)
-        → cond (eq_by_cmp key_cmp q key) (Some new) (find key_cmp q es)
+        → cond (eq_by_cmp key_cmp q key)
+        (Some (joined_with (lookup (is_at (key_cmp key)) es) row)) (find key_cmp q es)
         ≡ either join_row (find key_cmp q es) (cond (eq_by_cmp key_cmp q key) (Some row) None)
     at q sorted = elim (eq_by_cmp key_cmp q key) as
-        (λ b. eq_by_cmp key_cmp q key ≡ b → cond b (Some new) (find key_cmp q es)
+        (λ b. eq_by_cmp key_cmp q key ≡ b → cond b
+        (Some (joined_with (lookup (is_at (key_cmp key)) es) row)) (find key_cmp q es)
         ≡ either join_row (find key_cmp q es) (cond b (Some row) None)) [
-          | true ↦ λ p. is ∙ ap (λ a. either join_row a (Some row))
+          | true ↦ λ p. joined_either (lookup (is_at (key_cmp key)) es) row
+              ∙ ap (λ a. either join_row a (Some row))
               (sym (find_lookup es key) ∙ ap (λ (k : List ℕ). find key_cmp k es)
               (sym (key_exact q key (equal (key_cmp q key) p))))
           | false ↦ λ p. none_right (find key_cmp q es)

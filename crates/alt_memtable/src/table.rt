@@ -1,14 +1,14 @@
 //! Rows that were put, joined by key.
 
 ghost use Rattle.std.specs.Prelude.{◌≡◌, ◌+◌, ℕ, [], ◌∷◌, OnOk, OnErr, IfOk, Some, length, option_map};
-ghost use Rattle.std.specs.BTreeMap.{get as tree_get};
+ghost use Rattle.std.specs.BTreeMap.{IsOrdered, IsUnchanged, get as tree_get, insert_entry};
 ghost use Rattle.std.specs.FinMap as map;
 ghost use Rattle.alt_disk.specs.Disk.{DiskState};
 ghost use Rattle.alt_cells.specs.Format.{bytes_of_row};
-ghost use Rattle.alt_cells.specs.Joined.{either, joined_map};
+ghost use Rattle.alt_cells.specs.Joined.{joined_map};
 ghost use Rattle.alt_cells.specs.Keys.{key_cmp};
 ghost use Rattle.alt_cells.specs.Rows.{join_row};
-ghost use Rattle.alt_memtable.specs.Rows.{more_bytes};
+ghost use Rattle.alt_memtable.specs.Rows.{joined_with, more_bytes};
 ghost use Rattle.alt_memtable.specs.Walk.{walk_holds};
 
 use crate::MemWalk;
@@ -18,7 +18,7 @@ use alt_cells::RowCells;
 use alt_fields::Bytes;
 use std::alloc::Global;
 use std::collections::BTreeMap;
-use std::collections::btree_map::Range;
+use std::collections::btree_map::{Entry, Range};
 use std::marker::Model;
 
 /// Rows by key, and a count of the bytes that were put.
@@ -67,8 +67,7 @@ impl Memtable {
     {
         let bytes = with_row(with_more(self.bytes, key.len()), &row);
         let key = Bytes::new(self.alloc, key)?;
-        let joined = joined_row(&self.rows, &key, row)?;
-        self.rows.insert(key, joined)?;
+        put_row(&mut self.rows, key, row)?;
         self.bytes = bytes;
         Ok(())
     }
@@ -117,21 +116,23 @@ impl Memtable {
     }
 }
 
-/// The row with the one of the key that is there already, or the row itself where there is none.
-fn joined_row(
-    rows: &BTreeMap<Bytes, RowCells>,
-    key: &Bytes,
-    row: RowCells,
-) -> Result<RowCells, NoMemory>
-    ensures { IfOk result (λ new. Some new
-        ≡ either join_row (tree_get key_cmp rows.now key.now) (Some row)) }
+/// Joins a row to the one of its key, or puts it where there is none. Where memory is wanting, the rows are as they were.
+fn put_row(rows: &mut BTreeMap<Bytes, RowCells>, key: Bytes, row: RowCells) -> Result<(), NoMemory>
+    ensures put { OnOk result (rows.new.entries ≡ insert_entry key_cmp rows.old.entries key
+        (joined_with (tree_get key_cmp rows.old key) row)) }
+    ensures err { OnErr result (IsUnchanged rows.old rows.new) }
+    ensures ordered { IsOrdered key_cmp rows.old }
 {
-    match rows.get(key) {
-        Some(old) => {
-            let mut new = old.copy()?;
-            new.join(&row)?;
-            Ok(new)
+    match rows.entry(key)? {
+        Entry::Vacant(place) => {
+            place.insert(row);
+            Ok(())
         }
-        None => Ok(row),
+        Entry::Occupied(mut place) => {
+            let mut joined = place.get().copy()?;
+            joined.absorb(row)?;
+            drop(place.insert(joined));
+            Ok(())
+        }
     }
 }

@@ -9,7 +9,7 @@ use Rattle.alt_cells.proofs.change.+cells_given.Goals as goal
 pub returns : goal.returns
 returns t c =
     let number = c.args.number in
-    c.in_ok-join.ensures.ok
+    c.in_ok-absorb.ensures.ok
     ∙ (λ i. joined_map (greater cell_cmp)
     ((c.in_ok-cells.ensures ∙ ap (cells_given number) c.split_at.ensures.front) i)
     ((c.in_ok-more.ensures ∙ ap (cells_given number) c.split_at.ensures.back) i))

@@ -13,10 +13,10 @@ returns-then-self c = rw c.in-Some.is (subst
     ∙ written-cleared c.args.self.now (Some c.in-Some.row.now) c.if-self.true)
     c.shown_alone.ensures)
 
-pub returns-in_ok-join-in-Some : goal.returns-in_ok-join-in-Some
-returns-in_ok-join-in-Some c = rw c.in-Some.is (subst
+pub returns-in_ok-absorb-in-Some : goal.returns-in_ok-absorb-in-Some
+returns-in_ok-absorb-in-Some c = rw c.in-Some.is (subst
     (λ (x : Option Columns). IfOk c.into_shown.result (λ row. row ≡ x))
-    (ap row_shown (c.in_ok-join-in-Some.ensures.ok
+    (ap row_shown (c.in_ok-absorb-in-Some.ensures.ok
     ∙ ap (join_row c.in_ok-cells-in-Some.cells) c.in_ok-given-in-Some.ensures)
     ∙ written-copy c.in_ok-cells-in-Some.cells c.args.self.now c.in-Some.row.now
     c.in_ok-cells-in-Some.ensures.below c.in_ok-cells-in-Some.ensures.shown)

@@ -11,9 +11,8 @@ pub returns-clause-rows : goal.returns-clause-rows
 returns-clause-rows c =
     let es = c.self.inside.rows.entries in
     let row = c.args.row in
-    ap (from_sorted {R = key_cmp}) c.in_ok-insert.ensures.entries
-    ∙ put_joined es c.in_ok-key.key row c.in_ok-joined.joined c.in_ok-insert.ensures.was_ordered
-    c.in_ok-joined.ensures
+    ap (from_sorted {R = key_cmp}) c.in_ok-put_row.ensures.put
+    ∙ put_joined es c.in_ok-key.key row c.put_row.ensures.ordered
     ∙ ap (λ (k : List ℕ). joined_map join_row (from_sorted es) (from_sorted ((k, row) ∷ [])))
     c.in_ok-key.ensures.copied
     ∙ ap (λ v. joined_map join_row v.0 (from_sorted ((c.args.key.now, row) ∷ []))) c.self.view_is

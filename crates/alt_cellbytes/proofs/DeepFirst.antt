@@ -76,7 +76,7 @@ list_open most bytes left (in_list count ts ∷ around) rest opened is n nested 
     is = refl;
     stops = record {
       around = around;
-      all_among = rest;
+      here = rest;
       open_there = opened.1;
       is = refl;
       stops = (omega (arith, n, some), nested, l);
@@ -119,7 +119,7 @@ map_open most bytes left (in_map count ps name ∷ around) rest opened is n nest
       refl,
       record {
         around = around;
-        all_among = rest;
+        here = rest;
         open_there = opened.1;
         is = refl;
         stops = (omega (arith, n, some), nested, l);

@@ -64,7 +64,7 @@ first_of_shown : (rows : RowMap) (shows : List (List ℕ × Columns))
     → (rest : List (List ℕ × Columns)) → shows ≡ e ∷ rest → IsFirstKey (shown_at rows) e.0
 first_of_shown rows shows is e rest one = record {
   shows = λ none. let bad : Some e.1 ≡ None = sym found ∙ none in cc bad;
-  first_holds = λ q less. at q ∙ ap (λ o. cond (is_eq o) (Some e.1) (find key_cmp q rest)) less
+  first = λ q less. at q ∙ ap (λ o. cond (is_eq o) (Some e.1) (find key_cmp q rest)) less
       ∙ find_below key_cmp key_total q rest (below_less key_cmp key_total q e.0 rest less
       (first_holds _ _ (subst (λ l. T (is_sorted key_cmp l)) (is ∙ one)
       (is_sorted-shown row_shown (entries rows) (entries_sorted rows)))));

@@ -120,7 +120,7 @@ pub none_ahead : (l : Layout) (family : ℕ) (from : List ℕ) (rows : List (Lis
     → rows ≡ [] → IsAhead l family from rows
 none_ahead l family from rows none = record {
   rest = rows_between l family from None true;
-  first_holds = ap (λ rs. reverse rs ++ rows_between l family from None true) (sym none);
+  first = ap (λ rs. reverse rs ++ rows_between l family from None true) (sym none);
 }
 
 -- A page that was empty holds what was asked for.
@@ -140,7 +140,7 @@ some_ahead l family from n page rows are turned =
     let all = rows_between l family from None true in
     record {
       rest = drop n all;
-      first_holds = sym (take-append-drop n all)
+      first = sym (take-append-drop n all)
           ∙ ap (λ rs. rs ++ drop n all)
           (sym are ∙ sym (reverse-reverse page) ∙ ap reverse (sym turned));
     }
@@ -181,7 +181,7 @@ module _ (l : Layout) (family : ℕ) (from : List ℕ) (rows ys : List (List ℕ
   taken_ahead None items = tt
   taken_ahead (Some x) items = record {
     rest = ahead.rest;
-    first_holds = rows_behind l family from x (reverse ys ++ ahead.rest) (shown_then x items);
+    first = rows_behind l family from x (reverse ys ++ ahead.rest) (shown_then x items);
   }
 
 -- they are the first from the key behind a row that was given

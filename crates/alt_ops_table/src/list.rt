@@ -119,7 +119,7 @@ fn page_after(alloc: Global, tables: &Tables, start: &str, most: u64) -> Result<
 }
 
 /// The last name of a page, where it isn't the last of all.
-#[tactic(auto, using(crate::proofs::Pages::last_get))]
+#[tactic(auto, using(alt_base::proofs::Lists::last_get))]
 fn last_name(page: &Page) -> Option<&str>
     ensures { option_map (λ s. s.now) result ≡ (if page.now.more then last_or None
         page.now.names.items else None) }

@@ -147,10 +147,10 @@ in_parts rows [] ys e =
     record { front = []; back = rows; is = refl; fronts = refl; backs = e }
 in_parts [] (x ∷ xs) ys e = absurd (let f : [] ≡ x ∷ (xs ++ ys) = e in cc f)
 in_parts (r ∷ rows) (x ∷ xs) ys e =
-    let first : sealed r ≡ x = Rattle.alt_fields.proofs.Apart.front (sealed r) x (map sealed rows)
+    let first : sealed r ≡ x = Rattle.alt_base.proofs.Lists.cons_first (sealed r) x (map sealed rows)
     (xs ++ ys) e in
     let p = in_parts rows xs ys
-    (Rattle.alt_fields.proofs.Apart.back (sealed r) x (map sealed rows) (xs ++ ys) e) in
+    (Rattle.alt_base.proofs.Lists.cons_rest (sealed r) x (map sealed rows) (xs ++ ys) e) in
     record {
       front = r ∷ p.front;
       back = p.back;
@@ -183,10 +183,10 @@ module _ (bytes all rest : List ℕ) (to : Option (List ℕ)) (places : List ℕ
   passed_rows (r ∷ rows) [] e all_passed = absurd (let f : sealed r ∷ map sealed rows ≡ [] = e in cc f)
   passed_rows (r ∷ rows) (p ∷ pieces) e all_passed =
       let first : sealed r ≡ p =
-      Rattle.alt_fields.proofs.Apart.front (sealed r) p (map sealed rows) pieces e in (
+      Rattle.alt_base.proofs.Lists.cons_first (sealed r) p (map sealed rows) pieces e in (
         subst (λ (q : Piece). IsPassed to q.0) (sym first) all_passed.0,
         passed_rows rows pieces
-            (Rattle.alt_fields.proofs.Apart.back (sealed r) p (map sealed rows) pieces e) all_passed.1,
+            (Rattle.alt_base.proofs.Lists.cons_rest (sealed r) p (map sealed rows) pieces e) all_passed.1,
       )
 
   parts : (rows : List Entry) → AreRows rows → all ≡ rows_bytes rows → Parts rows

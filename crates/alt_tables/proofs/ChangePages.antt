@@ -52,7 +52,7 @@ are-take zero cs kept = tt
 are-take (suc n) [] kept = tt
 are-take (suc n) (c ∷ cs) kept =
     let is = All-head IsKept c cs kept in (
-      record { lt-leb = is.2; number = is.0; place = refl; read = is.1; row = refl },
+      record { above = is.2; number = is.0; place = refl; read = is.1; row = refl },
       are-take n cs (All-tail IsKept c cs kept),
     )
 

@@ -16,7 +16,6 @@ use Rattle.alt_opening.specs.HandInHand.{batch_write}
 use Rattle.alt_layout.specs.Layout.{Layout, shown, shown_by}
 use Rattle.alt_layout.specs.Writes.{with_write}
 use Rattle.alt_layout.proofs.BatchLaws.{shows_batch}
-use Rattle.alt_layout.proofs.FirstChange.{ShowsWrite}
 use Rattle.alt_writes.specs.Writes.{Write}
 use Rattle.alt_machine.specs.Building.{built_part}
 use Rattle.alt_machine.specs.Indexed.{index_entry, index_items}
@@ -48,7 +47,7 @@ use Rattle.alt_opening.proofs.Maps.{same_texts}
 use Rattle.alt_rowchanges.specs.Altering.{MayAlter, alter_wants, family_left, has_more}
 use Rattle.alt_rowchanges.specs.RowChanges.{Turns, alter_changes}
 use Rattle.alt_rowchanges.proofs.CatalogLaws.{next_can_show, no_items, none_rekeyed, off_catalog, table_named}
-use Rattle.alt_rowchanges.proofs.ChangeLaws.{two_changes}
+use Rattle.alt_rowchanges.proofs.ChangeLaws.{ShowsWrite, two_changes}
 use Rattle.alt_rowchanges.proofs.DescribedShows.{described_change, shows_described}
 use Rattle.alt_rowchanges.proofs.WriteLaws.{family_within, index_within, stream_within}
 

@@ -19,7 +19,6 @@ use Rattle.alt_opening.specs.HandInHand.{batch_write}
 use Rattle.alt_layout.specs.Layout.{Layout, shown, shown_by, change_of}
 use Rattle.alt_layout.specs.Writes.{with_write}
 use Rattle.alt_layout.proofs.BatchLaws.{shows_batch}
-use Rattle.alt_layout.proofs.FirstChange.{ShowsWrite}
 use Rattle.alt_writes.specs.Writes.{Write}
 use Rattle.alt_machine.specs.Building.{built_after, built_part, building_in, described_so_far, is_building, left_part, reaches, so_far, with_built}
 use Rattle.alt_machine.specs.Indexed.{index_entry, index_items}
@@ -51,7 +50,7 @@ use Rattle.alt_opening.proofs.OneIndex.{behind_any, found_at, one_of_family, onl
 use Rattle.alt_rowchanges.specs.RowChanges.{Turns, step_changes}
 use Rattle.alt_rowchanges.proofs.BuildShows.{AreFresh, build_changes, build_shows, apart_of}
 use Rattle.alt_rowchanges.proofs.CatalogLaws.{off_catalog, table_named}
-use Rattle.alt_rowchanges.proofs.ChangeLaws.{AreOthers, change_of-none, others-append}
+use Rattle.alt_rowchanges.proofs.ChangeLaws.{ShowsWrite, AreOthers, change_of-none, others-append}
 use Rattle.alt_rowchanges.proofs.DescribedShows.{described_change, shows_described}
 use Rattle.alt_rowchanges.proofs.IndexFamilies.{own_families, index_family, index_family_differs}
 use Rattle.alt_rowchanges.proofs.Moving.{others-moved_changes}

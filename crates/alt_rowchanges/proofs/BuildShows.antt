@@ -12,7 +12,6 @@ use Rattle.alt_cells.proofs.ChangeLaws.{written-change_between}
 use Rattle.alt_cells.proofs.SameKeys.{key_itself, one_key}
 use Rattle.alt_layout.specs.Layout.{Layout, change_of, shown, shown_by}
 use Rattle.alt_layout.specs.Writes.{with_write}
-use Rattle.alt_layout.proofs.FirstChange.{ShowsWrite}
 use Rattle.alt_machine.specs.Indexed.{index_entry, index_items}
 use Rattle.alt_machine.specs.State.{Texts}
 use Rattle.alt_machine.specs.Writes.{with_item}
@@ -24,6 +23,7 @@ use Rattle.alt_value.specs.Tree.{Pair}
 use Rattle.alt_views.specs.IndexRows.{beside_keys, index_columns, moved_changes, moves_in}
 use Rattle.alt_views.proofs.ItemRowLaws.{item_can_show}
 use Rattle.alt_writes.specs.Writes.{Write}
+use Rattle.alt_rowchanges.proofs.ChangeLaws.{ShowsWrite}
 use Rattle.alt_rowchanges.proofs.IndexShows.{index_shown}
 use Rattle.alt_rowchanges.proofs.StreamTrims.{change_first}
 

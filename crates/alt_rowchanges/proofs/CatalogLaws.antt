@@ -21,7 +21,6 @@ use Rattle.alt_layout.specs.Layout.{Layout, shown, shown_by, change_of}
 use Rattle.alt_writes.specs.Writes.{Write}
 use Rattle.alt_layout.specs.Writes.{with_write}
 use Rattle.alt_layout.proofs.BatchLaws.{shows_batch}
-use Rattle.alt_layout.proofs.FirstChange.{ShowsWrite}
 use Rattle.alt_machine.specs.declared.TheConstants.{NUMBERS_END, FAMILIES_END, MOST_FAMILIES, MOST_TABLES}
 use Rattle.alt_machine.specs.Building.{built_part, reaches}
 use Rattle.alt_machine.specs.Indexed.{index_entry, index_items}
@@ -45,7 +44,7 @@ use Rattle.alt_schema.specs.declared.schema.IndexSchema.{IndexSchema}
 use Rattle.alt_schema.specs.declared.schema.TableSchema.{TableSchema}
 use Rattle.alt_opening.specs.StateRows.{HasMoment, IsHeldWhole, IsLeftover, Shows, catalog_family, catalog_rows, item_rows, index_rows, change_rows, keyed_changes, one_column, table_row, next_row}
 use Rattle.alt_rowchanges.specs.RowChanges.{Turns, creation_changes, drop_changes}
-use Rattle.alt_rowchanges.proofs.ChangeLaws.{one_change, two_changes, other_family}
+use Rattle.alt_rowchanges.proofs.ChangeLaws.{ShowsWrite, one_change, two_changes, other_family}
 use Rattle.alt_views.proofs.ItemRowLaws.{can_show}
 use Rattle.alt_views.specs.IndexRows.{index_columns}
 use Rattle.alt_opening.proofs.Maps.{same_texts}

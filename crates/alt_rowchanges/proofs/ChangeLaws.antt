@@ -6,7 +6,14 @@ use Rattle.std.specs.Ordering.{eq_by_cmp}
 use Rattle.alt_base.proofs.Numbers.{equal_is_told}
 use Rattle.alt_cells.specs.declared.batch.RowChange.{RowChange}
 use Rattle.alt_cells.specs.Keys.{key_cmp}
-use Rattle.alt_layout.specs.Layout.{change_of}
+use Rattle.alt_layout.specs.Layout.{Layout, change_of, shown, shown_by}
+use Rattle.alt_layout.specs.Writes.{with_write}
+use Rattle.alt_writes.specs.Writes.{Write}
+
+-- after a write each row shows what the write's change of it makes of what it showed
+abbrev pub ShowsWrite : Layout → Write → Type 0
+ShowsWrite l w = (family : ℕ) (key : List ℕ) → shown (with_write l w) family key
+    ≡ shown_by (change_of family key w.changes) (shown l family key)
 
 own : (family : ℕ) → (family == family) ≡ true
 own family = equal_is_told family family refl

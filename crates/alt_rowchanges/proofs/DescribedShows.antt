@@ -13,7 +13,6 @@ use Rattle.alt_cells.proofs.ChangeLaws.{written-change_between}
 use Rattle.alt_cells.proofs.SameKeys.{one_key}
 use Rattle.alt_layout.specs.Layout.{Layout, shown, shown_by, change_of}
 use Rattle.alt_layout.specs.Writes.{with_write}
-use Rattle.alt_layout.proofs.FirstChange.{ShowsWrite}
 use Rattle.alt_writes.specs.Writes.{Write}
 use Rattle.alt_machine.specs.Ops.UpdateTable.{redescribed, with_description}
 use Rattle.alt_machine.specs.Sources.{index_at}
@@ -23,6 +22,7 @@ use Rattle.alt_schema.specs.declared.schema.IndexSchema.{IndexSchema}
 use Rattle.alt_schema.specs.declared.schema.TableSchema.{TableSchema}
 use Rattle.alt_opening.specs.StateRows.{IsLeftover, Shows, catalog_family, catalog_rows, item_rows, index_rows, change_rows, table_row, next_row}
 use Rattle.alt_rowchanges.proofs.CatalogLaws.{table_can_show}
+use Rattle.alt_rowchanges.proofs.ChangeLaws.{ShowsWrite}
 use Rattle.alt_rowchanges.proofs.WriteLaws.{family_within, index_within, stream_within}
 
 -- the row of one description gives way to that of another

@@ -11,14 +11,13 @@ use Rattle.alt_cells.specs.Keys.{key_cmp}
 use Rattle.alt_layout.specs.Layout.{Layout, shown, shown_by, change_of}
 use Rattle.alt_writes.specs.Writes.{Write}
 use Rattle.alt_layout.specs.Writes.{with_write}
-use Rattle.alt_layout.proofs.FirstChange.{ShowsWrite}
 use Rattle.alt_machine.specs.Indexed.{index_entry, index_items}
 use Rattle.alt_machine.specs.State.{Texts}
 use Rattle.alt_machine.specs.Writes.{with_item}
 use Rattle.alt_machine.proofs.Rekeying.{AreApart, unless_at, moved, get-rekeyed-with_item, gives}
 use Rattle.alt_schema.specs.declared.schema.IndexSchema.{IndexSchema}
 use Rattle.alt_schema.specs.declared.schema.TableSchema.{TableSchema}
-use Rattle.alt_rowchanges.proofs.ChangeLaws.{AreOthers, others-append, change_of-behind, change_of-front}
+use Rattle.alt_rowchanges.proofs.ChangeLaws.{ShowsWrite, AreOthers, others-append, change_of-behind, change_of-front}
 use Rattle.alt_rowchanges.proofs.Moving.{WasShown, RowCanShow, shown-moved_changes, others-moved_changes}
 use Rattle.alt_value.specs.Tree.{Pair}
 use Rattle.alt_views.specs.IndexRows.{KeyedRow, beside_keys, built_row, changes_in, index_columns, moved_changes, moves_in, row_in_index}

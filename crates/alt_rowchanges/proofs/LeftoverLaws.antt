@@ -16,8 +16,8 @@ use Rattle.alt_changes.specs.TrimRows.{hidden, trimmed_changes, trimmed_row}
 use Rattle.alt_layout.specs.Layout.{Layout, change_of, shown, shown_by}
 use Rattle.alt_writes.specs.Writes.{Write}
 use Rattle.alt_layout.specs.Writes.{with_write}
-use Rattle.alt_layout.proofs.FirstChange.{ShowsWrite}
 use Rattle.alt_rowchanges.specs.Leftovers.{leftovers}
+use Rattle.alt_rowchanges.proofs.ChangeLaws.{ShowsWrite}
 use Rattle.alt_rowchanges.proofs.StreamTrims.{change_first}
 use Rattle.alt_opening.proofs.StreamKeys.{keys_differ}
 

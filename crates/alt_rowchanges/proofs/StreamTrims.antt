@@ -21,7 +21,6 @@ use Rattle.alt_layout.specs.Layout.{Layout, change_of, shown, shown_by}
 use Rattle.alt_writes.specs.Writes.{Write}
 use Rattle.alt_layout.specs.Writes.{with_write}
 use Rattle.alt_codec.specs.declared.writer.Writer.{Writer}
-use Rattle.alt_layout.proofs.FirstChange.{ShowsWrite}
 use Rattle.alt_machine.specs.Changes.{change_left, trimmed_with, with_change}
 use Rattle.alt_machine.specs.Same.{is_same}
 use Rattle.alt_machine.specs.State.{Change}
@@ -33,6 +32,7 @@ use Rattle.alt_schema.specs.declared.schema.TableSchema.{TableSchema}
 use Rattle.alt_opening.specs.StateRows.{IsLeftover, keyed_changes, stream_row}
 use Rattle.alt_opening.proofs.StreamKeys.{IsSmall, keyed_more, keys_differ}
 use Rattle.alt_opening.proofs.KeptChanges.{are_small, each_so}
+use Rattle.alt_rowchanges.proofs.ChangeLaws.{ShowsWrite}
 use Rattle.alt_rowchanges.proofs.TrimKeys.{get_kept}
 use Rattle.alt_value.specs.Tree.{Pair}
 use Rattle.alt_views.proofs.ItemRowLaws.{can_show}

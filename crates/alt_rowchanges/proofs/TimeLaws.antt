@@ -15,7 +15,6 @@ use Rattle.alt_opening.specs.HandInHand.{batch_write}
 use Rattle.alt_layout.specs.Layout.{Layout, shown, shown_by, change_of}
 use Rattle.alt_layout.specs.Writes.{with_write}
 use Rattle.alt_layout.proofs.BatchLaws.{shows_batch}
-use Rattle.alt_layout.proofs.FirstChange.{ShowsWrite}
 use Rattle.alt_writes.specs.Writes.{Write}
 use Rattle.alt_machine.specs.declared.TheConstants.{NUMBERS_END}
 use Rattle.alt_machine.specs.Indexed.{index_items}
@@ -33,7 +32,7 @@ use Rattle.alt_opening.specs.StateRows.{HasMoment, IsHeldWhole, IsLeftover, Show
 use Rattle.alt_rowchanges.specs.RowChanges.{Turns, time_changes}
 use Rattle.alt_views.specs.IndexRows.{index_columns}
 use Rattle.alt_rowchanges.proofs.CatalogLaws.{off_catalog, table_can_show, table_named}
-use Rattle.alt_rowchanges.proofs.ChangeLaws.{one_change}
+use Rattle.alt_rowchanges.proofs.ChangeLaws.{ShowsWrite, one_change}
 use Rattle.alt_rowchanges.proofs.WriteLaws.{family_within, index_within, stream_within}
 
 -- a description that a program can hold, with another text for that

@@ -22,7 +22,6 @@ use Rattle.alt_writes.specs.Writes.{Write}
 use Rattle.alt_layout.specs.Writes.{with_write}
 use Rattle.alt_layout.proofs.BatchLaws.{shows_batch}
 use Rattle.alt_codec.specs.declared.writer.Writer.{Writer}
-use Rattle.alt_layout.proofs.FirstChange.{ShowsWrite}
 use Rattle.alt_machine.specs.declared.TheConstants.{NUMBERS_END}
 use Rattle.alt_machine.specs.Building.{built_part, reaches}
 use Rattle.alt_machine.specs.Changes.{change_left}
@@ -45,7 +44,7 @@ use Rattle.alt_schema.specs.declared.schema.IndexSchema.{IndexSchema}
 use Rattle.alt_views.specs.ItemRows.{item_columns}
 use Rattle.alt_opening.specs.StateRows.{HasMoment, IsHeldWhole, IsLeftover, Shows, catalog_family, catalog_rows, item_rows, index_rows, change_rows, table_row, next_row}
 use Rattle.alt_rowchanges.specs.RowChanges.{Turns, write_changes}
-use Rattle.alt_rowchanges.proofs.ChangeLaws.{one_change, other_family, AreOthers, others-append, change_of-none, change_of-front, change_of-behind}
+use Rattle.alt_rowchanges.proofs.ChangeLaws.{ShowsWrite, one_change, other_family, AreOthers, others-append, change_of-none, change_of-front, change_of-behind}
 use Rattle.alt_opening.proofs.Families.{own_family}
 use Rattle.alt_rowchanges.proofs.IndexShows.{change_of-index, index_shows}
 use Rattle.alt_rowchanges.proofs.IndexFamilies.{index_family, index_family_differs, own_families, others-index_changes}

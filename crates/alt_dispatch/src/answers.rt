@@ -36,6 +36,7 @@ use alt_ttl::{
     describe_table, describe_time_to_live, expire_items, list_tables, query, scan,
     update_time_to_live,
 };
+use json::Scratch;
 use serde_json::{Map, Value};
 use std::alloc::Global;
 
@@ -85,9 +86,11 @@ fn operation_in(operations: &[(&'static str, Operation)], word: &[u8]) -> Option
 }
 
 /// One request at a moment, in whole seconds since 1970: the reply is that of the machine's step, and the tables then stand for the
-/// state after the last of its writes. A refusal is a reply too, and leaves the state.
+/// state after the last of its writes. A refusal is a reply too, and leaves the state. `scratch` is what the reader of JSON writes to:
+/// it is kept from request to request, and of no consequence to the answer.
 pub fn answer<D: Disk>(
     alloc: Global,
+    scratch: &mut Scratch<Global>,
     tables: &mut Tables,
     disk: &mut D,
     operation: Option<Operation>,
@@ -121,7 +124,7 @@ pub fn answer<D: Disk>(
     ensures cause { IsErrOf result TableFault.Failed
         → Rose (D.state disk.old).faults (D.state disk.new).faults }
 {
-    let carried = respond(alloc, tables, disk, operation, body, moment);
+    let carried = respond(alloc, scratch, tables, disk, operation, body, moment);
     told(alloc, carried)
 }
 
@@ -143,6 +146,7 @@ fn told(alloc: Global, carried: Result<Reply, Stop>) -> Result<Reply, TableFault
 
 fn respond<D: Disk>(
     alloc: Global,
+    scratch: &mut Scratch<Global>,
     tables: &mut Tables,
     disk: &mut D,
     operation: Option<Operation>,
@@ -161,15 +165,16 @@ fn respond<D: Disk>(
         return Err(Stop::Refused(Refusal::UNKNOWN_OPERATION));
     };
     match operation {
-        Operation::PutItem => respond_to_put(alloc, tables, disk, body, moment),
-        Operation::BatchWriteItem => respond_to_writes(alloc, tables, disk, body, moment),
-        _ => respond_to(alloc, tables, disk, operation, body, moment),
+        Operation::PutItem => respond_to_put(alloc, scratch, tables, disk, body, moment),
+        Operation::BatchWriteItem => respond_to_writes(alloc, scratch, tables, disk, body, moment),
+        _ => respond_to(alloc, scratch, tables, disk, operation, body, moment),
     }
 }
 
 /// A put, whose item is read straight from the text of its body where that can be.
 fn respond_to_put<D: Disk>(
     alloc: Global,
+    scratch: &mut Scratch<Global>,
     tables: &mut Tables,
     disk: &mut D,
     body: &[u8],
@@ -182,11 +187,19 @@ fn respond_to_put<D: Disk>(
     ensures moves { Moves (λ s. with_body s Operation.PutItem moment (body_of body.now))
         (Stands (D.state disk.old) tables.old) (D.state disk.old) (D.state disk.new) result }
 {
-    match read_ahead(alloc, heeded(Operation::PutItem), body) {
+    match read_ahead(alloc, scratch, heeded(Operation::PutItem), body) {
         Ok(Some(ReadAhead { members, item })) => {
             put_item_ahead(alloc, tables, disk, &members, item, moment)
         }
-        Ok(None) => respond_to(alloc, tables, disk, Operation::PutItem, body, moment),
+        Ok(None) => respond_to(
+            alloc,
+            scratch,
+            tables,
+            disk,
+            Operation::PutItem,
+            body,
+            moment,
+        ),
         Err(_) => Err(Stop::Fault(TableFault::NoMemory)),
     }
 }
@@ -194,6 +207,7 @@ fn respond_to_put<D: Disk>(
 /// A batch of writes, which are read straight from the text of its body where that can be.
 fn respond_to_writes<D: Disk>(
     alloc: Global,
+    scratch: &mut Scratch<Global>,
     tables: &mut Tables,
     disk: &mut D,
     body: &[u8],
@@ -206,9 +220,17 @@ fn respond_to_writes<D: Disk>(
     ensures moves { Moves (λ s. with_body s Operation.BatchWriteItem moment (body_of body.now))
         (Stands (D.state disk.old) tables.old) (D.state disk.old) (D.state disk.new) result }
 {
-    match batch_ahead(alloc, body) {
+    match batch_ahead(alloc, scratch, body) {
         Ok(Some(asked)) => batch_write_item_ahead(alloc, tables, disk, asked, moment),
-        Ok(None) => respond_to(alloc, tables, disk, Operation::BatchWriteItem, body, moment),
+        Ok(None) => respond_to(
+            alloc,
+            scratch,
+            tables,
+            disk,
+            Operation::BatchWriteItem,
+            body,
+            moment,
+        ),
         Err(_) => Err(Stop::Fault(TableFault::NoMemory)),
     }
 }
@@ -216,6 +238,7 @@ fn respond_to_writes<D: Disk>(
 /// An operation of whose body the members that it heeds are read to JSON trees.
 fn respond_to<D: Disk>(
     alloc: Global,
+    scratch: &mut Scratch<Global>,
     tables: &mut Tables,
     disk: &mut D,
     operation: Operation,
@@ -230,7 +253,7 @@ fn respond_to<D: Disk>(
         (Stands (D.state disk.old) tables.old) (D.state disk.old) (D.state disk.new) result }
     ensures reads { IsTrue (is_read operation) → Reads (D.state disk.old) (D.state disk.new) }
 {
-    match read_heeded(alloc, operation, body) {
+    match read_heeded(alloc, scratch, operation, body) {
         Ok(Some(members)) => carry_out(alloc, tables, disk, operation, &members, moment),
         Ok(None) => Err(Stop::Refused(Refusal::UNREADABLE)),
         Err(_) => Err(Stop::Fault(TableFault::NoMemory)),

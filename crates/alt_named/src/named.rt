@@ -26,8 +26,10 @@ use std::alloc::Global;
 const LEVELS: usize = 126;
 
 /// The members of these names, where the body is text in UTF-8 of one object. Others are told apart from what is no JSON, and cost nothing.
+/// The text is read by means of `scratch`, which is kept from body to body and changes nothing of what is read.
 pub fn read_named(
     alloc: Global,
+    scratch: &mut Scratch<Global>,
     names: &[&str],
     bytes: &[u8],
 ) -> Result<Option<Map<String, Value>>, NoMemory>
@@ -35,7 +37,7 @@ pub fn read_named(
         (option_map (λ m. members_view m.entries) o)) }
 {
     match from_utf8(bytes) {
-        Ok(text) => of_text(alloc, names, text),
+        Ok(text) => of_text(alloc, scratch, names, text),
         Err(_) => Ok(None),
     }
 }
@@ -43,13 +45,14 @@ pub fn read_named(
 /// The same of a text.
 fn of_text(
     alloc: Global,
+    scratch: &mut Scratch<Global>,
     names: &[&str],
     text: &str,
 ) -> Result<Option<Map<String, Value>>, NoMemory>
     ensures named { IfOk result (λ o. SaysNamed (map (λ w. w.now) names.now)
         (option_and_then as_object (read text.now)) (option_map (λ m. members_view m.entries) o)) }
 {
-    match text_named(alloc, names, text) {
+    match text_named(alloc, scratch, names, text) {
         Ok(found) => Ok(Some(found)),
         Err(Unread::Refused) => Ok(None),
         Err(Unread::NoMemory) => Err(NoMemory),
@@ -57,13 +60,17 @@ fn of_text(
 }
 
 /// The same of a text that is an object.
-fn text_named(alloc: Global, names: &[&str], text: &str) -> Result<Map<String, Value>, Unread>
+fn text_named(
+    alloc: Global,
+    scratch: &mut Scratch<Global>,
+    names: &[&str],
+    text: &str,
+) -> Result<Map<String, Value>, Unread>
     ensures named { IfOk result (λ m. (ms : Members) × (read text.now ≡ Some (object ms))
         × AreSame (map (λ w. w.now) names.now) ms (members_view m.entries)) }
     ensures refused { IsRefused result → option_and_then as_object (read text.now) ≡ None }
 {
-    let mut scratch = Scratch::new(alloc);
-    let mut reader = Reader::new(text, &mut scratch)?;
+    let mut reader = Reader::new(text, scratch)?;
     open_object(&mut reader)?;
     let found = members_named(alloc, names, &mut reader)?;
     match reader.next() {

@@ -29,8 +29,10 @@ pub struct ReadAhead {
 }
 
 /// A body whose item is read straight from the text, with its members of these names. `None` where it has to be read the long way.
+/// `scratch` is kept from body to body, and changes nothing of what is read.
 pub fn read_ahead(
     alloc: Global,
+    scratch: &mut Scratch<Global>,
     names: &[&str],
     bytes: &[u8],
 ) -> Result<Option<ReadAhead>, NoMemory>
@@ -40,7 +42,7 @@ pub fn read_ahead(
     let Ok(text) = from_utf8(bytes) else {
         return Ok(None);
     };
-    match text_ahead(alloc, names, text) {
+    match text_ahead(alloc, scratch, names, text) {
         Ok(body) => Ok(Some(body)),
         Err(Unread::Otherwise) => Ok(None),
         Err(Unread::NoMemory) => Err(NoMemory),
@@ -48,12 +50,16 @@ pub fn read_ahead(
 }
 
 /// The same of a text.
-fn text_ahead(alloc: Global, names: &[&str], text: &str) -> Result<ReadAhead, Unread>
+fn text_ahead(
+    alloc: Global,
+    scratch: &mut Scratch<Global>,
+    names: &[&str],
+    text: &str,
+) -> Result<ReadAhead, Unread>
     ensures body { IfOk result (λ b. (ms : Members) × SaysObject text.now ms
         × IsReadAhead (map (λ w. w.now) names.now) ms (members_view b.members.entries) b.item) }
 {
-    let mut scratch = Scratch::new(alloc);
-    let mut reader = Reader::new(text, &mut scratch)?;
+    let mut reader = Reader::new(text, scratch)?;
     open_object(&mut reader)?;
     let body = body_ahead(alloc, names, &mut reader)?;
     if reader.next().is_some() {

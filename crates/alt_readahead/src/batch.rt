@@ -39,14 +39,19 @@ pub struct TableWrites {
 }
 
 /// The writes of a batch, read straight from the text of its body. `None` where it has to be read the long way.
-pub fn batch_ahead(alloc: Global, bytes: &[u8]) -> Result<Option<Vec<TableWrites>>, NoMemory>
+/// `scratch` is kept from body to body, and changes nothing of what is read.
+pub fn batch_ahead(
+    alloc: Global,
+    scratch: &mut Scratch<Global>,
+    bytes: &[u8],
+) -> Result<Option<Vec<TableWrites>>, NoMemory>
     ensures body { IfOk result (λ o. IfSome o (λ v. (ms : Members) × SaysObject bytes.now ms
         × IsBatchAhead ms v.items)) }
 {
     let Ok(text) = from_utf8(bytes) else {
         return Ok(None);
     };
-    match text_batch(alloc, text) {
+    match text_batch(alloc, scratch, text) {
         Ok(tables) => Ok(Some(tables)),
         Err(Unread::Otherwise) => Ok(None),
         Err(Unread::NoMemory) => Err(NoMemory),
@@ -54,12 +59,15 @@ pub fn batch_ahead(alloc: Global, bytes: &[u8]) -> Result<Option<Vec<TableWrites
 }
 
 /// The same of a text.
-fn text_batch(alloc: Global, text: &str) -> Result<Vec<TableWrites>, Unread>
+fn text_batch(
+    alloc: Global,
+    scratch: &mut Scratch<Global>,
+    text: &str,
+) -> Result<Vec<TableWrites>, Unread>
     ensures body { IfOk result (λ v. (ms : Members) × SaysObject text.now ms
         × IsBatchAhead ms v.items) }
 {
-    let mut scratch = Scratch::new(alloc);
-    let mut reader = Reader::new(text, &mut scratch)?;
+    let mut reader = Reader::new(text, scratch)?;
     open_object(&mut reader)?;
     let tables = body_batch(alloc, &mut reader)?;
     if reader.next().is_some() {

@@ -20,6 +20,7 @@ use alt_disk::Disk;
 use alt_shape::Reply;
 use alt_tables::Tables;
 use alt_talks::{RunFault, answer, operation_named};
+use json::Scratch;
 use std::alloc::Global;
 
 /// The line of a reply.
@@ -35,6 +36,7 @@ fn line_of(alloc: Global, reply: &Reply) -> Result<String, NoMemory>
 /// The text that answers a request, which is carried out at a moment.
 pub(crate) fn reply_text<D: Disk>(
     alloc: Global,
+    scratch: &mut Scratch<Global>,
     tables: &mut Tables,
     disk: &mut D,
     name: &[u8],
@@ -61,7 +63,15 @@ pub(crate) fn reply_text<D: Disk>(
         → AtEach (D.state disk.old) (D.state disk.new)
         (λ _ image. IsUncut image s (carried_out s name.now body.now moment).atoms) }
 {
-    match answer(alloc, tables, disk, operation_named(name), body, moment) {
+    match answer(
+        alloc,
+        scratch,
+        tables,
+        disk,
+        operation_named(name),
+        body,
+        moment,
+    ) {
         Ok(reply) => match line_of(alloc, &reply) {
             Ok(text) => Ok(text),
             Err(_) => Err(RunFault::NoMemory),

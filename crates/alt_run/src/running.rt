@@ -37,6 +37,7 @@ use alt_lines::{LONGEST_LINE, Lines};
 use alt_shell::Shell;
 use alt_tables::{Limits, Tables};
 use alt_talks::{RunFault, connections};
+use json::Scratch;
 use std::alloc::Global;
 use std::mem::forget;
 
@@ -73,8 +74,18 @@ fn pulls<S: Shell>(
 {
     let mut lines = Lines::new(alloc, LONGEST_LINE);
     let mut line = Vec::new(alloc);
+    let mut scratch = Scratch::new(alloc);
     'pulls: loop {
-        match pull(alloc, tables, limits, &mut lines, &mut line, buf, shell) {
+        match pull(
+            alloc,
+            &mut scratch,
+            tables,
+            limits,
+            &mut lines,
+            &mut line,
+            buf,
+            shell,
+        ) {
             Ok(true) => {}
             Ok(false) => return Ok(()),
             Err(fault) => return Err(fault),

@@ -28,11 +28,13 @@ use alt_lines::{Cut, Lines};
 use alt_shell::Shell;
 use alt_tables::{Limits, Tables, Task};
 use alt_talks::{RunFault, follow, work};
+use json::Scratch;
 use std::alloc::Global;
 
 /// One request: it is answered at the moment that the clock tells. Behind its reply come the server's own requests and one step of work.
 fn answer_request<S: Shell>(
     alloc: Global,
+    scratch: &mut Scratch<Global>,
     tables: &mut Tables,
     name: &[u8],
     body: &[u8],
@@ -55,7 +57,7 @@ fn answer_request<S: Shell>(
     ensures passes { Passes (S.state shell.old) (S.state shell.new) }
 {
     let moment = shell.now();
-    let text = match reply_text(alloc, tables, shell, name, body, moment) {
+    let text = match reply_text(alloc, scratch, tables, shell, name, body, moment) {
         Ok(text) => text,
         Err(fault) => return Err(fault),
     };
@@ -194,6 +196,7 @@ fn answer_control<S: Shell>(
 /// A line that is read: a word of control, or a request.
 fn answer_whole<S: Shell>(
     alloc: Global,
+    scratch: &mut Scratch<Global>,
     tables: &mut Tables,
     limits: Limits,
     line: &[u8],
@@ -220,7 +223,7 @@ fn answer_whole<S: Shell>(
         Some(word) => answer_control(alloc, tables, limits, word, shell),
         None => {
             let (name, body) = parts(line);
-            answer_request(alloc, tables, name, body, shell)
+            answer_request(alloc, scratch, tables, name, body, shell)
         }
     }
 }
@@ -228,6 +231,7 @@ fn answer_whole<S: Shell>(
 /// A line that was taken from the reader.
 fn answer_line<S: Shell>(
     alloc: Global,
+    scratch: &mut Scratch<Global>,
     tables: &mut Tables,
     limits: Limits,
     cut: Cut,
@@ -256,7 +260,7 @@ fn answer_line<S: Shell>(
     ensures passes { Passes (S.state shell.old) (S.state shell.new) }
 {
     match cut {
-        Cut::Whole => answer_whole(alloc, tables, limits, line, shell),
+        Cut::Whole => answer_whole(alloc, scratch, tables, limits, line, shell),
         Cut::TooLong => turn_away(tables, shell),
     }
 }
@@ -280,6 +284,7 @@ fn next_line(lines: &mut Lines, line: &mut Vec<u8>) -> Result<Option<Cut>, RunFa
 /// Serves the lines that are whole.
 pub(crate) fn at_hand<S: Shell>(
     alloc: Global,
+    scratch: &mut Scratch<Global>,
     tables: &mut Tables,
     limits: Limits,
     lines: &mut Lines,
@@ -307,7 +312,7 @@ pub(crate) fn at_hand<S: Shell>(
 {
     'lines: loop {
         match next_line(lines, line) {
-            Ok(Some(cut)) => match answer_line(alloc, tables, limits, cut, line, shell) {
+            Ok(Some(cut)) => match answer_line(alloc, scratch, tables, limits, cut, line, shell) {
                 Ok(()) => {}
                 Err(fault) => return Err(fault),
             },
@@ -320,6 +325,7 @@ pub(crate) fn at_hand<S: Shell>(
 /// Takes more of the input, and serves the lines that are whole then. It answers whether there was more.
 pub(crate) fn pull<S: Shell>(
     alloc: Global,
+    scratch: &mut Scratch<Global>,
     tables: &mut Tables,
     limits: Limits,
     lines: &mut Lines,
@@ -353,7 +359,7 @@ pub(crate) fn pull<S: Shell>(
     };
     if count == 0 {
         lines.end();
-        return match at_hand(alloc, tables, limits, lines, line, shell) {
+        return match at_hand(alloc, scratch, tables, limits, lines, line, shell) {
             Ok(()) => Ok(false),
             Err(fault) => Err(fault),
         };
@@ -361,7 +367,7 @@ pub(crate) fn pull<S: Shell>(
     let Ok(()) = lines.give(&buf[..count]) else {
         return Err(RunFault::NoMemory);
     };
-    match at_hand(alloc, tables, limits, lines, line, shell) {
+    match at_hand(alloc, scratch, tables, limits, lines, line, shell) {
         Ok(()) => Ok(true),
         Err(fault) => Err(fault),
     }

@@ -25,6 +25,7 @@ use alt_lines::Trial;
 use alt_shell::Shell;
 use alt_tables::Tables;
 use alt_talks::{RunFault, follow};
+use json::Scratch;
 use std::alloc::Global;
 
 /// The moment of each request, in seconds since 1970 began in UTC.
@@ -46,6 +47,7 @@ fn next(trial: &mut Trial, line: &mut Vec<u8>) -> Result<(), RunFault>
 /// One request is carried out, and its reply counted. Then come the server's own requests and one step of work.
 fn ask<D: Disk>(
     alloc: Global,
+    scratch: &mut Scratch<Global>,
     tables: &mut Tables,
     name: &[u8],
     body: &[u8],
@@ -70,7 +72,7 @@ fn ask<D: Disk>(
         → Rose (D.state disk.old).faults (D.state disk.new).faults }
     ensures goes { Goes (D.state disk.old) (D.state disk.new) }
 {
-    match reply_text(alloc, tables, disk, name, body, MOMENT) {
+    match reply_text(alloc, scratch, tables, disk, name, body, MOMENT) {
         Ok(text) => tally.count(text.as_bytes()),
         Err(fault) => return Err(fault),
     }
@@ -83,6 +85,7 @@ fn ask<D: Disk>(
 /// So is the request of a line.
 fn ask_line<D: Disk>(
     alloc: Global,
+    scratch: &mut Scratch<Global>,
     tables: &mut Tables,
     line: &[u8],
     tally: &mut Tally,
@@ -109,12 +112,13 @@ fn ask_line<D: Disk>(
     ensures goes { Goes (D.state disk.old) (D.state disk.new) }
 {
     let (name, body) = parts(line);
-    ask(alloc, tables, name, body, tally, disk)
+    ask(alloc, scratch, tables, name, body, tally, disk)
 }
 
 /// The next request of the generator is carried out, and its reply counted.
 fn step<D: Disk>(
     alloc: Global,
+    scratch: &mut Scratch<Global>,
     tables: &mut Tables,
     trial: &mut Trial,
     line: &mut Vec<u8>,
@@ -142,7 +146,7 @@ fn step<D: Disk>(
     ensures goes { Goes (D.state disk.old) (D.state disk.new) }
 {
     match next(trial, line) {
-        Ok(()) => ask_line(alloc, tables, line, tally, disk),
+        Ok(()) => ask_line(alloc, scratch, tables, line, tally, disk),
         Err(fault) => Err(fault),
     }
 }
@@ -170,8 +174,17 @@ fn requests<D: Disk>(
     let mut trial = Trial::new(seed);
     let mut line = Vec::new(alloc);
     let mut tally = Tally::new();
+    let mut scratch = Scratch::new(alloc);
     'requests: for _ in 0..count {
-        match step(alloc, tables, &mut trial, &mut line, &mut tally, disk) {
+        match step(
+            alloc,
+            &mut scratch,
+            tables,
+            &mut trial,
+            &mut line,
+            &mut tally,
+            disk,
+        ) {
             Ok(()) => {}
             Err(fault) => return Err(fault),
         }

@@ -27,6 +27,7 @@ use alt_fields::Bytes;
 use alt_http::{CONTINUE, Scan};
 use alt_shell::Shell;
 use alt_tables::Tables;
+use json::Scratch;
 use std::alloc::Global;
 
 /// A connection as it is served: the bytes taken that no turn has used, how many requests may come, whether the client of the head
@@ -109,6 +110,7 @@ fn refuse<S: Shell>(
 /// by itself behind it, and behind a reply that was said one step of work.
 fn respond<S: Shell>(
     alloc: Global,
+    scratch: &mut Scratch<Global>,
     tables: &mut Tables,
     target: &Option<Bytes>,
     body: &[u8],
@@ -137,7 +139,7 @@ fn respond<S: Shell>(
 {
     let moment = shell.now();
     *last = Some(moment);
-    let text = match response(alloc, tables, shell, target, body, close, moment) {
+    let text = match response(alloc, scratch, tables, shell, target, body, close, moment) {
         Ok(text) => text,
         Err(fault) => return Err(fault),
     };
@@ -214,6 +216,7 @@ fn body_in(front: &[u8], taken: usize, size: usize) -> &[u8]
 /// A whole request at the front, whose client was let go on.
 fn carry<S: Shell>(
     alloc: Global,
+    scratch: &mut Scratch<Global>,
     tables: &mut Tables,
     head: &Head,
     talk: &mut Talk,
@@ -248,6 +251,7 @@ fn carry<S: Shell>(
     let last = is_last(head.close, talk.left);
     match respond(
         alloc,
+        scratch,
         tables,
         &head.target,
         body_in(talk.front.as_slice(), head.taken, size),
@@ -269,6 +273,7 @@ fn carry<S: Shell>(
 /// answers whether it was.
 fn found<S: Shell>(
     alloc: Global,
+    scratch: &mut Scratch<Global>,
     tables: &mut Tables,
     head: Head,
     talk: &mut Talk,
@@ -303,7 +308,7 @@ fn found<S: Shell>(
         talk.front.keep(head);
         return Ok(false);
     }
-    match carry(alloc, tables, &head, talk, shell) {
+    match carry(alloc, scratch, tables, &head, talk, shell) {
         Ok(()) => Ok(true),
         Err(fault) => Err(fault),
     }
@@ -312,6 +317,7 @@ fn found<S: Shell>(
 /// One turn at the front, where one is at hand. It answers whether one was.
 fn one<S: Shell>(
     alloc: Global,
+    scratch: &mut Scratch<Global>,
     tables: &mut Tables,
     talk: &mut Talk,
     shell: &mut S,
@@ -365,7 +371,7 @@ fn one<S: Shell>(
                 expect,
                 close,
             };
-            found(alloc, tables, head, talk, shell)
+            found(alloc, scratch, tables, head, talk, shell)
         }
     }
 }
@@ -373,6 +379,7 @@ fn one<S: Shell>(
 /// The turns at hand.
 fn at_hand<S: Shell>(
     alloc: Global,
+    scratch: &mut Scratch<Global>,
     tables: &mut Tables,
     talk: &mut Talk,
     shell: &mut S,
@@ -397,7 +404,7 @@ fn at_hand<S: Shell>(
     ensures passes { Passes (S.state shell.old) (S.state shell.new) }
 {
     while talk.left > 0 {
-        match one(alloc, tables, talk, shell) {
+        match one(alloc, scratch, tables, talk, shell) {
             Ok(true) => {}
             Ok(false) => return Ok(()),
             Err(fault) => return Err(fault),
@@ -409,6 +416,7 @@ fn at_hand<S: Shell>(
 /// Takes more, and does the turns at hand then. It answers whether there was more.
 fn pull<S: Shell>(
     alloc: Global,
+    scratch: &mut Scratch<Global>,
     tables: &mut Tables,
     buf: &mut [u8],
     talk: &mut Talk,
@@ -450,7 +458,7 @@ fn pull<S: Shell>(
                 Ok(()) => {}
                 Err(_) => return Err(RunFault::NoMemory),
             }
-            match at_hand(alloc, tables, talk, shell) {
+            match at_hand(alloc, scratch, tables, talk, shell) {
                 Ok(()) => Ok(true),
                 Err(fault) => Err(fault),
             }
@@ -462,6 +470,7 @@ fn pull<S: Shell>(
 /// Takes and turns until no more comes, a say failed, or the turns have ended.
 fn pulls<S: Shell>(
     alloc: Global,
+    scratch: &mut Scratch<Global>,
     tables: &mut Tables,
     buf: &mut [u8],
     talk: &mut Talk,
@@ -494,7 +503,7 @@ fn pulls<S: Shell>(
         if talk.mute {
             return Ok(());
         }
-        match pull(alloc, tables, buf, talk, shell) {
+        match pull(alloc, scratch, tables, buf, talk, shell) {
             Ok(true) => {}
             Ok(false) => return Ok(()),
             Err(fault) => return Err(fault),
@@ -505,6 +514,7 @@ fn pulls<S: Shell>(
 /// One connection: it is waited for, served and hung up. It answers whether one came.
 fn connection<S: Shell>(
     alloc: Global,
+    scratch: &mut Scratch<Global>,
     tables: &mut Tables,
     per: u32,
     buf: &mut [u8],
@@ -537,7 +547,7 @@ fn connection<S: Shell>(
                 mute: false,
                 last: *last,
             };
-            let served = pulls(alloc, tables, buf, &mut talk, shell);
+            let served = pulls(alloc, scratch, tables, buf, &mut talk, shell);
             shell.hang_up();
             *last = talk.last;
             match served {
@@ -578,10 +588,11 @@ pub fn connections<S: Shell>(
     ensures most { CameAtMost count (S.state shell.old) (S.state shell.new) }
     ensures passes { Passes (S.state shell.old) (S.state shell.new) }
 {
+    let mut scratch = Scratch::new(alloc);
     let mut served: u32 = 0;
     let mut last = None;
     while served < count {
-        match connection(alloc, tables, per, buf, &mut last, shell) {
+        match connection(alloc, &mut scratch, tables, per, buf, &mut last, shell) {
             Ok(true) => {}
             Ok(false) => return Ok(()),
             Err(fault) => return Err(fault),

@@ -27,6 +27,7 @@ use alt_http::{refusal_body, refusal_status, reply};
 use alt_machine::Operation;
 use alt_shape::Reply;
 use alt_tables::Tables;
+use json::Scratch;
 use std::alloc::Global;
 
 /// The reply to a head that is refused.
@@ -86,6 +87,7 @@ fn operation_in(target: &Option<Bytes>) -> Option<Operation>
 /// Carries a request out at a moment, and gives the text of its reply.
 pub(crate) fn response<D: Disk>(
     alloc: Global,
+    scratch: &mut Scratch<Global>,
     tables: &mut Tables,
     disk: &mut D,
     target: &Option<Bytes>,
@@ -114,7 +116,15 @@ pub(crate) fn response<D: Disk>(
         → AtEach (D.state disk.old) (D.state disk.new) (λ _ image. IsUncut image s
         (outcome_of s (asking target.now body.now close) moment).atoms) }
 {
-    match answer(alloc, tables, disk, operation_in(target), body, moment) {
+    match answer(
+        alloc,
+        scratch,
+        tables,
+        disk,
+        operation_in(target),
+        body,
+        moment,
+    ) {
         Ok(reply) => match text_of(alloc, &reply, moment, close) {
             Ok(text) => Ok(text),
             Err(_) => Err(RunFault::NoMemory),

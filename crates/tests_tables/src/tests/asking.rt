@@ -9,6 +9,7 @@ use alt_dispatch::{answer, operation_named};
 use alt_engine::{Limits, make_store};
 use alt_shape::Reply;
 use alt_tables::Tables;
+use json::Scratch;
 use std::alloc::Global;
 
 /// An operation and its body.
@@ -141,7 +142,16 @@ pub(super) fn told_at(
     ensures { IfSome result (λ _. AreReady (state_of disk.new) tables.new) }
 {
     let operation = operation_named(operation.as_bytes());
-    match answer(alloc, tables, disk, operation, body.as_bytes(), moment) {
+    let mut scratch = Scratch::new(alloc);
+    match answer(
+        alloc,
+        &mut scratch,
+        tables,
+        disk,
+        operation,
+        body.as_bytes(),
+        moment,
+    ) {
         Ok(reply) => text_of(alloc, &reply),
         Err(_) => None,
     }

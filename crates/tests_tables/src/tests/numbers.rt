@@ -6,6 +6,7 @@ use super::stops::ask_some;
 use alt_disk::{Disk, MemoryDisk};
 use alt_dispatch::{answer, operation_named};
 use alt_tables::TableFault;
+use json::Scratch;
 use std::alloc::Global;
 
 /// Where a store's first version has the number of the next write.
@@ -57,8 +58,10 @@ fn known_now(alloc: Global, disk: &MemoryDisk) -> Option<Vec<String>> {
 fn lacked(alloc: Global, disk: &mut MemoryDisk, request: &Request) -> Option<u64> {
     let mut tables = opened(alloc, disk)?;
     let operation = operation_named(request.0.as_bytes());
+    let mut scratch = Scratch::new(alloc);
     match answer(
         alloc,
+        &mut scratch,
         &mut tables,
         disk,
         operation,

@@ -1,6 +1,6 @@
 -- Keys that are read, one after another, and tables one after another.
 use Rattle.std.proofs.Common.{◌≡◌, refl, sym, ap, ◌∙◌, ℕ, ◌+◌, Bool, true, false, cond, List, [], ◌∷◌, ◌++◌, map, length, drop, append_assoc, append-nil, arith}
-use Rattle.std.specs.Prelude.{◌↔◌, fold, sum_by, All, nat_le}
+use Rattle.std.specs.Prelude.{fold, sum_by, All, nat_le}
 use Rattle.std.specs.List.{filter_map}
 use Rattle.std.proofs.lemmas.List.{map-append}
 use Rattle.std.proofs.lemmas.List.Elements.{All-tail, filter_map-append}
@@ -21,9 +21,10 @@ use Rattle.alt_ops_batch.specs.declared.reading.Taken.{Taken}
 use Rattle.alt_ops_batch.specs.private.Batches.{HasPlainNames, reads_of}
 use Rattle.alt_ops_batch.specs.declared.asked_reads.TableReads.{TableReads}
 use Rattle.alt_shape.specs.declared.body.TableItems.{TableItems}
-use Rattle.alt_request.specs.TablesStands.{KeepsCatalog, Reads, Stands, catalog_of}
+use Rattle.alt_request.specs.TablesLooking.{OnlyReads}
+use Rattle.alt_request.specs.TablesStands.{Stands, catalog_of}
 use Rattle.alt_request.specs.TablesDeclaredTables.{Tables}
-use Rattle.alt_request.proofs.TablesLeft.{reads_then}
+use Rattle.alt_request.proofs.TablesLooking.{only_then}
 use Rattle.alt_value.specs.Tree.{Pair}
 
 -- items as JSON, by each of them
@@ -31,32 +32,6 @@ pub json_of_each : {A : Type 0} (of : A → List Pair) (xs : List A)
     → items_json (map of xs) ≡ items_of (map (λ x. json_of_pairs (of x)) xs)
 json_of_each of [] = refl
 json_of_each of (x ∷ xs) = ap (λ ds. item (json_of_pairs (of x)) ds) (json_of_each of xs)
-
--- ---- calls that read, one after another
-
--- The calls so far read alone, and the tables stand for what they stood for.
-pub record Kept (before : DiskState) (old : Tables) (after : DiskState)
-    (now : Tables) : Type 0 where
-  pub reads : Reads before after
-  pub stays : (s : State) → Stands before old s ↔ Stands after now s
-  pub catalog : KeepsCatalog old now
-
--- so do calls behind others that did
-pub kept_then : (before mid after : DiskState) (old now new : Tables) → Kept before old mid now
-    → Kept mid now after new → Kept before old after new
-kept_then before mid after old now new first then = record {
-  reads = reads_then before mid after first.reads then.reads;
-  stays = λ s. (
-    λ stands. (then.stays s).0 ((first.stays s).0 stands),
-    λ stands. (first.stays s).1 ((then.stays s).1 stands),
-  );
-  catalog = record {
-    catalog = then.catalog.catalog ∙ first.catalog.catalog;
-    number = then.catalog.number ∙ first.catalog.number;
-    family = then.catalog.family ∙ first.catalog.family;
-    limits = then.catalog.limits ∙ first.catalog.limits;
-  };
-}
 
 -- ---- the keys of a table
 
@@ -176,7 +151,7 @@ all_taken s paths before keys taken now so = record {
 pub record AreTaken (before : DiskState) (old : Tables) (after : DiskState) (now : Tables)
     (paths : Shown) (first : ℕ) (keys : List PlacedMember) (taken : Taken) (size : ℕ)
     (rest : List PlacedMember) : Type 0 where
-  pub kept : Kept before old after now
+  pub only : OnlyReads before after old now
   pub known : AreKnown (catalog_of old) rest
   pub bounded : IsBounded size
   pub plain : IsPlainTaken taken
@@ -187,16 +162,16 @@ module _ (before mid after : DiskState) (old now new : Tables) where
   pub taken_more : (paths : Shown) (first : ℕ) (keys : List PlacedMember) (taken more : Taken)
       (size next : ℕ) (k : PlacedMember) (rest : List PlacedMember)
       → AreTaken before old mid now paths first keys taken size (k ∷ rest)
-      → Kept mid now after new → IsBounded next → IsPlainTaken more
+      → OnlyReads mid after now new → IsBounded next → IsPlainTaken more
       → ((s : State) → Stands mid now s → Takes s paths size (k ∷ []) taken more next)
       → AreTaken before old after new paths first keys more next rest
-  taken_more paths first keys taken more size next k rest so kept bounded plain takes = record {
-    kept = kept_then before mid after old now new so.kept kept;
+  taken_more paths first keys taken more size next k rest so only bounded plain takes = record {
+    only = only_then so.only only;
     known = so.known.1;
     bounded = bounded;
     plain = plain;
     so = λ s stands. so_more s paths first keys taken more size next k rest (so.so s stands)
-        (takes s ((so.kept.stays s).0 stands));
+        (takes s ((so.only.stays s).0 stands));
   }
 
 -- ---- the tables
@@ -242,7 +217,7 @@ table_read s old new r taken t is named holds responses unprocessed =
 -- What is read so far and of the tables that are left is what is read of all.
 pub record AreRead (before : DiskState) (old : Tables) (after : DiskState) (now : Tables)
     (asked : List TableReads) (read : Read) (rest : List TableReads) : Type 0 where
-  pub kept : Kept before old after now
+  pub only : OnlyReads before after old now
   pub known : AreAllKnown (catalog_of old) rest
   pub names : All HasPlainNames rest
   pub plain : IsPlainRead read
@@ -255,15 +230,15 @@ module _ (before mid after : DiskState) (old now new : Tables) where
   -- one table more is read
   pub read_more : (asked : List TableReads) (read more : Read) (r : TableReads)
       (rest : List TableReads) → AreRead before old mid now asked read (r ∷ rest)
-      → Kept mid now after new → IsBounded more.size → IsPlainRead more
+      → OnlyReads mid after now new → IsBounded more.size → IsPlainRead more
       → ((s : State) → Stands mid now s → read_so more ≡ with_reads s (read_so read) (reads_of r))
       → AreRead before old after new asked more rest
-  read_more asked read more r rest so kept bounded plain is = record {
-    kept = kept_then before mid after old now new so.kept kept;
+  read_more asked read more r rest so only bounded plain is = record {
+    only = only_then so.only only;
     known = so.known.1;
     names = All-tail HasPlainNames r rest so.names;
     plain = plain;
     bounded = bounded;
     so = λ s stands. so.so s stands ∙ ap (λ x. fold (with_reads s) x (map reads_of rest))
-        (sym (is s ((so.kept.stays s).0 stands)));
+        (sym (is s ((so.only.stays s).0 stands)));
   }

@@ -1,6 +1,6 @@
 //! Reading the keys of a batch, table by table, until the sizes of the items have reached 16 MB.
 
-ghost use Rattle.std.specs.Prelude.{◌≡◌, ◌↔◌, ◌+◌, ◌<◌, ◌≤◌, ◌∷◌, [], true, false, Some, All, IfOk, IfErr, OnOk, fold, map as each};
+ghost use Rattle.std.specs.Prelude.{◌≡◌, ◌+◌, ◌<◌, ◌≤◌, ◌∷◌, [], true, false, Some, All, IfOk, IfErr, OnOk, fold, map as each};
 ghost use Rattle.std.specs.FinMap as map;
 ghost use Rattle.alt_base.specs.Counts.{Rose};
 ghost use Rattle.alt_machine.specs.Ops.BatchGetItem as machine;
@@ -8,7 +8,8 @@ ghost use Rattle.alt_machine.specs.State.{State};
 ghost use Rattle.alt_ops_batch.specs.private.Readings.{AreAllKnown, AreKnown, IsBounded, IsPlainRead, IsFault, IfErrFailed, IsPlainTaken, IsTaken, ShowsMore, Takes, read_so};
 ghost use Rattle.alt_ops_batch.specs.private.Batches.{HasPlainNames, reads_of};
 ghost use Rattle.alt_request.specs.Steps.{IsMemory};
-ghost use Rattle.alt_request.specs.TablesStands.{AreReady, KeepsCatalog, Reads, Stands, catalog_of};
+ghost use Rattle.alt_request.specs.TablesLooking.{OnlyReads};
+ghost use Rattle.alt_request.specs.TablesStands.{AreReady, Stands, catalog_of};
 ghost use Rattle.alt_value.specs.Size.{item_size};
 
 use crate::asked_reads::TableReads;
@@ -52,12 +53,9 @@ pub(crate) fn read_all<D: Disk>(
         → IfOk result (λ read. read_so read ≡ fold (machine.with_reads s) machine.nothing_read
         (each reads_of asked.entry.items)) }
     ensures plain { IfOk result IsPlainRead }
-    ensures stays { (s : State) → Stands (D.state disk.old) tables.old s ↔ Stands
-        (D.state disk.new) tables.new s }
-    ensures catalog { KeepsCatalog tables.old tables.new }
+    ensures only { OnlyReads (D.state disk.old) (D.state disk.new) tables.old tables.new }
     ensures fault { (s : State) → Stands (D.state disk.old) tables.old s
         → IfErr result IsFault }
-    ensures disk { Reads (D.state disk.old) (D.state disk.new) }
     ensures failed { IfErrFailed result (Rose (D.state disk.old).faults (D.state disk.new).faults) }
 {
     let mut read = Read {
@@ -89,12 +87,9 @@ fn read_table<D: Disk>(
         (read_so read.new ≡ machine.with_reads s (read_so read.old) (reads_of reads.entry)) }
     ensures plain { OnOk result (IsPlainRead read.new) }
     ensures bounded { OnOk result (IsBounded read.new.size) }
-    ensures stays { (s : State) → Stands (D.state disk.old) tables.old s ↔ Stands
-        (D.state disk.new) tables.new s }
-    ensures catalog { KeepsCatalog tables.old tables.new }
+    ensures only { OnlyReads (D.state disk.old) (D.state disk.new) tables.old tables.new }
     ensures fault { (s : State) → Stands (D.state disk.old) tables.old s
         → IfErr result IsFault }
-    ensures disk { Reads (D.state disk.old) (D.state disk.new) }
     ensures failed { IfErrFailed result (Rose (D.state disk.old).faults (D.state disk.new).faults) }
 {
     let TableReads {
@@ -127,12 +122,9 @@ fn take<D: Disk>(
         → IfOk result (λ taken. IsTaken s projection.now size.old keys.items taken size.new) }
     ensures plain { IfOk result IsPlainTaken }
     ensures bounded { OnOk result (IsBounded size.new) }
-    ensures stays { (s : State) → Stands (D.state disk.old) tables.old s ↔ Stands
-        (D.state disk.new) tables.new s }
-    ensures catalog { KeepsCatalog tables.old tables.new }
+    ensures only { OnlyReads (D.state disk.old) (D.state disk.new) tables.old tables.new }
     ensures fault { (s : State) → Stands (D.state disk.old) tables.old s
         → IfErr result IsFault }
-    ensures disk { Reads (D.state disk.old) (D.state disk.new) }
     ensures failed { IfErrFailed result (Rose (D.state disk.old).faults (D.state disk.new).faults) }
 {
     let mut taken = Taken {
@@ -163,12 +155,9 @@ fn take_key<D: Disk>(
         → OnOk result (Takes s projection.now size.old (key ∷ []) taken.old taken.new size.new) }
     ensures plain { OnOk result (IsPlainTaken taken.new) }
     ensures bounded { OnOk result (IsBounded size.new) }
-    ensures stays { (s : State) → Stands (D.state disk.old) tables.old s ↔ Stands
-        (D.state disk.new) tables.new s }
-    ensures catalog { KeepsCatalog tables.old tables.new }
+    ensures only { OnlyReads (D.state disk.old) (D.state disk.new) tables.old tables.new }
     ensures fault { (s : State) → Stands (D.state disk.old) tables.old s
         → IfErr result IsFault }
-    ensures disk { Reads (D.state disk.old) (D.state disk.new) }
     ensures failed { IfErrFailed result (Rose (D.state disk.old).faults (D.state disk.new).faults) }
 {
     if *size >= BATCH_BYTES {
@@ -197,12 +186,9 @@ fn read_key<D: Disk>(
     ensures size { (s : State) → Stands (D.state disk.old) tables.old s
         → OnOk result (size.new ≡ size.old + machine.size_at s key) }
     ensures bounded { OnOk result (IsBounded size.new) }
-    ensures stays { (s : State) → Stands (D.state disk.old) tables.old s ↔ Stands
-        (D.state disk.new) tables.new s }
-    ensures catalog { KeepsCatalog tables.old tables.new }
+    ensures only { OnlyReads (D.state disk.old) (D.state disk.new) tables.old tables.new }
     ensures fault { (s : State) → Stands (D.state disk.old) tables.old s
         → IfErr result IsFault }
-    ensures disk { Reads (D.state disk.old) (D.state disk.new) }
     ensures failed { IfErrFailed result (Rose (D.state disk.old).faults (D.state disk.new).faults) }
 {
     let PlacedMember { table, place, .. } = key;

@@ -1,22 +1,21 @@
 //! BatchWriteItem.
 
-ghost use Rattle.std.specs.Prelude.{◌≡◌, ◌↔◌, false, codes, Some, IfOk, IfErr, IsErrOf, map as each};
+ghost use Rattle.std.specs.Prelude.{◌≡◌, false, codes, Some, IfOk, IfErr, map as each};
 ghost use Rattle.serde_json.specs.Data.{Members};
 ghost use Rattle.serde_json.specs.View.{members_view};
 ghost use Rattle.serde_json.specs.Written.{has_float};
-ghost use Rattle.alt_base.specs.Counts.{Rose};
 ghost use Rattle.alt_machine.specs.Ops.BatchWriteItem as machine;
 ghost use Rattle.alt_machine.specs.Ops.BatchWriteItem.{written_by};
 ghost use Rattle.alt_machine.specs.State.{State};
 ghost use Rattle.alt_ops_batch.specs.private.Batches.{AreAsked};
 ghost use Rattle.alt_readahead.specs.Batch.{IsBatchAhead};
+ghost use Rattle.alt_request.specs.TablesLooking.{FailsReading, OnlyReads};
 ghost use Rattle.alt_request.specs.TablesSeveral.{Every, IsFound, MayWrite, written_at};
 ghost use Rattle.alt_request.specs.Carried.{Carries, Moves};
 ghost use Rattle.alt_request.specs.Steps.{IsMemory};
 ghost use Rattle.alt_shape.specs.Body.{body_json};
 ghost use Rattle.alt_shape.specs.Refusals.{answer_of};
-ghost use Rattle.alt_request.specs.TablesFaults.{IsFindFault};
-ghost use Rattle.alt_request.specs.TablesStands.{AreReady, KeepsCatalog, Reads, Stands, catalog_of, bounds_of};
+ghost use Rattle.alt_request.specs.TablesStands.{AreReady, Stands, catalog_of, bounds_of};
 
 use crate::asked_ahead::writes_ahead;
 use crate::asked_writes::writes_asked;
@@ -120,14 +119,8 @@ fn find_all<D: Disk>(
     ensures written { IfOk result (λ v. each written_at v.items ≡ each written_by members.items) }
     ensures found { (s : State) → Stands (D.state disk.old) tables.old s
         → IfOk result (λ v. Every (IsFound s) v.items) }
-    ensures stays { (s : State) → Stands (D.state disk.old) tables.old s ↔ Stands
-        (D.state disk.new) tables.new s }
-    ensures catalog { KeepsCatalog tables.old tables.new }
-    ensures fault { (s : State) → Stands (D.state disk.old) tables.old s
-        → IfErr result IsFindFault }
-    ensures disk { Reads (D.state disk.old) (D.state disk.new) }
-    ensures cause { IsErrOf result TableFault.Failed
-        → Rose (D.state disk.old).faults (D.state disk.new).faults }
+    ensures only { OnlyReads (D.state disk.old) (D.state disk.new) tables.old tables.new }
+    ensures fails { FailsReading (D.state disk.old) (D.state disk.new) tables.old result }
 {
     let mut changes = Vec::with_capacity(alloc, members.len())?;
     for member in members {
@@ -147,14 +140,8 @@ fn find<D: Disk>(
     ensures written { IfOk result (λ c. written_at c ≡ written_by member) }
     ensures found { (s : State) → Stands (D.state disk.old) tables.old s
         → IfOk result (IsFound s) }
-    ensures stays { (s : State) → Stands (D.state disk.old) tables.old s ↔ Stands
-        (D.state disk.new) tables.new s }
-    ensures catalog { KeepsCatalog tables.old tables.new }
-    ensures fault { (s : State) → Stands (D.state disk.old) tables.old s
-        → IfErr result IsFindFault }
-    ensures disk { Reads (D.state disk.old) (D.state disk.new) }
-    ensures cause { IsErrOf result TableFault.Failed
-        → Rose (D.state disk.old).faults (D.state disk.new).faults }
+    ensures only { OnlyReads (D.state disk.old) (D.state disk.new) tables.old tables.new }
+    ensures fails { FailsReading (D.state disk.old) (D.state disk.new) tables.old result }
 {
     let PlacedMember {
         table,

@@ -1,7 +1,7 @@
 //! A walk over the items of a table, or of one of its indexes, that ends with a page. It asks for no more items than are certain to be
 //! examined, so it reads no row beyond the last of them.
 
-ghost use Rattle.std.specs.Prelude.{◌≡◌, ◌≢◌, ◌↔◌, ◌++◌, ◌+◌, ◌≤◌, ◌∷◌, [], not, true, false, List, Some, None, All, IfOk, IfErr, IfSome, OnOk, ◌<◌};
+ghost use Rattle.std.specs.Prelude.{◌≡◌, ◌≢◌, ◌++◌, ◌+◌, ◌≤◌, ◌∷◌, [], not, true, false, List, Some, None, All, IfOk, IfErr, IfSome, OnOk, ◌<◌};
 ghost use Rattle.std.specs.FinMap as map;
 ghost use Rattle.alt_base.specs.Counts.{Rose};
 ghost use Rattle.alt_cells.specs.Walks.{RowMap};
@@ -16,8 +16,9 @@ ghost use Rattle.alt_paging.specs.Offered.{WasOffered, asked_of, has_ended};
 ghost use Rattle.alt_paging.specs.declared.ask.PageAsk.{PageAsk};
 ghost use Rattle.alt_request.specs.Steps.{IsMemory};
 ghost use Rattle.alt_schema.specs.declared.schema.TableSchema.{TableSchema};
+ghost use Rattle.alt_request.specs.TablesLooking.{OnlyReads};
 ghost use Rattle.alt_request.specs.TablesReading.{HasRowFiles, family_read};
-ghost use Rattle.alt_request.specs.TablesStands.{AreReady, Reads, Stands, KeepsCatalog, catalog_of};
+ghost use Rattle.alt_request.specs.TablesStands.{AreReady, Stands, catalog_of};
 ghost use Rattle.alt_value.specs.Tree.{Pair};
 ghost use Rattle.alt_views.specs.Readable.{CanRead};
 
@@ -62,13 +63,10 @@ pub(crate) fn fill<D: Disk>(
         → OnOk result ((D.state disk.new).reads ≤ (D.state disk.old).reads
         + most_reads t (index_at t.description index) forward range.from range.to (asked_of ask)
         (items_between t (index_at t.description index) range.from range.to forward) maps) }
-    ensures stays { (s : State) → Stands (D.state disk.old) tables.old s ↔ Stands
-        (D.state disk.new) tables.new s }
-    ensures catalog { KeepsCatalog tables.old tables.new }
+    ensures only { OnlyReads (D.state disk.old) (D.state disk.new) tables.old tables.new }
     ensures fault { (s : State) (t : Table) (ask : PageAsk) → Stands (D.state disk.old) tables.old s
         → map.get s.tables table.now ≡ Some t → WasOffered pager.old ask []
         → IfErr result IsFault }
-    ensures disk { Reads (D.state disk.old) (D.state disk.new) }
     ensures failed { IfErrFailed result (Rose (D.state disk.old).faults (D.state disk.new).faults) }
 {
     let mut range = range;
@@ -106,13 +104,10 @@ fn step<D: Disk>(
         seen pager.new range) }
     ensures going { IfOk result (λ rest. IfSome rest
         (λ r. has_ended pager.new ≡ false)) }
-    ensures stays { (s : State) → Stands (D.state disk.old) tables.old s ↔ Stands
-        (D.state disk.new) tables.new s }
-    ensures catalog { KeepsCatalog tables.old tables.new }
+    ensures only { OnlyReads (D.state disk.old) (D.state disk.new) tables.old tables.new }
     ensures fault { (s : State) (t : Table) (ask : PageAsk) (seen : List (List Pair))
         → Stands (D.state disk.old) tables.old s → map.get s.tables table.now ≡ Some t
         → WasOffered pager.old ask seen → IfErr result IsFault }
-    ensures disk { Reads (D.state disk.old) (D.state disk.new) }
     ensures failed { IfErrFailed result (Rose (D.state disk.old).faults (D.state disk.new).faults) }
 {
     let largest = tables.largest();

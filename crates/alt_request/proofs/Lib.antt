@@ -10,6 +10,7 @@ pub mod Working
 pub use Rattle.alt_said.proofs.TablesBehind
 pub use Rattle.alt_said.proofs.TablesForeseen
 pub use Rattle.alt_said.proofs.TablesLeft
+pub use Rattle.alt_said.proofs.TablesLooking
 pub use Rattle.alt_said.proofs.TablesOpeningNextRow
 pub use Rattle.alt_said.proofs.TablesOpeningOneColumn
 pub use Rattle.alt_said.proofs.TablesOpeningOneState

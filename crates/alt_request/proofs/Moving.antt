@@ -35,6 +35,7 @@ use Rattle.alt_said.specs.TablesDeclaredTables.{Tables}
 use Rattle.alt_value.specs.Tree.{Pair}
 use Rattle.alt_said.proofs.TablesBehind.{wants_none}
 use Rattle.alt_said.proofs.TablesLeft.{reads_nothing, leaves_reads, leaves_after, reads_lasts}
+use Rattle.alt_said.proofs.TablesLooking.{rose_on}
 
 -- ---- what didn't fail
 
@@ -90,10 +91,6 @@ pub failed_on : (r : Result Reply Stop) (P Q : Type 0) → (P → Q) → IfFaile
 failed_on (Ok reply) P Q leads h = tt
 failed_on (Err (Refused r)) P Q leads h = tt
 failed_on (Err (Fault f)) P Q leads h = failed_in f P Q leads h
-
--- a count of faults rose that rose later on
-pub rose_on : (a b c : DiskState) → Goes a b → Rose b.faults c.faults → Rose a.faults c.faults
-rose_on a b c goes rose = grind (arith, goes.faults, rose)
 
 -- ---- what is left
 

@@ -11,6 +11,7 @@ pub use Rattle.alt_said.specs.TablesFaults
 pub use Rattle.alt_said.specs.TablesForeseen
 pub use Rattle.alt_said.specs.TablesFound
 pub use Rattle.alt_said.specs.TablesImages
+pub use Rattle.alt_said.specs.TablesLooking
 pub use Rattle.alt_said.specs.TablesOpeningDeclaredTrimmed
 pub use Rattle.alt_said.specs.TablesOpeningOrder
 pub use Rattle.alt_said.specs.TablesOpeningTrimmed

@@ -7,6 +7,7 @@ pub use Rattle.alt_tables.specs.Faults as TablesFaults
 pub use Rattle.alt_tables.specs.Foreseen as TablesForeseen
 pub use Rattle.alt_tables.specs.Found as TablesFound
 pub use Rattle.alt_tables.specs.Images as TablesImages
+pub use Rattle.alt_tables.specs.Looking as TablesLooking
 pub use Rattle.alt_tables.specs.OpeningDeclaredTrimmed as TablesOpeningDeclaredTrimmed
 pub use Rattle.alt_tables.specs.OpeningOrder as TablesOpeningOrder
 pub use Rattle.alt_tables.specs.OpeningTrimmed as TablesOpeningTrimmed

@@ -1,6 +1,6 @@
 //! Reading the changes of a table for a page, piece by piece.
 
-ghost use Rattle.std.specs.Prelude.{◌≡◌, ◌↔◌, not, true, false, ℕ, List, [], Some, All, IfErr, IfOk, IsErrOf, IsSome, OnOk, map as each};
+ghost use Rattle.std.specs.Prelude.{◌≡◌, not, true, false, ℕ, List, [], Some, All, IfErr, IfOk, IsErrOf, IsSome, OnOk, map as each};
 ghost use Rattle.std.specs.FinMap as map;
 ghost use Rattle.alt_base.specs.Counts.{Rose};
 ghost use Rattle.alt_changes.specs.ChangeRows.{change_in};
@@ -12,7 +12,8 @@ ghost use Rattle.alt_schema.specs.declared.schema.TableSchema.{TableSchema};
 ghost use Rattle.alt_schema.specs.declared.schema.View.{View};
 ghost use Rattle.alt_streams.specs.private.Paged.{HasRead, IsFit, Puts, Steps, is_full};
 ghost use Rattle.alt_request.specs.TablesFaults.{IsFindFault, IsReadFault};
-ghost use Rattle.alt_request.specs.TablesStands.{AreReady, KeepsCatalog, Reads, Stands, catalog_of};
+ghost use Rattle.alt_request.specs.TablesLooking.{OnlyReads};
+ghost use Rattle.alt_request.specs.TablesStands.{AreReady, Stands, catalog_of};
 
 use crate::page::Page;
 use alt_changes::Change;
@@ -39,12 +40,9 @@ pub(crate) fn fill<D: Disk>(
         → t.description.view ≡ Some shows → HasRead t.description shows most from page.old []
         → OnOk result (HasRead t.description shows most from page.new
         (page_of most (record_size t.description shows) (changes_from page.old.next t.changes))) }
-    ensures stays { (s : State) → Stands (D.state disk.old) tables.old s ↔ Stands
-        (D.state disk.new) tables.new s }
-    ensures catalog { KeepsCatalog tables.old tables.new }
+    ensures only { OnlyReads (D.state disk.old) (D.state disk.new) tables.old tables.new }
     ensures fault { (s : State) → Stands (D.state disk.old) tables.old s
         → IfErr result IsFindFault }
-    ensures disk { Reads (D.state disk.old) (D.state disk.new) }
     ensures cause { IsErrOf result TableFault.Failed
         → Rose (D.state disk.old).faults (D.state disk.new).faults }
 {
@@ -79,12 +77,9 @@ fn step<D: Disk>(
         → HasRead t.description shows most from page.old seen
         → IfOk result (Steps t.description shows most from page.new seen t
         (changes_from page.old.next t.changes)) }
-    ensures stays { (s : State) → Stands (D.state disk.old) tables.old s ↔ Stands
-        (D.state disk.new) tables.new s }
-    ensures catalog { KeepsCatalog tables.old tables.new }
+    ensures only { OnlyReads (D.state disk.old) (D.state disk.new) tables.old tables.new }
     ensures fault { (s : State) → Stands (D.state disk.old) tables.old s
         → IfErr result IsFindFault }
-    ensures disk { Reads (D.state disk.old) (D.state disk.new) }
     ensures cause { IsErrOf result TableFault.Failed
         → Rose (D.state disk.old).faults (D.state disk.new).faults }
 {

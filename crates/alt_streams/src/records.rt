@@ -1,6 +1,6 @@
 //! GetRecords.
 
-ghost use Rattle.std.specs.Prelude.{◌≡◌, ◌↔◌, true, false, Some, IfErr, IfOk, IsErrOf, IsSome, codes};
+ghost use Rattle.std.specs.Prelude.{◌≡◌, true, false, Some, IfErr, IfOk, IsErrOf, IsSome, codes};
 ghost use Rattle.std.specs.FinMap as map;
 ghost use Rattle.serde_json.specs.View.{view, members_view};
 ghost use Rattle.serde_json.specs.Written.{has_float};
@@ -17,6 +17,7 @@ ghost use Rattle.alt_shape.specs.Refusals.{answer_of};
 ghost use Rattle.alt_streams.specs.private.Paged.{iterator_at, page_answer};
 ghost use Rattle.alt_streams.specs.private.Placed.{OnPlace, OnStreaming, has_stream};
 ghost use Rattle.alt_request.specs.TablesFaults.{IsFindFault};
+ghost use Rattle.alt_request.specs.TablesLooking.{OnlyReads};
 ghost use Rattle.alt_request.specs.TablesStands.{AreReady, Reads, Stands, catalog_of, bounds_of, trimmed_of};
 
 use crate::page::Page;
@@ -141,12 +142,9 @@ fn page_at<D: Disk>(
         ≡ records_answer t.description (iterator_at t.description from)
         (page_of most (record_size t.description shows) (changes_from from t.changes)) shows) }
     ensures plain { IfOk result (λ reply. has_float (body_json reply.body) ≡ false) }
-    ensures stays { (s : State) → Stands (D.state disk.old) tables.old s ↔ Stands
-        (D.state disk.new) tables.new s }
+    ensures only { OnlyReads (D.state disk.old) (D.state disk.new) tables.old tables.new }
     ensures fault { (s : State) → Stands (D.state disk.old) tables.old s
         → IfErr result IsFindFault }
-    ensures disk { Reads (D.state disk.old) (D.state disk.new) }
-    ensures limits { bounds_of tables.new ≡ bounds_of tables.old }
     ensures cause { IsErrOf result TableFault.Failed
         → Rose (D.state disk.old).faults (D.state disk.new).faults }
 {

@@ -12,6 +12,7 @@ pub mod FilesLaws
 pub mod Foreseen
 pub mod Holding
 pub mod Left
+pub mod Looking
 pub mod Making
 pub mod MakingAll
 pub mod NoneBuilt

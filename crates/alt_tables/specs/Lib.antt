@@ -5,6 +5,7 @@ pub mod Foreseen
 pub mod Found
 pub mod Images
 pub mod Laws
+pub mod Looking
 pub mod Merged
 pub mod Reading
 pub mod Several

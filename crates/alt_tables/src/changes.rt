@@ -1,13 +1,12 @@
 //! The changes of a table with a stream, in the order of their numbers.
 
-ghost use Rattle.std.specs.Prelude.{◌≡◌, ◌↔◌, take, map as each, true, Some, IfOk, IfErr, IsErrOf};
+ghost use Rattle.std.specs.Prelude.{◌≡◌, take, map as each, true, Some, IfOk};
 ghost use Rattle.std.specs.FinMap as map;
-ghost use Rattle.alt_base.specs.Counts.{Rose};
 ghost use Rattle.alt_changes.specs.ChangeRows.{change_in};
 ghost use Rattle.alt_machine.specs.Ops.GetRecords.{changes_from};
 ghost use Rattle.alt_machine.specs.State.{State, Table};
-ghost use Rattle.alt_rowchanges.specs.Faults.{IsFindFault, IsUnspent};
-ghost use Rattle.alt_tables.specs.Stands.{AreReady, Keeps, Reads, Stands, KeepsCatalog, catalog_of};
+ghost use Rattle.alt_tables.specs.Looking.{FailsReading, OnlyReads};
+ghost use Rattle.alt_tables.specs.Stands.{AreReady, Keeps, Stands, catalog_of};
 
 use crate::tables::Tables;
 use alt_base::NoMemory;
@@ -31,17 +30,10 @@ impl Tables {
             → map.get s.tables table.now ≡ Some t
             → IfOk result (λ changes. each change_in changes.items
             ≡ take most (changes_from from t.changes)) }
-        ensures stays { (s : State) → Stands (D.state disk.old) self.old s ↔ Stands
-            (D.state disk.new) self.new s }
-        ensures catalog { KeepsCatalog self.old self.new }
-        ensures unspent { IfErr result IsUnspent }
-        ensures fault { (s : State) → Stands (D.state disk.old) self.old s
-            → IfErr result IsFindFault }
-        ensures disk { Reads (D.state disk.old) (D.state disk.new) }
+        ensures only { OnlyReads (D.state disk.old) (D.state disk.new) self.old self.new }
+        ensures fails { FailsReading (D.state disk.old) (D.state disk.new) self.old result }
         // It leaves what is known of the tables, and the rows beneath them.
         ensures keeps { Keeps (D.state disk.old) (D.state disk.new) self.old self.new }
-        ensures cause { IsErrOf result TableFault.Failed
-            → Rose (D.state disk.old).faults (D.state disk.new).faults }
     {
         let Some(schema) = self.catalog.get(table) else {
             unreachable!();

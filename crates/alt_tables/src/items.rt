@@ -1,6 +1,6 @@
 //! The items of tables by their keys: reading one, and writing one that is there.
 
-ghost use Rattle.std.specs.Prelude.{◌≡◌, ◌↔◌, drop, ℕ, true, None, Some, IsSome, IfOk, IfErr, IfSome, IsErrOf, Ok, List, option_map};
+ghost use Rattle.std.specs.Prelude.{◌≡◌, drop, ℕ, true, None, Some, IsSome, IfOk, IfErr, IfSome, IsErrOf, Ok, List, option_map};
 ghost use Rattle.std.specs.FinMap as map;
 ghost use Rattle.alt_base.specs.Counts.{Rose};
 ghost use Rattle.alt_disk.specs.Disk.{IsTrusted, Goes};
@@ -12,13 +12,13 @@ ghost use Rattle.alt_machine.specs.Valid.{IsStored};
 ghost use Rattle.alt_machine.specs.Writes.{item_writes};
 ghost use Rattle.alt_rowchanges.specs.OpeningTrimmed.{number_at};
 ghost use Rattle.alt_schema.specs.declared.schema.TableSchema.{TableSchema};
-ghost use Rattle.alt_rowchanges.specs.Faults.{IsFindFault, IsUnspent};
 ghost use Rattle.alt_tables.specs.Faults.{Writes};
 ghost use Rattle.alt_tables.specs.Found.{number_taken};
 ghost use Rattle.alt_tables.specs.Images.{Leaves};
 ghost use Rattle.alt_rowchanges.specs.Leftovers.{leftovers, lowest_left};
 ghost use Rattle.alt_rowchanges.specs.RowChanges.{changed_rows, write_changes};
-ghost use Rattle.alt_tables.specs.Stands.{AreReady, HasRows, Reads, Stands, KeepsCatalog, catalog_of, bounds_of, number_of, trimmed_of};
+ghost use Rattle.alt_tables.specs.Looking.{FailsReading, OnlyReads};
+ghost use Rattle.alt_tables.specs.Stands.{AreReady, HasRows, Reads, Stands, catalog_of, bounds_of, number_of, trimmed_of};
 
 use crate::finding::Found;
 use crate::tables::Tables;
@@ -47,15 +47,8 @@ impl Tables {
             → Stands (D.state disk.old) self.old s → map.get s.tables table.now ≡ Some t
             → place_of t.description key.now ≡ Some place
             → IfOk result (λ o. o ≡ map.get t.items place) }
-        ensures stays { (s : State) → Stands (D.state disk.old) self.old s ↔ Stands
-            (D.state disk.new) self.new s }
-        ensures catalog { KeepsCatalog self.old self.new }
-        ensures unspent { IfErr result IsUnspent }
-        ensures fault { (s : State) → Stands (D.state disk.old) self.old s
-            → IfErr result IsFindFault }
-        ensures disk { Reads (D.state disk.old) (D.state disk.new) }
-        ensures cause { IsErrOf result TableFault.Failed
-            → Rose (D.state disk.old).faults (D.state disk.new).faults }
+        ensures only { OnlyReads (D.state disk.old) (D.state disk.new) self.old self.new }
+        ensures fails { FailsReading (D.state disk.old) (D.state disk.new) self.old result }
     {
         let place = match self.place_in(table, key) {
             Ok(place) => place,

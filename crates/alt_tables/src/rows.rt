@@ -1,6 +1,6 @@
 //! The items of tables at their places: what stands at one, and what is to stand there.
 
-ghost use Rattle.std.specs.Prelude.{◌^◌, ◌≡◌, ◌↔◌, ◌<◌, ◌∷◌, [], drop, ℕ, true, false, None, Some, IsSome, IfOk, IfErr, IfSome, OnOk, IsErrOf, Ok};
+ghost use Rattle.std.specs.Prelude.{◌^◌, ◌≡◌, ◌<◌, ◌∷◌, [], drop, ℕ, true, false, None, Some, IsSome, IfOk, IfSome, OnOk, IsErrOf, Ok};
 ghost use Rattle.std.specs.FinMap as map;
 ghost use Rattle.alt_base.specs.Counts.{Rose};
 ghost use Rattle.alt_disk.specs.Disk.{IsTrusted, Goes};
@@ -12,7 +12,6 @@ ghost use Rattle.alt_machine.specs.Valid.{IsStored};
 ghost use Rattle.alt_machine.specs.Writes.{after_item, item_writes};
 ghost use Rattle.alt_rowchanges.specs.OpeningTrimmed.{IsRenumbered, number_at};
 ghost use Rattle.alt_schema.specs.declared.schema.TableSchema.{TableSchema};
-ghost use Rattle.alt_rowchanges.specs.Faults.{IsFindFault, IsUnspent};
 ghost use Rattle.alt_tables.specs.Faults.{Writes};
 ghost use Rattle.alt_tables.specs.Foreseen.{ForeseesWrite};
 ghost use Rattle.alt_tables.specs.Found.{IsFoundIn, number_taken};
@@ -20,8 +19,9 @@ ghost use Rattle.alt_tables.specs.Images.{Leaves};
 ghost use Rattle.alt_rowchanges.specs.Leftovers.{leftovers, lowest_left};
 ghost use Rattle.alt_rowchanges.specs.RowChanges.{changed_rows, write_changes};
 ghost use Rattle.alt_rowchanges.specs.Trims.{IsNoted, IsTrim, IsWithin};
+ghost use Rattle.alt_tables.specs.Looking.{FailsReading, OnlyReads};
 ghost use Rattle.alt_tables.specs.private.Written.{IsWrittenAs};
-ghost use Rattle.alt_tables.specs.Stands.{AreReady, HasRows, Reads, Stands, KeepsCatalog, catalog_of, due_of, fronts_of, bounds_of, largest_of, number_of, trimmed_of};
+ghost use Rattle.alt_tables.specs.Stands.{AreReady, HasRows, Reads, Stands, catalog_of, due_of, fronts_of, bounds_of, largest_of, number_of, trimmed_of};
 ghost use Rattle.alt_tables.specs.private.Foretold.{FitsWrite};
 
 use crate::finding::Found;
@@ -49,15 +49,8 @@ impl Tables {
         ensures place { IfOk result (λ found. found.place ≡ place) }
         ensures item { (s : State) → Stands (D.state disk.old) self.old s
             → IfOk result (IsFoundIn s table.now) }
-        ensures stays { (s : State) → Stands (D.state disk.old) self.old s ↔ Stands
-            (D.state disk.new) self.new s }
-        ensures catalog { KeepsCatalog self.old self.new }
-        ensures unspent { IfErr result IsUnspent }
-        ensures fault { (s : State) → Stands (D.state disk.old) self.old s
-            → IfErr result IsFindFault }
-        ensures disk { Reads (D.state disk.old) (D.state disk.new) }
-        ensures cause { IsErrOf result TableFault.Failed
-            → Rose (D.state disk.old).faults (D.state disk.new).faults }
+        ensures only { OnlyReads (D.state disk.old) (D.state disk.new) self.old self.new }
+        ensures fails { FailsReading (D.state disk.old) (D.state disk.new) self.old result }
     {
         let Some(schema) = self.catalog.get(table) else {
             unreachable!();

@@ -10,6 +10,7 @@ ghost use Rattle.alt_schema.specs.declared.schema.TableSchema.{TableSchema};
 ghost use Rattle.alt_rowchanges.specs.Faults.{IsFindFault, IsUnspent};
 ghost use Rattle.alt_rowchanges.specs.Leftovers.{leftovers};
 ghost use Rattle.alt_rowchanges.specs.Trims.{AreTwo, IsKeptFrom, IsLowest, IsLowestFrom, IsRest, IsTrim, IsWithin, IsYoung, left_from};
+ghost use Rattle.alt_tables.specs.Looking.{FailsReading};
 ghost use Rattle.alt_tables.specs.Stands.{AreReady, HasRows, Keeps, Stands, catalog_of, fronts_of, number_of as next_of, trimmed_of};
 
 use crate::tables::Tables;
@@ -46,11 +47,7 @@ impl Tables {
             → IsSome d.stream_family → IfOk result
             (IsWithin (number_at table.now (trimmed_of self.old)) (next_of self.old)) }
         ensures keeps { Keeps (D.state disk.old) (D.state disk.new) self.old self.new }
-        ensures unspent { IfErr result IsUnspent }
-        ensures fault { (s : State) → Stands (D.state disk.old) self.old s
-            → IfErr result IsFindFault }
-        ensures cause { IsErrOf result TableFault.Failed
-            → Rose (D.state disk.old).faults (D.state disk.new).faults }
+        ensures fails { FailsReading (D.state disk.old) (D.state disk.new) self.old result }
     {
         let before = self.trimmed(table);
         let Some(schema) = self.catalog.get(table) else {
@@ -98,11 +95,7 @@ impl Tables {
             → map.get s.tables table.now ≡ Some t
             → IfOk result (IsKeptFrom moment t.trimmed t.changes) }
         ensures keeps { Keeps (D.state disk.old) (D.state disk.new) self.old self.new }
-        ensures unspent { IfErr result IsUnspent }
-        ensures fault { (s : State) → Stands (D.state disk.old) self.old s
-            → IfErr result IsFindFault }
-        ensures cause { IsErrOf result TableFault.Failed
-            → Rose (D.state disk.old).faults (D.state disk.new).faults }
+        ensures fails { FailsReading (D.state disk.old) (D.state disk.new) self.old result }
     {
         let before = self.trimmed(table);
         match self.young(table, moment) {
@@ -139,11 +132,7 @@ impl Tables {
             → map.get s.tables table.now ≡ Some t
             → IfOk result (IsKeptFrom moment t.trimmed t.changes) }
         ensures keeps { Keeps (D.state disk.old) (D.state disk.new) self.old self.new }
-        ensures unspent { IfErr result IsUnspent }
-        ensures fault { (s : State) → Stands (D.state disk.old) self.old s
-            → IfErr result IsFindFault }
-        ensures cause { IsErrOf result TableFault.Failed
-            → Rose (D.state disk.old).faults (D.state disk.new).faults }
+        ensures fails { FailsReading (D.state disk.old) (D.state disk.new) self.old result }
     {
         let mut number = before;
         'pages: for _ in 0..u64::MAX {

@@ -1,9 +1,8 @@
 //! Walks over the items of a table, or of one of its indexes, in the order of their places or the other way.
 
-ghost use Rattle.std.specs.Prelude.{◌≡◌, ◌↔◌, ◌++◌, ◌+◌, ◌≤◌, take, true, List, Some, None, IfOk, IfErr, IfSome, OnOk, OnErr, IsErrOf};
+ghost use Rattle.std.specs.Prelude.{◌≡◌, ◌++◌, ◌+◌, ◌≤◌, take, true, List, Some, None, IfOk, IfSome, OnOk, OnErr};
 ghost use Rattle.std.specs.FinMap as map;
 ghost use Rattle.std.specs.List.{last_or};
-ghost use Rattle.alt_base.specs.Counts.{Rose};
 ghost use Rattle.alt_base.specs.Prefix.{IsPrefix};
 ghost use Rattle.alt_cells.specs.Walks.{RowMap};
 ghost use Rattle.alt_machine.specs.Sources.{index_at};
@@ -11,9 +10,9 @@ ghost use Rattle.alt_machine.specs.State.{State, Table};
 ghost use Rattle.alt_machine.specs.Walks.{items_between};
 ghost use Rattle.alt_schema.specs.declared.schema.IndexSchema.{IndexSchema};
 ghost use Rattle.alt_schema.specs.declared.schema.TableSchema.{TableSchema};
-ghost use Rattle.alt_rowchanges.specs.Faults.{IsFindFault, IsUnspent};
+ghost use Rattle.alt_tables.specs.Looking.{FailsReading, OnlyReads};
 ghost use Rattle.alt_tables.specs.Reading.{HasRowFiles, family_read, places_between, walk_reads};
-ghost use Rattle.alt_tables.specs.Stands.{AreReady, Reads, Stands, KeepsCatalog, catalog_of};
+ghost use Rattle.alt_tables.specs.Stands.{AreReady, Stands, catalog_of};
 ghost use Rattle.alt_views.specs.Readable.{CanRead};
 
 use crate::tables::Tables;
@@ -60,15 +59,8 @@ impl Tables {
             + walk_reads forward range.now.from range.now.to most (places_between t
             (index_at t.description index) range.now.from range.now.to forward) maps) }
         ensures begun { OnErr result (IsPrefix out.old.items out.new.items) }
-        ensures stays { (s : State) → Stands (D.state disk.old) self.old s ↔ Stands
-            (D.state disk.new) self.new s }
-        ensures catalog { KeepsCatalog self.old self.new }
-        ensures unspent { IfErr result IsUnspent }
-        ensures fault { (s : State) → Stands (D.state disk.old) self.old s
-            → IfErr result IsFindFault }
-        ensures disk { Reads (D.state disk.old) (D.state disk.new) }
-        ensures cause { IsErrOf result TableFault.Failed
-            → Rose (D.state disk.old).faults (D.state disk.new).faults }
+        ensures only { OnlyReads (D.state disk.old) (D.state disk.new) self.old self.new }
+        ensures fails { FailsReading (D.state disk.old) (D.state disk.new) self.old result }
     {
         match index {
             Some(number) => self.index_rows(disk, table, number, range, forward, most, out),
@@ -103,15 +95,8 @@ impl Tables {
             + walk_reads forward range.now.from range.now.to most
             (places_between t None range.now.from range.now.to forward) maps) }
         ensures begun { OnErr result (IsPrefix out.old.items out.new.items) }
-        ensures stays { (s : State) → Stands (D.state disk.old) self.old s ↔ Stands
-            (D.state disk.new) self.new s }
-        ensures catalog { KeepsCatalog self.old self.new }
-        ensures unspent { IfErr result IsUnspent }
-        ensures fault { (s : State) → Stands (D.state disk.old) self.old s
-            → IfErr result IsFindFault }
-        ensures disk { Reads (D.state disk.old) (D.state disk.new) }
-        ensures cause { IsErrOf result TableFault.Failed
-            → Rose (D.state disk.old).faults (D.state disk.new).faults }
+        ensures only { OnlyReads (D.state disk.old) (D.state disk.new) self.old self.new }
+        ensures fails { FailsReading (D.state disk.old) (D.state disk.new) self.old result }
     {
         let Some(schema) = self.catalog.get(table) else {
             unreachable!();
@@ -160,15 +145,8 @@ impl Tables {
             + walk_reads forward range.now.from range.now.to most
             (places_between t (Some i) range.now.from range.now.to forward) maps) }
         ensures begun { OnErr result (IsPrefix out.old.items out.new.items) }
-        ensures stays { (s : State) → Stands (D.state disk.old) self.old s ↔ Stands
-            (D.state disk.new) self.new s }
-        ensures catalog { KeepsCatalog self.old self.new }
-        ensures unspent { IfErr result IsUnspent }
-        ensures fault { (s : State) → Stands (D.state disk.old) self.old s
-            → IfErr result IsFindFault }
-        ensures disk { Reads (D.state disk.old) (D.state disk.new) }
-        ensures cause { IsErrOf result TableFault.Failed
-            → Rose (D.state disk.old).faults (D.state disk.new).faults }
+        ensures only { OnlyReads (D.state disk.old) (D.state disk.new) self.old self.new }
+        ensures fails { FailsReading (D.state disk.old) (D.state disk.new) self.old result }
     {
         let Some(schema) = self.catalog.get(table) else {
             unreachable!();

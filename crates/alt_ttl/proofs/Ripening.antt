@@ -1,9 +1,8 @@
 -- One more place that is ready was looked at; and the tables have another list of the items that are due next.
 use Rattle.std.proofs.Common.{◌≡◌, ◌<◌, ◌≤◌, ◌^◌, refl, sym, ap, subst, ◌∙◌, ℕ, Bool, true, false, List, [], ◌∷◌, ◌++◌, Option, Some, None, length, take, append_assoc, is_some, IfSome, arith}
-use Rattle.std.specs.Prelude.{◌↔◌}
 use Rattle.std.specs.FinMap as map
 use Rattle.std.proofs.lemmas.List.{length-append}
-use Rattle.alt_disk.specs.Disk.{DiskState, Goes}
+use Rattle.alt_disk.specs.Disk.{DiskState}
 use Rattle.alt_disk.proofs.Runs.{trusted_back}
 use Rattle.alt_due.specs.Due.{FindsNext, IsRipe, NoneDue}
 use Rattle.alt_due.specs.declared.due.Due.{Due}
@@ -14,8 +13,10 @@ use Rattle.alt_machine.specs.Expiry.{all_expired, expiring}
 use Rattle.alt_machine.specs.State.{State, Texts}
 use Rattle.alt_schema.specs.declared.schema.TableSchema.{TableSchema}
 use Rattle.alt_request.specs.TablesForeseen.{Foresees}
-use Rattle.alt_request.specs.TablesStands.{AreReady, Stands}
+use Rattle.alt_request.specs.TablesLooking.{OnlyReads}
+use Rattle.alt_request.specs.TablesStands.{AreReady, KeepsCatalog, Stands}
 use Rattle.alt_request.specs.TablesDeclaredTables.{Tables}
+use Rattle.alt_request.proofs.TablesLooking.{catalog_then}
 use Rattle.alt_request.proofs.TablesStanding.{one_stands}
 use Rattle.alt_ttl.specs.private.Foresight.{PutsOver, Suffices, is_over_at, spot_at}
 use Rattle.alt_ttl.specs.private.Searched.{AreNamed}
@@ -114,18 +115,21 @@ some_then (Some v) P Q h leads = leads v h
 
 -- ---- another list
 
--- Tables that have another list stand for what they stood for, where that one knows of each item too.
-pub exchanged : (a b : DiskState) (t u v : Tables) (due : Due) → Goes a b → AreReady a t
-    → ((s : State) → Stands a t s ↔ Stands b u s)
+-- Behind calls that only read the tables may have another list, where that one knows of each item too.
+pub exchanged : {a b : DiskState} {t u v : Tables} (due : Due) → AreReady a t
+    → OnlyReads a b t u → KeepsCatalog u v
     → ((disk : DiskState) (s : State) → Stands disk u s → Foresees s.tables due → Stands disk v s)
-    → ((s : State) → Stands a t s → Foresees s.tables due)
-    → (s : State) → Stands a t s ↔ Stands b v s
-exchanged a b t u v due goes ready stays other knows s = (on s, back)
+    → ((s : State) → Stands a t s → Foresees s.tables due) → OnlyReads a b t v
+exchanged {a} {b} {t} {u} {v} due ready only keeps other knows = record {
+  stays = λ s. (on s, back s);
+  catalog = catalog_then only.catalog keeps;
+  disk = only.disk;
+}
   where
     on : (s : State) → Stands a t s → Stands b v s
-    on s stands = other b s ((stays s).0 stands) (knows s stands)
+    on s stands = other b s ((only.stays s).0 stands) (knows s stands)
 
-    back : Stands b v s → Stands a t s
-    back stands =
-        let (r, before) = ready (trusted_back a b goes stands.rows.trusted) in
+    back : (s : State) → Stands b v s → Stands a t s
+    back s stands =
+        let (r, before) = ready (trusted_back a b only.disk.goes stands.rows.trusted) in
         subst (Stands a t) (one_stands b v r s (on r before) stands) before

@@ -1,14 +1,13 @@
 //! The first expired items by the list of the items that are due next, which tells where to look: no search is needed where it suffices.
 
-ghost use Rattle.std.specs.Prelude.{◌≡◌, ◌↔◌, true, false, IfOk, IfErr, IfSome, OnOk, IsErrOf, is_some};
+ghost use Rattle.std.specs.Prelude.{◌≡◌, true, false, IfOk, IfSome, OnOk, is_some};
 ghost use Rattle.std.specs.FinMap as map;
-ghost use Rattle.alt_base.specs.Counts.{Rose};
 ghost use Rattle.alt_due.specs.Due.{FindsNext, IsRipe};
 ghost use Rattle.alt_machine.specs.Expiry.{expiring};
 ghost use Rattle.alt_machine.specs.State.{State};
-ghost use Rattle.alt_request.specs.TablesFaults.{IsFindFault};
 ghost use Rattle.alt_request.specs.TablesForeseen.{Foresees};
-ghost use Rattle.alt_request.specs.TablesStands.{AreReady, KeepsCatalog, Reads, Stands, catalog_of};
+ghost use Rattle.alt_request.specs.TablesLooking.{FailsReading, OnlyReads};
+ghost use Rattle.alt_request.specs.TablesStands.{AreReady, Stands, catalog_of};
 ghost use Rattle.alt_ttl.specs.private.Foresight.{PutsOver, Suffices, is_over_at, spot_at};
 ghost use Rattle.alt_ttl.specs.private.Searched.{AreNamed};
 
@@ -34,14 +33,8 @@ pub(crate) fn foreseen<D: Disk>(
         → IfOk result (λ o. IfSome o (λ v. v.items ≡ expiring s moment)) }
     ensures named { IfOk result (λ o. IfSome o (λ v.
         AreNamed (catalog_of tables.old) v.items)) }
-    ensures stays { (s : State) → Stands (D.state disk.old) tables.old s ↔ Stands
-        (D.state disk.new) tables.new s }
-    ensures catalog { KeepsCatalog tables.old tables.new }
-    ensures fault { (s : State) → Stands (D.state disk.old) tables.old s
-        → IfErr result IsFindFault }
-    ensures disk { Reads (D.state disk.old) (D.state disk.new) }
-    ensures cause { IsErrOf result TableFault.Failed
-        → Rose (D.state disk.old).faults (D.state disk.new).faults }
+    ensures only { OnlyReads (D.state disk.old) (D.state disk.new) tables.old tables.new }
+    ensures fails { FailsReading (D.state disk.old) (D.state disk.new) tables.old result }
 {
     if tables.due().due_none(moment) {
         return Ok(Some(Vec::new(alloc)));
@@ -74,14 +67,8 @@ fn taken<D: Disk>(
     requires ready { AreReady (D.state disk.old) tables.old }
     ensures known { (s : State) → Stands (D.state disk.old) tables.old s
         → IfOk result (Foresees s.tables) }
-    ensures stays { (s : State) → Stands (D.state disk.old) tables.old s ↔ Stands
-        (D.state disk.new) tables.new s }
-    ensures catalog { KeepsCatalog tables.old tables.new }
-    ensures fault { (s : State) → Stands (D.state disk.old) tables.old s
-        → IfErr result IsFindFault }
-    ensures disk { Reads (D.state disk.old) (D.state disk.new) }
-    ensures cause { IsErrOf result TableFault.Failed
-        → Rose (D.state disk.old).faults (D.state disk.new).faults }
+    ensures only { OnlyReads (D.state disk.old) (D.state disk.new) tables.old tables.new }
+    ensures fails { FailsReading (D.state disk.old) (D.state disk.new) tables.old result }
 {
     if tables.due().covers(moment) {
         return Ok(tables.exchange_due(Due::new(alloc)));
@@ -106,14 +93,8 @@ fn ripe<D: Disk>(
         AreNamed (catalog_of tables.old) v.items)) }
     ensures known { (s : State) → Stands (D.state disk.old) tables.old s
         → Foresees s.tables due.old → OnOk result (Foresees s.tables due.new) }
-    ensures stays { (s : State) → Stands (D.state disk.old) tables.old s ↔ Stands
-        (D.state disk.new) tables.new s }
-    ensures catalog { KeepsCatalog tables.old tables.new }
-    ensures fault { (s : State) → Stands (D.state disk.old) tables.old s
-        → IfErr result IsFindFault }
-    ensures disk { Reads (D.state disk.old) (D.state disk.new) }
-    ensures cause { IsErrOf result TableFault.Failed
-        → Rose (D.state disk.old).faults (D.state disk.new).faults }
+    ensures only { OnlyReads (D.state disk.old) (D.state disk.new) tables.old tables.new }
+    ensures fails { FailsReading (D.state disk.old) (D.state disk.new) tables.old result }
 {
     let mut out = Vec::new(alloc);
     let mut after = None;
@@ -213,14 +194,8 @@ fn look<D: Disk>(
     ensures known { (s : State) → Stands (D.state disk.old) tables.old s
         → Foresees s.tables due.old → OnOk result (Foresees s.tables due.new) }
     ensures ripe { IsRipe moment due.old → OnOk result (IsRipe moment due.new) }
-    ensures stays { (s : State) → Stands (D.state disk.old) tables.old s ↔ Stands
-        (D.state disk.new) tables.new s }
-    ensures catalog { KeepsCatalog tables.old tables.new }
-    ensures fault { (s : State) → Stands (D.state disk.old) tables.old s
-        → IfErr result IsFindFault }
-    ensures disk { Reads (D.state disk.old) (D.state disk.new) }
-    ensures cause { IsErrOf result TableFault.Failed
-        → Rose (D.state disk.old).faults (D.state disk.new).faults }
+    ensures only { OnlyReads (D.state disk.old) (D.state disk.new) tables.old tables.new }
+    ensures fails { FailsReading (D.state disk.old) (D.state disk.new) tables.old result }
 {
     if !may_expire(tables, spot.table.as_str()) {
         due.drop_ready(spot);

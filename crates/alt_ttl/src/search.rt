@@ -1,17 +1,16 @@
 //! The search for expired items: all tables by their names, and in each all its items by their places, until there are as many as an
 //! ExpireItems deletes.
 
-ghost use Rattle.std.specs.Prelude.{◌≡◌, ◌↔◌, ◌≤◌, ◌++◌, ◌∷◌, [], is_some, true, List, Some, None, length, map as each, take, IfOk, IfErr, OnOk, IsErrOf};
+ghost use Rattle.std.specs.Prelude.{◌≡◌, ◌≤◌, ◌++◌, ◌∷◌, [], is_some, true, List, Some, None, length, map as each, take, IfOk, OnOk};
 ghost use Rattle.std.specs.FinMap as map;
-ghost use Rattle.alt_base.specs.Counts.{Rose};
 ghost use Rattle.alt_machine.specs.declared.TheConstants.{MOST_EXPIRED};
 ghost use Rattle.alt_machine.specs.Expiry.{expired_in, expiring, gone_at};
 ghost use Rattle.alt_machine.specs.Ops.ListTables.{names_after};
 ghost use Rattle.alt_machine.specs.State.{State, Table};
 ghost use Rattle.alt_schema.specs.declared.schema.TableSchema.{TableSchema};
-ghost use Rattle.alt_request.specs.TablesFaults.{IsFindFault};
+ghost use Rattle.alt_request.specs.TablesLooking.{FailsReading, OnlyReads};
 ghost use Rattle.alt_request.specs.TablesSeveral.{AreAllApart, Every, IsFound, MayWrite, written_at};
-ghost use Rattle.alt_request.specs.TablesStands.{AreReady, KeepsCatalog, Reads, Stands, catalog_of};
+ghost use Rattle.alt_request.specs.TablesStands.{AreReady, Stands, catalog_of};
 ghost use Rattle.alt_ttl.specs.private.Searched.{AreNamed, left_in, left_of};
 
 use crate::foresight::foreseen;
@@ -43,14 +42,8 @@ pub(crate) fn deletions<D: Disk>(
     ensures apart { IfOk result (λ v. AreAllApart (each written_at v.items)) }
     ensures found { (s : State) → Stands (D.state disk.old) tables.old s
         → IfOk result (λ v. Every (IsFound s) v.items) }
-    ensures stays { (s : State) → Stands (D.state disk.old) tables.old s ↔ Stands
-        (D.state disk.new) tables.new s }
-    ensures catalog { KeepsCatalog tables.old tables.new }
-    ensures fault { (s : State) → Stands (D.state disk.old) tables.old s
-        → IfErr result IsFindFault }
-    ensures disk { Reads (D.state disk.old) (D.state disk.new) }
-    ensures cause { IsErrOf result TableFault.Failed
-        → Rose (D.state disk.old).faults (D.state disk.new).faults }
+    ensures only { OnlyReads (D.state disk.old) (D.state disk.new) tables.old tables.new }
+    ensures fails { FailsReading (D.state disk.old) (D.state disk.new) tables.old result }
 {
     let standings = match expiring(alloc, tables, disk, moment) {
         Ok(standings) => standings,
@@ -77,14 +70,8 @@ fn expiring<D: Disk>(
     ensures standings { (s : State) → Stands (D.state disk.old) tables.old s
         → IfOk result (λ v. v.items ≡ expiring s moment) }
     ensures named { IfOk result (λ v. AreNamed (catalog_of tables.old) v.items) }
-    ensures stays { (s : State) → Stands (D.state disk.old) tables.old s ↔ Stands
-        (D.state disk.new) tables.new s }
-    ensures catalog { KeepsCatalog tables.old tables.new }
-    ensures fault { (s : State) → Stands (D.state disk.old) tables.old s
-        → IfErr result IsFindFault }
-    ensures disk { Reads (D.state disk.old) (D.state disk.new) }
-    ensures cause { IsErrOf result TableFault.Failed
-        → Rose (D.state disk.old).faults (D.state disk.new).faults }
+    ensures only { OnlyReads (D.state disk.old) (D.state disk.new) tables.old tables.new }
+    ensures fails { FailsReading (D.state disk.old) (D.state disk.new) tables.old result }
 {
     match foreseen(alloc, tables, disk, moment) {
         Ok(Some(standings)) => Ok(standings),
@@ -104,14 +91,8 @@ fn searched<D: Disk>(
     ensures standings { (s : State) → Stands (D.state disk.old) tables.old s
         → IfOk result (λ v. v.items ≡ expiring s moment) }
     ensures named { IfOk result (λ v. AreNamed (catalog_of tables.old) v.items) }
-    ensures stays { (s : State) → Stands (D.state disk.old) tables.old s ↔ Stands
-        (D.state disk.new) tables.new s }
-    ensures catalog { KeepsCatalog tables.old tables.new }
-    ensures fault { (s : State) → Stands (D.state disk.old) tables.old s
-        → IfErr result IsFindFault }
-    ensures disk { Reads (D.state disk.old) (D.state disk.new) }
-    ensures cause { IsErrOf result TableFault.Failed
-        → Rose (D.state disk.old).faults (D.state disk.new).faults }
+    ensures only { OnlyReads (D.state disk.old) (D.state disk.new) tables.old tables.new }
+    ensures fails { FailsReading (D.state disk.old) (D.state disk.new) tables.old result }
 {
     let names = names(alloc, tables)?;
     let mut out = Vec::new(alloc);
@@ -159,14 +140,8 @@ fn search_table<D: Disk>(
         ≡ take MOST_EXPIRED (out.old.items ++ expired_in moment name.now t)) }
     ensures few { OnOk result (length out.new.items ≤ MOST_EXPIRED) }
     ensures named { OnOk result (AreNamed (catalog_of tables.old) out.new.items) }
-    ensures stays { (s : State) → Stands (D.state disk.old) tables.old s ↔ Stands
-        (D.state disk.new) tables.new s }
-    ensures catalog { KeepsCatalog tables.old tables.new }
-    ensures fault { (s : State) → Stands (D.state disk.old) tables.old s
-        → IfErr result IsFindFault }
-    ensures disk { Reads (D.state disk.old) (D.state disk.new) }
-    ensures cause { IsErrOf result TableFault.Failed
-        → Rose (D.state disk.old).faults (D.state disk.new).faults }
+    ensures only { OnlyReads (D.state disk.old) (D.state disk.new) tables.old tables.new }
+    ensures fails { FailsReading (D.state disk.old) (D.state disk.new) tables.old result }
 {
     if !has_time(tables, name) {
         return Ok(());
@@ -214,14 +189,8 @@ fn search_page<D: Disk>(
         ≡ left_in name.now t moment out.old.items from) }
     ensures few { OnOk result (length out.new.items ≤ MOST_EXPIRED) }
     ensures named { OnOk result (AreNamed (catalog_of tables.old) out.new.items) }
-    ensures stays { (s : State) → Stands (D.state disk.old) tables.old s ↔ Stands
-        (D.state disk.new) tables.new s }
-    ensures catalog { KeepsCatalog tables.old tables.new }
-    ensures fault { (s : State) → Stands (D.state disk.old) tables.old s
-        → IfErr result IsFindFault }
-    ensures disk { Reads (D.state disk.old) (D.state disk.new) }
-    ensures cause { IsErrOf result TableFault.Failed
-        → Rose (D.state disk.old).faults (D.state disk.new).faults }
+    ensures only { OnlyReads (D.state disk.old) (D.state disk.new) tables.old tables.new }
+    ensures fails { FailsReading (D.state disk.old) (D.state disk.new) tables.old result }
 {
     if out.len() >= MOST_EXPIRED {
         return Ok(None);
@@ -267,14 +236,8 @@ fn find_all<D: Disk>(
     ensures written { IfOk result (λ v. each written_at v.items ≡ each gone_at standings.items) }
     ensures found { (s : State) → Stands (D.state disk.old) tables.old s
         → IfOk result (λ v. Every (IsFound s) v.items) }
-    ensures stays { (s : State) → Stands (D.state disk.old) tables.old s ↔ Stands
-        (D.state disk.new) tables.new s }
-    ensures catalog { KeepsCatalog tables.old tables.new }
-    ensures fault { (s : State) → Stands (D.state disk.old) tables.old s
-        → IfErr result IsFindFault }
-    ensures disk { Reads (D.state disk.old) (D.state disk.new) }
-    ensures cause { IsErrOf result TableFault.Failed
-        → Rose (D.state disk.old).faults (D.state disk.new).faults }
+    ensures only { OnlyReads (D.state disk.old) (D.state disk.new) tables.old tables.new }
+    ensures fails { FailsReading (D.state disk.old) (D.state disk.new) tables.old result }
 {
     let mut changes = Vec::with_capacity(alloc, standings.len())?;
     for standing in standings {
@@ -294,14 +257,8 @@ fn find<D: Disk>(
     ensures written { IfOk result (λ c. written_at c ≡ gone_at standing) }
     ensures found { (s : State) → Stands (D.state disk.old) tables.old s
         → IfOk result (IsFound s) }
-    ensures stays { (s : State) → Stands (D.state disk.old) tables.old s ↔ Stands
-        (D.state disk.new) tables.new s }
-    ensures catalog { KeepsCatalog tables.old tables.new }
-    ensures fault { (s : State) → Stands (D.state disk.old) tables.old s
-        → IfErr result IsFindFault }
-    ensures disk { Reads (D.state disk.old) (D.state disk.new) }
-    ensures cause { IsErrOf result TableFault.Failed
-        → Rose (D.state disk.old).faults (D.state disk.new).faults }
+    ensures only { OnlyReads (D.state disk.old) (D.state disk.new) tables.old tables.new }
+    ensures fails { FailsReading (D.state disk.old) (D.state disk.new) tables.old result }
 {
     let Standing { table, place } = standing;
     let found = tables.find(disk, table.as_str(), place)?;

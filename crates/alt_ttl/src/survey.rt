@@ -1,15 +1,14 @@
 //! A list of the items that are due next, made by a walk over the items of all tables, up to its bound.
 
-ghost use Rattle.std.specs.Prelude.{◌≡◌, ◌↔◌, true, not, Some, IfOk, IfErr, OnOk, IsErrOf};
+ghost use Rattle.std.specs.Prelude.{◌≡◌, true, not, Some, IfOk, OnOk};
 ghost use Rattle.std.specs.FinMap as map;
-ghost use Rattle.alt_base.specs.Counts.{Rose};
 ghost use Rattle.alt_due.specs.Due.{KeepsKnown, is_before};
 ghost use Rattle.alt_due.specs.Order.{spot_of};
 ghost use Rattle.alt_machine.specs.State.{State, Table};
-ghost use Rattle.alt_request.specs.TablesFaults.{IsFindFault};
 ghost use Rattle.alt_request.specs.TablesForeseen.{Foresees};
+ghost use Rattle.alt_request.specs.TablesLooking.{FailsReading, OnlyReads};
 ghost use Rattle.alt_request.specs.TablesSeveral.{Every};
-ghost use Rattle.alt_request.specs.TablesStands.{AreReady, KeepsCatalog, Reads, Stands, catalog_of};
+ghost use Rattle.alt_request.specs.TablesStands.{AreReady, Stands, catalog_of};
 ghost use Rattle.alt_ttl.specs.private.Foresight.{ForeseesPlaced, ForeseesTable, LeadsOn};
 
 use crate::search::{PAGE, behind, has_time, names};
@@ -35,14 +34,8 @@ pub(crate) fn survey<D: Disk>(
     requires ready { AreReady (D.state disk.old) tables.old }
     ensures known { (s : State) → Stands (D.state disk.old) tables.old s
         → IfOk result (Foresees s.tables) }
-    ensures stays { (s : State) → Stands (D.state disk.old) tables.old s ↔ Stands
-        (D.state disk.new) tables.new s }
-    ensures catalog { KeepsCatalog tables.old tables.new }
-    ensures fault { (s : State) → Stands (D.state disk.old) tables.old s
-        → IfErr result IsFindFault }
-    ensures disk { Reads (D.state disk.old) (D.state disk.new) }
-    ensures cause { IsErrOf result TableFault.Failed
-        → Rose (D.state disk.old).faults (D.state disk.new).faults }
+    ensures only { OnlyReads (D.state disk.old) (D.state disk.new) tables.old tables.new }
+    ensures fails { FailsReading (D.state disk.old) (D.state disk.new) tables.old result }
 {
     let names = names(alloc, tables)?;
     let mut due = Due::begin(alloc, moment);
@@ -68,14 +61,8 @@ fn survey_table<D: Disk>(
     ensures known { (s : State) (t : Table) → Stands (D.state disk.old) tables.old s
         → map.get s.tables name.now ≡ Some t → OnOk result (ForeseesTable name.now t due.new) }
     ensures keeps { KeepsKnown due.old due.new }
-    ensures stays { (s : State) → Stands (D.state disk.old) tables.old s ↔ Stands
-        (D.state disk.new) tables.new s }
-    ensures catalog { KeepsCatalog tables.old tables.new }
-    ensures fault { (s : State) → Stands (D.state disk.old) tables.old s
-        → IfErr result IsFindFault }
-    ensures disk { Reads (D.state disk.old) (D.state disk.new) }
-    ensures cause { IsErrOf result TableFault.Failed
-        → Rose (D.state disk.old).faults (D.state disk.new).faults }
+    ensures only { OnlyReads (D.state disk.old) (D.state disk.new) tables.old tables.new }
+    ensures fails { FailsReading (D.state disk.old) (D.state disk.new) tables.old result }
 {
     if !has_time(tables, name) {
         return Ok(());
@@ -106,14 +93,8 @@ fn survey_page<D: Disk>(
         → map.get s.tables name.now ≡ Some t
         → IfOk result (LeadsOn name.now t from due.new) }
     ensures keeps { KeepsKnown due.old due.new }
-    ensures stays { (s : State) → Stands (D.state disk.old) tables.old s ↔ Stands
-        (D.state disk.new) tables.new s }
-    ensures catalog { KeepsCatalog tables.old tables.new }
-    ensures fault { (s : State) → Stands (D.state disk.old) tables.old s
-        → IfErr result IsFindFault }
-    ensures disk { Reads (D.state disk.old) (D.state disk.new) }
-    ensures cause { IsErrOf result TableFault.Failed
-        → Rose (D.state disk.old).faults (D.state disk.new).faults }
+    ensures only { OnlyReads (D.state disk.old) (D.state disk.new) tables.old tables.new }
+    ensures fails { FailsReading (D.state disk.old) (D.state disk.new) tables.old result }
 {
     if ends_by(due, name, from.as_slice()) {
         return Ok(None);

@@ -49,7 +49,7 @@ returns-in_err-read-clause-carried g c =
     (read_stopped (λ s. batch_get_item s ms)
     (Stands (g.D.Disk.state c.args.disk.now) c.args.tables.now) now _ c.in_err-read.field-0.0
     c.in_err-read.ensures.fault c.in_err-read.ensures.failed
-    (λ s stands. (c.in_err-read.ensures.stays s).0 stands))
+    (λ s stands. (c.in_err-read.ensures.only.stays s).0 stands))
 
 pub returns-in_err-read-clause-moves : goal.returns-in_err-read-clause-moves
 returns-in_err-read-clause-moves g c =
@@ -58,7 +58,7 @@ returns-in_err-read-clause-moves g c =
     subst (Moves _ _ before after) (sym (err_is c.from_residual-in_err-read.result
     c.in_err-read.field-0.0 c.from_residual-in_err-read.ensures))
     (moves_reads _ c.args.tables.now before after (Err c.in_err-read.field-0.0)
-    c.in_err-read.ensures.disk (read_failed _ c.in_err-read.field-0.0 c.in_err-read.ensures.failed))
+    c.in_err-read.ensures.only.disk (read_failed _ c.in_err-read.field-0.0 c.in_err-read.ensures.failed))
 
 pub returns-clause-carried : goal.returns-clause-carried
 returns-clause-carried g c =
@@ -72,12 +72,12 @@ returns-clause-carried g c =
     asked_of (λ catalog. reads_asked catalog ms) (λ s. batch_get_item s ms) go
     (get_is ms) c.in_ok-asked.asked c.in_ok-asked.ensures.asked s stands
     ∙ ap (λ read. says (read_answer read)) (sym (c.in_ok-read.ensures.read s stands)))
-    (λ s stands. (c.in_ok-read.ensures.stays s).0 stands)
+    (λ s stands. (c.in_ok-read.ensures.only.stays s).0 stands)
 
 pub returns-clause-moves : goal.returns-clause-moves
 returns-clause-moves g c =
     moves_reads _ c.args.tables.now (g.D.Disk.state c.args.disk.now)
-    (g.D.Disk.state c.read_all.new.disk) c.read_reply.result c.in_ok-read.ensures.disk
+    (g.D.Disk.state c.read_all.new.disk) c.read_reply.result c.in_ok-read.ensures.only.disk
     (reply_unfailed _ c.read_reply.result c.read_reply.ensures.cause)
 
 pub returns-in_err-asked-clause-disk : goal.returns-in_err-asked-clause-disk

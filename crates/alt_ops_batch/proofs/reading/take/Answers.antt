@@ -5,19 +5,15 @@ use Rattle.std.proofs.lemmas.List.{nil_from_length}
 use Rattle.alt_disk.specs.Disk.{DiskState}
 use Rattle.alt_machine.specs.declared.PlacedMember.{PlacedMember}
 use Rattle.alt_ops_batch.proofs.Taking.{AreTaken, taken_more, all_taken}
-use Rattle.alt_request.proofs.TablesLeft.{ready_on}
+use Rattle.alt_request.proofs.TablesLooking.{only_then, ready_only}
 use Rattle.alt_ops_batch.proofs.reading.take.Goals as goal
 
 pub take_key-requires-clause-ready : goal.take_key-requires-clause-ready
-take_key-requires-clause-ready g c = ready_on (g.D.Disk.state c.args.disk.now)
-    (g.D.Disk.state c.loop-key.disk) c.args.tables.now c.loop-key.tables
-    c.loop-key.invariant.kept.reads.goes c.loop-key.invariant.kept.stays c.requires.ready
+take_key-requires-clause-ready g c = ready_only c.loop-key.invariant.only c.requires.ready
 
-pub returns-in_err-take_key-clause-stays : goal.returns-in_err-take_key-clause-stays
-returns-in_err-take_key-clause-stays g c s =
-    let before = c.loop-key.invariant.kept.stays s in
-    let behind = c.take_key.ensures.stays s in
-    (λ stands. behind.0 (before.0 stands), λ stands. before.1 (behind.1 stands))
+pub returns-in_err-take_key-clause-only : goal.returns-in_err-take_key-clause-only
+returns-in_err-take_key-clause-only g c =
+    only_then c.loop-key.invariant.only c.take_key.ensures.only
 
 pub loop-key-preserved : goal.loop-key-preserved
 loop-key-preserved g c =
@@ -34,12 +30,8 @@ loop-key-preserved g c =
     taken_more before mid after c.args.tables.now c.loop-key.tables c.take_key.new.tables
     c.args.projection.now c.args.size.now keys c.loop-key.taken c.take_key.new.taken c.loop-key.size
     c.take_key.new.size c.in-Some.key rest so
-    (record {
-      reads = c.in_ok-take_key.ensures.disk;
-      stays = c.in_ok-take_key.ensures.stays;
-      catalog = c.in_ok-take_key.ensures.catalog;
-    })
-    c.in_ok-take_key.ensures.bounded c.in_ok-take_key.ensures.plain c.in_ok-take_key.ensures.takes
+    c.in_ok-take_key.ensures.only c.in_ok-take_key.ensures.bounded c.in_ok-take_key.ensures.plain
+    c.in_ok-take_key.ensures.takes
 
 pub returns-clause-taken : goal.returns-clause-taken
 returns-clause-taken g c s stands =

@@ -8,7 +8,7 @@ use Rattle.alt_machine.specs.State.{Texts}
 use Rattle.alt_request.specs.TablesSeveral.{MayWrite}
 use Rattle.alt_ops_batch.proofs.Finding.{AreFound, found_one}
 use Rattle.alt_schema.specs.declared.schema.TableSchema.{TableSchema}
-use Rattle.alt_request.proofs.TablesLeft.{ready_on}
+use Rattle.alt_request.proofs.TablesLooking.{only_then, ready_only}
 use Rattle.alt_ops_batch.proofs.write.find_all.Goals as goal
 
 pub find-requires : goal.find-requires
@@ -22,10 +22,9 @@ find-requires g c =
     subst (λ l. AreFound before c.args.tables.now mid c.loop-member.tables members l
     c.loop-member.changes.items) c.in-Some.ensures.steps.0 c.loop-member.invariant in
     record {
-      ready = ready_on before mid c.args.tables.now c.loop-member.tables so.reads.goes so.stays
-          c.requires.ready;
+      ready = ready_only so.only c.requires.ready;
       may = subst (λ (k : Texts TableSchema). MayWrite k (written_by c.in-Some.member))
-          (sym so.catalog.catalog) so.may.0;
+          (sym so.only.catalog.catalog) so.may.0;
     }
 
 pub loop-member-preserved : goal.loop-member-preserved
@@ -42,18 +41,11 @@ loop-member-preserved g c =
     rw c.in_ok-push.ensures.items
     (found_one before mid after c.args.tables.now c.loop-member.tables
     c.find.new.tables members rest
-    c.in-Some.member c.loop-member.changes.items c.in_ok-find.field-0 so c.in_ok-find.ensures.disk
-    c.in_ok-find.ensures.stays c.in_ok-find.ensures.catalog c.in_ok-find.ensures.written
-    c.in_ok-find.ensures.found)
+    c.in-Some.member c.loop-member.changes.items c.in_ok-find.field-0 so c.in_ok-find.ensures.only
+    c.in_ok-find.ensures.written c.in_ok-find.ensures.found)
 
-pub returns-in_err-find-clause-stays : goal.returns-in_err-find-clause-stays
-returns-in_err-find-clause-stays g c s =
-    let before = c.loop-member.invariant.stays s in
-    let behind = c.in_err-find.ensures.stays s in
-    (λ stands. behind.0 (before.0 stands), λ stands. before.1 (behind.1 stands))
+pub returns-in_err-find-clause-only : goal.returns-in_err-find-clause-only
+returns-in_err-find-clause-only g c = only_then c.loop-member.invariant.only c.find.ensures.only
 
-pub returns-in_err-push-clause-stays : goal.returns-in_err-push-clause-stays
-returns-in_err-push-clause-stays g c s =
-    let before = c.loop-member.invariant.stays s in
-    let behind = c.in_ok-find.ensures.stays s in
-    (λ stands. behind.0 (before.0 stands), λ stands. before.1 (behind.1 stands))
+pub returns-in_err-push-clause-only : goal.returns-in_err-push-clause-only
+returns-in_err-push-clause-only g c = only_then c.loop-member.invariant.only c.find.ensures.only

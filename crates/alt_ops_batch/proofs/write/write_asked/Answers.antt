@@ -26,7 +26,7 @@ use Rattle.alt_request.specs.TablesFaults.{AreAllMade, BreakOffAll}
 use Rattle.alt_request.specs.TablesImages.{Leaves}
 use Rattle.alt_request.specs.TablesStands.{Stands, catalog_of, bounds_of}
 use Rattle.alt_request.specs.TablesDeclaredItemChange.{ItemChange}
-use Rattle.alt_request.proofs.TablesLeft.{ready_on}
+use Rattle.alt_request.proofs.TablesLooking.{ready_only}
 use Rattle.alt_ops_batch.proofs.write.write_asked.Goals as goal
 
 -- what came of the writes that are asked for is what was handed
@@ -71,7 +71,7 @@ returns-in_err-changes-clause-carried g c = λ ms h.
     c.from_residual-in_err-changes.ensures))
     (unfound (λ s. batch_write_item s c.args.moment ms)
     (Stands (g.D.Disk.state c.args.disk.now) c.args.tables.now) now c.in_err-changes.field-0.0
-    c.in_err-changes.ensures.fault (λ s stands. (c.in_err-changes.ensures.stays s).0 stands))
+    c.in_err-changes.ensures.fails.fault (λ s stands. (c.in_err-changes.ensures.only.stays s).0 stands))
 
 pub returns-in_err-changes-clause-moves : goal.returns-in_err-changes-clause-moves
 returns-in_err-changes-clause-moves g c = λ ms h.
@@ -81,8 +81,8 @@ returns-in_err-changes-clause-moves g c = λ ms h.
     (sym (err_is c.from_residual-in_err-changes.result (Fault c.in_err-changes.field-0.0)
     c.from_residual-in_err-changes.ensures))
     (moves_reads _ c.args.tables.now before after (Err (Fault c.in_err-changes.field-0.0))
-    c.in_err-changes.ensures.disk
-    (failed_fault c.in_err-changes.field-0.0 _ c.in_err-changes.ensures.cause))
+    c.in_err-changes.ensures.only.disk
+    (failed_fault c.in_err-changes.field-0.0 _ c.in_err-changes.ensures.fails.cause))
 
 pub returns-in_err-reply-clause-carried : goal.returns-in_err-reply-clause-carried
 returns-in_err-reply-clause-carried g c = λ ms h.
@@ -93,7 +93,7 @@ returns-in_err-reply-clause-carried g c = λ ms h.
     c.from_residual-in_err-reply.ensures))
     (faulted_as (λ s. batch_write_item s c.args.moment ms)
     (Stands (g.D.Disk.state c.args.disk.now) c.args.tables.now) now c.in_err-reply.field-0.0
-    c.in_err-reply.ensures.cause (λ s stands. (c.in_ok-changes.ensures.stays s).0 stands))
+    c.in_err-reply.ensures.cause (λ s stands. (c.in_ok-changes.ensures.only.stays s).0 stands))
 
 pub returns-in_err-reply-clause-moves : goal.returns-in_err-reply-clause-moves
 returns-in_err-reply-clause-moves g c = λ ms h.
@@ -102,7 +102,7 @@ returns-in_err-reply-clause-moves g c = λ ms h.
     subst (Moves _ _ before after) (sym (err_is c.from_residual-in_err-reply.result
     c.in_err-reply.field-0.0 c.from_residual-in_err-reply.ensures))
     (moves_reads _ c.args.tables.now before after (Err c.in_err-reply.field-0.0)
-    c.in_ok-changes.ensures.disk
+    c.in_ok-changes.ensures.only.disk
     (memory_unfailed _ c.in_err-reply.field-0.0 c.in_err-reply.ensures.cause))
 
 pub write_all-requires : goal.write_all-requires
@@ -112,18 +112,16 @@ write_all-requires g c =
     let catalog : Texts TableSchema = catalog_of c.args.tables.now in
     let is = then_asked catalog ms _ _ c.in_ok-members.was h in
     record {
-      ready = ready_on (g.D.Disk.state c.args.disk.now) (g.D.Disk.state c.find_all.new.disk)
-          c.args.tables.now c.find_all.new.tables c.in_ok-changes.ensures.disk.goes
-          c.in_ok-changes.ensures.stays c.requires.ready;
+      ready = ready_only c.in_ok-changes.ensures.only c.requires.ready;
       may = subst (λ (k : Texts TableSchema). Every (MayWrite k)
           (map written_at c.in_ok-changes.changes.items))
-          (sym c.in_ok-changes.ensures.catalog.catalog)
+          (sym c.in_ok-changes.ensures.only.catalog.catalog)
           (subst (Every (MayWrite catalog)) (sym c.in_ok-changes.ensures.written)
           (asked_may_write catalog ms there is));
       apart = subst AreAllApart (sym c.in_ok-changes.ensures.written)
           (all_apart there (asked_once catalog ms there is));
       found = λ s stands. c.in_ok-changes.ensures.found s
-          ((c.in_ok-changes.ensures.stays s).1 stands);
+          ((c.in_ok-changes.ensures.only.stays s).1 stands);
     }
 
 pub returns-in_err-write_all-clause-carried : goal.returns-in_err-write_all-clause-carried
@@ -149,8 +147,8 @@ returns-in_err-write_all-clause-carried g c = λ ms h.
           (subst (λ (n : ℕ). BreakOffAll n now s
           (writes_of_all s c.args.moment (map written_at c.in_ok-changes.changes.items))
           c.in_err-write_all.field-0.0)
-          (file_stays c.args.tables.now c.find_all.new.tables c.in_ok-changes.ensures.catalog.limits)
-          (c.in_err-write_all.ensures.writes s ((c.in_ok-changes.ensures.stays s).0 stands))),
+          (file_stays c.args.tables.now c.find_all.new.tables c.in_ok-changes.ensures.only.catalog.limits)
+          (c.in_err-write_all.ensures.writes s ((c.in_ok-changes.ensures.only.stays s).0 stands))),
     )))
 
 pub returns-clause-carried : goal.returns-clause-carried
@@ -169,7 +167,7 @@ returns-clause-carried g c = λ ms h.
           (map written_by c.in_ok-members.members.items))) (sym c.in_ok-reply.ensures.reply),
       subst (λ ws. AreAllMade now s (writes_of_all s c.args.moment ws))
           c.in_ok-changes.ensures.written
-          (c.in_ok-write_all.ensures.writes s ((c.in_ok-changes.ensures.stays s).0 stands)),
+          (c.in_ok-write_all.ensures.writes s ((c.in_ok-changes.ensures.only.stays s).0 stands)),
     ))
 
 -- what the writes leave is what the one write of the outcome leaves
@@ -190,7 +188,7 @@ returns-in_err-write_all-clause-moves g c = λ ms h.
     subst (Moves _ _ before after) (sym (err_is c.from_residual-in_err-write_all.result
     (Fault c.in_err-write_all.field-0.0) c.from_residual-in_err-write_all.ensures))
     (writes_move _ _ c.args.tables.now before (λ s stands. stands) read after
-    (Err (Fault c.in_err-write_all.field-0.0)) c.in_ok-changes.ensures.disk
+    (Err (Fault c.in_err-write_all.field-0.0)) c.in_ok-changes.ensures.only.disk
     c.in_err-write_all.ensures.goes
     (λ s stands. leaves_by read after s c.args.moment c.in_ok-members.members.items
     c.in_ok-changes.changes.items c.in_ok-changes.ensures.written
@@ -198,12 +196,12 @@ returns-in_err-write_all-clause-moves g c = λ ms h.
     (asked_is before c.args.tables.now listed (λ catalog. writes_asked catalog ms)
     (λ s. batch_write_item s c.args.moment ms) (go c.args.moment) (write_is c.args.moment ms)
     c.in_ok-members.members (then_asked _ ms _ _ c.in_ok-members.was h) s stands)
-    (c.in_err-write_all.ensures.disk s ((c.in_ok-changes.ensures.stays s).0 stands)))
+    (c.in_err-write_all.ensures.disk s ((c.in_ok-changes.ensures.only.stays s).0 stands)))
     tt (failed_fault c.in_err-write_all.field-0.0 _ c.in_err-write_all.ensures.cause)
     (λ s stands. wanting_fault c.in_err-write_all.field-0.0 _ (λ none.
     read_wants read after c.find_all.new.tables s (batch_write_item s c.args.moment ms).wants
     (batch_write_item s c.args.moment ms).atoms (c.in_err-write_all.ensures.no_memory none)
-    ((c.in_ok-changes.ensures.stays s).0 stands))))
+    ((c.in_ok-changes.ensures.only.stays s).0 stands))))
 
 pub returns-clause-moves : goal.returns-clause-moves
 returns-clause-moves g c = λ ms h.
@@ -211,13 +209,13 @@ returns-clause-moves g c = λ ms h.
     let read : DiskState = g.D.Disk.state c.find_all.new.disk in
     let after : DiskState = g.D.Disk.state c.write_all.new.disk in
     writes_move _ _ c.args.tables.now before (λ s stands. stands) read after
-    (Ok c.in_ok-reply.reply) c.in_ok-changes.ensures.disk c.in_ok-write_all.ensures.goes
+    (Ok c.in_ok-reply.reply) c.in_ok-changes.ensures.only.disk c.in_ok-write_all.ensures.goes
     (λ s stands. leaves_by read after s c.args.moment c.in_ok-members.members.items
     c.in_ok-changes.changes.items c.in_ok-changes.ensures.written
     (batch_write_item s c.args.moment ms)
     (asked_is before c.args.tables.now listed (λ catalog. writes_asked catalog ms)
     (λ s. batch_write_item s c.args.moment ms) (go c.args.moment) (write_is c.args.moment ms)
     c.in_ok-members.members (then_asked _ ms _ _ c.in_ok-members.was h) s stands)
-    (c.in_ok-write_all.ensures.disk s ((c.in_ok-changes.ensures.stays s).0 stands)))
+    (c.in_ok-write_all.ensures.disk s ((c.in_ok-changes.ensures.only.stays s).0 stands)))
     (unrefused c.in_ok-reply.reply _ (ap (λ (a : Answer). a.status) c.in_ok-reply.ensures.reply)) tt
     (λ s stands. tt)

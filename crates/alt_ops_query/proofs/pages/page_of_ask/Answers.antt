@@ -22,7 +22,7 @@ returns-clause-does g c s t stands at =
     let i = index_at t.description c.args.index in
     let list : List (List Pair) =
     items_between t i c.args.range.from c.args.range.to c.args.forward in
-    let then = (c.fill.ensures.stays s).0 stands in
+    let then = (c.fill.ensures.only.stays s).0 stands in
     let filled = c.in_ok-fill.ensures.filled s t c.args.ask stands
     (ap (map.get s.tables) c.table_name-name.ensures.name ∙ at)
     c.new-pager.ensures.offered in
@@ -47,7 +47,7 @@ returns-in_err-fill-clause-does g c s t stands at =
     c.from_residual.result c.in_err-fill.field-0.0 c.from_residual.ensures
     (c.in_err-fill.ensures.fault s t c.args.ask stands
     (ap (map.get s.tables) c.table_name-name.ensures.name ∙ at)
-    c.new-pager.ensures.offered) ((c.fill.ensures.stays s).0 stands)
+    c.new-pager.ensures.offered) ((c.fill.ensures.only.stays s).0 stands)
 
 pub returns-clause-reads : goal.returns-clause-reads
 returns-clause-reads g c s t maps stands at has =

@@ -29,7 +29,7 @@ returns-in_err-found-clause-does g c s t stands there =
     subst (Does file now s (finds g.R.ItemRead.answer c.args.said.now t c.args.place))
     (sym (err_is c.from_residual.result (Fault c.in_err-found.field-0.0) c.from_residual.ensures))
     (unread file now s (finds g.R.ItemRead.answer c.args.said.now t c.args.place) c.in_err-found.field-0.0
-    (c.in_err-found.ensures.fault s stands) ((c.in_err-found.ensures.stays s).0 stands))
+    (c.in_err-found.ensures.fails.fault s stands) ((c.in_err-found.ensures.only.stays s).0 stands))
 
 pub returns-in_err-found-clause-plain : goal.returns-in_err-found-clause-plain
 returns-in_err-found-clause-plain g c = subst IsPlain
@@ -49,7 +49,7 @@ returns-clause-does g c s t stands there =
     (does_say file now (answer c.in_ok-found.found.item) s c.reply.result
     (says_so (answer c.in_ok-found.found.item) c.reply.result c.reply.ensures.reply
     c.reply.ensures.plain c.reply.ensures.cause)
-    ((c.in_ok-found.ensures.stays s).0 stands))
+    ((c.in_ok-found.ensures.only.stays s).0 stands))
 
 pub returns-clause-plain : goal.returns-clause-plain
 returns-clause-plain g c = plain_so c.reply.result c.reply.ensures.plain
@@ -62,11 +62,11 @@ returns-in_err-found-clause-moves g c t =
     subst (Moves _ _ before after)
     (sym (err_is c.from_residual.result (Fault c.in_err-found.field-0.0) c.from_residual.ensures))
     (reads_move _ _ c.args.tables.now before (λ s h. h.0) after
-    (Err (Fault c.in_err-found.field-0.0)) c.in_err-found.ensures.disk
-    (failed_fault c.in_err-found.field-0.0 _ c.in_err-found.ensures.cause))
+    (Err (Fault c.in_err-found.field-0.0)) c.in_err-found.ensures.only.disk
+    (failed_fault c.in_err-found.field-0.0 _ c.in_err-found.ensures.fails.cause))
 
 pub returns-clause-moves : goal.returns-clause-moves
 returns-clause-moves g c t =
     reads_move _ _ c.args.tables.now (g.D.Disk.state c.args.disk.now) (λ s h. h.0)
-    (g.D.Disk.state c.find.new.disk) c.reply.result c.in_ok-found.ensures.disk
+    (g.D.Disk.state c.find.new.disk) c.reply.result c.in_ok-found.ensures.only.disk
     (reply_unfailed _ c.reply.result c.reply.ensures.cause)

@@ -18,7 +18,7 @@ use Rattle.alt_request.proofs.Named.{table_found}
 use Rattle.alt_request.proofs.Working.{works_unfound, works_told, works_stopped, works_wrote, works_broke}
 use Rattle.alt_schema.specs.declared.schema.TableSchema.{TableSchema}
 use Rattle.alt_shape.specs.Refusals.{answer_of}
-use Rattle.alt_said.proofs.TablesLeft.{ready_on}
+use Rattle.alt_said.proofs.TablesLooking.{ready_only}
 use Rattle.alt_said.proofs.TablesStanding.{file_stays}
 use Rattle.alt_said.specs.TablesFaults.{BreakOff}
 use Rattle.alt_said.specs.TablesStands.{Stands, catalog_of}
@@ -37,10 +37,10 @@ returns-in-Err g c = record {
       works_unfound (λ s. changes g.W.ItemWrite.says s c.args.moment ms c.args.said.now c.args.item t
       c.args.place) (λ s. Stands before c.args.tables.now s
       × (map.get s.tables (table_name ms) ≡ Some t)) (Stands read c.find.new.self)
-      c.args.tables.now before read (λ s h. h.0) c.in-Err.ensures.disk c.in-Err.fault
-      (λ s h. c.in-Err.ensures.fault s h.0) (λ s h. (c.in-Err.ensures.stays s).0 h.0)
-      c.in-Err.ensures.cause;
-  limits = c.in-Err.ensures.catalog.limits;
+      c.args.tables.now before read (λ s h. h.0) c.in-Err.ensures.only.disk c.in-Err.fault
+      (λ s h. c.in-Err.ensures.fails.fault s h.0) (λ s h. (c.in-Err.ensures.only.stays s).0 h.0)
+      c.in-Err.ensures.fails.cause;
+  limits = c.in-Err.ensures.only.catalog.limits;
 }
 
 pub returns-in-Ok-Told : goal.returns-in-Ok-Told
@@ -56,17 +56,17 @@ returns-in-Ok-Told g c = record {
       let there : (s : State) → old s → map.get s.tables name ≡ Some t =
       λ s h. ap (map.get s.tables) c.table_name-name.ensures.name ∙ h.1 in
       works_told (λ s. changes w s c.args.moment ms c.args.said.now c.args.item t c.args.place) old
-      (Stands read c.find.new.self) c.args.tables.now before read (λ s h. h.0) c.in-Ok.ensures.disk
+      (Stands read c.find.new.self) c.args.tables.now before read (λ s h. h.0) c.in-Ok.ensures.only.disk
       c.args.moment name t c.in-Ok.found.place
       (decision w ms c.in-Some.schema.now c.args.said.now c.args.item c.in-Ok.found.item)
       (λ s h. comes_decided w s c.args.moment ms c.args.said.now c.args.item t c.args.place
       c.in-Some.schema.now c.in-Ok.found.item read c.find.new.self name c.in-Ok.found.place
       c.table_name-name.ensures.name c.in-Ok.ensures.place c.in-Some.ensures.table
-      ((c.in-Ok.ensures.stays s).0 h.0) (there s h)
+      ((c.in-Ok.ensures.only.stays s).0 h.0) (there s h)
       (c.in-Ok.ensures.item s h.0 t (there s h)))
-      (λ s h. (c.in-Ok.ensures.stays s).0 h.0) c.in-Ok-Told.reply
+      (λ s h. (c.in-Ok.ensures.only.stays s).0 h.0) c.in-Ok-Told.reply
       (rw c.in-Ok-Told.field-0-is at c.in-Ok-Told.ensures.decides);
-  limits = c.in-Ok.ensures.catalog.limits;
+  limits = c.in-Ok.ensures.only.catalog.limits;
 }
 
 pub returns-in-Err-decide : goal.returns-in-Err-decide
@@ -82,17 +82,17 @@ returns-in-Err-decide g c = record {
       let there : (s : State) → old s → map.get s.tables name ≡ Some t =
       λ s h. ap (map.get s.tables) c.table_name-name.ensures.name ∙ h.1 in
       works_stopped (λ s. changes w s c.args.moment ms c.args.said.now c.args.item t c.args.place) old
-      (Stands read c.find.new.self) c.args.tables.now before read (λ s h. h.0) c.in-Ok.ensures.disk
+      (Stands read c.find.new.self) c.args.tables.now before read (λ s h. h.0) c.in-Ok.ensures.only.disk
       c.args.moment name t c.in-Ok.found.place
       (decision w ms c.in-Some.schema.now c.args.said.now c.args.item c.in-Ok.found.item)
       (λ s h. comes_decided w s c.args.moment ms c.args.said.now c.args.item t c.args.place
       c.in-Some.schema.now c.in-Ok.found.item read c.find.new.self name c.in-Ok.found.place
       c.table_name-name.ensures.name c.in-Ok.ensures.place c.in-Some.ensures.table
-      ((c.in-Ok.ensures.stays s).0 h.0) (there s h)
+      ((c.in-Ok.ensures.only.stays s).0 h.0) (there s h)
       (c.in-Ok.ensures.item s h.0 t (there s h)))
-      (λ s h. (c.in-Ok.ensures.stays s).0 h.0) c.in-Err-decide.stop
+      (λ s h. (c.in-Ok.ensures.only.stays s).0 h.0) c.in-Err-decide.stop
       c.in-Err-decide.ensures.decides;
-  limits = c.in-Ok.ensures.catalog.limits;
+  limits = c.in-Ok.ensures.only.catalog.limits;
 }
 
 pub returns-in-Ok-write : goal.returns-in-Ok-write
@@ -109,25 +109,25 @@ returns-in-Ok-write g c = record {
       λ s h. ap (map.get s.tables) c.table_name-name.ensures.name ∙ h.1 in
       let after : DiskState = g.D.Disk.state c.write.new.disk in
       works_wrote (λ s. changes w s c.args.moment ms c.args.said.now c.args.item t c.args.place) old
-      (Stands after c.write.new.self) c.args.tables.now before read (λ s h. h.0) c.in-Ok.ensures.disk
+      (Stands after c.write.new.self) c.args.tables.now before read (λ s h. h.0) c.in-Ok.ensures.only.disk
       c.args.moment name t c.in-Ok.found.place
       (decision w ms c.in-Some.schema.now c.args.said.now c.args.item c.in-Ok.found.item)
       (λ s h. comes_decided w s c.args.moment ms c.args.said.now c.args.item t c.args.place
       c.in-Some.schema.now c.in-Ok.found.item read c.find.new.self name c.in-Ok.found.place
       c.table_name-name.ensures.name c.in-Ok.ensures.place c.in-Some.ensures.table
-      ((c.in-Ok.ensures.stays s).0 h.0) (there s h)
+      ((c.in-Ok.ensures.only.stays s).0 h.0) (there s h)
       (c.in-Ok.ensures.item s h.0 t (there s h)))
       c.in-Ok-Left.new c.in-Ok-Left.reply
       (rw c.in-Ok-Left.field-0-is at c.in-Ok-Left.ensures.decides) after
       c.in-Ok-write.ensures.goes
-      (λ s h. c.in-Ok-write.ensures.disk s t ((c.in-Ok.ensures.stays s).0 h.0) (there s h))
-      (λ s h. c.in-Ok-write.ensures.writes s t ((c.in-Ok.ensures.stays s).0 h.0) (there s h))
+      (λ s h. c.in-Ok-write.ensures.disk s t ((c.in-Ok.ensures.only.stays s).0 h.0) (there s h))
+      (λ s h. c.in-Ok-write.ensures.writes s t ((c.in-Ok.ensures.only.stays s).0 h.0) (there s h))
       (let decided : Decides (decision w ms c.in-Some.schema.now c.args.said.now c.args.item
       c.in-Ok.found.item) (Ok (Left c.in-Ok-Left.new c.in-Ok-Left.reply)) =
       rw c.in-Ok-Left.field-0-is at c.in-Ok-Left.ensures.decides in
       left_answered w ms c.in-Some.schema.now c.args.said.now c.args.item c.in-Ok.found.item
       c.in-Ok-Left.new (answer_of c.in-Ok-Left.reply) decided.0);
-  limits = c.in-Ok-write.ensures.limits ∙ c.in-Ok.ensures.catalog.limits;
+  limits = c.in-Ok-write.ensures.limits ∙ c.in-Ok.ensures.only.catalog.limits;
 }
 
 pub returns-in-Err-write : goal.returns-in-Err-write
@@ -144,31 +144,29 @@ returns-in-Err-write g c = record {
       λ s h. ap (map.get s.tables) c.table_name-name.ensures.name ∙ h.1 in
       let after : DiskState = g.D.Disk.state c.write.new.disk in
       works_broke (λ s. changes w s c.args.moment ms c.args.said.now c.args.item t c.args.place) old
-      (Stands after c.write.new.self) c.args.tables.now before read (λ s h. h.0) c.in-Ok.ensures.disk
+      (Stands after c.write.new.self) c.args.tables.now before read (λ s h. h.0) c.in-Ok.ensures.only.disk
       c.args.moment name t c.in-Ok.found.place
       (decision w ms c.in-Some.schema.now c.args.said.now c.args.item c.in-Ok.found.item)
       (λ s h. comes_decided w s c.args.moment ms c.args.said.now c.args.item t c.args.place
       c.in-Some.schema.now c.in-Ok.found.item read c.find.new.self name c.in-Ok.found.place
       c.table_name-name.ensures.name c.in-Ok.ensures.place c.in-Some.ensures.table
-      ((c.in-Ok.ensures.stays s).0 h.0) (there s h)
+      ((c.in-Ok.ensures.only.stays s).0 h.0) (there s h)
       (c.in-Ok.ensures.item s h.0 t (there s h)))
       c.in-Ok-Left.new c.in-Ok-Left.reply
       (rw c.in-Ok-Left.field-0-is at c.in-Ok-Left.ensures.decides) after
       c.in-Err-write.ensures.goes
-      (λ s h. c.in-Err-write.ensures.disk s t ((c.in-Ok.ensures.stays s).0 h.0) (there s h))
+      (λ s h. c.in-Err-write.ensures.disk s t ((c.in-Ok.ensures.only.stays s).0 h.0) (there s h))
       c.in-Err-write.fault
       (λ s h. subst (λ (n : ℕ). BreakOff n (Stands after c.write.new.self) a_number s
       (item_writes s c.args.moment name t c.in-Ok.found.place c.in-Ok-Left.new) c.in-Err-write.fault)
-      (file_stays c.args.tables.now c.find.new.self c.in-Ok.ensures.catalog.limits)
-      (c.in-Err-write.ensures.writes s t ((c.in-Ok.ensures.stays s).0 h.0) (there s h)))
+      (file_stays c.args.tables.now c.find.new.self c.in-Ok.ensures.only.catalog.limits)
+      (c.in-Err-write.ensures.writes s t ((c.in-Ok.ensures.only.stays s).0 h.0) (there s h)))
       c.in-Err-write.ensures.cause c.in-Err-write.ensures.no_memory;
-  limits = c.in-Err-write.ensures.limits ∙ c.in-Ok.ensures.catalog.limits;
+  limits = c.in-Err-write.ensures.limits ∙ c.in-Ok.ensures.only.catalog.limits;
 }
 
 pub write-requires-clause-ready : goal.write-requires-clause-ready
-write-requires-clause-ready g c = ready_on (g.D.Disk.state c.args.disk.now)
-    (g.D.Disk.state c.find.new.disk) c.args.tables.now c.find.new.self
-    c.in-Ok.ensures.disk.goes c.in-Ok.ensures.stays c.requires.ready
+write-requires-clause-ready g c = ready_only c.in-Ok.ensures.only c.requires.ready
 
 pub write-requires-clause-new : goal.write-requires-clause-new
 write-requires-clause-new g c s stands d there =
@@ -177,7 +175,7 @@ write-requires-clause-new g c s stands d there =
     let decided : Decides (decision w (members_view c.args.body.now.entries) c.in-Some.schema.now
     c.args.said.now c.args.item c.in-Ok.found.item) (Ok (Left new c.in-Ok-Left.reply)) =
     rw c.in-Ok-Left.field-0-is at c.in-Ok-Left.ensures.decides in
-    let stood = (c.in-Ok.ensures.stays s).1 stands in
+    let stood = (c.in-Ok.ensures.only.stays s).1 stands in
     let (t, at, same) = table_found s (catalog_of c.find.new.self) (sym stands.catalog)
     c.table_name-name.result.now d there in
     let found = c.in-Ok.ensures.item s stood t at

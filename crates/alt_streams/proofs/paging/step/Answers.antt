@@ -13,7 +13,7 @@ pub returns-in_err-more-clause-fault : goal.returns-in_err-more-clause-fault
 returns-in_err-more-clause-fault g c s stands =
     let got = c.in_ok-changes.changes.items in
     let (t, at) = there (g.D.Disk.state c.args.disk.now) c.args.tables.now s stands c.args.table.now
-    c.changes.new.self c.changes.ensures.catalog c.in-Some.schema.now c.in-Some.ensures.table in
+    c.changes.new.self c.changes.ensures.only.catalog c.in-Some.schema.now c.in-Some.ensures.table in
     read_found c.from_residual-in_err-more.result c.in_err-more.field-0.0
     c.from_residual-in_err-more.ensures (c.in_err-more.ensures.fault
     (subst (All IsFit) (sym (c.in_ok-changes.ensures.changes s t stands at))
@@ -26,7 +26,7 @@ returns-then-not-more-clause-steps g c s t shows most from seen stands at view h
     c.in_ok-changes.ensures.changes s t stands at in
     let same = described (g.D.Disk.state c.args.disk.now) c.args.tables.now s stands
     c.args.table.now
-    c.changes.new.self c.changes.ensures.catalog c.in-Some.schema.now
+    c.changes.new.self c.changes.ensures.only.catalog c.in-Some.schema.now
     c.in-Some.ensures.table t at in
     let fit : All IsFit got = subst (All IsFit) (sym is)
     (piece_fit s stands.valid c.args.table.now t at c.args.page.now.next c.piece-most.result) in
@@ -59,7 +59,7 @@ returns-clause-steps g c s t shows most from seen stands at view h =
     c.in_ok-changes.ensures.changes s t stands at in
     let same = described (g.D.Disk.state c.args.disk.now) c.args.tables.now s stands
     c.args.table.now
-    c.changes.new.self c.changes.ensures.catalog c.in-Some.schema.now
+    c.changes.new.self c.changes.ensures.only.catalog c.in-Some.schema.now
     c.in-Some.ensures.table t at in
     let fit : All IsFit got = subst (All IsFit) (sym is)
     (piece_fit s stands.valid c.args.table.now t at c.args.page.now.next c.piece-most.result) in

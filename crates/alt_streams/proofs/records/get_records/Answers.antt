@@ -46,26 +46,26 @@ returns-in-Ok-clause-carried g c =
     c.in_ok-place.ensures.place c.page_length-most.result c.page_length-most.ensures
     (answer_of c.in-Ok.reply) (λ s t shows stands at view. c.in-Ok.ensures.reply s t shows stands
     (ap (map.get s.tables) c.as_str.ensures.same ∙ at) view))
-    (λ s stands. (c.page_at.ensures.stays s).0 stands)
+    (λ s stands. (c.page_at.ensures.only.stays s).0 stands)
 
 pub returns-in-Ok-clause-moves : goal.returns-in-Ok-clause-moves
 returns-in-Ok-clause-moves g c =
     moves_reads (λ s. get_records s (members_view c.args.body.now.entries)) c.args.tables.now
     (g.D.Disk.state c.args.disk.now) (g.D.Disk.state c.page_at.new.disk) _
-    c.page_at.ensures.disk tt
+    c.page_at.ensures.only.disk tt
 
 pub returns-clause-carried : goal.returns-clause-carried
 returns-clause-carried g c =
     unfound (λ s. get_records s (members_view c.args.body.now.entries))
     (Stands (g.D.Disk.state c.args.disk.now) c.args.tables.now)
     (Stands (g.D.Disk.state c.page_at.new.disk) c.page_at.new.tables) c.in-Err.fault
-    c.in-Err.ensures.fault (λ s stands. (c.page_at.ensures.stays s).0 stands)
+    c.in-Err.ensures.fault (λ s stands. (c.page_at.ensures.only.stays s).0 stands)
 
 pub returns-clause-moves : goal.returns-clause-moves
 returns-clause-moves g c =
     moves_reads (λ s. get_records s (members_view c.args.body.now.entries)) c.args.tables.now
     (g.D.Disk.state c.args.disk.now) (g.D.Disk.state c.page_at.new.disk) _
-    c.page_at.ensures.disk (failed_fault {A = Reply} c.in-Err.fault _ c.in-Err.ensures.cause)
+    c.page_at.ensures.only.disk (failed_fault {A = Reply} c.in-Err.fault _ c.in-Err.ensures.cause)
 
 pub returns-in_err-place-clause-disk : goal.returns-in_err-place-clause-disk
 returns-in_err-place-clause-disk g c = reads_nothing (g.D.Disk.state c.args.disk.now)

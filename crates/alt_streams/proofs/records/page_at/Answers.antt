@@ -21,7 +21,7 @@ returns-in-Ok-clause-reply g c s t shows stands at view =
     (c.in_ok-fill.ensures.filled s t shows c.args.most c.args.from stands at view begun) in
     let same = described (g.D.Disk.state c.args.disk.now) c.args.tables.now s stands
     c.args.table.now
-    c.fill.new.tables c.fill.ensures.catalog c.in-Some.schema.now c.in-Some.ensures.table t at in
+    c.fill.new.tables c.fill.ensures.only.catalog c.in-Some.schema.now c.in-Some.ensures.table t at in
     subst (λ (x : TableSchema). answer_of c.in-Ok.reply ≡ page_answer x c.fill.new.page) same
     c.in-Ok.ensures.reply
     ∙ page_records d shows c.args.most c.args.from c.fill.new.page _ filled

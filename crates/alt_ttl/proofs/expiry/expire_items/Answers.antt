@@ -10,7 +10,7 @@ use Rattle.alt_machine.specs.Ops.ExpireItems.{expire_items, expired}
 use Rattle.alt_machine.specs.Outcomes.{writes_together}
 use Rattle.alt_machine.specs.Replies.{answers}
 use Rattle.alt_machine.specs.State.{State, Texts}
-use Rattle.alt_request.proofs.TablesLeft.{ready_on}
+use Rattle.alt_request.proofs.TablesLooking.{ready_only}
 use Rattle.alt_request.proofs.TablesStanding.{file_stays}
 use Rattle.alt_request.specs.TablesSeveral.{Every, MayWrite, written_at}
 use Rattle.alt_ops_batch.proofs.Writing.{batch_broke, batch_wrote}
@@ -35,7 +35,7 @@ returns-in_err-changes-clause-carried g c =
     c.from_residual.ensures))
     (unfound (λ s. expire_items s c.args.moment)
     (Stands (g.D.Disk.state c.args.disk.now) c.args.tables.now) now c.in_err-changes.field-0.0
-    c.in_err-changes.ensures.fault (λ s stands. (c.in_err-changes.ensures.stays s).0 stands))
+    c.in_err-changes.ensures.fails.fault (λ s stands. (c.in_err-changes.ensures.only.stays s).0 stands))
 
 pub returns-in_err-changes-clause-moves : goal.returns-in_err-changes-clause-moves
 returns-in_err-changes-clause-moves g c =
@@ -45,8 +45,8 @@ returns-in_err-changes-clause-moves g c =
     (sym (err_is c.from_residual.result (Fault c.in_err-changes.field-0.0)
     c.from_residual.ensures))
     (moves_reads _ c.args.tables.now before after (Err (Fault c.in_err-changes.field-0.0))
-    c.in_err-changes.ensures.disk
-    (failed_fault c.in_err-changes.field-0.0 _ c.in_err-changes.ensures.cause))
+    c.in_err-changes.ensures.only.disk
+    (failed_fault c.in_err-changes.field-0.0 _ c.in_err-changes.ensures.fails.cause))
 
 pub returns-in_err-reply-clause-carried : goal.returns-in_err-reply-clause-carried
 returns-in_err-reply-clause-carried g c =
@@ -57,7 +57,7 @@ returns-in_err-reply-clause-carried g c =
     c.from_residual-in_err-reply.ensures))
     (faulted_as (λ s. expire_items s c.args.moment)
     (Stands (g.D.Disk.state c.args.disk.now) c.args.tables.now) now c.in_err-reply.field-0.0
-    c.in_err-reply.ensures.cause (λ s stands. (c.in_ok-changes.ensures.stays s).0 stands))
+    c.in_err-reply.ensures.cause (λ s stands. (c.in_ok-changes.ensures.only.stays s).0 stands))
 
 pub returns-in_err-reply-clause-moves : goal.returns-in_err-reply-clause-moves
 returns-in_err-reply-clause-moves g c =
@@ -66,20 +66,18 @@ returns-in_err-reply-clause-moves g c =
     subst (Moves _ _ before after) (sym (err_is c.from_residual-in_err-reply.result
     c.in_err-reply.field-0.0 c.from_residual-in_err-reply.ensures))
     (moves_reads _ c.args.tables.now before after (Err c.in_err-reply.field-0.0)
-    c.in_ok-changes.ensures.disk
+    c.in_ok-changes.ensures.only.disk
     (memory_unfailed _ c.in_err-reply.field-0.0 c.in_err-reply.ensures.cause))
 
 pub write_all-requires : goal.write_all-requires
 write_all-requires g c = record {
-  ready = ready_on (g.D.Disk.state c.args.disk.now) (g.D.Disk.state c.deletions.new.disk)
-      c.args.tables.now c.deletions.new.tables c.in_ok-changes.ensures.disk.goes
-      c.in_ok-changes.ensures.stays c.requires.ready;
+  ready = ready_only c.in_ok-changes.ensures.only c.requires.ready;
   may = subst (λ (k : Texts TableSchema). Every (MayWrite k)
       (map written_at c.in_ok-changes.changes.items))
-      (sym c.in_ok-changes.ensures.catalog.catalog) c.in_ok-changes.ensures.may;
+      (sym c.in_ok-changes.ensures.only.catalog.catalog) c.in_ok-changes.ensures.may;
   apart = c.in_ok-changes.ensures.apart;
   found = λ s stands. c.in_ok-changes.ensures.found s
-      ((c.in_ok-changes.ensures.stays s).1 stands);
+      ((c.in_ok-changes.ensures.only.stays s).1 stands);
 }
 
 pub returns-in_err-write_all-clause-carried : goal.returns-in_err-write_all-clause-carried
@@ -104,8 +102,8 @@ returns-in_err-write_all-clause-carried g c =
           (subst (λ (n : ℕ). BreakOffAll n now s
           (writes_of_all_by s c.args.moment Expiry (map written_at c.in_ok-changes.changes.items))
           c.in_err-write_all.field-0.0)
-          (file_stays c.args.tables.now c.deletions.new.tables c.in_ok-changes.ensures.catalog.limits)
-          (c.in_err-write_all.ensures.writes s ((c.in_ok-changes.ensures.stays s).0 stands))),
+          (file_stays c.args.tables.now c.deletions.new.tables c.in_ok-changes.ensures.only.catalog.limits)
+          (c.in_err-write_all.ensures.writes s ((c.in_ok-changes.ensures.only.stays s).0 stands))),
     )))
 
 pub returns-clause-carried : goal.returns-clause-carried
@@ -126,7 +124,7 @@ returns-clause-carried g c =
       subst (λ ws. AreAllMade now s ws)
           (deletions_are s c.args.moment c.in_ok-changes.changes.items
           (c.in_ok-changes.ensures.written s stands))
-          (c.in_ok-write_all.ensures.writes s ((c.in_ok-changes.ensures.stays s).0 stands)),
+          (c.in_ok-write_all.ensures.writes s ((c.in_ok-changes.ensures.only.stays s).0 stands)),
     ))
 
 pub returns-in_err-write_all-clause-moves : goal.returns-in_err-write_all-clause-moves
@@ -137,16 +135,16 @@ returns-in_err-write_all-clause-moves g c =
     subst (Moves _ _ before after) (sym (err_is c.from_residual-in_err-write_all.result
     (Fault c.in_err-write_all.field-0.0) c.from_residual-in_err-write_all.ensures))
     (writes_move _ _ c.args.tables.now before (λ s stands. stands) read after
-    (Err (Fault c.in_err-write_all.field-0.0)) c.in_ok-changes.ensures.disk
+    (Err (Fault c.in_err-write_all.field-0.0)) c.in_ok-changes.ensures.only.disk
     c.in_err-write_all.ensures.goes
     (λ s stands. leaves_is s c.args.moment c.in_ok-changes.changes.items
     (c.in_ok-changes.ensures.written s stands) read after
-    (c.in_err-write_all.ensures.disk s ((c.in_ok-changes.ensures.stays s).0 stands)))
+    (c.in_err-write_all.ensures.disk s ((c.in_ok-changes.ensures.only.stays s).0 stands)))
     tt (failed_fault c.in_err-write_all.field-0.0 _ c.in_err-write_all.ensures.cause)
     (λ s stands. wanting_fault c.in_err-write_all.field-0.0 _ (λ none.
     read_wants read after c.deletions.new.tables s (expire_items s c.args.moment).wants
     (expire_items s c.args.moment).atoms (c.in_err-write_all.ensures.no_memory none)
-    ((c.in_ok-changes.ensures.stays s).0 stands))))
+    ((c.in_ok-changes.ensures.only.stays s).0 stands))))
 
 pub returns-clause-moves : goal.returns-clause-moves
 returns-clause-moves g c =
@@ -154,9 +152,9 @@ returns-clause-moves g c =
     let read : DiskState = g.D.Disk.state c.deletions.new.disk in
     let after : DiskState = g.D.Disk.state c.write_all.new.disk in
     writes_move _ _ c.args.tables.now before (λ s stands. stands) read after
-    (Ok c.in_ok-reply.reply) c.in_ok-changes.ensures.disk c.in_ok-write_all.ensures.goes
+    (Ok c.in_ok-reply.reply) c.in_ok-changes.ensures.only.disk c.in_ok-write_all.ensures.goes
     (λ s stands. leaves_is s c.args.moment c.in_ok-changes.changes.items
     (c.in_ok-changes.ensures.written s stands) read after
-    (c.in_ok-write_all.ensures.disk s ((c.in_ok-changes.ensures.stays s).0 stands)))
+    (c.in_ok-write_all.ensures.disk s ((c.in_ok-changes.ensures.only.stays s).0 stands)))
     (unrefused c.in_ok-reply.reply _ (ap (λ (a : Answer). a.status) c.in_ok-reply.ensures.reply)) tt
     (λ s stands. tt)

@@ -53,7 +53,7 @@ returns-clause-over g c s stands =
     let described = known (g.D.Disk.state c.args.disk.now) c.args.tables.now s
     c.args.spot.now.table t.table stands t.there in
     c.settle.ensures.over t.table.description
-    (ap (λ (k : Texts TableSchema). map.get k c.args.spot.now.table) c.in-Ok.ensures.catalog.catalog
+    (ap (λ (k : Texts TableSchema). map.get k c.args.spot.now.table) c.in-Ok.ensures.only.catalog.catalog
     ∙ described)
     ∙ over_there s c.args.moment c.args.spot.now t.table c.in-Ok.found.item t.there
     (c.in-Ok.ensures.item s stands t.table
@@ -76,7 +76,7 @@ returns-clause-known g c s stands knows =
     ∙ ap (map.get t.table.items) (c.in-Ok.ensures.place ∙ c.in_ok-place.ensures.copied
     ∙ c.as_slice.ensures.same))
     (c.settle.ensures.settles t.table.description
-    (ap (λ (k : Texts TableSchema). map.get k c.args.spot.now.table) c.in-Ok.ensures.catalog.catalog
+    (ap (λ (k : Texts TableSchema). map.get k c.args.spot.now.table) c.in-Ok.ensures.only.catalog.catalog
     ∙ described))
     c.requires.since knows
 

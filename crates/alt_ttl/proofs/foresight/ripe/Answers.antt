@@ -1,15 +1,13 @@
 -- There are enough, or none is ready any more, or one more was looked at.
 use Rattle.std.proofs.Common.{◌≡◌, ◌++◌, sym, ap, subst, ◌∙◌, None, Some, length, rules, arith}
 use Rattle.std.specs.FinMap as map
-use Rattle.alt_disk.specs.Disk.{DiskState}
 use Rattle.alt_due.specs.Due.{FindsNext}
 use Rattle.alt_machine.specs.Expiry.{all_expired, expiring}
 use Rattle.alt_machine.specs.State.{Texts}
 use Rattle.alt_schema.specs.declared.schema.TableSchema.{TableSchema}
-use Rattle.alt_request.proofs.TablesLeft.{reads_nothing, reads_then, ready_on}
+use Rattle.alt_request.proofs.TablesLooking.{only_nothing, only_then, ready_only}
 use Rattle.alt_request.specs.TablesStands.{catalog_of}
 use Rattle.alt_ttl.specs.private.Searched.{AreNamed}
-use Rattle.alt_ttl.proofs.Looking.{keeps_none, keeps_then, stays_then}
 use Rattle.alt_ttl.proofs.Ordered.{left_behind, left_first}
 use Rattle.alt_ttl.proofs.Ripening.{put_few, put_named, ripe_all, ripe_full, ripe_step, some_then}
 use Rattle.alt_ttl.proofs.foresight.ripe.Goals as goal
@@ -22,9 +20,7 @@ places-init g c = record {
   few = omega (arith, ap length c.new-out.ensures.items);
   named = subst (AreNamed (catalog_of c.args.tables.now)) (sym c.new-out.ensures.items) tt;
   ripe = c.requires.ripe;
-  stays = λ s. (λ stands. stands, λ stands. stands);
-  catalog = keeps_none c.args.tables.now;
-  disk = reads_nothing (g.D.Disk.state c.args.disk.now);
+  only = only_nothing (g.D.Disk.state c.args.disk.now) c.args.tables.now;
 }
 
 pub returns-then-len-ge-MOST_EXPIRED-clause-standings :
@@ -45,29 +41,17 @@ returns-in_default-clause-standings g c s stands knows =
     is.1 so.few)
 
 pub look-requires-clause-ready : goal.look-requires-clause-ready
-look-requires-clause-ready g c =
-    let so = c.places.invariant in
-    ready_on (g.D.Disk.state c.args.disk.now) (g.D.Disk.state c.places.disk)
-    c.args.tables.now c.places.tables so.disk.goes so.stays c.requires.ready
+look-requires-clause-ready g c = ready_only c.places.invariant.only c.requires.ready
 
-pub returns-in_err-put_over-clause-stays : goal.returns-in_err-put_over-clause-stays
-returns-in_err-put_over-clause-stays g c = stays_then
-    (g.D.Disk.state c.args.disk.now) (g.D.Disk.state c.places.disk)
-    (g.D.Disk.state c.look.new.disk) c.args.tables.now c.places.tables c.look.new.tables
-    c.places.invariant.stays c.look.ensures.stays
+pub returns-in_err-put_over-clause-only : goal.returns-in_err-put_over-clause-only
+returns-in_err-put_over-clause-only g c = only_then c.places.invariant.only c.look.ensures.only
 
-pub returns-in-Err-clause-stays : goal.returns-in-Err-clause-stays
-returns-in-Err-clause-stays g c = stays_then
-    (g.D.Disk.state c.args.disk.now) (g.D.Disk.state c.places.disk)
-    (g.D.Disk.state c.look.new.disk) c.args.tables.now c.places.tables c.look.new.tables
-    c.places.invariant.stays c.look.ensures.stays
+pub returns-in-Err-clause-only : goal.returns-in-Err-clause-only
+returns-in-Err-clause-only g c = only_then c.places.invariant.only c.look.ensures.only
 
 pub places-preserved : goal.places-preserved
 places-preserved g c =
     let so = c.places.invariant in
-    let a : DiskState = g.D.Disk.state c.args.disk.now in
-    let b : DiskState = g.D.Disk.state c.places.disk in
-    let d : DiskState = g.D.Disk.state c.look.new.disk in
     let next : FindsNext c.places.due c.places.after (Some c.in-Some.spot) =
     subst (FindsNext c.places.due c.places.after) c.in-Some.is c.in_ok-spot.ensures in
     record {
@@ -75,8 +59,8 @@ places-preserved g c =
           (so.known s stands knows) so.ripe (c.suffices.ensures c.if-not-suffices.false)
           c.places.after c.places.out.items (so.left s stands knows) c.in-Some.spot next
           c.put_over.new.out.items c.in-Ok.over
-          (c.in-Ok.ensures.over s ((so.stays s).0 stands)) c.in_ok-put_over.ensures;
-      known = λ s stands knows. c.in-Ok.ensures.known s ((so.stays s).0 stands)
+          (c.in-Ok.ensures.over s ((so.only.stays s).0 stands)) c.in_ok-put_over.ensures;
+      known = λ s stands knows. c.in-Ok.ensures.known s ((so.only.stays s).0 stands)
           (so.known s stands knows);
       few = put_few c.in-Some.spot c.places.out.items c.put_over.new.out.items
           (omega (arith, c.len.ensures, c.if-len-ge-MOST_EXPIRED.false)) c.in-Ok.over
@@ -84,12 +68,8 @@ places-preserved g c =
       named = put_named (catalog_of c.args.tables.now) c.in-Some.spot c.places.out.items
           c.put_over.new.out.items so.named c.in-Ok.over
           (λ over. ap (λ (k : Texts TableSchema). map.contains_key k c.in-Some.spot.table)
-          (sym so.catalog.catalog) ∙ c.in-Ok.ensures.named over)
+          (sym so.only.catalog.catalog) ∙ c.in-Ok.ensures.named over)
           c.in_ok-put_over.ensures;
       ripe = c.in-Ok.ensures.ripe so.ripe;
-      stays = stays_then a b d c.args.tables.now c.places.tables c.look.new.tables so.stays
-          c.look.ensures.stays;
-      catalog = keeps_then c.args.tables.now c.places.tables c.look.new.tables so.catalog
-          c.look.ensures.catalog;
-      disk = reads_then a b d so.disk c.look.ensures.disk;
+      only = only_then so.only c.look.ensures.only;
     }

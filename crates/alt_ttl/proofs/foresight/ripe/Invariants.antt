@@ -1,12 +1,12 @@
 -- What was found, with what is left behind the last place that was looked at, is all that has expired.
 use Rattle.std.proofs.Common.{◌≡◌, ◌≤◌, ◌++◌, length}
-use Rattle.std.specs.Prelude.{◌↔◌}
 use Rattle.alt_due.specs.Due.{IsRipe}
 use Rattle.alt_machine.specs.declared.TheConstants.{MOST_EXPIRED}
 use Rattle.alt_machine.specs.Expiry.{all_expired}
 use Rattle.alt_machine.specs.State.{State}
 use Rattle.alt_request.specs.TablesForeseen.{Foresees}
-use Rattle.alt_request.specs.TablesStands.{KeepsCatalog, Reads, Stands, catalog_of}
+use Rattle.alt_request.specs.TablesLooking.{OnlyReads}
+use Rattle.alt_request.specs.TablesStands.{Stands, catalog_of}
 use Rattle.alt_ttl.specs.private.Searched.{AreNamed}
 use Rattle.alt_ttl.proofs.Ordered.{left_behind}
 use Rattle.alt_ttl.proofs.foresight.ripe.Given as goal
@@ -20,8 +20,5 @@ invariant-places g l = record {
   few : length l.out.items ≤ MOST_EXPIRED;
   named : AreNamed (catalog_of l.fn.tables) l.out.items;
   ripe : IsRipe l.moment l.due;
-  stays : (s : State) → Stands (g.D.Disk.state l.fn.disk) l.fn.tables s
-      ↔ Stands (g.D.Disk.state l.disk) l.tables s;
-  catalog : KeepsCatalog l.fn.tables l.tables;
-  disk : Reads (g.D.Disk.state l.fn.disk) (g.D.Disk.state l.disk);
+  only : OnlyReads (g.D.Disk.state l.fn.disk) (g.D.Disk.state l.disk) l.fn.tables l.tables;
 }

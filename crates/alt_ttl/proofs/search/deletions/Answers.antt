@@ -3,21 +3,18 @@ use Rattle.std.proofs.Common.{sym, ap, subst, ◌∙◌, map}
 use Rattle.alt_machine.specs.Expiry.{gone_at}
 use Rattle.alt_machine.specs.State.{Texts}
 use Rattle.alt_schema.specs.declared.schema.TableSchema.{TableSchema}
-use Rattle.alt_request.proofs.TablesLeft.{reads_then, ready_on}
+use Rattle.alt_request.proofs.TablesLooking.{only_then, ready_only}
 use Rattle.alt_request.specs.TablesSeveral.{AreAllApart, Every, MayWrite}
 use Rattle.alt_request.specs.TablesStands.{catalog_of}
 use Rattle.alt_ttl.specs.private.Searched.{AreNamed, has_twice}
 use Rattle.alt_ttl.proofs.Founds.{all_apart, may_go}
-use Rattle.alt_ttl.proofs.Looking.{keeps_then, stays_then}
 use Rattle.alt_ttl.proofs.search.deletions.Goals as goal
 
 pub find_all-requires : goal.find_all-requires
 find_all-requires g c = record {
-  ready = ready_on (g.D.Disk.state c.args.disk.now) (g.D.Disk.state c.expiring.new.disk)
-      c.args.tables.now c.expiring.new.tables c.in-Ok.ensures.disk.goes
-      c.in-Ok.ensures.stays c.requires.ready;
+  ready = ready_only c.in-Ok.ensures.only c.requires.ready;
   named = subst (λ (k : Texts TableSchema). AreNamed k c.in-Ok.standings.items)
-      (sym c.in-Ok.ensures.catalog.catalog) c.in-Ok.ensures.named;
+      (sym c.in-Ok.ensures.only.catalog.catalog) c.in-Ok.ensures.named;
 }
 
 pub returns-in-Ok-find_all-clause-written : goal.returns-in-Ok-find_all-clause-written
@@ -37,24 +34,10 @@ returns-in-Ok-find_all-clause-apart g c =
 
 pub returns-in-Ok-find_all-clause-found : goal.returns-in-Ok-find_all-clause-found
 returns-in-Ok-find_all-clause-found g c s stands =
-    c.in-Ok-find_all.ensures.found s ((c.in-Ok.ensures.stays s).0 stands)
+    c.in-Ok-find_all.ensures.found s ((c.in-Ok.ensures.only.stays s).0 stands)
 
-pub returns-in-Err-find_all-clause-stays : goal.returns-in-Err-find_all-clause-stays
-returns-in-Err-find_all-clause-stays g c = stays_then (g.D.Disk.state c.args.disk.now)
-    (g.D.Disk.state c.expiring.new.disk) (g.D.Disk.state c.find_all.new.disk) c.args.tables.now
-    c.expiring.new.tables c.find_all.new.tables c.in-Ok.ensures.stays
-    c.in-Err-find_all.ensures.stays
+pub returns-in-Err-find_all-clause-only : goal.returns-in-Err-find_all-clause-only
+returns-in-Err-find_all-clause-only g c = only_then c.in-Ok.ensures.only c.find_all.ensures.only
 
-pub returns-in-Ok-find_all-clause-stays : goal.returns-in-Ok-find_all-clause-stays
-returns-in-Ok-find_all-clause-stays g c = stays_then (g.D.Disk.state c.args.disk.now)
-    (g.D.Disk.state c.expiring.new.disk) (g.D.Disk.state c.find_all.new.disk) c.args.tables.now
-    c.expiring.new.tables c.find_all.new.tables c.in-Ok.ensures.stays c.in-Ok-find_all.ensures.stays
-
-pub returns-in-Ok-find_all-clause-catalog : goal.returns-in-Ok-find_all-clause-catalog
-returns-in-Ok-find_all-clause-catalog g c = keeps_then c.args.tables.now c.expiring.new.tables
-    c.find_all.new.tables c.in-Ok.ensures.catalog c.in-Ok-find_all.ensures.catalog
-
-pub returns-in-Ok-find_all-clause-disk : goal.returns-in-Ok-find_all-clause-disk
-returns-in-Ok-find_all-clause-disk g c = reads_then (g.D.Disk.state c.args.disk.now)
-    (g.D.Disk.state c.expiring.new.disk) (g.D.Disk.state c.find_all.new.disk)
-    c.in-Ok.ensures.disk c.in-Ok-find_all.ensures.disk
+pub returns-in-Ok-find_all-clause-only : goal.returns-in-Ok-find_all-clause-only
+returns-in-Ok-find_all-clause-only g c = only_then c.in-Ok.ensures.only c.find_all.ensures.only

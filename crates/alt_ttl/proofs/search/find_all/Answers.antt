@@ -6,8 +6,8 @@ use Rattle.alt_disk.specs.Disk.{DiskState}
 use Rattle.alt_machine.specs.declared.Standing.{Standing}
 use Rattle.alt_machine.specs.State.{Texts}
 use Rattle.alt_schema.specs.declared.schema.TableSchema.{TableSchema}
-use Rattle.alt_request.proofs.TablesLeft.{ready_on}
-use Rattle.alt_ttl.proofs.Looking.{AreFound, found_one, stays_then}
+use Rattle.alt_request.proofs.TablesLooking.{only_then, ready_only}
+use Rattle.alt_ttl.proofs.Looking.{AreFound, found_one}
 use Rattle.alt_ttl.proofs.search.find_all.Goals as goal
 
 pub find-requires : goal.find-requires
@@ -21,10 +21,9 @@ find-requires g c =
     subst (λ l. AreFound before c.args.tables.now mid c.loop-standing.tables all l
     c.loop-standing.changes.items) c.in-Some.ensures.steps.0 c.loop-standing.invariant in
     record {
-      ready = ready_on before mid c.args.tables.now c.loop-standing.tables so.reads.goes so.stays
-          c.requires.ready;
+      ready = ready_only so.only c.requires.ready;
       there = subst (λ (k : Texts TableSchema). map.contains_key k c.in-Some.standing.table ≡ true)
-          (sym so.catalog.catalog) so.named.0;
+          (sym so.only.catalog.catalog) so.named.0;
     }
 
 pub loop-standing-preserved : goal.loop-standing-preserved
@@ -42,16 +41,10 @@ loop-standing-preserved g c =
     (found_one before mid after c.args.tables.now c.loop-standing.tables
     c.find.new.tables all rest
     c.in-Some.standing c.loop-standing.changes.items c.in_ok-find.field-0 so
-    c.in_ok-find.ensures.disk
-    c.in_ok-find.ensures.stays c.in_ok-find.ensures.catalog c.in_ok-find.ensures.written
-    c.in_ok-find.ensures.found)
+    c.in_ok-find.ensures.only c.in_ok-find.ensures.written c.in_ok-find.ensures.found)
 
-pub returns-in_err-find-clause-stays : goal.returns-in_err-find-clause-stays
-returns-in_err-find-clause-stays g c = stays_then (g.D.Disk.state c.args.disk.now)
-    (g.D.Disk.state c.loop-standing.disk) (g.D.Disk.state c.find.new.disk) c.args.tables.now
-    c.loop-standing.tables c.find.new.tables c.loop-standing.invariant.stays c.find.ensures.stays
+pub returns-in_err-find-clause-only : goal.returns-in_err-find-clause-only
+returns-in_err-find-clause-only g c = only_then c.loop-standing.invariant.only c.find.ensures.only
 
-pub returns-in_err-push-clause-stays : goal.returns-in_err-push-clause-stays
-returns-in_err-push-clause-stays g c = stays_then (g.D.Disk.state c.args.disk.now)
-    (g.D.Disk.state c.loop-standing.disk) (g.D.Disk.state c.find.new.disk) c.args.tables.now
-    c.loop-standing.tables c.find.new.tables c.loop-standing.invariant.stays c.find.ensures.stays
+pub returns-in_err-push-clause-only : goal.returns-in_err-push-clause-only
+returns-in_err-push-clause-only g c = only_then c.loop-standing.invariant.only c.find.ensures.only

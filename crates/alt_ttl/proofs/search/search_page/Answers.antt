@@ -33,7 +33,7 @@ returns-then-got-clause-left g c s t stands at =
     (c.in_ok-put_expired.ensures.put
     ∙ ap (λ d. take MOST_EXPIRED (out ++ standings_of d name c.args.moment items))
     (described a c.args.tables.now s stands name t at c.rows.new.self c.in-Some.schema.now
-    c.in-Ok.ensures.catalog c.in-Some.ensures.table))
+    c.in-Ok.ensures.only.catalog c.in-Some.ensures.table))
     (omega (arith, c.if-got.true, c.len-got.ensures))
 
 pub returns-then-got-clause-few : goal.returns-then-got-clause-few
@@ -65,7 +65,7 @@ returns-in-Some-last-clause-left g c s t stands at =
     (c.in_ok-put_expired.ensures.put
     ∙ ap (λ d. take MOST_EXPIRED (out ++ standings_of d name c.args.moment items))
     (described a c.args.tables.now s stands name t at c.rows.new.self c.in-Some.schema.now
-    c.in-Ok.ensures.catalog c.in-Some.ensures.table))
+    c.in-Ok.ensures.only.catalog c.in-Some.ensures.table))
     (omega arith) (omega (arith, c.if-got.false, c.len-got.ensures)) c.in-Ok.last
     c.in-Some-last.place (c.in-Ok.ensures.last s t stands at) c.in-Some-last.is
 

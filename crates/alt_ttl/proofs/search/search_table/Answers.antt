@@ -1,17 +1,15 @@
 -- A page more was looked through, or the last one; or the table's items have no time.
 use Rattle.std.proofs.Common.{◌≡◌, ◌++◌, true, sym, ap, subst, ◌∙◌, None, Some, option_map, take}
 use Rattle.std.specs.FinMap as map
-use Rattle.alt_disk.specs.Disk.{DiskState}
 use Rattle.alt_machine.specs.declared.TheConstants.{MOST_EXPIRED}
 use Rattle.alt_machine.specs.State.{Table, Texts}
 use Rattle.alt_machine.proofs.Descriptions.{get-descriptions}
 use Rattle.alt_ops_query.proofs.Described.{stored_at}
 use Rattle.alt_schema.specs.declared.schema.TableSchema.{TableSchema}
-use Rattle.alt_request.proofs.TablesLeft.{reads_nothing, reads_then, ready_on}
+use Rattle.alt_request.proofs.TablesLooking.{only_nothing, only_then, ready_only}
 use Rattle.alt_request.specs.TablesStands.{catalog_of}
 use Rattle.alt_ttl.specs.private.Searched.{AreNamed, left_in, left_of}
 use Rattle.alt_ttl.proofs.Fronts.{take_whole}
-use Rattle.alt_ttl.proofs.Looking.{keeps_none, keeps_then, stays_then}
 use Rattle.alt_ttl.proofs.Searching.{left_first, none_expired}
 use Rattle.alt_ttl.proofs.search.search_table.Goals as goal
 
@@ -34,44 +32,33 @@ pages-init g c = record {
       None (λ d e. tt)) c.args.out.now.items;
   few = c.requires.few;
   named = c.requires.named;
-  stays = λ s. (λ stands. stands, λ stands. stands);
-  catalog = keeps_none c.args.tables.now;
-  disk = reads_nothing (g.D.Disk.state c.args.disk.now);
+  only = only_nothing (g.D.Disk.state c.args.disk.now) c.args.tables.now;
 }
 
 pub search_page-requires : goal.search_page-requires
 search_page-requires g c =
     let so = c.pages.invariant in record {
-      ready = ready_on (g.D.Disk.state c.args.disk.now) (g.D.Disk.state c.pages.disk)
-          c.args.tables.now c.pages.tables so.disk.goes so.stays c.requires.ready;
+      ready = ready_only so.only c.requires.ready;
       there = subst (λ (k : Texts TableSchema). map.contains_key k c.args.name.now ≡ true)
-          (sym so.catalog.catalog) c.requires.there;
+          (sym so.only.catalog.catalog) c.requires.there;
       few = so.few;
       named = subst (λ (k : Texts TableSchema). AreNamed k c.pages.out.items)
-          (sym so.catalog.catalog) so.named;
+          (sym so.only.catalog.catalog) so.named;
     }
 
 pub pages-preserved : goal.pages-preserved
 pages-preserved g c =
-    let so = c.pages.invariant in
-    let a : DiskState = g.D.Disk.state c.args.disk.now in
-    let b : DiskState = g.D.Disk.state c.pages.disk in
-    let d : DiskState = g.D.Disk.state c.search_page.new.disk in
-    record {
+    let so = c.pages.invariant in record {
       left = λ s t stands at.
           subst (λ o. left_of c.args.name.now t c.args.moment c.search_page.new.out.items o
           ≡ left_in c.args.name.now t c.args.moment c.pages.out.items c.pages.from)
           c.in-Ok-Some.field-0-is
-          (c.in-Ok-Some.ensures.left s t ((so.stays s).0 stands) at)
+          (c.in-Ok-Some.ensures.left s t ((so.only.stays s).0 stands) at)
           ∙ so.left s t stands at;
       few = c.in-Ok-Some.ensures.few;
       named = subst (λ (k : Texts TableSchema). AreNamed k c.search_page.new.out.items)
-          so.catalog.catalog c.in-Ok-Some.ensures.named;
-      stays = stays_then a b d c.args.tables.now c.pages.tables c.search_page.new.tables so.stays
-          c.search_page.ensures.stays;
-      catalog = keeps_then c.args.tables.now c.pages.tables c.search_page.new.tables so.catalog
-          c.search_page.ensures.catalog;
-      disk = reads_then a b d so.disk c.search_page.ensures.disk;
+          so.only.catalog.catalog c.in-Ok-Some.ensures.named;
+      only = only_then so.only c.search_page.ensures.only;
     }
 
 pub returns-in-Ok-None-clause-found : goal.returns-in-Ok-None-clause-found
@@ -79,10 +66,11 @@ returns-in-Ok-None-clause-found g c s t stands at =
     let so = c.pages.invariant in
     subst (λ o. left_of c.args.name.now t c.args.moment c.search_page.new.out.items o
     ≡ left_in c.args.name.now t c.args.moment c.pages.out.items c.pages.from)
-    c.in-Ok-None.field-0-is (c.in-Ok-None.ensures.left s t ((so.stays s).0 stands) at)
+    c.in-Ok-None.field-0-is (c.in-Ok-None.ensures.left s t ((so.only.stays s).0 stands) at)
     ∙ so.left s t stands at
 
-pub returns-in-Err-clause-stays : goal.returns-in-Err-clause-stays
-returns-in-Err-clause-stays g c = stays_then (g.D.Disk.state c.args.disk.now)
-    (g.D.Disk.state c.pages.disk) (g.D.Disk.state c.search_page.new.disk) c.args.tables.now
-    c.pages.tables c.search_page.new.tables c.pages.invariant.stays c.search_page.ensures.stays
+pub returns-in-Err-clause-only : goal.returns-in-Err-clause-only
+returns-in-Err-clause-only g c = only_then c.pages.invariant.only c.search_page.ensures.only
+
+pub returns-in-Ok-None-clause-only : goal.returns-in-Ok-None-clause-only
+returns-in-Ok-None-clause-only g c = only_then c.pages.invariant.only c.search_page.ensures.only

@@ -1,11 +1,11 @@
 -- What was found, with what the places from here on have, is all there is to find.
 use Rattle.std.proofs.Common.{◌≡◌, ◌≤◌, ◌++◌, Some, take, length}
-use Rattle.std.specs.Prelude.{◌↔◌}
 use Rattle.std.specs.FinMap as map
 use Rattle.alt_machine.specs.declared.TheConstants.{MOST_EXPIRED}
 use Rattle.alt_machine.specs.Expiry.{expired_in}
 use Rattle.alt_machine.specs.State.{State, Table}
-use Rattle.alt_request.specs.TablesStands.{KeepsCatalog, Reads, Stands, catalog_of}
+use Rattle.alt_request.specs.TablesLooking.{OnlyReads}
+use Rattle.alt_request.specs.TablesStands.{Stands, catalog_of}
 use Rattle.alt_ttl.specs.private.Searched.{AreNamed, left_in}
 use Rattle.alt_ttl.proofs.search.search_table.Given as goal
 
@@ -16,8 +16,5 @@ invariant-pages g l = record {
       ≡ take MOST_EXPIRED (l.fn.out.items ++ expired_in l.moment l.name t);
   few : length l.out.items ≤ MOST_EXPIRED;
   named : AreNamed (catalog_of l.fn.tables) l.out.items;
-  stays : (s : State) → Stands (g.D.Disk.state l.fn.disk) l.fn.tables s
-      ↔ Stands (g.D.Disk.state l.disk) l.tables s;
-  catalog : KeepsCatalog l.fn.tables l.tables;
-  disk : Reads (g.D.Disk.state l.fn.disk) (g.D.Disk.state l.disk);
+  only : OnlyReads (g.D.Disk.state l.fn.disk) (g.D.Disk.state l.disk) l.fn.tables l.tables;
 }

@@ -3,17 +3,15 @@ use Rattle.std.proofs.Common.{◌≡◌, ◌++◌, ◌∷◌, [], true, sym, ap,
 use Rattle.std.specs.FinMap as map
 use Rattle.std.specs.Vec.Iter.{into_iter_items}
 use Rattle.alt_base.proofs.Lists.{length-zero}
-use Rattle.alt_disk.specs.Disk.{DiskState}
 use Rattle.alt_machine.specs.declared.TheConstants.{MOST_EXPIRED, MOST_TABLES}
 use Rattle.alt_machine.specs.Ops.ListTables.{names_after}
 use Rattle.alt_machine.specs.State.{Texts}
 use Rattle.alt_schema.specs.declared.schema.TableSchema.{TableSchema}
-use Rattle.alt_request.proofs.TablesLeft.{reads_nothing, reads_then, ready_on}
+use Rattle.alt_request.proofs.TablesLooking.{only_nothing, only_then, ready_only}
 use Rattle.alt_request.specs.TablesSeveral.{Every}
 use Rattle.alt_request.specs.TablesStands.{catalog_of}
 use Rattle.alt_ttl.specs.private.Searched.{AreNamed}
 use Rattle.alt_ttl.proofs.Fronts.{take_step, take_whole}
-use Rattle.alt_ttl.proofs.Looking.{keeps_none, keeps_then, stays_then}
 use Rattle.alt_ttl.proofs.Searching.{IsThere, expired_at, expired_of, found_all, is_there, names_there}
 use Rattle.alt_ttl.proofs.search.searched.Goals as goal
 
@@ -33,9 +31,7 @@ loop-name-init g c = record {
       (names_there (catalog_of c.args.tables.now));
   few = omega (arith, ap length c.new-out.ensures.items);
   named = subst (AreNamed (catalog_of c.args.tables.now)) (sym c.new-out.ensures.items) tt;
-  stays = λ s. (λ stands. stands, λ stands. stands);
-  catalog = keeps_none c.args.tables.now;
-  disk = reads_nothing (g.D.Disk.state c.args.disk.now);
+  only = only_nothing (g.D.Disk.state c.args.disk.now) c.args.tables.now;
 }
 
 pub search_table-requires : goal.search_table-requires
@@ -45,21 +41,17 @@ search_table-requires g c =
     (c.in-Some.name ∷ into_iter_items c.next.new.self) =
     subst (Every (There (catalog_of c.args.tables.now))) c.in-Some.ensures.steps.0 so.there in
     record {
-      ready = ready_on (g.D.Disk.state c.args.disk.now) (g.D.Disk.state c.loop-name.disk)
-          c.args.tables.now c.loop-name.tables so.disk.goes so.stays c.requires.ready;
-      there = subst (λ (k : Texts TableSchema). There k c.as_str.result.now) (sym so.catalog.catalog)
+      ready = ready_only so.only c.requires.ready;
+      there = subst (λ (k : Texts TableSchema). There k c.as_str.result.now) (sym so.only.catalog.catalog)
           (subst (There (catalog_of c.args.tables.now)) (sym c.as_str.ensures.same) there.0);
       few = so.few;
       named = subst (λ (k : Texts TableSchema). AreNamed k c.loop-name.out.items)
-          (sym so.catalog.catalog) so.named;
+          (sym so.only.catalog.catalog) so.named;
     }
 
 pub loop-name-preserved : goal.loop-name-preserved
 loop-name-preserved g c =
     let so = c.loop-name.invariant in
-    let a : DiskState = g.D.Disk.state c.args.disk.now in
-    let b : DiskState = g.D.Disk.state c.loop-name.disk in
-    let d : DiskState = g.D.Disk.state c.search_table.new.disk in
     let rest = into_iter_items c.next.new.self in
     let there : Every (There (catalog_of c.args.tables.now)) (c.in-Some.name ∷ rest) =
     subst (Every (There (catalog_of c.args.tables.now))) c.in-Some.ensures.steps.0 so.there in
@@ -71,7 +63,7 @@ loop-name-preserved g c =
           take_step MOST_EXPIRED c.loop-name.out.items
           (expired_at s c.args.moment c.as_str.result.now)
           (expired_of s c.args.moment rest) c.search_table.new.out.items
-          (c.in-Ok.ensures.found s t.table ((so.stays s).0 stands) t.there
+          (c.in-Ok.ensures.found s t.table ((so.only.stays s).0 stands) t.there
           ∙ ap (λ l. take MOST_EXPIRED (c.loop-name.out.items ++ l)) (sym t.is))
           ∙ ap (λ (n : List ℕ). take MOST_EXPIRED (c.loop-name.out.items
           ++ (expired_at s c.args.moment n ++ expired_of s c.args.moment rest)))
@@ -81,19 +73,12 @@ loop-name-preserved g c =
       there = there.1;
       few = c.in-Ok.ensures.few;
       named = subst (λ (k : Texts TableSchema). AreNamed k c.search_table.new.out.items)
-          so.catalog.catalog c.in-Ok.ensures.named;
-      stays = stays_then a b d c.args.tables.now c.loop-name.tables c.search_table.new.tables
-          so.stays c.search_table.ensures.stays;
-      catalog = keeps_then c.args.tables.now c.loop-name.tables c.search_table.new.tables so.catalog
-          c.search_table.ensures.catalog;
-      disk = reads_then a b d so.disk c.search_table.ensures.disk;
+          so.only.catalog.catalog c.in-Ok.ensures.named;
+      only = only_then so.only c.search_table.ensures.only;
     }
 
-pub returns-in-Err-clause-stays : goal.returns-in-Err-clause-stays
-returns-in-Err-clause-stays g c = stays_then (g.D.Disk.state c.args.disk.now)
-    (g.D.Disk.state c.loop-name.disk) (g.D.Disk.state c.search_table.new.disk) c.args.tables.now
-    c.loop-name.tables c.search_table.new.tables c.loop-name.invariant.stays
-    c.search_table.ensures.stays
+pub returns-in-Err-clause-only : goal.returns-in-Err-clause-only
+returns-in-Err-clause-only g c = only_then c.loop-name.invariant.only c.search_table.ensures.only
 
 pub returns-clause-standings : goal.returns-clause-standings
 returns-clause-standings g c s stands =

@@ -1,13 +1,13 @@
 -- What was found, with what the tables that are left have, is what has expired.
 use Rattle.std.proofs.Common.{◌≡◌, ◌≤◌, ◌++◌, true, take, length}
-use Rattle.std.specs.Prelude.{◌↔◌}
 use Rattle.std.specs.FinMap as map
 use Rattle.std.specs.Vec.Iter.{into_iter_items}
 use Rattle.alt_machine.specs.declared.TheConstants.{MOST_EXPIRED}
 use Rattle.alt_machine.specs.Expiry.{expiring}
 use Rattle.alt_machine.specs.State.{State}
+use Rattle.alt_request.specs.TablesLooking.{OnlyReads}
 use Rattle.alt_request.specs.TablesSeveral.{Every}
-use Rattle.alt_request.specs.TablesStands.{KeepsCatalog, Reads, Stands, catalog_of}
+use Rattle.alt_request.specs.TablesStands.{Stands, catalog_of}
 use Rattle.alt_ttl.specs.private.Searched.{AreNamed}
 use Rattle.alt_ttl.proofs.Searching.{expired_of}
 use Rattle.alt_ttl.proofs.search.searched.Given as goal
@@ -20,8 +20,5 @@ invariant-loop-name g l = record {
       (into_iter_items l.name-iterator);
   few : length l.out.items ≤ MOST_EXPIRED;
   named : AreNamed (catalog_of l.fn.tables) l.out.items;
-  stays : (s : State) → Stands (g.D.Disk.state l.fn.disk) l.fn.tables s
-      ↔ Stands (g.D.Disk.state l.disk) l.tables s;
-  catalog : KeepsCatalog l.fn.tables l.tables;
-  disk : Reads (g.D.Disk.state l.fn.disk) (g.D.Disk.state l.disk);
+  only : OnlyReads (g.D.Disk.state l.fn.disk) (g.D.Disk.state l.disk) l.fn.tables l.tables;
 }

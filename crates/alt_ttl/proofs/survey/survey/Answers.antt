@@ -3,17 +3,15 @@ use Rattle.std.proofs.Common.{◌≡◌, ◌⊎◌, inl, inr, ◌∷◌, [], tru
 use Rattle.std.specs.FinMap as map
 use Rattle.std.specs.Vec.Iter.{into_iter_items}
 use Rattle.alt_base.proofs.Lists.{length-zero}
-use Rattle.alt_disk.specs.Disk.{DiskState}
 use Rattle.alt_due.specs.declared.due.Due.{Due}
 use Rattle.alt_machine.specs.declared.TheConstants.{MOST_TABLES}
 use Rattle.alt_machine.specs.Ops.ListTables.{names_after}
 use Rattle.alt_machine.specs.State.{Table, Texts}
 use Rattle.alt_schema.specs.declared.schema.TableSchema.{TableSchema}
-use Rattle.alt_request.proofs.TablesLeft.{reads_nothing, reads_then, ready_on}
+use Rattle.alt_request.proofs.TablesLooking.{only_nothing, only_then, ready_only}
 use Rattle.alt_request.specs.TablesSeveral.{Every}
 use Rattle.alt_request.specs.TablesStands.{catalog_of}
 use Rattle.alt_ttl.specs.private.Foresight.{ForeseesTable}
-use Rattle.alt_ttl.proofs.Looking.{keeps_none, keeps_then, stays_then}
 use Rattle.alt_ttl.proofs.Searching.{all_names, names_there}
 use Rattle.alt_ttl.proofs.Surveying.{Among, among_all, table_on}
 use Rattle.alt_ttl.proofs.survey.survey.Goals as goal
@@ -31,9 +29,7 @@ loop-name-init g c = record {
   there = subst (Every (There (catalog_of c.args.tables.now)))
       (sym (c.into_iter-name-iterator.ensures.into_iter_gives.0 ∙ c.in_ok-names.ensures.names))
       (names_there (catalog_of c.args.tables.now));
-  stays = λ s. (λ stands. stands, λ stands. stands);
-  catalog = keeps_none c.args.tables.now;
-  disk = reads_nothing (g.D.Disk.state c.args.disk.now);
+  only = only_nothing (g.D.Disk.state c.args.disk.now) c.args.tables.now;
 }
 
 pub survey_table-requires : goal.survey_table-requires
@@ -43,9 +39,8 @@ survey_table-requires g c =
     (c.in-Some.name ∷ into_iter_items c.next.new.self) =
     subst (Every (There (catalog_of c.args.tables.now))) c.in-Some.ensures.steps.0 so.there in
     record {
-      ready = ready_on (g.D.Disk.state c.args.disk.now) (g.D.Disk.state c.loop-name.disk)
-          c.args.tables.now c.loop-name.tables so.disk.goes so.stays c.requires.ready;
-      there = subst (λ (k : Texts TableSchema). There k c.as_str.result.now) (sym so.catalog.catalog)
+      ready = ready_only so.only c.requires.ready;
+      there = subst (λ (k : Texts TableSchema). There k c.as_str.result.now) (sym so.only.catalog.catalog)
           (subst (There (catalog_of c.args.tables.now)) (sym c.as_str.ensures.same) there.0);
     }
 
@@ -60,9 +55,6 @@ more q name rest t old new (inr known) own on = inr (on known)
 pub loop-name-preserved : goal.loop-name-preserved
 loop-name-preserved g c =
     let so = c.loop-name.invariant in
-    let a : DiskState = g.D.Disk.state c.args.disk.now in
-    let b : DiskState = g.D.Disk.state c.loop-name.disk in
-    let d : DiskState = g.D.Disk.state c.survey_table.new.disk in
     let rest = into_iter_items c.next.new.self in
     let there : Every (There (catalog_of c.args.tables.now)) (c.in-Some.name ∷ rest) =
     subst (Every (There (catalog_of c.args.tables.now))) c.in-Some.ensures.steps.0 so.there in
@@ -73,22 +65,15 @@ loop-name-preserved g c =
           (so.known s stands q t at))
           (λ same. subst (λ n. ForeseesTable n t c.survey_table.new.due)
           (c.as_str.ensures.same ∙ sym same)
-          (c.in-Ok.ensures.known s t ((so.stays s).0 stands)
+          (c.in-Ok.ensures.known s t ((so.only.stays s).0 stands)
           (ap (map.get s.tables) (c.as_str.ensures.same ∙ sym same) ∙ at)))
           (table_on q t c.loop-name.due c.survey_table.new.due c.survey_table.ensures.keeps);
       there = there.1;
-      stays = stays_then a b d c.args.tables.now c.loop-name.tables c.survey_table.new.tables
-          so.stays c.survey_table.ensures.stays;
-      catalog = keeps_then c.args.tables.now c.loop-name.tables c.survey_table.new.tables so.catalog
-          c.survey_table.ensures.catalog;
-      disk = reads_then a b d so.disk c.survey_table.ensures.disk;
+      only = only_then so.only c.survey_table.ensures.only;
     }
 
-pub returns-in-Err-clause-stays : goal.returns-in-Err-clause-stays
-returns-in-Err-clause-stays g c = stays_then (g.D.Disk.state c.args.disk.now)
-    (g.D.Disk.state c.loop-name.disk) (g.D.Disk.state c.survey_table.new.disk) c.args.tables.now
-    c.loop-name.tables c.survey_table.new.tables c.loop-name.invariant.stays
-    c.survey_table.ensures.stays
+pub returns-in-Err-clause-only : goal.returns-in-Err-clause-only
+returns-in-Err-clause-only g c = only_then c.loop-name.invariant.only c.survey_table.ensures.only
 
 -- what is known of where no name is left
 none_left : (q : List ℕ) (names : List (List ℕ)) (t : Table) (due : Due) → names ≡ []

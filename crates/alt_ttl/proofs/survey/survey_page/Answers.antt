@@ -32,7 +32,7 @@ returns-then-got-clause-known g c s t stands at =
     (c.in-Ok.ensures.rows s t stands at ∙ ap (λ l. l ++ take 64 list) c.new-items.ensures.items)
     (subst (λ (d : TableSchema). Every (ForeseesPlaced d name c.note_items.new.due) items)
     (described a c.args.tables.now s stands name t at c.rows.new.self c.in-Some.schema.now
-    c.in-Ok.ensures.catalog c.in-Some.ensures.table) c.in_ok-note_items.ensures.known)
+    c.in-Ok.ensures.only.catalog c.in-Some.ensures.table) c.in_ok-note_items.ensures.known)
     (omega (arith, c.if-got.true, c.len-got.ensures))
 
 pub returns-in-Some-last-clause-known : goal.returns-in-Some-last-clause-known
@@ -49,7 +49,7 @@ returns-in-Some-last-clause-known g c s t stands at =
     (c.in-Ok.ensures.rows s t stands at ∙ ap (λ l. l ++ take 64 list) c.new-items.ensures.items)
     (subst (λ (d : TableSchema). Every (ForeseesPlaced d name c.note_items.new.due) items)
     (described a c.args.tables.now s stands name t at c.rows.new.self c.in-Some.schema.now
-    c.in-Ok.ensures.catalog c.in-Some.ensures.table) c.in_ok-note_items.ensures.known)
+    c.in-Ok.ensures.only.catalog c.in-Some.ensures.table) c.in_ok-note_items.ensures.known)
     (omega arith) (omega (arith, c.if-got.false, c.len-got.ensures)) c.in-Ok.last
     c.in-Some-last.place (c.in-Ok.ensures.last s t stands at) c.in-Some-last.is)
 

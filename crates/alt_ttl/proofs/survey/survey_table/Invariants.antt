@@ -1,11 +1,11 @@
 -- A list that knows of the items from here on, and all that this one knows, knows of all.
 use Rattle.std.proofs.Common.{◌≡◌, [], Some}
-use Rattle.std.specs.Prelude.{◌↔◌}
 use Rattle.std.specs.FinMap as map
 use Rattle.alt_due.specs.Due.{KeepsKnown}
 use Rattle.alt_due.specs.declared.due.Due.{Due}
 use Rattle.alt_machine.specs.State.{State, Table}
-use Rattle.alt_request.specs.TablesStands.{KeepsCatalog, Reads, Stands}
+use Rattle.alt_request.specs.TablesLooking.{OnlyReads}
+use Rattle.alt_request.specs.TablesStands.{Stands}
 use Rattle.alt_ttl.specs.private.Foresight.{ForeseesRest}
 use Rattle.alt_ttl.proofs.survey.survey_table.Given as goal
 
@@ -15,8 +15,5 @@ invariant-pages g l = record {
       → map.get s.tables l.name ≡ Some t → (later : Due) → KeepsKnown l.due later
       → ForeseesRest l.name t l.from later → ForeseesRest l.name t [] later;
   keeps : KeepsKnown l.fn.due l.due;
-  stays : (s : State) → Stands (g.D.Disk.state l.fn.disk) l.fn.tables s
-      ↔ Stands (g.D.Disk.state l.disk) l.tables s;
-  catalog : KeepsCatalog l.fn.tables l.tables;
-  disk : Reads (g.D.Disk.state l.fn.disk) (g.D.Disk.state l.disk);
+  only : OnlyReads (g.D.Disk.state l.fn.disk) (g.D.Disk.state l.disk) l.fn.tables l.tables;
 }

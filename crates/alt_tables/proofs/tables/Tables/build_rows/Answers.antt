@@ -14,7 +14,8 @@ use Rattle.alt_tables.specs.Stands.{Reads, Stands}
 use Rattle.alt_rowchanges.specs.Steps.{built_to, first_behind}
 use Rattle.alt_tables.proofs.BuildReads.{read_left}
 use Rattle.alt_tables.proofs.Holding.{leaves_quiet}
-use Rattle.alt_tables.proofs.Left.{leaves_after, leaves_reads, ready_on}
+use Rattle.alt_tables.proofs.Left.{leaves_after, leaves_reads}
+use Rattle.alt_tables.proofs.Looking.{ready_only}
 use Rattle.alt_tables.proofs.Making.{spent_file}
 use Rattle.alt_tables.proofs.Pages.{same_table}
 use Rattle.alt_tables.proofs.Standing.{file_stays}
@@ -52,18 +53,16 @@ returns-in_err-range-clause-disk g c s t i stands at building =
     stands.valid (quiet_start (g.D.Disk.state c.args.disk.now))
 
 pub build_read-requires-clause-ready : goal.build_read-requires-clause-ready
-build_read-requires-clause-ready g c = ready_on (g.D.Disk.state c.args.disk.now)
-    (g.D.Disk.state c.rows.new.disk) c.args.self.now c.rows.new.self c.rows.ensures.disk.goes
-    c.rows.ensures.stays c.requires.ready
+build_read-requires-clause-ready g c = ready_only c.rows.ensures.only c.requires.ready
 
 pub build_read-requires-clause-building : goal.build_read-requires-clause-building
 build_read-requires-clause-building g c d at = c.requires.building d
-    (sym (ap (λ (m : Texts TableSchema). map.get m c.args.table.now) c.rows.ensures.catalog.catalog)
+    (sym (ap (λ (m : Texts TableSchema). map.get m c.args.table.now) c.rows.ensures.only.catalog.catalog)
     ∙ at)
 
 pub build_read-requires-clause-read : goal.build_read-requires-clause-read
 build_read-requires-clause-read g c s t i stands at building =
-    let before = (c.rows.ensures.stays s).1 stands in
+    let before = (c.rows.ensures.only.stays s).1 stands in
     let same : c.in-Some-get.schema.now ≡ t.description =
     same_table (g.D.Disk.state c.args.disk.now) c.args.self.now s c.args.table.now t
     c.in-Some-get.schema.now before at (sym c.in-Some-get.ensures.table) in
@@ -80,22 +79,22 @@ pub returns-in-Ok-clause-writes : goal.returns-in-Ok-clause-writes
 returns-in-Ok-clause-writes g c s t i stands at building =
     subst (λ n. Writes n (Stands (g.D.Disk.state c.build_read.new.disk) c.build_read.new.self) a_number
     s (with_built s c.args.most c.args.table.now t i ∷ []) c.build_read.result)
-    (file_stays c.args.self.now c.rows.new.self c.rows.ensures.catalog.limits)
-    (c.build_read.ensures.writes s t i ((c.rows.ensures.stays s).0 stands) at building)
+    (file_stays c.args.self.now c.rows.new.self c.rows.ensures.only.catalog.limits)
+    (c.build_read.ensures.writes s t i ((c.rows.ensures.only.stays s).0 stands) at building)
 
 pub returns-in-Ok-clause-disk : goal.returns-in-Ok-clause-disk
 returns-in-Ok-clause-disk g c s t i stands at building =
     leaves_after (g.D.Disk.state c.args.disk.now) (g.D.Disk.state c.rows.new.disk)
     (g.D.Disk.state c.build_read.new.disk) c.args.self.now s
-    (with_built s c.args.most c.args.table.now t i ∷ []) c.rows.ensures.disk stands
-    (c.build_read.ensures.disk s t i ((c.rows.ensures.stays s).0 stands) at building)
+    (with_built s c.args.most c.args.table.now t i ∷ []) c.rows.ensures.only.disk stands
+    (c.build_read.ensures.disk s t i ((c.rows.ensures.only.stays s).0 stands) at building)
 
 pub returns-in-Ok-clause-no_memory : goal.returns-in-Ok-clause-no_memory
 returns-in-Ok-clause-no_memory g c none =
     subst (λ (d : DiskState). Reads (g.D.Disk.state c.args.disk.now) d)
-    (sym (c.build_read.ensures.no_memory none)) c.rows.ensures.disk
+    (sym (c.build_read.ensures.no_memory none)) c.rows.ensures.only.disk
 
 pub returns-clause-disk : goal.returns-clause-disk
 returns-clause-disk g c s t i stands at building =
     leaves_reads (g.D.Disk.state c.args.disk.now) (g.D.Disk.state c.rows.new.disk)
-    c.args.self.now s (with_built s c.args.most c.args.table.now t i ∷ []) c.rows.ensures.disk stands
+    c.args.self.now s (with_built s c.args.most c.args.table.now t i ∷ []) c.rows.ensures.only.disk stands

@@ -6,6 +6,7 @@ use Rattle.std.specs.Prelude.{◌==◌, ◌-◌}
 use Rattle.alt_changes.specs.ChangeRows.{change_in}
 use Rattle.alt_machine.specs.Ops.GetRecords.{changes_from}
 use Rattle.alt_rowchanges.specs.Trims.{IsKeptFrom}
+use Rattle.alt_tables.proofs.Looking.{fails_behind}
 use Rattle.alt_tables.proofs.Standing.{keeps_nothing, keeps_then, ready_kept, stands_kept}
 use Rattle.alt_tables.proofs.TrimSteps.{walk_begins, walk_ends, walk_further}
 use Rattle.alt_tables.proofs.tables.Tables.first_kept.Goals as goal
@@ -35,10 +36,10 @@ returns-in-Err-clause-keeps g c = keeps_then (g.D.Disk.state c.args.disk.now)
     (g.D.Disk.state c.pages.disk) (g.D.Disk.state c.changes.new.disk) c.args.self.now c.pages.self
     c.changes.new.self c.pages.invariant.keeps c.changes.ensures.keeps
 
-pub returns-in-Err-clause-fault : goal.returns-in-Err-clause-fault
-returns-in-Err-clause-fault g c s stands = c.in-Err.ensures.fault s
-    (stands_kept (g.D.Disk.state c.args.disk.now) (g.D.Disk.state c.pages.disk) c.args.self.now
-    c.pages.self c.pages.invariant.keeps s stands)
+pub returns-in-Err-clause-fails : goal.returns-in-Err-clause-fails
+returns-in-Err-clause-fails g c = fails_behind c.pages.invariant.keeps.reads.goes (stands_kept (g.D.Disk.state c.args.disk.now)
+    (g.D.Disk.state c.pages.disk) c.args.self.now c.pages.self c.pages.invariant.keeps)
+    c.in-Err.ensures.fails
 
 pub returns-then-is_some-clause-keeps : goal.returns-then-is_some-clause-keeps
 returns-then-is_some-clause-keeps g c = keeps_then (g.D.Disk.state c.args.disk.now)

@@ -1,6 +1,5 @@
 -- The rows of the walk are those of the items, and nothing else changed.
-use Rattle.std.proofs.Common.{◌≡◌, ◌∙◌, refl, sym, ap, subst, IfOk}
-use Rattle.std.proofs.Math.Nat.{le_refl}
+use Rattle.std.proofs.Common.{◌≡◌, ◌∙◌, sym, ap, subst, IfOk, Err}
 use Rattle.std.proofs.lemmas.Result.{on_ok_weaker}
 use Rattle.std.specs.Prelude.{◌≤◌, ◌+◌}
 use Rattle.alt_base.proofs.Options.{on_ok_holds}
@@ -10,9 +9,10 @@ use Rattle.alt_rowchanges.specs.OpeningHandInHand.{file_rows}
 use Rattle.alt_layout.specs.Layout.{rows_between, shown}
 use Rattle.alt_schema.specs.declared.schema.TableSchema.{TableSchema}
 use Rattle.alt_views.specs.ItemRows.{item_columns}
-use Rattle.alt_tables.proofs.Pages.{find_fault, page_items, page_reads, page_rows, same_table, engine_fault}
+use Rattle.alt_tables.proofs.Pages.{page_items, page_reads, page_rows, same_table}
 use Rattle.alt_tables.proofs.Paying.{last_given, walk_paid}
-use Rattle.alt_tables.proofs.Standing.{stays, there}
+use Rattle.alt_tables.proofs.Standing.{there}
+use Rattle.alt_tables.proofs.Looking.{fails_engine, fails_page, only_rows}
 use Rattle.alt_disk.proofs.Runs.{tells_of}
 use Rattle.alt_tables.proofs.tables.Tables.table_rows.Goals as goal
 
@@ -59,30 +59,30 @@ returns-in-Ok-clause-reads g c s t maps stands at has =
     (rows_between l d.family c.args.range.now.from c.args.range.now.to c.args.forward)
     (file_rows (hand_of c.args.self.now.engine) reads.held d.family)) same paid) maps has)
 
-pub returns-in-Ok-clause-fault : goal.returns-in-Ok-clause-fault
-returns-in-Ok-clause-fault g c s stands =
+pub returns-in-Ok-clause-fails : goal.returns-in-Ok-clause-fails
+returns-in-Ok-clause-fails g c = fails_page (g.D.Disk.state c.args.disk.now)
+    (g.D.Disk.state c.rows.new.disk) c.args.self.now c.read_page.result
+    c.read_page.ensures.unspent (λ s stands.
     let (t, at, same) = there (g.D.Disk.state c.args.disk.now) c.args.self.now s c.args.table.now
     c.in-Some.schema.now stands (sym c.in-Some.ensures.table) in
-    find_fault c.read_page.result (c.read_page.ensures.fault _
+    c.read_page.ensures.fault _
     (page_reads (g.D.Disk.state c.args.disk.now) c.args.self.now s c.args.table.now t
     c.in-Some.schema.now stands at (sym c.in-Some.ensures.table) c.args.range.now.from
     c.args.range.now.to c.args.forward c.args.most c.new-page.result.items c.rows.new.out.items
-    c.new-page.ensures.items c.in-Ok.ensures.rows))
+    c.new-page.ensures.items c.in-Ok.ensures.rows)) c.read_page.ensures.unfailed
 
-pub returns-in-Ok-clause-stays : goal.returns-in-Ok-clause-stays
-returns-in-Ok-clause-stays g c s = stays (g.D.Disk.state c.args.disk.now)
-    (g.D.Disk.state c.rows.new.disk) c.args.self.now _ refl refl refl refl refl (λ moment spot knows. knows)
-    (le_refl c.args.self.now.largest) refl c.rows.ensures.goes
-    c.rows.ensures.same c.requires.ready s
+pub returns-in-Ok-clause-only : goal.returns-in-Ok-clause-only
+returns-in-Ok-clause-only g c = only_rows (g.D.Disk.state c.args.disk.now)
+    (g.D.Disk.state c.rows.new.disk) c.args.self.now c.rows.new.self c.rows.ensures.goes
+    c.rows.ensures.quiet c.rows.ensures.same c.rows.ensures.next c.rows.ensures.bounds c.requires.ready
 
-pub returns-in-Err-clause-stays : goal.returns-in-Err-clause-stays
-returns-in-Err-clause-stays g c s = stays (g.D.Disk.state c.args.disk.now)
-    (g.D.Disk.state c.rows.new.disk) c.args.self.now _ refl refl refl refl refl (λ moment spot knows. knows)
-    (le_refl c.args.self.now.largest) refl c.rows.ensures.goes
-    c.rows.ensures.same c.requires.ready s
+pub returns-in-Err-clause-only : goal.returns-in-Err-clause-only
+returns-in-Err-clause-only g c = only_rows (g.D.Disk.state c.args.disk.now)
+    (g.D.Disk.state c.rows.new.disk) c.args.self.now c.rows.new.self c.rows.ensures.goes
+    c.rows.ensures.quiet c.rows.ensures.same c.rows.ensures.next c.rows.ensures.bounds c.requires.ready
 
-pub returns-in-Err-clause-fault : goal.returns-in-Err-clause-fault
-returns-in-Err-clause-fault g c s stands = engine_fault c.in-Err.fault c.from.result c.from.ensures
-    c.in-Err.ensures.unspent (c.in-Err.ensures.undamaged
-    (tells_of (g.D.Disk.state c.args.disk.now) stands.rows.trusted) stands.rows.layout
-    stands.rows.is.hand.reads)
+pub returns-in-Err-clause-fails : goal.returns-in-Err-clause-fails
+returns-in-Err-clause-fails g c = fails_engine (g.D.Disk.state c.args.disk.now)
+    (g.D.Disk.state c.rows.new.disk) c.args.self.now c.in-Err.fault c.from.result c.from.ensures
+    c.in-Err.ensures.unspent c.in-Err.ensures.undamaged
+    (λ failed. c.in-Err.ensures.cause (ap (λ f. Err f) failed))

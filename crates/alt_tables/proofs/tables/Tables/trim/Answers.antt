@@ -1,5 +1,5 @@
 -- What is trimmed and what is left over are read one after the other.
-use Rattle.std.proofs.Common.{◌≡◌, ◌≤◌, ◌<◌, sym, ap, subst, ◌∙◌, ℕ, List, true, Some, None, All, arith}
+use Rattle.std.proofs.Common.{◌≡◌, ◌≤◌, ◌<◌, sym, ap, subst, ◌∙◌, ℕ, List, true, Some, None, Err, All, arith}
 use Rattle.std.proofs.lemmas.Bool.{false≢true}
 use Rattle.std.proofs.lemmas.Bool.Decides.{nat_tests}
 use Rattle.std.specs.FinMap as map
@@ -8,8 +8,10 @@ use Rattle.alt_disk.specs.Disk.{DiskState}
 use Rattle.alt_machine.specs.State.{State, Table}
 use Rattle.alt_schema.specs.declared.schema.TableSchema.{TableSchema}
 use Rattle.alt_rowchanges.specs.Leftovers.{leftovers}
+use Rattle.alt_rowchanges.specs.declared.faults.TableFault.TheVariants.{Failed}
 use Rattle.alt_tables.specs.Stands.{Stands, catalog_of}
 use Rattle.alt_tables.specs.declared.tables.Tables.{Tables}
+use Rattle.alt_tables.proofs.Looking.{rose_on}
 use Rattle.alt_tables.proofs.Pages.{same_table}
 use Rattle.alt_tables.proofs.Standing.{keeps_then, ready_kept, rows_kept, stands_kept, there}
 use Rattle.alt_tables.proofs.TrimSteps.{is_rest, is_trim, left_above, no_trim, trimmed_known, trimmed_rises, trimmed_stays_below}
@@ -109,40 +111,50 @@ returns-in-Ok-lowest-clause-rest g c s t l stands at rows =
     (sym c.left_from-from.ensures.known) above.1)
     (c.in-Ok-lowest.ensures.lowest_from s name t l there at stream rows_there low)
 
-pub returns-in-Err-lowest-clause-fault : goal.returns-in-Err-lowest-clause-fault
-returns-in-Err-lowest-clause-fault g c s stands =
-    let a : DiskState = g.D.Disk.state c.args.disk.now in
-    let m : DiskState = g.D.Disk.state c.kept_from.new.disk in
-    let old : Tables = c.args.self.now in
-    let mid : Tables = c.kept_from.new.self in
-    let name : List ℕ = c.args.table.now in
-    let (t, at, same) = there a old s name c.in-Some.schema.now stands
-    (sym c.in-Some.ensures.table) in
-    let stream = stream_of a old s name t c.in-Some.schema.now stands at
-    (sym c.in-Some.ensures.table) c.in-Some-stream_family.family c.in-Some-stream_family.is in
-    let there_m = stands_kept a m old mid c.kept_from.ensures.keeps s stands in
-    let above = left_above m mid s name t there_m at c.in-Some-stream_family.family stream
-    there_m.rows.layout there_m.rows.is t.trimmed (omega arith) in
-    c.in-Err-lowest.ensures.fault s name t there_m at stream
-    (subst (λ n. 1 ≤ n) (sym c.left_from-from.ensures.known) above.0)
+pub returns-in-Err-lowest-clause-fails : goal.returns-in-Err-lowest-clause-fails
+returns-in-Err-lowest-clause-fails g c = record {
+  unspent = c.in-Err-lowest.ensures.unspent;
+  fault = λ s stands.
+      let a : DiskState = g.D.Disk.state c.args.disk.now in
+      let m : DiskState = g.D.Disk.state c.kept_from.new.disk in
+      let old : Tables = c.args.self.now in
+      let mid : Tables = c.kept_from.new.self in
+      let name : List ℕ = c.args.table.now in
+      let (t, at, same) = there a old s name c.in-Some.schema.now stands
+      (sym c.in-Some.ensures.table) in
+      let stream = stream_of a old s name t c.in-Some.schema.now stands at
+      (sym c.in-Some.ensures.table) c.in-Some-stream_family.family c.in-Some-stream_family.is in
+      let there_m = stands_kept a m old mid c.kept_from.ensures.keeps s stands in
+      let above = left_above m mid s name t there_m at c.in-Some-stream_family.family stream
+      there_m.rows.layout there_m.rows.is t.trimmed (omega arith) in
+      c.in-Err-lowest.ensures.fault s name t there_m at stream
+      (subst (λ n. 1 ≤ n) (sym c.left_from-from.ensures.known) above.0);
+  cause = λ failed. rose_on (g.D.Disk.state c.args.disk.now) (g.D.Disk.state c.kept_from.new.disk)
+      (g.D.Disk.state c.lowest.new.disk) c.kept_from.ensures.keeps.reads.goes
+      (c.in-Err-lowest.ensures.cause (ap (λ f. Err f) (let is : c.in-Err-lowest.fault ≡ Failed = cc in is)));
+}
 
 -- what is read passes the test
-pub returns-then-not-is_within-clause-fault : goal.returns-then-not-is_within-clause-fault
-returns-then-not-is_within-clause-fault g c s stands =
-    let a : DiskState = g.D.Disk.state c.args.disk.now in
-    let old : Tables = c.args.self.now in
-    let name : List ℕ = c.args.table.now in
-    let (t, at, same) = there a old s name c.in-Some.schema.now stands
-    (sym c.in-Some.ensures.table) in
-    let told = c.in-Ok.ensures.kept s t stands at in
-    let rises = trimmed_rises a old s name t stands at c.args.moment in
-    let stays = trimmed_stays_below a old s name t stands at c.args.moment in
-    let known = c.trimmed-before.ensures.trimmed ∙ trimmed_known a old s name t stands at in
-    let is = told.number in
-    let next = c.next_number.ensures.next ∙ c.kept_from.ensures.keeps.number ∙ stands.number in
-    absurd (false≢true (c.if-not-is_within.ensures
-    ∙ passes c.trimmed-before.result c.in-Ok.kept.0 c.next_number.result
-    (omega (arith, known, is, rises)) (omega (arith, is, stays, next))))
+pub returns-then-not-is_within-clause-fails : goal.returns-then-not-is_within-clause-fails
+returns-then-not-is_within-clause-fails g c = record {
+  unspent = tt;
+  fault = λ s stands.
+      let a : DiskState = g.D.Disk.state c.args.disk.now in
+      let old : Tables = c.args.self.now in
+      let name : List ℕ = c.args.table.now in
+      let (t, at, same) = there a old s name c.in-Some.schema.now stands
+      (sym c.in-Some.ensures.table) in
+      let told = c.in-Ok.ensures.kept s t stands at in
+      let rises = trimmed_rises a old s name t stands at c.args.moment in
+      let stays = trimmed_stays_below a old s name t stands at c.args.moment in
+      let known = c.trimmed-before.ensures.trimmed ∙ trimmed_known a old s name t stands at in
+      let is = told.number in
+      let next = c.next_number.ensures.next ∙ c.kept_from.ensures.keeps.number ∙ stands.number in
+      absurd (false≢true (c.if-not-is_within.ensures
+      ∙ passes c.trimmed-before.result c.in-Ok.kept.0 c.next_number.result
+      (omega (arith, known, is, rises)) (omega (arith, is, stays, next))));
+  cause = λ failed. absurd (let g : ⊥ = cc in g);
+}
 
 pub lowest-requires-clause-room : goal.lowest-requires-clause-room
 lowest-requires-clause-room g c = omega (arith, c.requires.room, c.kept_from.ensures.keeps.number)

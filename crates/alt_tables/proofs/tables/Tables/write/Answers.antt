@@ -98,7 +98,7 @@ returns-in-Err-clause-writes g c s t stands at =
     (broke (bounds_of c.args.self.now).file
     (Stands (g.D.Disk.state c.trim.new.disk) c.trim.new.self) a_number s
     (after_item s c.args.moment c.args.table.now t c.args.found.place c.args.new) c.in-Err.fault
-    (c.in-Err.ensures.fault s stands))
+    (c.in-Err.ensures.fails.fault s stands))
 
 pub returns-in-Err-clause-disk : goal.returns-in-Err-clause-disk
 returns-in-Err-clause-disk g c s t stands at =

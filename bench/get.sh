@@ -6,7 +6,7 @@ set -eu
 . "$(dirname "$0")/rounds.sh"
 crates='alt_base alt_fields alt_decimal alt_value alt_codec alt_shape alt_description alt_schema alt_expr alt_keyorder alt_legacy alt_machine alt_named alt_members alt_disk alt_cells alt_cellbytes alt_views alt_http'
 # shellcheck disable=SC2086
-begin HEAD "$crates serde_json" $crates
+begin HEAD "$crates json serde_json" $crates
 cat >"$main" <<'RATTLE'
 //! The parts of a GetItem, by the number of words.
 #![tactic(auto)]
@@ -21,6 +21,7 @@ use alt_schema::{TableSchema, schema_of_json};
 use alt_shape::{Body, Member, Part, given};
 use alt_value::Item;
 use alt_views::{item_of_row, place_of, row_of_item};
+use json::Scratch;
 use serde_json::{Map, Value};
 use std::alloc::Global;
 use std::env;
@@ -33,7 +34,17 @@ static HEAD: &[u8] = b"POST / HTTP/1.1\r\nHost: 127.0.0.1:35623\r\nAccept-Encodi
 const ROUNDS: u32 = 1_000;
 
 fn read(alloc: Global, operation: Operation, body: &[u8]) -> Option<Map<String, Value>> {
-    match read_heeded(alloc, operation, body) {
+    let mut scratch = Scratch::new(alloc);
+    read_with(alloc, &mut scratch, operation, body)
+}
+
+fn read_with(
+    alloc: Global,
+    scratch: &mut Scratch<Global>,
+    operation: Operation,
+    body: &[u8],
+) -> Option<Map<String, Value>> {
+    match read_heeded(alloc, scratch, operation, body) {
         Ok(found) => found,
         Err(_) => None,
     }
@@ -75,8 +86,9 @@ fn row_at(alloc: Global) -> Option<RowCells> {
 
 fn bodies(alloc: Global) -> usize {
     let mut sum: usize = 0;
+    let mut scratch = Scratch::new(alloc);
     for _ in 0..ROUNDS {
-        if let Some(body) = read(alloc, Operation::GetItem, GET) {
+        if let Some(body) = read_with(alloc, &mut scratch, Operation::GetItem, GET) {
             sum = sum.wrapping_add(body.len());
         }
     }

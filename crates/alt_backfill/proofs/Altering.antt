@@ -12,7 +12,7 @@ use Rattle.alt_base.proofs.Lists.{length-filter}
 use Rattle.alt_machine.specs.Body.{of_shape}
 use Rattle.alt_machine.specs.Building.{building_in}
 use Rattle.alt_machine.specs.Members.{may_name}
-use Rattle.alt_machine.specs.Ops.UpdateTable.{acts, altered, altered_by, are_keys_good, are_single, asked_at, changes, comes_early, coming, family_after, going, names_fit, of_body, of_indexes, wanted_for}
+use Rattle.alt_machine.specs.Ops.UpdateTable.{acts, altered, altered_by, are_keys_good, are_single, asked_at, changes, comes_early, coming, family_after, going, changed_index_names_fit, of_body, of_indexes, wanted_for}
 use Rattle.alt_machine.specs.Outcomes.{Wants, a_family, a_number}
 use Rattle.alt_machine.specs.Refusals.{first_answer, refuse_if, refuse_unless}
 use Rattle.alt_machine.specs.Valid.{IsMade}
@@ -113,7 +113,7 @@ module _ (d : TableSchema) (ms : Members) (family : ℕ) where
         let single = unless_holds (are_single ms) bad_index_update _ shaped.1 in
         first_so (list_all (λ (i : StatedIndex). is_name i.name) (coming ms)) _
         (second_so (may_name ms (codes "TableName")) _
-        (unless_holds (may_name ms (codes "TableName") && names_fit ms) bad_name [] single.1).0)
+        (unless_holds (may_name ms (codes "TableName") && changed_index_names_fit ms) bad_name [] single.1).0)
 
     -- it is made as a description has to be, where the table's is
     pub altered_made : first_answer (of_indexes d ms) ≡ None → IsMade d → IsMade (altered d ms family)

@@ -10,7 +10,7 @@ use Rattle.serde_json.specs.Data.{Data, Members}
 use Rattle.serde_json.specs.Find.{as_object}
 use Rattle.alt_backfill.specs.private.Asked.{first_of, names_index}
 use Rattle.alt_machine.specs.Lists.{is_given}
-use Rattle.alt_machine.specs.Ops.UpdateTable.{acts, are_single, asked_at, asked_in, changes, coming, going, is_one, names_fit}
+use Rattle.alt_machine.specs.Ops.UpdateTable.{acts, are_single, asked_at, asked_in, changes, coming, going, is_one, changed_index_names_fit}
 use Rattle.alt_schema.specs.Rules.{is_name}
 use Rattle.alt_schema.specs.Stated.{at_most_one, index_in, text_of}
 use Rattle.alt_shape.specs.Shape.{given}
@@ -90,7 +90,7 @@ module _ (ms : Members) (single : are_single ms ≡ true) where
 
   -- the first of them have good names where all have
   pub names_fit_so : (option_map_or names_index (first_of (asked_at (codes "Create") ms)) true
-      && option_map_or names_index (first_of (asked_at (codes "Delete") ms)) true) ≡ names_fit ms
+      && option_map_or names_index (first_of (asked_at (codes "Delete") ms)) true) ≡ changed_index_names_fit ms
   names_fit_so = λ i.
       (of_first names_index (asked_at (codes "Create") ms) (omega (arith, asks_one))
       ∙ each_index (asked_at (codes "Create") ms)) i

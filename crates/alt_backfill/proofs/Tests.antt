@@ -4,13 +4,13 @@ use Rattle.std.specs.Prelude.{◌&&◌, ◌||◌, codes, if◌then◌else◌}
 use Rattle.std.specs.List.{list_all, list_any}
 use Rattle.std.proofs.lemmas.List.Folds.{list_any-append}
 use Rattle.serde_json.specs.Data.{Members}
-use Rattle.alt_backfill.specs.private.Asked.{IsAskedOf, first_asked, stop_of}
+use Rattle.alt_backfill.specs.private.Asked.{IsAskedOf, first_asked, stop_of_schema_fault}
 use Rattle.alt_backfill.proofs.Singles.{none_first, only_comes, only_goes}
 use Rattle.alt_backfill.proofs.Shapes.{acts_coming, acts_going, none_acts}
 use Rattle.alt_machine.specs.Body.{of_shape}
 use Rattle.alt_machine.specs.Building.{building_in}
 use Rattle.alt_machine.specs.Members.{may_name}
-use Rattle.alt_machine.specs.Ops.UpdateTable.{acts, altered, altered_by, are_single, asked_at, changes, comes_early, coming, going, names_fit, of_body, of_indexes}
+use Rattle.alt_machine.specs.Ops.UpdateTable.{acts, altered, altered_by, are_single, asked_at, changes, comes_early, coming, going, changed_index_names_fit, of_body, of_indexes}
 use Rattle.alt_machine.specs.Outcomes.{Outcome, refuses, unless_refused}
 use Rattle.alt_machine.specs.Refusals.{first_answer, refuse_if, refuse_unless}
 use Rattle.alt_machine.proofs.Tests.{rest_none, stopped, unless_holds}
@@ -216,7 +216,7 @@ module _ (d : TableSchema) (ms : Members) where
 
     -- its description is refused
     pub coming_refused : (f : SchemaFault) → IsFaultOf (refused_with d more family i) f
-        → IsKnownFault f → IsAskedOf d ms family (Err (stop_of f))
+        → IsKnownFault f → IsAskedOf d ms family (Err (stop_of_schema_fault f))
     coming_refused (Refused r) h known = (
       known,
       refused_then r (comes_tests ∙ comes_refused d more family i r h),
@@ -267,7 +267,7 @@ module _ (d : TableSchema) (ms : Members) where
     -- the description then is refused
     pub going_refused : is_none_of d name ≡ false → (f : SchemaFault)
         → IsFaultOf (refused_without d more name) f → IsKnownFault f → (family : ℕ)
-        → IsAskedOf d ms family (Err (stop_of f))
+        → IsAskedOf d ms family (Err (stop_of_schema_fault f))
     going_refused e (Refused r) h known family = (
       known,
       refused_then r (goes_tests ∙ goes_refused d more name e r h),

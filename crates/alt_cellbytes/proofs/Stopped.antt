@@ -3,7 +3,7 @@ use Rattle.std.proofs.Common.{◌≡◌, refl, sym, ap, subst, ◌∙◌, ℕ, z
 use Rattle.std.specs.Prelude.{ℤ, Bool, true, false}
 use Rattle.std.specs.List.{AllByRecursion, flat_map}
 use Rattle.std.specs.Ordering.{int_cmp}
-use Rattle.alt_decimal.specs.Number.{Fits}
+use Rattle.alt_decimal.specs.Number.{FitsDecimal}
 use Rattle.alt_decimal.specs.Spelled.{spelled}
 use Rattle.alt_fields.specs.Field.{field}
 use Rattle.alt_value.specs.CellBytes.{cell_bytes, counted, truth_byte}
@@ -14,10 +14,10 @@ use Rattle.alt_value.specs.Tree.{Tree, NULL_tree, L_tree, M_tree, Pair, trees_of
 use Rattle.alt_value.proofs.Texts.{text_total}
 use Rattle.std.proofs.lemmas.Cmp.{int_cmp_total}
 use Rattle.alt_base.proofs.Lists.{cons_first, all_among as here}
-use Rattle.alt_cellbytes.specs.Places.{NoField, NoNumber, NoTruth, NoKind, NoMember, IsNextText, IsNextName, NoName, NoElementOf, NoEntry, NoEntryOf, Within, IsNested, TooDeep, IsEntry, AreEntries, entry_bytes, StopsHere, no_kind, no_text, no_number, no_binary, no_truth, no_count, empty_set, no_text_member, no_number_member, no_binary_member, no_name, Around, in_list, in_map, around_bytes, IsAround, all_around, Stops}
+use Rattle.alt_cellbytes.specs.Places.{NoFittingField, NoFittingNumber, NoTruth, NoKind, NoMember, IsNextText, IsNextName, NoNextName, NoElementOf, NoEntry, NoEntryOf, Within, IsNested, TooDeep, IsMapEntry, AreMapEntries, entry_bytes, StopsHere, no_kind, no_text, no_number, no_binary, no_truth, no_count, empty_set, no_text_member, no_number_member, no_binary_member, no_name, Around, in_list, in_map, around_bytes, IsAround, all_around, ValueStops}
 use Rattle.alt_fields.specs.Bytes.{IsShort}
 use Rattle.alt_value.specs.Values.{IsText}
-use Rattle.alt_cellbytes.specs.Values.{AreRising, IsWholeSet, HasBytes}
+use Rattle.alt_cellbytes.specs.Values.{AreSetMembers, IsWholeSet, HasBytes}
 use Rattle.alt_fields.proofs.Apart.{nothing, IsApart, further, all_map, number-apart, field-apart}
 use Rattle.alt_cellbytes.proofs.Fields.{field-refuted, field-left, number-refuted, number-left, length-counted}
 use Rattle.alt_cellbytes.proofs.Rising.{rising_front, item_front, item_other}
@@ -49,8 +49,8 @@ snoc_is ks l ms = sym (append_assoc ks (l ∷ []) ms)
 
 -- the next member of a set can be the next
 next_text : (ks : List (List ℕ)) (l : List ℕ) (ms : List (List ℕ)) (more x : List ℕ) (left : ℕ)
-    → AreRising IsText text_order (ks ++ l ∷ ms)
-    → more ≡ field l ++ x → NoField (IsNextText ks) more left → ⊥
+    → AreSetMembers IsText text_order (ks ++ l ∷ ms)
+    → more ≡ field l ++ x → NoFittingField (IsNextText ks) more left → ⊥
 next_text ks l ms more x left are is non =
     let t : IsText l = here IsText ks l ms are.0 in
     let rising : IsSet text_order (ks ++ l ∷ []) =
@@ -59,8 +59,8 @@ next_text ks l ms more x left are is non =
     field-refuted (IsNextText ks) more left non l x t.1 (t.0, rising) is
 
 next_binary : (ks : List (List ℕ)) (l : List ℕ) (ms : List (List ℕ)) (more x : List ℕ) (left : ℕ)
-    → AreRising IsShort text_order (ks ++ l ∷ ms)
-    → more ≡ field l ++ x → NoField (λ b. IsSet text_order (ks ++ b ∷ [])) more left → ⊥
+    → AreSetMembers IsShort text_order (ks ++ l ∷ ms)
+    → more ≡ field l ++ x → NoFittingField (λ b. IsSet text_order (ks ++ b ∷ [])) more left → ⊥
 next_binary ks l ms more x left are is non =
     field-refuted (λ b. IsSet text_order (ks ++ b ∷ [])) more left non l x
     (here IsShort ks l ms are.0)
@@ -68,18 +68,18 @@ next_binary ks l ms more x left are is non =
     (subst (IsSet text_order) (snoc_is ks l ms) are.1)) is
 
 next_number : (ks : List ℤ) (l : ℤ) (ms : List ℤ) (more x : List ℕ) (left : ℕ)
-    → AreRising Fits int_cmp (ks ++ l ∷ ms)
-    → more ≡ spelled l ++ x → NoNumber (λ z. IsSet int_cmp (ks ++ z ∷ [])) more left → ⊥
+    → AreSetMembers FitsDecimal int_cmp (ks ++ l ∷ ms)
+    → more ≡ spelled l ++ x → NoFittingNumber (λ z. IsSet int_cmp (ks ++ z ∷ [])) more left → ⊥
 next_number ks l ms more x left are is non =
-    number-refuted _ more left non l x (here Fits ks l ms are.0)
+    number-refuted _ more left non l x (here FitsDecimal ks l ms are.0)
     (rising_front int_cmp int_cmp_total (ks ++ l ∷ []) ms
     (subst (IsSet int_cmp) (snoc_is ks l ms) are.1)) is
 
 -- and so can the next name of a map
-pub next_name_of : (ks : List Pair) (l : Pair) (ms : List Pair) → AreEntries (ks ++ l ∷ ms)
-    → IsEntry l × IsNextName ks l.0
+pub next_name_of : (ks : List Pair) (l : Pair) (ms : List Pair) → AreMapEntries (ks ++ l ∷ ms)
+    → IsMapEntry l × IsNextName ks l.0
 next_name_of ks l ms are =
-    let e : IsEntry l = here IsEntry ks l ms are.0 in (
+    let e : IsMapEntry l = here IsMapEntry ks l ms are.0 in (
       e,
       (
         e.0.0,
@@ -89,8 +89,8 @@ next_name_of ks l ms are =
     )
 
 next_name : (ks : List Pair) (l : Pair) (ms : List Pair) (more x : List ℕ) (left : ℕ)
-    → AreEntries (ks ++ l ∷ ms)
-    → more ≡ entry_bytes l ++ x → NoField (IsNextName ks) more left → ⊥
+    → AreMapEntries (ks ++ l ∷ ms)
+    → more ≡ entry_bytes l ++ x → NoFittingField (IsNextName ks) more left → ⊥
 next_name ks l ms more x left are is non =
     let e = next_name_of ks l ms are in
     field-refuted (IsNextName ks) more left non l.0 (cell_bytes l.1 ++ x) e.0.0.1 e.1
@@ -176,7 +176,7 @@ told_count spell ks count more x m n e = number-apart count (length ks) more
 
 -- the pairs of a map that is a value
 map_value : (ps : List Pair) → HasBytes (M_tree (fields_of ps))
-    → (length ps < 2 ^ 64) × AreEntries ps
+    → (length ps < 2 ^ 64) × AreMapEntries ps
 map_value ps v = (
   subst (λ qs. length qs < 2 ^ 64) (pairs-fields_of ps) v.0,
   (all_entries ps v.2, subst IsItem (pairs-fields_of ps) v.1),
@@ -215,19 +215,19 @@ here-refuted bytes left (no_text_member count more small is non) t x v e =
     let k = kind_of t 6 (counted count ++ more) x (sym is ∙ e) in
     let w : IsWholeSet IsText text_order k.0 = subst HasBytes k.1 v in
     let c = told_count field k.0 count more x small w.1 k.2 in
-    member-refuted field IsText (AreRising IsText text_order) _ text_apart
+    member-refuted field IsText (AreSetMembers IsText text_order) _ text_apart
     (λ ks h. h.0) next_text k.0 count more x left c.0 w.2 c.1 non
 here-refuted bytes left (no_number_member count more small is non) t x v e =
     let k = kind_of t 7 (counted count ++ more) x (sym is ∙ e) in
-    let w : IsWholeSet Fits int_cmp k.0 = subst HasBytes k.1 v in
+    let w : IsWholeSet FitsDecimal int_cmp k.0 = subst HasBytes k.1 v in
     let c = told_count spelled k.0 count more x small w.1 k.2 in
-    member-refuted spelled Fits (AreRising Fits int_cmp) _ number_apart
+    member-refuted spelled FitsDecimal (AreSetMembers FitsDecimal int_cmp) _ number_apart
     (λ ks h. h.0) next_number k.0 count more x left c.0 w.2 c.1 non
 here-refuted bytes left (no_binary_member count more small is non) t x v e =
     let k = kind_of t 8 (counted count ++ more) x (sym is ∙ e) in
     let w : IsWholeSet IsShort text_order k.0 = subst HasBytes k.1 v in
     let c = told_count field k.0 count more x small w.1 k.2 in
-    member-refuted field IsShort (AreRising IsShort text_order) _ binary_apart
+    member-refuted field IsShort (AreSetMembers IsShort text_order) _ binary_apart
     (λ ks h. h.0) next_binary k.0 count more x left c.0 w.2 c.1 non
 here-refuted bytes left (no_name count more small is non) t x v e =
     let k = kind_of t 10 (counted count ++ more) x (sym is ∙ e) in
@@ -236,9 +236,9 @@ here-refuted bytes left (no_name count more small is non) t x v e =
     name-refuted k.0 count more x left c.0 w.1 c.1 non
   where
     name-refuted : (ls : List Pair) (count : ℕ) (bytes x : List ℕ) (left : ℕ) → count ≡ length ls
-        → AreEntries ls → bytes ≡ flat_map entry_bytes ls ++ x → NoName count bytes left → ⊥
+        → AreMapEntries ls → bytes ≡ flat_map entry_bytes ls ++ x → NoNextName count bytes left → ⊥
     name-refuted ls count bytes x left n are is non =
-        member-refuted entry_bytes IsEntry AreEntries _ pair_apart
+        member-refuted entry_bytes IsMapEntry AreMapEntries _ pair_apart
         (λ ks h. h.0) next_name ls count bytes x left n are is non
 
 -- three pieces in front of a rest
@@ -286,11 +286,11 @@ around-next (in_map count ps name ∷ around) within bytes room least follows op
     let w = map_value k.0 (subst HasBytes k.1 v) in
     let c = told_count entry_bytes k.0 count (flat_map entry_bytes ps ++ (field name ++ rest)) x
     opened.0.0 w.0 k.2 in
-    let g = further entry_bytes IsEntry ps k.0 (field name ++ rest) x
-    (all_map IsEntry (IsApart entry_bytes IsEntry) ps pair_apart opened.0.2.0) w.1.0
+    let g = further entry_bytes IsMapEntry ps k.0 (field name ++ rest) x
+    (all_map IsMapEntry (IsApart entry_bytes IsMapEntry) ps pair_apart opened.0.2.0) w.1.0
     (omega (arith, opened.0.1, c.0)) c.1 in
-    let p : IsEntry g.next = here IsEntry ps g.next g.others
-    (subst (AllByRecursion IsEntry) g.is w.1.0) in
+    let p : IsMapEntry g.next = here IsMapEntry ps g.next g.others
+    (subst (AllByRecursion IsMapEntry) g.is w.1.0) in
     let h = field-apart name g.next.0 rest _ opened.0.3 p.0.1
     (g.there ∙ append_assoc (field g.next.0) (cell_bytes g.next.1) _) in
     around-next around within rest room least follows opened.1 refl g.next.1
@@ -299,7 +299,7 @@ around-next (in_map count ps name ∷ around) within bytes room least follows op
     (omega (arith, b, length-append (flat_map entry_bytes g.others) x)) h.1
 
 -- bytes that stop begin with no value's cell bytes
-pub stops-refuted : (bytes : List ℕ) (left : ℕ) → Stops bytes left
+pub stops-refuted : (bytes : List ℕ) (left : ℕ) → ValueStops bytes left
     → (t : Tree) (x : List ℕ) → HasBytes t → bytes ≡ cell_bytes t ++ x → ⊥
 stops-refuted bytes left s t x v e =
     around-next s.around s.here bytes (depth t) 0
@@ -394,7 +394,7 @@ within-left H bytes left bound s =
     )
 
 -- so it is where bytes stop
-pub stops-left : (bytes : List ℕ) (left : ℕ) → Stops bytes left → left ≤ length bytes
+pub stops-left : (bytes : List ℕ) (left : ℕ) → ValueStops bytes left → left ≤ length bytes
 stops-left bytes left s = within-left (λ around. StopsHere) bytes left
     (λ around here h. here-left here left h) s
 
@@ -409,7 +409,7 @@ deep-left most bytes left s =
 -- ---- stops of a value, of its elements and entries
 
 -- at a piece of its own
-pub stops_here : (bytes : List ℕ) (left : ℕ) → StopsHere bytes left → Stops bytes left
+pub stops_here : (bytes : List ℕ) (left : ℕ) → StopsHere bytes left → ValueStops bytes left
 stops_here bytes left h = record {
   around = [];
   here = bytes;
@@ -476,7 +476,7 @@ map_within H J count bytes more left f small is non =
 -- a list or a map stops where an element or a value does
 pub list_stops : (count : ℕ) (bytes more : List ℕ) (left : ℕ) → count < 2 ^ 64
     → bytes ≡ 9 ∷ (counted count ++ more)
-    → NoElementOf Stops count more left → Stops bytes left
+    → NoElementOf ValueStops count more left → ValueStops bytes left
 list_stops count bytes more left small is non =
     list_within (λ around. StopsHere) (λ around. StopsHere) count bytes more left
     (λ a around here h. h) small is non
@@ -484,7 +484,7 @@ list_stops count bytes more left small is non =
 -- and a map where a name or a value does
 pub map_stops : (count : ℕ) (bytes more : List ℕ) (left : ℕ) → count < 2 ^ 64
     → bytes ≡ 10 ∷ (counted count ++ more)
-    → NoEntry count more left → Stops bytes left
+    → NoEntry count more left → ValueStops bytes left
 map_stops count bytes more left small is non = elim non [
   | inl name ↦ stops_here bytes left (no_name count more small is name)
   | inr value ↦

@@ -9,24 +9,24 @@ use Rattle.base64.specs.Engines.{standard}
 use Rattle.base64.specs.GeneralPurpose.{decode_of}
 use Rattle.base64.specs.declared.decode.DecodeError.{DecodeError}
 use Rattle.serde_json.specs.Data.{Data, null, boolean, number, string, array, object, Items, no_items, item, Members, no_members, member}
-use Rattle.alt_decimal.specs.NumberText.{ReadsAs}
+use Rattle.alt_decimal.specs.NumberText.{TextReadsAs}
 use Rattle.alt_decimal.specs.declared.fault.NumberFault.{NumberFault}
 use Rattle.alt_value.specs.Item.{with_pair}
 use Rattle.alt_value.specs.Members.{set_of, text_order}
 use Rattle.alt_value.specs.Tree.{Tree, S_tree, N_tree, B_tree, BOOL_tree, NULL_tree, SS_tree, NS_tree, BS_tree, L_tree, M_tree, Pair, trees_of, fields_of}
 use Rattle.alt_codec.specs.declared.fault.ValueFault.{ValueFault}
 use Rattle.alt_codec.specs.declared.fault.ValueFault.TheVariants as fault
-use Rattle.alt_codec.specs.JsonOf.{present, IsOnly, IsTextOf, IsNumberOf, IsBinaryOf, IsMemberOf, AreMembersOf, IsSetOf, with_pairs, JsonOf, is_text, is_number, is_binary, is_truth, is_none, is_texts, is_numbers, is_binaries, is_list, is_map, ElementsOf, no_elements, element_then, PairsOf, no_pairs, pair_then, ItemJsonOf, SendsNumber}
+use Rattle.alt_codec.specs.JsonOf.{present, IsOnlyMember, IsTextOf, IsNumberOf, IsBinaryOf, IsMemberOf, AreMembersOf, IsSetOf, with_more_pairs, JsonOf, is_text, is_number, is_binary, is_truth, is_none, is_texts, is_numbers, is_binaries, is_list, is_map, ElementsOf, no_elements, element_then, PairsOf, no_pairs, pair_then, ItemJsonOf, SendsNumber}
 use Rattle.alt_codec.specs.Numbers.{number_of}
 use Rattle.alt_codec.specs.Reading.{all_null, only_present, value_in, payload_in, list_in, map_in, flat_in, if_room, elements_in, fields_in, item_in}
 use Rattle.alt_codec.specs.Scalars.{text_in, number_in, binary_in, truth_in, null_in, or_bad_number, or_bad_base64}
-use Rattle.alt_codec.specs.Sets.{members_in, told, sound, first_fault, then_sound, or_later}
+use Rattle.alt_codec.specs.Sets.{members_in, told, sound, first_fault, then_sound, or_later_fault}
 use Rattle.alt_codec.specs.Steps.{and_then, map_ok}
 use Rattle.alt_base.specs.declared.NoMemory.{NoMemory}
 use Rattle.alt_base.proofs.Lists.{bytes_eq-true}
 use Rattle.serde_json.specs.View.{view}
 use Rattle.serde_json.specs.declared.value.Value.{Value}
-use Rattle.alt_codec.specs.ReadBack.{StandsFor}
+use Rattle.alt_codec.specs.ReadBack.{StandsForValue}
 use Rattle.alt_codec.specs.Returning.{Returns}
 use Rattle.alt_codec.specs.Writing.{json_of}
 use Rattle.alt_codec.proofs.Numbers.{reads, reads-number_of}
@@ -115,7 +115,7 @@ only-present (member name (array ds) ms) p e =
 only-present (member name (object os) ms) p e =
     told_alone (name, object os) p (all_null ms) (present ms) (present-all_null ms) e
 
-value_in-only : (room : ℕ) (ms : Members) (name : List ℕ) (payload : Data) → IsOnly ms name payload
+value_in-only : (room : ℕ) (ms : Members) (name : List ℕ) (payload : Data) → IsOnlyMember ms name payload
     → value_in room (object ms) ≡ payload_in room name payload
 unfolding of_present
 value_in-only room ms name payload o = only_member-only_present room ms
@@ -149,7 +149,7 @@ member_number : (d : Data) (z : ℤ) → number_in d ≡ Ok z → IsMemberOf IsN
 member_number d z e =
     let r = ok_then (λ s. or_bad_number (number_of s)) (text_in d) z e in
     subst (λ u. IsMemberOf IsNumberOf u z) (sym (text_of d r.0 r.1))
-    (subst (ReadsAs r.0) (sound_number (number_of r.0) z r.2) (reads r.0))
+    (subst (TextReadsAs r.0) (sound_number (number_of r.0) z r.2) (reads r.0))
 
 member_binary : (d : Data) (b : List ℕ) → binary_in d ≡ Ok b → IsMemberOf IsBinaryOf d b
 member_binary d b e =
@@ -198,7 +198,7 @@ module _ {K : Type 0} (R : K → K → Ordering) (read : Data → Result K Value
   members-there : (ds : Items) → first_fault read ds ≡ None → AreMembersOf P ds (sound read ds)
   members-there no_items e = tt
   members-there (item d ds) e =
-      elim (read d) as (λ r. read d ≡ r → or_later r (first_fault read ds) ≡ None
+      elim (read d) as (λ r. read d ≡ r → or_later_fault r (first_fault read ds) ≡ None
       → AreMembersOf P (item d ds) (then_sound r (sound read ds))) [
         | Ok k ↦ λ q f. (there d k q, members-there ds f)
         | Err g ↦ λ q f. absurd (let h : ⊥ = cc in h)
@@ -239,7 +239,7 @@ module _ {K : Type 0} (R : K → K → Ordering) (read : Data → Result K Value
   members-back (item d ds) (k ∷ ks) h =
       let rest = members-back ds ks h.1 in (
         ap (λ r. then_sound r (sound read ds)) (back d k h.0) ∙ ap (λ l. k ∷ l) rest.0,
-        ap (λ r. or_later r (first_fault read ds)) (back d k h.0) ∙ rest.1,
+        ap (λ r. or_later_fault r (first_fault read ds)) (back d k h.0) ∙ rest.1,
       )
 
   set-back : (ds : Items) (set : List K) → IsSetOf R P ds set
@@ -270,7 +270,7 @@ module _ (room : ℕ) (there : (d : Data) (t : Tree) → value_in room d ≡ Ok 
       (elements-there ds rest.0 rest.1))
 
   pairs-there : (found : List Pair) (ms : Members) (i : List Pair) → fields_in room found ms ≡ Ok i
-      → (ps : List Pair) × PairsOf room ms ps × (i ≡ with_pairs found ps)
+      → (ps : List Pair) × PairsOf room ms ps × (i ≡ with_more_pairs found ps)
   pairs-there found no_members i e = let f : found ≡ i = cc in ([], no_pairs room, sym f)
   pairs-there found (member name d ms) i e =
       elim (arm (length name == 0) (Err fault.EmptyName)
@@ -298,7 +298,7 @@ less_room n = omega arith
 
 list-there : (room : ℕ) → ((n : ℕ) → suc n ≡ room → (d : Data) (t : Tree) → value_in n d ≡ Ok t
     → JsonOf n d t) → (ms : Members) (ds : Items) (t : Tree)
-    → IsOnly ms (codes "L") (array ds) → if_room room
+    → IsOnlyMember ms (codes "L") (array ds) → if_room room
     (map_ok (λ ts. L_tree (trees_of ts)) (elements_in (room - 1) ds)) ≡ Ok t
     → JsonOf room (object ms) t
 list-there zero there ms ds t o e = absurd (let h : ⊥ = cc in h)
@@ -313,7 +313,7 @@ list-there (suc n) there ms ds t o e =
 
 map-there : (room : ℕ) → ((n : ℕ) → suc n ≡ room → (d : Data) (t : Tree) → value_in n d ≡ Ok t
     → JsonOf n d t) → (ms os : Members) (t : Tree)
-    → IsOnly ms (codes "M") (object os) → if_room room
+    → IsOnlyMember ms (codes "M") (object os) → if_room room
     (map_ok (λ ps. M_tree (fields_of ps)) (fields_in (room - 1) [] os)) ≡ Ok t
     → JsonOf room (object ms) t
 map-there zero there ms os t o e = absurd (let h : ⊥ = cc in h)
@@ -327,7 +327,7 @@ map-there (suc n) there ms os t o e =
     subst (JsonOf (suc n) (object ms)) (ap (λ i. M_tree (fields_of i)) (sym q.2) ∙ r.2)
     (is_map n ms os q.0 o q.1)
 
-truth-there : (room : ℕ) (ms : Members) (d : Data) (t : Tree) → IsOnly ms (codes "BOOL") d
+truth-there : (room : ℕ) (ms : Members) (d : Data) (t : Tree) → IsOnlyMember ms (codes "BOOL") d
     → truth_in d ≡ Ok t → JsonOf room (object ms) t
 truth-there room ms (boolean b) t o e = let f : BOOL_tree b ≡ t = cc in
     subst (JsonOf room (object ms)) f (is_truth room ms b o)
@@ -337,7 +337,7 @@ truth-there room ms (string s) t o e = absurd (let h : ⊥ = cc in h)
 truth-there room ms (array ds) t o e = absurd (let h : ⊥ = cc in h)
 truth-there room ms (object os) t o e = absurd (let h : ⊥ = cc in h)
 
-null-there : (room : ℕ) (ms : Members) (d : Data) (t : Tree) → IsOnly ms (codes "NULL") d
+null-there : (room : ℕ) (ms : Members) (d : Data) (t : Tree) → IsOnlyMember ms (codes "NULL") d
     → null_in d ≡ Ok t → JsonOf room (object ms) t
 null-there room ms (boolean true) t o e = let f : NULL_tree ≡ t = cc in
     subst (JsonOf room (object ms)) f (is_none room ms o)
@@ -349,62 +349,62 @@ null-there room ms (array ds) t o e = absurd (let h : ⊥ = cc in h)
 null-there room ms (object os) t o e = absurd (let h : ⊥ = cc in h)
 
 module _ (room : ℕ) (ms : Members) (d : Data) (t : Tree) where
-  text-there : IsOnly ms (codes "S") d → map_ok S_tree (text_in d) ≡ Ok t
+  text-there : IsOnlyMember ms (codes "S") d → map_ok S_tree (text_in d) ≡ Ok t
       → JsonOf room (object ms) t
   text-there o e =
       let r = ok_map S_tree (text_in d) t e in
       subst (JsonOf room (object ms)) r.2 (is_text room ms r.0
-      (subst (IsOnly ms (codes "S")) (text_of d r.0 r.1) o))
+      (subst (IsOnlyMember ms (codes "S")) (text_of d r.0 r.1) o))
 
-  number-there : IsOnly ms (codes "N") d → map_ok N_tree (number_in d) ≡ Ok t
+  number-there : IsOnlyMember ms (codes "N") d → map_ok N_tree (number_in d) ≡ Ok t
       → JsonOf room (object ms) t
   number-there o e =
       let r = ok_map N_tree (number_in d) t e in
       let s = ok_then (λ s. or_bad_number (number_of s)) (text_in d) r.0 r.1 in
-      let is : IsNumberOf s.0 r.0 = subst (ReadsAs s.0) (sound_number (number_of s.0) r.0 s.2)
+      let is : IsNumberOf s.0 r.0 = subst (TextReadsAs s.0) (sound_number (number_of s.0) r.0 s.2)
       (reads s.0) in
       subst (JsonOf room (object ms)) r.2 (is_number room ms s.0 r.0
-      (subst (IsOnly ms (codes "N")) (text_of d s.0 s.1) o) is)
+      (subst (IsOnlyMember ms (codes "N")) (text_of d s.0 s.1) o) is)
 
-  binary-there : IsOnly ms (codes "B") d → map_ok B_tree (binary_in d) ≡ Ok t
+  binary-there : IsOnlyMember ms (codes "B") d → map_ok B_tree (binary_in d) ≡ Ok t
       → JsonOf room (object ms) t
   binary-there o e =
       let r = ok_map B_tree (binary_in d) t e in
       let s = ok_then (λ s. or_bad_base64 (decode_of standard s)) (text_in d) r.0 r.1 in
       let is : IsBinaryOf s.0 r.0 = sound_base64 (decode_of standard s.0) r.0 s.2 in
       subst (JsonOf room (object ms)) r.2 (is_binary room ms s.0 r.0
-      (subst (IsOnly ms (codes "B")) (text_of d s.0 s.1) o) is)
+      (subst (IsOnlyMember ms (codes "B")) (text_of d s.0 s.1) o) is)
 
-  texts-there : IsOnly ms (codes "SS") d → map_ok SS_tree (members_in text_order text_in d) ≡ Ok t
+  texts-there : IsOnlyMember ms (codes "SS") d → map_ok SS_tree (members_in text_order text_in d) ≡ Ok t
       → JsonOf room (object ms) t
   texts-there o e =
       let r = ok_map SS_tree (members_in text_order text_in d) t e in
       let s = set-there text_order text_in IsTextOf member_text text_member d r.0 r.1 in
       subst (JsonOf room (object ms)) r.2 (is_texts room ms s.0 r.0
-      (subst (IsOnly ms (codes "SS")) s.1 o) s.2)
+      (subst (IsOnlyMember ms (codes "SS")) s.1 o) s.2)
 
-  numbers-there : IsOnly ms (codes "NS") d → map_ok NS_tree (members_in int_cmp number_in d) ≡ Ok t
+  numbers-there : IsOnlyMember ms (codes "NS") d → map_ok NS_tree (members_in int_cmp number_in d) ≡ Ok t
       → JsonOf room (object ms) t
   numbers-there o e =
       let r = ok_map NS_tree (members_in int_cmp number_in d) t e in
       let s = set-there int_cmp number_in IsNumberOf member_number number_member d r.0 r.1 in
       subst (JsonOf room (object ms)) r.2 (is_numbers room ms s.0 r.0
-      (subst (IsOnly ms (codes "NS")) s.1 o) s.2)
+      (subst (IsOnlyMember ms (codes "NS")) s.1 o) s.2)
 
-  binaries-there : IsOnly ms (codes "BS") d → map_ok BS_tree (members_in text_order binary_in d)
+  binaries-there : IsOnlyMember ms (codes "BS") d → map_ok BS_tree (members_in text_order binary_in d)
       ≡ Ok t → JsonOf room (object ms) t
   binaries-there o e =
       let r = ok_map BS_tree (members_in text_order binary_in d) t e in
       let s = set-there text_order binary_in IsBinaryOf member_binary binary_member d r.0 r.1 in
       subst (JsonOf room (object ms)) r.2 (is_binaries room ms s.0 r.0
-      (subst (IsOnly ms (codes "BS")) s.1 o) s.2)
+      (subst (IsOnlyMember ms (codes "BS")) s.1 o) s.2)
 
   -- the kinds without nested values, by the name
-  flat-there : (name : List ℕ) → IsOnly ms name d → flat_in name d ≡ Ok t
+  flat-there : (name : List ℕ) → IsOnlyMember ms name d → flat_in name d ≡ Ok t
       → JsonOf room (object ms) t
   flat-there name o e =
       let named : (kind : List ℕ) → bytes_eq name kind ≡ true
-      → IsOnly ms kind d = λ kind same. subst (λ n. IsOnly ms n d)
+      → IsOnlyMember ms kind d = λ kind same. subst (λ n. IsOnlyMember ms n d)
       (bytes_eq-true name kind same) o in
       elim (arm (bytes_eq name (codes "S")) _ _ _ e) [
         | inl x ↦ text-there (named (codes "S") x.0) x.1
@@ -455,19 +455,19 @@ object_of room (array ds) t e = absurd (let h : ⊥ = cc in h)
 
 module _ (room : ℕ) (there : (n : ℕ) → suc n ≡ room → (d : Data) (t : Tree) → value_in n d ≡ Ok t
     → JsonOf n d t) where
-  payload-there : (ms : Members) (name : List ℕ) (d : Data) (t : Tree) → IsOnly ms name d
+  payload-there : (ms : Members) (name : List ℕ) (d : Data) (t : Tree) → IsOnlyMember ms name d
       → payload_in room name d ≡ Ok t
       → JsonOf room (object ms) t
   payload-there ms name d t o e =
       elim (arm (bytes_eq name (codes "L")) _ _ _ e) [
         | inl x ↦
             let a = array_of room d t x.1 in
-            list-there room there ms a.0 t (subst₂ (IsOnly ms)
+            list-there room there ms a.0 t (subst₂ (IsOnlyMember ms)
             (bytes_eq-true name (codes "L") x.0) a.1 o) a.2
         | inr x ↦ elim (arm (bytes_eq name (codes "M")) _ _ _ x.1) [
           | inl y ↦
               let a = object_of room d t y.1 in
-              map-there room there ms a.0 t (subst₂ (IsOnly ms)
+              map-there room there ms a.0 t (subst₂ (IsOnlyMember ms)
               (bytes_eq-true name (codes "M") y.0) a.1 o) a.2
           | inr y ↦ flat-there room ms d t name o y.1
         ]
@@ -544,7 +544,7 @@ mutual
       ∙ ap (map_ok (λ us. t ∷ us)) (elements-back js)
 
   pairs-back : {room : ℕ} {ms : Members} {ps : List Pair} → PairsOf room ms ps → (found : List Pair)
-      → fields_in room found ms ≡ Ok (with_pairs found ps)
+      → fields_in room found ms ≡ Ok (with_more_pairs found ps)
   pairs-back (no_pairs room) found = refl
   pairs-back (pair_then room name d ms t ps some j js) found =
       rw (ne_eqb (length name) 0 (λ z. omega (arith, z, some)))
@@ -587,7 +587,7 @@ no_item d f e i j = let g : Err f ≡ Ok i = sym e ∙ item-back 32 d i j in cc
 -- what is written stands for the value
 pub written_stands : (r : Result Value NoMemory) (t : Tree) → IfOk r (λ v. view v ≡ json_of t)
     → IfOk r (λ _. Returns t)
-    → IfOk r (λ v. StandsFor 32 (view v) t)
+    → IfOk r (λ v. StandsForValue 32 (view v) t)
 written_stands (Ok v) t is h = λ full fits. value-there 32 (view v) t
     (ap (value_in 32) is ∙ h 32 full fits)
 written_stands (Err e) t is h = h
@@ -612,14 +612,14 @@ as_fault (Err n) f e = (n, cc, refl)
 
 -- by the grammar it is the number that the text denotes
 pub number_read : (d : Data) (text : List ℕ) (t : Tree) → SendsNumber d text → value_in 32 d ≡ Ok t
-    → (z : ℤ) × (t ≡ N_tree z) × ReadsAs text (Ok z)
+    → (z : ℤ) × (t ≡ N_tree z) × TextReadsAs text (Ok z)
 number_read d text t s e =
     let r = as_number (number_of text) t (sym (number_sent d text s) ∙ e) in
-    (r.0, r.1, subst (ReadsAs text) r.2 (reads text))
+    (r.0, r.1, subst (TextReadsAs text) r.2 (reads text))
 
 -- and else the fault is why it denotes none
 pub number_refused : (d : Data) (text : List ℕ) (f : ValueFault) → SendsNumber d text
-    → value_in 32 d ≡ Err f → (n : NumberFault) × (f ≡ fault.BadNumber n) × ReadsAs text (Err n)
+    → value_in 32 d ≡ Err f → (n : NumberFault) × (f ≡ fault.BadNumber n) × TextReadsAs text (Err n)
 number_refused d text f s e =
     let r = as_fault (number_of text) f (sym (number_sent d text s) ∙ e) in
-    (r.0, r.1, subst (ReadsAs text) r.2 (reads text))
+    (r.0, r.1, subst (TextReadsAs text) r.2 (reads text))

@@ -10,9 +10,9 @@ use Rattle.std.proofs.lemmas.Bool.{cases_order, cases_eq, ne_eqb}
 use Rattle.std.specs.Int.Digits.{digits_of}
 use Rattle.alt_base.proofs.Lists.{take-length}
 use Rattle.alt_decimal.specs.Digits.{width, padded, digit_count}
-use Rattle.alt_decimal.specs.Number.{with_sign, Fits, IsMagnitude}
-use Rattle.alt_decimal.specs.Spelled.{pairs, magnitude_bytes, spelled}
-use Rattle.alt_decimal.specs.Unspelled.{raw, raws, pairs_value_after, IsPair, Ends, IsWhole, Decodes, IsSpelledAt}
+use Rattle.alt_decimal.specs.Number.{with_sign, FitsDecimal, IsMagnitude}
+use Rattle.alt_decimal.specs.Spelled.{digit_pairs, magnitude_bytes, spelled}
+use Rattle.alt_decimal.specs.Unspelled.{raw, raws, pairs_value_after, IsPair, Ends, PairsAreWhole, Decodes, IsSpelledAt}
 use Rattle.alt_decimal.specs.Normal.{ten_pow_pos, nat_abs-with_sign, is_negative-with_sign}
 use Rattle.alt_decimal.proofs.Widths.{width-le, width-pos, lt-width, width-low, mul-ge, mul-lt, mul-width_gt, mul-width_le, case_pos, ten_pow-le}
 use Rattle.alt_decimal.proofs.Magnitudes.{digit_count-mul}
@@ -117,10 +117,10 @@ pub record Filled (t c n : ℕ) : Type 0 where
 
 -- a coefficient has the pairs of its digits, filled to whole pairs
 pairs-Filled : (t c n : ℕ) → 0 < n → ((t ≡ c) × (width t ≡ 2 * n))
-    ⊎ ((c ≡ t * 10) × (width t + 1 ≡ 2 * n)) → pairs (digits_of 10 t) ≡ pairs (padded (2 * n) c)
+    ⊎ ((c ≡ t * 10) × (width t + 1 ≡ 2 * n)) → digit_pairs (digits_of 10 t) ≡ digit_pairs (padded (2 * n) c)
 pairs-Filled t c n some h = elim h [
-  | inl e ↦ ap pairs (digits_of-padded t) ∙ ap (λ i. pairs (padded i t)) e.1
-      ∙ ap (λ m. pairs (padded (2 * n) m)) e.0
+  | inl e ↦ ap digit_pairs (digits_of-padded t) ∙ ap (λ i. digit_pairs (padded i t)) e.1
+      ∙ ap (λ m. digit_pairs (padded (2 * n) m)) e.0
   | inr e ↦
       let w = width t in
       let suc_w : 2 * n ≡ suc w = omega (arith, e.1) in
@@ -128,7 +128,7 @@ pairs-Filled t c n some h = elim h [
       let last : c % 10 ≡ 0 = omega (arith, e.0) in
       let cut : padded (2 * n) c ≡ padded w t ++ 0 ∷ [] =
       ap (λ i. padded i c) suc_w ∙ padded-last w c ∙ rw (front, last) refl in
-      ap pairs (digits_of-padded t) ∙ sym (ap pairs cut
+      ap digit_pairs (digits_of-padded t) ∙ sym (ap digit_pairs cut
       ∙ pairs-filled (n - 1) (padded w t) (omega (arith, length-padded w t, e.1, some)))
 ]
 
@@ -183,11 +183,11 @@ module _ (negative : Bool) (first : ℕ) (rest : List ℕ) (c n : ℕ) (z : ℤ)
         (arith, h.1)
   ]
 
-  read_pairs : pairs (digits_of 10 t) ≡ take n (raws negative rest)
+  read_pairs : digit_pairs (digits_of 10 t) ≡ take n (raws negative rest)
   read_pairs =
       let ps = take n (raws negative rest) in
-      pairs-Filled t c n n_pos d.digits ∙ ap (λ v. pairs (padded (2 * n) v)) value
-      ∙ ap (λ i. pairs (padded (2 * i) (pairs_value_after 0 ps)))
+      pairs-Filled t c n n_pos d.digits ∙ ap (λ v. digit_pairs (padded (2 * n) v)) value
+      ∙ ap (λ i. digit_pairs (padded (2 * i) (pairs_value_after 0 ps)))
       (sym (Ends-length (raws negative rest) n e))
       ∙ pairs_padded ps (Ends-pairs (raws negative rest) n e)
 
@@ -198,7 +198,7 @@ module _ (negative : Bool) (first : ℕ) (rest : List ℕ) (c n : ℕ) (z : ℤ)
       let two : n + 2 ≡ suc (n + 1) = omega arith in
       let front : take n bs ++ 0 ∷ [] ≡ take (n + 1) bs =
       ap (λ b. take n bs ++ b ∷ []) (sym e.at_end) ∙ sym (take_more bs n 0 e.within) in
-      magnitude_bytes-mul t d.behind d.last ∙ ap (λ p. p ∷ (pairs (digits_of 10 t) ++ 0 ∷ [])) place
+      magnitude_bytes-mul t d.behind d.last ∙ ap (λ p. p ∷ (digit_pairs (digits_of 10 t) ++ 0 ∷ [])) place
       ∙ ap (λ ps. raw negative first ∷ (ps ++ 0 ∷ [])) read_pairs
       ∙ ap (λ ps. raw negative first ∷ ps) (front ∙ sym (raws-take negative (n + 1) rest))
       ∙ ap (λ i. raws negative (take i (first ∷ rest))) (sym two)
@@ -285,7 +285,7 @@ module _ (t : ℕ) (last : 0 < t % 10) (few : t < 10 ^ 38) (f : Filling t) where
   ]
 
   -- the pairs are whole: the first isn't 0, nor is the last
-  pub filled_whole : IsWhole f.c f.n
+  pub filled_whole : PairsAreWhole f.c f.n
   filled_whole = elim f.digits [
     | inl h ↦
         let (w, e) = case_pos (width t) (width-pos t (omega (arith, last))) in
@@ -308,7 +308,7 @@ module _ (t : ℕ) (last : 0 < t % 10) (few : t < 10 ^ 38) (f : Filling t) where
   ]
 
   -- the pairs are those of the filled coefficient
-  pub filled_pairs : AreOf f.n f.c (pairs (digits_of 10 t))
+  pub filled_pairs : AreOf f.n f.c (digit_pairs (digits_of 10 t))
   filled_pairs = rw (pairs-Filled t f.c f.n filled_some f.digits) (pairs_of f.n f.c filled_below)
 
   -- and the coefficient is told by it
@@ -358,7 +358,7 @@ module _ (negative : Bool) (m : ℕ) (size : IsMagnitude m) (t : Trimmed m) wher
 
   -- these pairs
   abbrev pub ps : List ℕ
-  ps = pairs (digits_of 10 co)
+  ps = digit_pairs (digits_of 10 co)
 
   -- the place of the first digit, as its byte has it
   abbrev pub place : ℕ
@@ -437,7 +437,7 @@ module _ (negative : Bool) (m : ℕ) (size : IsMagnitude m) (t : Trimmed m) (b :
     same_c : c ≡ held.c
     same_c = value ∙ ap (λ k. pairs_value_after 0 (take k (raws negative bs))) same_n ∙ value_of
 
-    pub whole : IsWhole c n
+    pub whole : PairsAreWhole c n
     whole = rw (same_c, same_n) (filled_whole (co negative m size t) t.last
         (few_co negative m size t) held)
 
@@ -477,7 +477,7 @@ module _ (negative : Bool) (m : ℕ) (size : IsMagnitude m) (rest : List ℕ) wh
 
     module _ (c n : ℕ) (e : Ends (raws negative bs) n)
         (value : c ≡ pairs_value_after 0 (take n (raws negative bs))) where
-      bad_here : (IsWhole c n → ⊥) → ⊥
+      bad_here : (PairsAreWhole c n → ⊥) → ⊥
       bad_here bad = bad (whole negative m size trimmed_m b bs rest first_is rest_is c n e value)
 
       right_here : (z : ℤ) → Decodes negative (raw negative b) c n z
@@ -512,7 +512,7 @@ pub every_bad : (negative : Bool) (m : ℕ) (size : IsMagnitude m) (bytes rest :
     → Ends (raws negative (take (length bytes - 1) (drop 1 bytes))) n
     × (c ≡ pairs_value_after 0 (take n (raws negative
     (take (length bytes - 1) (drop 1 bytes)))))
-    → (IsWhole c n → ⊥) → ⊥
+    → (PairsAreWhole c n → ⊥) → ⊥
 every_bad negative m size [] rest c n some is e bad = absurd (omega arith)
 every_bad negative m size (b ∷ bs) rest c n some is e bad =
     let Held : List ℕ → Type 0 = λ (ts : List ℕ). Ends (raws negative ts) n
@@ -603,7 +603,7 @@ one_or_three false b e = inr e
 -- each spelling with a sign is read
 pub every_signed : (negative : Bool) (bytes rest : List ℕ) (z : ℤ) (result : Option (ℤ × ℕ))
     → 1 ≤ length bytes → get_or bytes 0 0 ≡ (if negative then 1 else 3)
-    → Fits z → bytes ≡ spelled z ++ rest
+    → FitsDecimal z → bytes ≡ spelled z ++ rest
     → ((m : ℕ) (after : List ℕ) → IsMagnitude m
     → take (length bytes - 1) (drop 1 bytes) ≡ raws negative (magnitude_bytes m) ++ after
     → result ≡ Some (with_sign negative m, 1 + length (magnitude_bytes m)))
@@ -617,7 +617,7 @@ every_signed negative (b ∷ bs) rest z result some first fits is read = elim fi
 ]
 
 -- and that of zero
-pub every_zero : (bytes rest : List ℕ) (z y : ℤ) → 1 ≤ length bytes → get_or bytes 0 0 ≡ 2 → Fits z
+pub every_zero : (bytes rest : List ℕ) (z y : ℤ) → 1 ≤ length bytes → get_or bytes 0 0 ≡ 2 → FitsDecimal z
     → bytes ≡ spelled z ++ rest → y ≡ pos 0
     → (let found : Option (ℤ × ℕ) = Some (y, 1) in found ≡ Some (z, length (spelled z)))
 every_zero [] rest z y some first fits is zero_is = absurd (omega arith)
@@ -627,7 +627,7 @@ every_zero (b ∷ bs) rest z y some first fits is zero_is = elim fits [
 ]
 
 -- the first byte of a spelling is one of three
-pub first_bytes : (bytes rest : List ℕ) (z : ℤ) → Fits z → bytes ≡ spelled z ++ rest
+pub first_bytes : (bytes rest : List ℕ) (z : ℤ) → FitsDecimal z → bytes ≡ spelled z ++ rest
     → (0 < length bytes) × ((get_or bytes 0 0 ≡ 2)
     ⊎ ((get_or bytes 0 0 ≡ 1) ⊎ (get_or bytes 0 0 ≡ 3)))
 first_bytes [] rest z fits is = elim fits [
@@ -649,7 +649,7 @@ first_bytes (b ∷ bs) rest z fits is = elim fits [
 
 -- the bytes of zero
 pub zero_bytes : (bytes : List ℕ) (y : ℤ) → 1 ≤ length bytes → get_or bytes 0 0 ≡ 2 → y ≡ pos 0
-    → (take 1 bytes ≡ spelled y) × Fits y
+    → (take 1 bytes ≡ spelled y) × FitsDecimal y
 zero_bytes [] y some first zero_is = absurd (omega arith)
 zero_bytes (b ∷ bs) y some first zero_is = (
   ap (λ x. x ∷ []) first

@@ -14,7 +14,7 @@ use Rattle.alt_decimal.specs.declared.fault.NumberFault.TheVariants.{NotANumber}
 use Rattle.std.specs.Str.Parse.{digits_value}
 use Rattle.alt_base.proofs.Lists.{take-length}
 use Rattle.alt_decimal.specs.Number.{Number, fitted}
-use Rattle.alt_decimal.specs.NumberText.{Sign, minus, plus, unsigned, Exponent, NumberText, sign_text, fraction_text, exponent_text, text_of, fraction_digits, IsExponent, IsNumberText, is_minus, denoted, ReadsAs}
+use Rattle.alt_decimal.specs.NumberText.{Sign, minus, plus, unsigned, Exponent, NumberText, sign_text, fraction_text, exponent_text, decimal_text, fraction_digits, IsExponent, IsNumberText, is_minus, denoted_number, TextReadsAs}
 use Rattle.alt_decimal.specs.Reading.{ExponentIs, exponent_digits, below_of, sign_of, behind_sign, front_digits, behind_digits, fraction_of, behind_fraction, exponent_from, exponent_of, reading_behind, reading}
 
 -- ---- digits
@@ -209,7 +209,7 @@ NoSign-text t h = elim (cases_lt 0 (length t.whole)) [
 ]
 
 -- a number text is cut into its parts
-pub reading-text_of : (t : NumberText) → IsNumberText t → reading (text_of t) ≡ Some t
+pub reading-text_of : (t : NumberText) → IsNumberText t → reading (decimal_text t) ≡ Some t
 unfolding reading
 reading-text_of t h =
     let tail = fraction_text t.fraction ++ exponent_text t.exponent in
@@ -330,7 +330,7 @@ AllDigits-exponent bs (Some e) h = (exponent_parts bs (Some e) h).formed.1
 -- ---- what a text reads as
 
 -- a text that can't be cut is no number
-pub ReadsAs-none : (text : List ℕ) → reading text ≡ None → ReadsAs text (Err NotANumber)
+pub ReadsAs-none : (text : List ℕ) → reading text ≡ None → TextReadsAs text (Err NotANumber)
 ReadsAs-none text none = record {
   number = λ t h e. absurd (none-some t (sym none ∙ ap reading e ∙ reading-text_of t h));
   no_number = inl refl;
@@ -338,13 +338,13 @@ ReadsAs-none text none = record {
 
 -- one that can reads as its parts denote
 pub ReadsAs-some : (text : List ℕ) (t : NumberText) (answer : Result ℤ NumberFault) → IsNumberText t
-    → text ≡ text_of t → answer ≡ fitted (denoted t)
-    → ReadsAs text answer
+    → text ≡ decimal_text t → answer ≡ fitted (denoted_number t)
+    → TextReadsAs text answer
 ReadsAs-some text t answer h is e = record {
   number = λ t' h' is'.
       let same : t ≡ t' = same_Some t t' (sym (reading-text_of t h) ∙ ap reading (sym is ∙ is')
       ∙ reading-text_of t' h') in
-      e ∙ ap (λ u. fitted (denoted u)) same;
+      e ∙ ap (λ u. fitted (denoted_number u)) same;
   no_number = inr (t, h, is);
 }
 
@@ -369,7 +369,7 @@ module _ (text : List ℕ) where
 
   -- a text is the text of its parts
   text_parts : (e : Option Exponent) → ExponentParts (behind_fraction tail) e
-      → text ≡ text_of (parts_with e)
+      → text ≡ decimal_text (parts_with e)
   text_parts e p =
       sign_parts text ∙ ap (λ xs. sign_text (sign_of text) ++ xs) (parts_of (digits_len rest) rest
       ∙ ap (λ xs. front_digits rest ++ xs) (fraction_parts tail
@@ -377,7 +377,7 @@ module _ (text : List ℕ) where
 
   -- no digit before the exponent
   pub ReadsAs-empty : length (front_digits rest) ≡ 0
-      → length (fraction_digits (fraction_of tail)) ≡ 0 → ReadsAs text (Err NotANumber)
+      → length (fraction_digits (fraction_of tail)) ≡ 0 → TextReadsAs text (Err NotANumber)
   unfolding reading
   ReadsAs-empty no_whole no_fraction =
       let none : (length (front_digits rest) + length (fraction_digits (fraction_of tail)) == 0)
@@ -385,7 +385,7 @@ module _ (text : List ℕ) where
       ReadsAs-none text (rw none refl)
 
   -- something else than an exponent behind the digits
-  pub ReadsAs-broken : exponent_of (behind_fraction tail) ≡ None → ReadsAs text (Err NotANumber)
+  pub ReadsAs-broken : exponent_of (behind_fraction tail) ≡ None → TextReadsAs text (Err NotANumber)
   unfolding reading
   ReadsAs-broken broken =
       ReadsAs-none text (elim (cases_Bool (length (front_digits rest) + length
@@ -398,7 +398,7 @@ module _ (text : List ℕ) where
   pub ReadsAs-parts : (e : Option Exponent) (answer : Result ℤ NumberFault)
       → exponent_of (behind_fraction tail) ≡ Some e
       → 0 < length (front_digits rest) + length (fraction_digits (fraction_of tail))
-      → answer ≡ fitted (denoted (parts_with e)) → ReadsAs text answer
+      → answer ≡ fitted (denoted_number (parts_with e)) → TextReadsAs text answer
   ReadsAs-parts e answer is some gives =
       let p = exponent_parts (behind_fraction tail) e is in
       let formed : IsNumberText (parts_with e) = record {
@@ -427,12 +427,12 @@ module _ (text r1 whole r2 fraction r3 : List ℕ) (e1 : r1 ≡ behind_sign text
   end_is = e5 ∙ ap behind_fraction tail_is
 
   -- the same where the calls found no digit
-  pub found_empty : length whole ≡ 0 → length fraction ≡ 0 → ReadsAs text (Err NotANumber)
+  pub found_empty : length whole ≡ 0 → length fraction ≡ 0 → TextReadsAs text (Err NotANumber)
   found_empty no_whole no_fraction = ReadsAs-empty text (sym (ap length whole_is) ∙ no_whole)
       (sym (ap length fraction_is) ∙ no_fraction)
 
   -- the same where they found no exponent behind the digits
-  pub found_broken : exponent_of r3 ≡ None → ReadsAs text (Err NotANumber)
+  pub found_broken : exponent_of r3 ≡ None → TextReadsAs text (Err NotANumber)
   found_broken broken = ReadsAs-broken text (ap exponent_of (sym end_is) ∙ broken)
 
   -- the number that they found, with this exponent
@@ -445,7 +445,7 @@ module _ (text r1 whole r2 fraction r3 : List ℕ) (e1 : r1 ≡ behind_sign text
   }
 
   -- it is the one that the parts stand for
-  same_number : (e : Option Exponent) → found_number e ≡ denoted (parts_with text e)
+  same_number : (e : Option Exponent) → found_number e ≡ denoted_number (parts_with text e)
   same_number None = rw (← whole_is, ← fraction_is) refl
   same_number (Some e) = rw (← whole_is, ← fraction_is) refl
 
@@ -459,7 +459,7 @@ module _ (text r1 whole r2 fraction r3 : List ℕ) (e1 : r1 ≡ behind_sign text
         up = if below then 0 else digits_value 10 digits;
         down = (if below then digits_value 10 digits else 0) + length fraction;
       })
-      → ReadsAs text answer
+      → TextReadsAs text answer
   found negative below digits answer sign (e, is, same_below, same_digits) some gives =
       ReadsAs-parts text e answer (ap exponent_of (sym end_is) ∙ is)
       (rw (← whole_is, ← fraction_is) some)

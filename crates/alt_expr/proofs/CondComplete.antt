@@ -12,13 +12,13 @@ use Rattle.alt_expr.specs.declared.cond.Operand.{Operand}
 use Rattle.alt_expr.specs.declared.cond.Cond.{Cond}
 use Rattle.alt_expr.specs.declared.cond.Cond.TheVariants as cond
 use Rattle.alt_expr.specs.PathGrammar.{PathPhrase, path, plain, hashed, path_toks, call_toks, path_tree}
-use Rattle.alt_expr.specs.CondGrammar.{OperandPhrase, at, value, size, TestPhrase, compared, between, among, exists, not_exists, has_kind, begins, contains, CondPhrase, last, either, AndPhrase, final, both, NotPhrase, negated, group, test, operand_toks, operands_toks, mark_of, test_toks, cond_toks, and_toks, not_toks, operand_tree, test_tree, any_of, all_of, cond_trees, and_trees, not_tree, cond_tree}
+use Rattle.alt_expr.specs.CondGrammar.{OperandPhrase, at, value, size, TestPhrase, compared, between, among, exists, not_exists, has_kind, begins, contains, CondPhrase, last, either, AndPhrase, final, both, NotPhrase, negated, group, test, operand_toks, operands_toks, mark_of, test_toks, cond_toks, and_toks, not_toks, operand_tree, test_tree, any_of, conjunction_of, cond_trees, and_trees, not_tree, cond_tree}
 use Rattle.alt_expr.specs.Reader as e
 use Rattle.alt_expr.specs.Reader.{Parser, sees_mark, sees_key, calls, is_call, after_mark, after_key, expect, expect_key, in_brackets}
 use Rattle.alt_expr.proofs.PathRead.{Ends, path_read, path_in_brackets, no_call, not_call, close_read, ends_key, ends_close, ends_comma, ends_nothing}
 use Rattle.alt_expr.proofs.Lists.{listed_read}
 use Rattle.alt_expr.specs.CondReader as r
-use Rattle.alt_expr.specs.CondReader.{joined, joined_from}
+use Rattle.alt_expr.specs.CondReader.{joined_by_keyword, joined_from}
 
 -- ---- operands
 
@@ -297,15 +297,15 @@ no_key_end j = refl
 -- the only member; the first of more; the last of more, and one that another follows
 alone : (f : Parser Cond) (j : Keyword) (wrap : List Cond → Cond) (i rest : List Tok) (x : Cond)
     → f i ≡ Some (x, rest) → sees_key j rest ≡ false
-    → joined f j wrap i ≡ Some (x, rest)
-unfolding joined after_key
+    → joined_by_keyword f j wrap i ≡ Some (x, rest)
+unfolding joined_by_keyword after_key
 alone f j wrap i rest x h none = rw h (simp none)
 
 join_first : (f : Parser Cond) (j : Keyword) (wrap : List Cond → Cond) (i rest ending : List Tok)
     (x : Cond) (xs : List Cond) → f i ≡ Some (x, key j ∷ rest) → sees_key j (key j ∷ rest) ≡ true
     → joined_from f j (length i) (x ∷ []) rest ≡ Some (xs, ending)
-    → joined f j wrap i ≡ Some (wrap xs, ending)
-unfolding joined after_key
+    → joined_by_keyword f j wrap i ≡ Some (wrap xs, ending)
+unfolding joined_by_keyword after_key
 join_first f j wrap i rest ending x xs h some more = rw h (simp some (rw more refl))
 
 join_last : (f : Parser Cond) (j : Keyword) (n : ℕ) (found : List Cond) (i rest : List Tok)
@@ -336,22 +336,22 @@ one_test : (g : Given) (d : TestPhrase) (n : ℕ) (rest : List Tok) → Ends res
 unfolding r.one r.prim after_key after_mark
 one_test g d n rest e = let f = test_first d rest in simp (f.0, f.1) (test_read g d rest e)
 
-all_is : (f : Parser Cond) (i : List Tok) → r.all f i ≡ joined f k.And cond.All i
+all_is : (f : Parser Cond) (i : List Tok) → r.all f i ≡ joined_by_keyword f k.And cond.All i
 unfolding r.all
 all_is f i = refl
 
-any_is : (f : Parser Cond) (i : List Tok) → r.any f i ≡ joined (r.all f) k.Or cond.Any i
+any_is : (f : Parser Cond) (i : List Tok) → r.any f i ≡ joined_by_keyword (r.all f) k.Or cond.Any i
 unfolding r.any
 any_is f i = refl
 
 -- two or more members stand in a list
 all_of_more : (g : Given) (d : NotPhrase) (a : AndPhrase)
-    → cond.All ((not_tree g d ∷ []) ++ and_trees g a) ≡ all_of (and_trees g (both d a))
+    → cond.All ((not_tree g d ∷ []) ++ and_trees g a) ≡ conjunction_of (and_trees g (both d a))
 all_of_more g d (final e) = refl
 all_of_more g d (both e a) = refl
 
 any_of_more : (g : Given) (a : AndPhrase) (o : CondPhrase)
-    → cond.Any ((all_of (and_trees g a) ∷ []) ++ cond_trees g o)
+    → cond.Any ((conjunction_of (and_trees g a) ∷ []) ++ cond_trees g o)
     ≡ any_of (cond_trees g (either a o))
 any_of_more g a (last b) = refl
 any_of_more g a (either b o) = refl
@@ -374,7 +374,7 @@ mutual
   -- all members of an AND
   and_read : (g : Given) (a : AndPhrase) (n : ℕ) (rest : List Tok) → and_nest a ≤ n → Ends rest
       → sees_key k.And rest ≡ false
-      → r.all (r.one g n) (and_toks a ++ rest) ≡ Some (all_of (and_trees g a), rest)
+      → r.all (r.one g n) (and_toks a ++ rest) ≡ Some (conjunction_of (and_trees g a), rest)
   and_read g (final d) n rest fits e no_and = all_is (r.one g n) _
       ∙ alone (r.one g n) k.And cond.All _ rest (not_tree g d) (not_read g d n rest fits e) no_and
   and_read g (both d a) n rest fits e no_and =
@@ -413,17 +413,17 @@ mutual
       → Ends rest → sees_key k.And rest ≡ false → sees_key k.Or rest ≡ false
       → r.any (r.one g n) (cond_toks o ++ rest) ≡ Some (cond_tree g o, rest)
   cond_read g (last a) n rest fits e no_and no_or = any_is (r.one g n) _
-      ∙ alone (r.all (r.one g n)) k.Or cond.Any _ rest (all_of (and_trees g a))
+      ∙ alone (r.all (r.one g n)) k.Or cond.Any _ rest (conjunction_of (and_trees g a))
       (and_read g a n rest fits e no_and) no_or
   cond_read g (either a o) n rest fits e no_and no_or =
       let behind = cond_toks o ++ rest in
       let i = and_toks a ++ key k.Or ∷ behind in
       ap (r.any (r.one g n)) (append_assoc (and_toks a) (key k.Or ∷ cond_toks o) rest)
       ∙ any_is (r.one g n) i
-      ∙ join_first (r.all (r.one g n)) k.Or cond.Any i behind rest (all_of (and_trees g a)) _
+      ∙ join_first (r.all (r.one g n)) k.Or cond.Any i behind rest (conjunction_of (and_trees g a)) _
       (and_read g a n (key k.Or ∷ behind) (omega arith) (ends_key k.Or behind)
       (sees_itself behind).2) (sees_itself behind).1
-      (ors_read g o n (length i) (all_of (and_trees g a) ∷ []) rest (omega arith) (omega (arith, length-append (and_toks a) (key k.Or ∷ behind), length-append (cond_toks o) rest)) e no_and no_or)
+      (ors_read g o n (length i) (conjunction_of (and_trees g a) ∷ []) rest (omega arith) (omega (arith, length-append (and_toks a) (key k.Or ∷ behind), length-append (cond_toks o) rest)) e no_and no_or)
       ∙ ap (λ x. Some (x, rest)) (any_of_more g a o)
 
   -- the members after the first
@@ -434,20 +434,20 @@ mutual
       ≡ Some (found ++ cond_trees g o, rest)
   ors_read g o n zero found rest fits room e no_and no_or = absurd (omega (arith, cond_some o))
   ors_read g (last a) n (suc turns) found rest fits room e no_and no_or =
-      join_last (r.all (r.one g n)) k.Or turns found _ rest (all_of (and_trees g a))
+      join_last (r.all (r.one g n)) k.Or turns found _ rest (conjunction_of (and_trees g a))
       (and_read g a n rest fits e no_and) no_or
   ors_read g (either a o) n (suc turns) found rest fits room e no_and no_or =
       let behind = cond_toks o ++ rest in
       let room' : length (cond_toks o) ≤ turns =
       omega (arith, length-append (and_toks a) (key k.Or ∷ cond_toks o)) in
       rw (append_assoc (and_toks a) (key k.Or ∷ cond_toks o) rest)
-      (join_more (r.all (r.one g n)) k.Or turns found _ behind (all_of (and_trees g a))
+      (join_more (r.all (r.one g n)) k.Or turns found _ behind (conjunction_of (and_trees g a))
       (and_read g a n (key k.Or ∷ behind) (omega arith) (ends_key k.Or behind)
       (sees_itself behind).2) (sees_itself behind).1
-      ∙ ors_read g o n turns (found ++ all_of (and_trees g a) ∷ []) rest
+      ∙ ors_read g o n turns (found ++ conjunction_of (and_trees g a) ∷ []) rest
       (omega arith) room' e no_and no_or
       ∙ ap (λ x. Some (x, rest))
-      (append_assoc found (all_of (and_trees g a) ∷ []) (cond_trees g o)))
+      (append_assoc found (conjunction_of (and_trees g a) ∷ []) (cond_trees g o)))
 
 -- the whole: what is derived is read as its tree
 pub whole_read : (g : Given) (o : CondPhrase) (n : ℕ) → cond_nest o ≤ n

@@ -17,13 +17,13 @@ use Rattle.alt_expr.specs.declared.cond.Cond.{Cond}
 use Rattle.alt_expr.specs.declared.cond.Cond.TheVariants as cond
 use Rattle.alt_expr.specs.declared.path.PathPart.{PathPart}
 use Rattle.alt_expr.specs.PathGrammar.{PathPhrase, path_toks, path_tree}
-use Rattle.alt_expr.specs.CondGrammar.{OperandPhrase, at, value, size, TestPhrase, compared, between, among, exists, not_exists, has_kind, begins, contains, CondPhrase, last, either, AndPhrase, final, both, NotPhrase, negated, group, test, operand_toks, operands_toks, mark_of, test_toks, cond_toks, and_toks, not_toks, operand_tree, test_tree, any_of, all_of, cond_trees, and_trees, not_tree, cond_tree}
-use Rattle.alt_expr.specs.Reader.{Parser, and_then, sees_mark, sees_key, calls, is_call, after_mark, after_key, expect, expect_key, path, in_brackets}
+use Rattle.alt_expr.specs.CondGrammar.{OperandPhrase, at, value, size, TestPhrase, compared, between, among, exists, not_exists, has_kind, begins, contains, CondPhrase, last, either, AndPhrase, final, both, NotPhrase, negated, group, test, operand_toks, operands_toks, mark_of, test_toks, cond_toks, and_toks, not_toks, operand_tree, test_tree, any_of, conjunction_of, cond_trees, and_trees, not_tree, cond_tree}
+use Rattle.alt_expr.specs.Reader.{Parser, parse_and_then, sees_mark, sees_key, calls, is_call, after_mark, after_key, expect, expect_key, path, in_brackets}
 use Rattle.alt_expr.proofs.Seen.{Derived, then_some, some_pair, mark_seen, key_seen, expected, expected_key, called}
 use Rattle.alt_expr.proofs.PathFound.{path_sound, bracketed}
 use Rattle.alt_expr.proofs.Lists.{listed_sound}
 use Rattle.alt_expr.specs.CondReader as r
-use Rattle.alt_expr.specs.CondReader.{joined, joined_from}
+use Rattle.alt_expr.specs.CondReader.{joined_by_keyword, joined_from}
 
 -- ---- operands
 
@@ -229,7 +229,7 @@ kind_sound g i x rest h =
 -- a path in the brackets of a function
 path_call : (g : Given) (name : List ℕ) (f : List PathPart → Cond) (i : List Tok) (x : Cond)
     (rest : List Tok) → calls name i ≡ true
-    → and_then (in_brackets (path g.names) (drop 2 i)) (λ p j. Some (f p, j)) ≡ Some (x, rest)
+    → parse_and_then (in_brackets (path g.names) (drop 2 i)) (λ p j. Some (f p, j)) ≡ Some (x, rest)
     → (d : PathPhrase)
     × (i ≡ word name ∷ mark m.LeftRound ∷ ((path_toks d ++ mark m.RightRound ∷ []) ++ rest))
     × (x ≡ f (path_tree g.names d))
@@ -332,8 +332,8 @@ module _ (one : Parser Cond) {D : Type 0} (toks : D → List Tok) (tree : D → 
   module _ (wrap whole : List Cond → Cond) (one_whole : (d : D) → whole (trees (only d)) ≡ tree d)
       (more_whole : (d : D) (e : E) → whole (trees (more d e)) ≡ wrap (trees (more d e))) where
     pub joined_sound : (i : List Tok) (x : Cond) (rest : List Tok)
-        → joined one j wrap i ≡ Some (x, rest) → Derived all_toks (λ e. whole (trees e)) i x rest
-    unfolding joined after_key
+        → joined_by_keyword one j wrap i ≡ Some (x, rest) → Derived all_toks (λ e. whole (trees e)) i x rest
+    unfolding joined_by_keyword after_key
     joined_sound i x rest h =
         let a = then_some (one i) _ _ h in
         let d = sound i _ _ a.1 in
@@ -361,11 +361,11 @@ module _ (one : Parser Cond) {D : Type 0} (toks : D → List Tok) (tree : D → 
 
 -- the tree of an AND
 abbrev pub and_tree : Given → AndPhrase → Cond
-and_tree g a = all_of (and_trees g a)
+and_tree g a = conjunction_of (and_trees g a)
 
 -- the tree of an AND of two and more is that of all of them
 all_more : (g : Given) (d : NotPhrase) (a : AndPhrase)
-    → all_of (and_trees g (both d a)) ≡ cond.All (and_trees g (both d a))
+    → conjunction_of (and_trees g (both d a)) ≡ cond.All (and_trees g (both d a))
 all_more g d (final e) = refl
 all_more g d (both e a) = refl
 
@@ -382,7 +382,7 @@ all_sound : (g : Given) (f : Parser Cond)
 unfolding r.all
 all_sound g f sound i x rest h =
     joined_sound f not_toks (not_tree g) sound and_toks (and_trees g) k.And final both (λ d. refl)
-    (λ d e. refl) (λ d. refl) (λ d e. refl) cond.All all_of (λ d. refl) (all_more g) i x rest h
+    (λ d e. refl) (λ d. refl) (λ d e. refl) cond.All conjunction_of (λ d. refl) (all_more g) i x rest h
 
 -- an OR that was read was derived
 pub any_sound : (g : Given) (f : Parser Cond)

@@ -14,11 +14,11 @@ use Rattle.httparse.proofs.OpenLemmas.{request_may, Completes_next, Section_afte
 use Rattle.httparse.proofs.PieceLemmas.{Refutes_by, Refutes_next, Never_intro, NotYet_intro, RequestStart_deterministic, Section_skip, FieldLines-append, newline_not_stopped, print_end_unique}
 use Rattle.std.proofs.lemmas.Bool.Decides.{nat_tests}
 use Rattle.alt_http.specs.Feeds.{IsLastFront}
-use Rattle.alt_http.specs.Heads.{CanGoOn, IsFront}
-use Rattle.alt_http.specs.Judged.{parts_of, refusal_of, IsScan, by_head, by_bad, by_size, by_more}
+use Rattle.alt_http.specs.Heads.{CanGoOn, IsHeadFront}
+use Rattle.alt_http.specs.Judged.{parts_of, head_refusal, IsScan, by_head, by_bad, by_size, by_more}
 use Rattle.alt_http.specs.declared.outcome.Scan.TheVariants.{More, Refused}
-use Rattle.alt_http.specs.SoFar.{IsBlank, IsWithin, IsFilled, IsResumed}
-use Rattle.alt_http.specs.Reading.{Read, got, short, never, Lines, scan_of, read_start, read_fields, read_head}
+use Rattle.alt_http.specs.SoFar.{IsBlank, IsWithinFields, LastLineIsFilled, IsResumed}
+use Rattle.alt_http.specs.Reading.{PartRead, got, short, never, Lines, scan_of, read_start, read_fields, read_head}
 use Rattle.alt_http.proofs.Fronts.{EndsInFeed, not_in_target, head_in_window, front_in_front, go_on, bad}
 use Rattle.alt_http.proofs.Laws.{no_more, front_stays}
 use Rattle.alt_http.proofs.Answering.{scan_of-is}
@@ -27,14 +27,14 @@ use Rattle.alt_http.proofs.Shortness.{short_split, start_whole, fields_whole}
 
 -- bytes that end in a line feed, and at which the reading of a head is cut short, are of one of these forms
 pub so_far : (bytes : List ℕ) → EndsInFeed bytes → read_head bytes ≡ short
-    → IsWithin bytes ⊎ IsBlank bytes
+    → IsWithinFields bytes ⊎ IsBlank bytes
 unfolding read_head
 so_far bytes ends is = by_start (short_split (read_start bytes)
     (λ rest. read_fields (suc (length rest)) [] rest) is)
   where
     by_start : ((read_start bytes ≡ short) ⊎ ((a : List LineEnd
         × (List ℕ × (List ℕ × (ℕ × LineEnd)))) × (rest : List ℕ) × (read_start bytes ≡ got a rest)
-        × (read_fields (suc (length rest)) [] rest ≡ short))) → IsWithin bytes ⊎ IsBlank bytes
+        × (read_fields (suc (length rest)) [] rest ≡ short))) → IsWithinFields bytes ⊎ IsBlank bytes
     by_start (inl s) = let blank = start_whole bytes ends s in
         inr (record { ends = blank.0; is = blank.1 })
     by_start (inr x) =
@@ -47,7 +47,7 @@ so_far bytes ends is = by_start (short_split (read_start bytes)
 
 -- ---- behind whole lines of a head
 
-module _ (bytes new : List ℕ) (within : IsWithin bytes) where
+module _ (bytes new : List ℕ) (within : IsWithinFields bytes) where
   start_new : RequestStart within.start (bytes ++ new) (within.middle ++ new)
   start_new = RequestStart_deterministic.append within.start bytes within.middle new within.reads
 
@@ -156,7 +156,7 @@ blank_may es new ends (inl x) =
 
 -- ---- the last line of what was read
 
-filled_behind : (p bytes : List ℕ) → IsFilled bytes → IsFilled (p ++ bytes)
+filled_behind : (p bytes : List ℕ) → LastLineIsFilled bytes → LastLineIsFilled (p ++ bytes)
 filled_behind p bytes f = record {
   front = p ++ f.front;
   byte = f.byte;
@@ -169,17 +169,17 @@ filled_behind p bytes f = record {
 
 -- a line of a name and a value
 raw_filled : (name raw : List ℕ) (end : LineEnd) → AllPass is_value_byte raw
-    → IsFilled ((name ++ 58 ∷ raw) ++ print_end end)
+    → LastLineIsFilled ((name ++ 58 ∷ raw) ++ print_end end)
 raw_filled name [] end all = record { front = name; byte = 58; end = end; is = refl; other = refl }
 raw_filled name (b ∷ raw) end all =
-    subst IsFilled (ap (λ (l : List ℕ). l ++ print_end end) (append_assoc name (58 ∷ []) (b ∷ raw)))
+    subst LastLineIsFilled (ap (λ (l : List ℕ). l ++ print_end end) (append_assoc name (58 ∷ []) (b ∷ raw)))
     (last_filled (name ++ 58 ∷ []) b raw end all)
   where
     value_other : (n : ℕ) → is_value_byte n ≡ true → is_newline n ≡ false
     value_other n passes = grind (arith, nat_tests)
 
     last_filled : (front : List ℕ) (c : ℕ) (rest : List ℕ) (e : LineEnd)
-        → AllPass is_value_byte (c ∷ rest) → IsFilled ((front ++ c ∷ rest) ++ print_end e)
+        → AllPass is_value_byte (c ∷ rest) → LastLineIsFilled ((front ++ c ∷ rest) ++ print_end e)
     last_filled front c [] e all' = record {
       front = front;
       byte = c;
@@ -189,20 +189,20 @@ raw_filled name (b ∷ raw) end all =
           value_other c (All-head (λ v. is_value_byte v ≡ true) c [] all');
     }
     last_filled front c (d ∷ rest) e all' =
-        subst IsFilled (ap (λ (l : List ℕ). l ++ print_end e)
+        subst LastLineIsFilled (ap (λ (l : List ℕ). l ++ print_end e)
         (append_assoc front (c ∷ []) (d ∷ rest)))
         (last_filled (front ++ c ∷ []) d rest e
         (All-tail (λ v. is_value_byte v ≡ true) c (d ∷ rest) all'))
 
 fields_filled : (f : Field) (fields : List Field) → All IsField (f ∷ fields)
-    → IsFilled (flat_map print_field (f ∷ fields))
-fields_filled f [] all = subst IsFilled (sym (append-nil (print_field f)))
+    → LastLineIsFilled (flat_map print_field (f ∷ fields))
+fields_filled f [] all = subst LastLineIsFilled (sym (append-nil (print_field f)))
     (raw_filled f.name f.raw f.end (All-head IsField f [] all).raw)
 fields_filled f (g ∷ fields) all = filled_behind (print_field f) (flat_map print_field (g ∷ fields))
     (fields_filled g fields (All-tail IsField f (g ∷ fields) all))
 
 -- the last line of the first line and its fields isn't empty
-pub within_filled : (bytes : List ℕ) → IsWithin bytes → IsFilled bytes
+pub within_filled : (bytes : List ℕ) → IsWithinFields bytes → LastLineIsFilled bytes
 within_filled bytes within = by_fields within.fields within.lines
   where
     cut : (p : List ℕ) × (bytes ≡ p ++ within.middle)
@@ -211,9 +211,9 @@ within_filled bytes within = by_fields within.fields within.lines
     digit : (m : ℕ) → m ≤ 1 → is_newline (48 + m) ≡ false
     digit m few = grind (arith, nat_tests)
 
-    by_fields : (fields : List Field) → FieldLines fields within.middle [] → IsFilled bytes
+    by_fields : (fields : List Field) → FieldLines fields within.middle [] → LastLineIsFilled bytes
     by_fields (f ∷ fields) lines =
-        subst IsFilled (sym (cut.1 ∙ ap (λ (l : List ℕ). cut.0 ++ l)
+        subst LastLineIsFilled (sym (cut.1 ∙ ap (λ (l : List ℕ). cut.0 ++ l)
         (lines.1 ∙ append-nil (flat_map print_field (f ∷ fields)))))
         (filled_behind cut.0 (flat_map print_field (f ∷ fields)) (fields_filled f fields lines.0))
     by_fields [] lines =
@@ -291,7 +291,7 @@ filled_at front b crlf other =
     }
 
 -- bytes that are filled end so
-pub filled_bytes : (bytes : List ℕ) → IsFilled bytes → FilledAt bytes
+pub filled_bytes : (bytes : List ℕ) → LastLineIsFilled bytes → FilledAt bytes
 filled_bytes bytes f = subst FilledAt (sym f.is) (filled_at f.front f.byte f.end f.other)
 
 -- each byte of empty lines is one of their ends
@@ -313,25 +313,25 @@ blank_at bytes k blank below =
 -- ---- a front that needed more
 
 more_goes_on : (bytes : List ℕ) → IsScan bytes More → CanGoOn bytes
-more_goes_on bytes (by_head h x e) = absurd (no_more (parts_of h) (refusal_of (parts_of h)) e)
+more_goes_on bytes (by_head h x e) = absurd (no_more (parts_of h) (head_refusal (parts_of h)) e)
 more_goes_on bytes (by_bad x e) = cc
 more_goes_on bytes (by_size x n e) = cc
 more_goes_on bytes (by_more on n e) = on
 
 -- it has no head, and can be continued to one
-open_none : (bytes front : List ℕ) → CanGoOn bytes → IsFront bytes front → HasNoRequest front
+open_none : (bytes front : List ℕ) → CanGoOn bytes → IsHeadFront bytes front → HasNoRequest front
 open_none bytes front on is_front h rest reads = let head =
     head_in_window bytes front is_front h rest reads in on.none h head.0 head.1
 
-open_may : (bytes front : List ℕ) → CanGoOn bytes → IsFront bytes front → MayBecomeRequest front
+open_may : (bytes front : List ℕ) → CanGoOn bytes → IsHeadFront bytes front → MayBecomeRequest front
 open_may bytes front on is_front = let may = on.each front is_front in
     inl (may.more, may.head, may.reads)
 
 -- so its reading is cut short
-open_short : (bytes front : List ℕ) → CanGoOn bytes → IsFront bytes front → read_head front ≡ short
+open_short : (bytes front : List ℕ) → CanGoOn bytes → IsHeadFront bytes front → read_head front ≡ short
 open_short bytes front on is_front = go (read_head front) (Reads-head front)
   where
-    go : (r : Read Lines) → Reads (Then RequestStart Section) front r → r ≡ short
+    go : (r : PartRead Lines) → Reads (Then RequestStart Section) front r → r ≡ short
     go (got t rest) read = absurd (open_none bytes front on is_front (request_head t) rest
         (request_from_pieces front t rest read))
     go short read = refl
@@ -339,8 +339,8 @@ open_short bytes front on is_front = go (read_head front) (Reads-head front)
         absurd (request_never read may.more may.head [] may.reads)
 
 -- bytes that can go on have a front that is within a head, or blank
-pub resumed_far : (bytes front : List ℕ) → CanGoOn bytes → IsFront bytes front
-    → IsWithin front ⊎ IsBlank front
+pub resumed_far : (bytes front : List ℕ) → CanGoOn bytes → IsHeadFront bytes front
+    → IsWithinFields front ⊎ IsBlank front
 resumed_far bytes front on is_front = so_far front
     (record { line = is_front.line; is = is_front.ends }) (open_short bytes front on is_front)
 
@@ -355,11 +355,11 @@ same_front bytes front before r all =
 
 -- the front of bytes of which some were seen before
 pub resumes : (bytes front old : List ℕ) (seen : ℕ) → IsLastFront bytes front
-    → scan_of (take seen bytes) ≡ More → IsFront (take seen bytes) old
+    → scan_of (take seen bytes) ≡ More → IsHeadFront (take seen bytes) old
     → IsResumed bytes front (length old)
 resumes bytes front old seen last more is_front =
     let whole = take-append-drop seen bytes in
-    let here : IsFront bytes old = subst (λ (l : List ℕ). IsFront l old) whole
+    let here : IsHeadFront bytes old = subst (λ (l : List ℕ). IsHeadFront l old) whole
     (front_stays (take seen bytes) (drop seen bytes) old is_front) in
     let s = front_in_front bytes front old last here in
     let n = ap length s.1 in let m = length-append old s.0 in
@@ -370,7 +370,7 @@ resumes bytes front old seen last more is_front =
       old = take seen bytes;
       on = more_goes_on (take seen bytes) (subst (IsScan (take seen bytes)) more
           (scan_of-is (take seen bytes)));
-      is_front = subst (IsFront (take seen bytes)) (sym cut) is_front;
+      is_front = subst (IsHeadFront (take seen bytes)) (sym cut) is_front;
     }
 
 -- what is new of the front
@@ -387,7 +387,7 @@ new_ends bytes front before r more = by_tail (tail_behind front (take before fro
 
 -- where a section may come behind the lines that were read, more bytes are wanted
 pub fields_on : (bytes front : List ℕ) (before : ℕ) → IsResumed bytes front before
-    → IsWithin (take before front) → HasNoSection (drop before front)
+    → IsWithinFields (take before front) → HasNoSection (drop before front)
     → MayBecomeSection (drop before front) → CanGoOn bytes
 fields_on bytes front before r within none may =
     let whole = take-append-drop before front in
@@ -397,7 +397,7 @@ fields_on bytes front before r within none may =
 
 -- where none can come the bytes are refused
 pub fields_bad : (bytes front : List ℕ) (before : ℕ) → IsResumed bytes front before
-    → IsWithin (take before front) → NeverHasSection (drop before front) → IsScan bytes (Refused 1)
+    → IsWithinFields (take before front) → NeverHasSection (drop before front) → IsScan bytes (Refused 1)
 fields_bad bytes front before r within none =
     by_bad (bad bytes front r.last (subst NeverHasRequest (take-append-drop before front)
     (within_never (take before front) (drop before front) within none))) refl

@@ -12,7 +12,7 @@ use Rattle.httparse.proofs.RunLemmas.{run_unique, run_unstopped}
 use Rattle.httparse.proofs.PieceLemmas.{IsDeterministic, Refutes_by, Refutes_first, Refutes_next, Never_intro, NotYet_intro, Stops-FieldLine, Word_deterministic, Blank_deterministic, Method_deterministic, Target_deterministic, Version_deterministic, Name_deterministic, RequestStart_deterministic, space_ends_token, colon_ends_token, Stops_value, FieldLines_push}
 use Rattle.httparse.proofs.ReadLemmas.{Blank_open, Blank_newline, Blank_after, blank_more, Target_word, Version_bytes, FieldLine_row, FieldLine_done, BeginsLine_either, Section_after, Section_done}
 use Rattle.httparse.proofs.OpenLemmas.{Completes_first, Completes_next, some_newline, some_bytes, some_target, some_version, some_text, some_section, Newline_after_cr, Word_cut, letter_is_token, Version_after_bytes, Version_before_digit, FieldLine_of_row, Section_after_lines, Section_of_line, BlankLines_after, line_blank}
-use Rattle.alt_http.specs.Reading.{Read, got, short, never, by_read, then_read, read_end, read_blank, read_word, read_method, read_target, read_bytes, read_minor, read_version, read_value, read_field, read_fields, read_start, read_head}
+use Rattle.alt_http.specs.Reading.{PartRead, got, short, never, by_read, then_read, read_end, read_blank, read_word, read_method, read_target, read_expected_bytes, read_minor, read_version, read_value, read_header_field, read_fields, read_start, read_head}
 use Rattle.alt_http.proofs.Fronts.{EndsInFeed, prefix_split}
 
 -- nothing, or bytes that end in a line feed
@@ -40,7 +40,7 @@ tail_behind text (b ∷ p) rest e (inr ends) = by_split
 
 -- what a reading says of a piece: it is read; or it isn't there yet, and where the bytes end in a line feed they can be continued
 -- to it; or they never can
-abbrev pub Reads : {A : Type 0} → Piece A → List ℕ → Read A → Type 0
+abbrev pub Reads : {A : Type 0} → Piece A → List ℕ → PartRead A → Type 0
 Reads G text (got a rest) = G a text rest
 Reads G text short = NotYet (Begins G) text × (IsTail text → Completes G text)
 Reads G text never = Never (Begins G) text
@@ -52,11 +52,11 @@ IsFront {A} G = (a : A) (text rest : List ℕ) → G a text rest → (p : List �
 -- one piece and then another
 pub Reads-then : {A B : Type 0} (G : Piece A) (H : Piece B) → IsDeterministic G → IsFront G
     → Completes H []
-    → (text : List ℕ) (r : Read A) (f : List ℕ → Read B) → Reads G text r
+    → (text : List ℕ) (r : PartRead A) (f : List ℕ → PartRead B) → Reads G text r
     → ((rest : List ℕ) → Reads H rest (f rest)) → Reads (Then G H) text (then_read r f)
 Reads-then G H det front some text (got a rest) f read next = by_next (f rest) (next rest)
   where
-    by_next : (q : Read _) → Reads H rest q → Reads (Then G H) text
+    by_next : (q : PartRead _) → Reads H rest q → Reads (Then G H) text
         (by_read q (λ b behind. got (a, b) behind) short never)
     by_next (got b behind) here = (rest, read, here)
     by_next short here = (
@@ -71,7 +71,7 @@ Reads-then G H det front some text short f read next =
 Reads-then G H det front some text never f read next = Refutes_first G H read
 
 -- of the empty lines before the first line there may be more
-abbrev pub ReadsBlank : List ℕ → Read (List LineEnd) → Type 0
+abbrev pub ReadsBlank : List ℕ → PartRead (List LineEnd) → Type 0
 ReadsBlank text (got a rest) = Blank a text rest
 ReadsBlank text short = NotYet (Begins Blank) text × (IsTail text → Completes BlankLines text)
 ReadsBlank text never = Never (Begins Blank) text
@@ -303,7 +303,7 @@ target_wrong text target rest read bad = Never_intro (λ more h.
     let good : is_utf8 target ≡ true = ap is_utf8 same.0 ∙ is_utf8-from_IsUtf8 h.0 h.2.1 in cc)
 
 -- a word that is a target where it is UTF-8
-target_by : (text : List ℕ) (r : Read (List ℕ)) → (r ≡ short → AllPass is_uri_byte text)
+target_by : (text : List ℕ) (r : PartRead (List ℕ)) → (r ≡ short → AllPass is_uri_byte text)
     → Reads (Word is_uri_byte 32) text r
     → Reads Target text (by_read r (λ target rest. cond (is_utf8 target) (got target rest) never)
     short never)
@@ -327,7 +327,7 @@ pub Target_front : IsFront Target
 Target_front target text rest h = Word_front is_uri_byte 32 target text rest h.0
 
 -- these bytes
-bytes_more : (e b : ℕ) (wanted text : List ℕ) (r : Read ⊤) → b ≡ e → Reads (Bytes wanted) text r
+bytes_more : (e b : ℕ) (wanted text : List ℕ) (r : PartRead ⊤) → b ≡ e → Reads (Bytes wanted) text r
     → Reads (Bytes (e ∷ wanted)) (b ∷ text) r
 bytes_more e b wanted text (got t rest) same read = λ i. same i ∷ read i
 bytes_more e b wanted text short same read = (
@@ -338,16 +338,16 @@ bytes_more e b wanted text short same read = (
 bytes_more e b wanted text never same read = Refutes_by (λ more h. (tt, h.1, cc)) read
 
 -- bytes that are wanted are read as the grammar has them
-pub Reads-bytes : (wanted text : List ℕ) → Reads (Bytes wanted) text (read_bytes wanted text)
-unfolding read_bytes
+pub Reads-bytes : (wanted text : List ℕ) → Reads (Bytes wanted) text (read_expected_bytes wanted text)
+unfolding read_expected_bytes
 Reads-bytes [] text = refl
 Reads-bytes (e ∷ wanted) [] = (NotYet_intro (λ h. cc), λ tail. some_bytes (e ∷ wanted))
 Reads-bytes (e ∷ wanted) (b ∷ text) = by_byte (b == e) refl
-    (λ same. bytes_more e b wanted text (read_bytes wanted text) same (Reads-bytes wanted text))
+    (λ same. bytes_more e b wanted text (read_expected_bytes wanted text) same (Reads-bytes wanted text))
   where
     by_byte : (x : Bool) → (b == e) ≡ x → (b ≡ e
-        → Reads (Bytes (e ∷ wanted)) (b ∷ text) (read_bytes wanted text))
-        → Reads (Bytes (e ∷ wanted)) (b ∷ text) (cond x (read_bytes wanted text) never)
+        → Reads (Bytes (e ∷ wanted)) (b ∷ text) (read_expected_bytes wanted text))
+        → Reads (Bytes (e ∷ wanted)) (b ∷ text) (cond x (read_expected_bytes wanted text) never)
     by_byte true is later = let same : b ≡ e = grind arith in later same
     by_byte false is later = Never_intro (λ more h. let same : b ≡ e = cc in
         let other : b ≢ e = grind arith in other same)
@@ -379,9 +379,9 @@ version_by text (b ∷ rest) e = by_byte (b == 48) (b == 49) refl refl
 
 -- the version is read as the grammar has it
 pub Reads-version : (text : List ℕ) → Reads Version text (read_version text)
-Reads-version text = go (read_bytes (codes "HTTP/1.") text) (Reads-bytes (codes "HTTP/1.") text)
+Reads-version text = go (read_expected_bytes (codes "HTTP/1.") text) (Reads-bytes (codes "HTTP/1.") text)
   where
-    go : (r : Read ⊤) → Reads (Bytes (codes "HTTP/1.")) text r
+    go : (r : PartRead ⊤) → Reads (Bytes (codes "HTTP/1.")) text r
         → Reads Version text (by_read r (λ _ rest. read_minor rest) short never)
     go (got t rest) read = version_by text rest read
     go short read = (Version_bytes read.0, λ tail. Version_after_bytes (read.1 tail))
@@ -408,7 +408,7 @@ value_end value whole b text all stops e = Refutes_by (λ more h. (
 
 value_by : (value whole : List ℕ) (b : ℕ) (text : List ℕ) → AllPass is_value_byte value
     → is_value_byte b ≡ false → whole ≡ value ++ b ∷ text
-    → (r : Read LineEnd) → Reads Newline (b ∷ text) r
+    → (r : PartRead LineEnd) → Reads Newline (b ∷ text) r
     → Reads Text whole (by_read r (λ end rest. got (value, end) rest) short never)
 value_by value whole b text all stops e (got end rest) read =
     (all, e ∙ ap (λ (l : List ℕ). value ++ l) read)
@@ -455,7 +455,7 @@ Reads-value value whole (b ∷ text) all e =
         (Reads-end (b ∷ text))
 
 -- a line of a field is read by its name and its value
-field_by : (text : List ℕ) (r : Read (List ℕ × (List ℕ × LineEnd)))
+field_by : (text : List ℕ) (r : PartRead (List ℕ × (List ℕ × LineEnd)))
     → Reads (Then (Word is_token_byte 58) Text) text r
     → Reads FieldLine text (by_read r (λ f rest. got
     (record { name = f.0; raw = f.1.0; end = f.1.1 }) rest) short never)
@@ -464,7 +464,7 @@ field_by text short read = (FieldLine_row read.0, λ tail. FieldLine_of_row (rea
 field_by text never read = FieldLine_row read
 
 -- a line of a field is read as the grammar has it
-pub Reads-field : (text : List ℕ) → Reads FieldLine text (read_field text)
+pub Reads-field : (text : List ℕ) → Reads FieldLine text (read_header_field text)
 Reads-field text =
     field_by text (then_read (read_word is_token_byte 58 [] text) (read_value []))
     (Reads-then (Word is_token_byte 58) Text Name_deterministic
@@ -512,7 +512,7 @@ pub Reads-fields : (n : ℕ) (fields : List Field) (whole text : List ℕ)
 unfolding read_fields
 Reads-fields zero fields whole text lines few = absurd (omega arith)
 Reads-fields (suc n) fields whole text lines few =
-    by_end (read_end text) refl (Reads-end text) (read_field text) (Reads-field text)
+    by_end (read_end text) refl (Reads-end text) (read_header_field text) (Reads-field text)
     (λ f rest read. Reads-fields n (fields ++ f ∷ []) whole rest
     (FieldLines_push fields f whole text rest lines read)
     (let h = field_shorter f text rest read in omega arith))
@@ -520,7 +520,7 @@ Reads-fields (suc n) fields whole text lines few =
     tail_of : IsTail whole → IsTail text
     tail_of tail = tail_behind whole (flat_map print_field fields) text lines.1 tail
 
-    by_field : Never (Begins Newline) text → (q : Read Field) → Reads FieldLine text q
+    by_field : Never (Begins Newline) text → (q : PartRead Field) → Reads FieldLine text q
         → ((f : Field) (rest : List ℕ) → FieldLine f text rest
         → Reads Section whole (read_fields n (fields ++ f ∷ []) rest))
         → Reads Section whole (by_read q (λ f rest. read_fields n (fields ++ f ∷ []) rest) short
@@ -532,7 +532,7 @@ Reads-fields (suc n) fields whole text lines few =
     )
     by_field end never read later = Section_after fields lines (BeginsLine_either end read)
 
-    by_end : (r : Read LineEnd) → read_end text ≡ r → Reads Newline text r → (q : Read Field)
+    by_end : (r : PartRead LineEnd) → read_end text ≡ r → Reads Newline text r → (q : PartRead Field)
         → Reads FieldLine text q
         → ((f : Field) (rest : List ℕ) → FieldLine f text rest
         → Reads Section whole (read_fields n (fields ++ f ∷ []) rest))
@@ -583,14 +583,14 @@ Reads-words text =
     (read_version c) read_end (Reads-version c) Reads-end))
 
 -- the first line behind the empty ones
-start_by : (text : List ℕ) (r : Read (List LineEnd)) → ReadsBlank text r
+start_by : (text : List ℕ) (r : PartRead (List LineEnd)) → ReadsBlank text r
     → Reads RequestStart text (then_read r (λ a. then_read (read_method a)
     (λ b. then_read (read_target b) (λ c. then_read (read_version c) read_end))))
 start_by text (got ends rest) read =
     by_next (then_read (read_method rest) (λ b. then_read (read_target b)
     (λ c. then_read (read_version c) read_end))) (Reads-words rest)
   where
-    by_next : (q : Read (List ℕ × (List ℕ × (ℕ × LineEnd))))
+    by_next : (q : PartRead (List ℕ × (List ℕ × (ℕ × LineEnd))))
         → Reads (Then Method (Then Target (Then Version Newline))) rest q
         → Reads RequestStart text (by_read q (λ b behind. got (ends, b) behind) short never)
     by_next (got b behind) here = (rest, read, here)

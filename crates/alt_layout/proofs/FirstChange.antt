@@ -5,7 +5,7 @@ use Rattle.std.specs.Ordering.{eq_by_cmp}
 use Rattle.std.specs.FinMap.{empty, insert, get, get-insert, get-empty}
 use Rattle.alt_cells.specs.declared.batch.RowChange.{RowChange}
 use Rattle.alt_cells.specs.declared.row.RowCells.{RowCells}
-use Rattle.alt_cells.specs.Changes.{row_of_change, written, IsBelow}
+use Rattle.alt_cells.specs.Changes.{row_of_change, written, IsRowBelow}
 use Rattle.alt_cells.specs.Joined.{either, joined_map}
 use Rattle.alt_cells.specs.Keys.{key_cmp}
 use Rattle.alt_cells.specs.Rows.{join_row}
@@ -77,7 +77,7 @@ bare = record { gone = None; cells = empty }
 
 -- one row, of which there is a change or not
 one_row : (number : ℕ) (o : Option RowCells) (c : Option RowChange)
-    → ((row : RowCells) → o ≡ Some row → IsBelow number row)
+    → ((row : RowCells) → o ≡ Some row → IsRowBelow number row)
     → option_and_then row_shown (either join_row o (option_map (row_of_change number) c))
     ≡ shown_by c (option_and_then row_shown o)
 one_row number None None below = refl

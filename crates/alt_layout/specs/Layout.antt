@@ -9,7 +9,7 @@ use Rattle.std.specs.declared.ops.Bound.{Bound}
 use Rattle.std.specs.declared.ops.Bound.TheVariants.{Included, Excluded, Unbounded}
 use Rattle.alt_cells.specs.declared.batch.RowChange.{RowChange}
 use Rattle.alt_cells.specs.declared.row.RowCells.{RowCells}
-use Rattle.alt_cells.specs.Changes.{Columns, row_of_change, written, IsBelow}
+use Rattle.alt_cells.specs.Changes.{Columns, row_of_change, written, IsRowBelow}
 use Rattle.alt_cells.specs.Joined.{joined_map}
 use Rattle.alt_cells.specs.Keys.{key_cmp}
 use Rattle.alt_cells.specs.Rows.{join_row}
@@ -34,7 +34,7 @@ no_rows = record { rows = λ _. empty; next_number = 1 }
 -- each cell and each row tombstone is of a write before the next number
 abbrev pub IsPast : Layout → Type 0
 IsPast l = (family : ℕ) (key : List ℕ) (row : RowCells) → get (l.rows family) key ≡ Some row
-    → IsBelow l.next_number row
+    → IsRowBelow l.next_number row
 
 -- ---- as they are shown
 

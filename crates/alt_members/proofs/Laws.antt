@@ -25,7 +25,7 @@ use Rattle.alt_machine.specs.Sources.{hash_of, if_readable, index_asked, index_a
 use Rattle.alt_machine.specs.Streams.{arn_in, stream_at}
 use Rattle.alt_schema.specs.Described.{described_by, description_of}
 use Rattle.alt_schema.specs.Indexes.{indexes, is_read_as}
-use Rattle.alt_schema.specs.Rules.{refusal_of, refused_for}
+use Rattle.alt_schema.specs.Rules.{create_table_refusal, refused_for}
 use Rattle.alt_schema.specs.Stated.{stated}
 use Rattle.alt_schema.specs.declared.schema.IndexSchema.{IndexSchema}
 use Rattle.alt_schema.specs.declared.schema.TableSchema.{TableSchema}
@@ -98,7 +98,7 @@ module _ (s : State) (moment : ℕ) (ms bs : Members) where
         ) refl
 
     create_refusals : create.of_tables s ms ≡ create.of_tables s bs
-    unfolding refusal_of
+    unfolding create_table_refusal
     create_refusals = λ i.
         refuse_by (refused_for (create_stated i)) ∷
         refuse_if (finite.contains_key s.tables (create_name i)) table_exists ∷

@@ -156,7 +156,7 @@ fn find<D: Disk>(
 
 /// What a member leaves at its place: the item that is put, or nothing.
 fn left_of(sought: Sought, item: Item) -> Option<Item>
-    ensures { result ≡ machine.left_of sought item }
+    ensures { result ≡ machine.left_at_place sought item }
 {
     match sought {
         Sought::Item => Some(item),

@@ -8,7 +8,7 @@ use Rattle.alt_disk.specs.Disk.{DiskState, bytes_or_none}
 use Rattle.alt_disk.specs.Runs.{Quiet}
 use Rattle.alt_families.specs.Families.{files_in, rows_in}
 use Rattle.alt_gatelog.proofs.Elsewhere.{reads_log, reads_stays}
-use Rattle.alt_gatelog.specs.InHand.{Reads, file_of, form_of}
+use Rattle.alt_gatelog.specs.InHand.{ReadsEntries, file_of_gate_log, form_of}
 use Rattle.alt_gatelog.specs.Log.{ExplainsLog as ExplainsGateLog, IsLog, gate_place}
 use Rattle.alt_gatelog.specs.declared.fault.LogFault.{LogFault}
 use Rattle.alt_gatelog.specs.declared.fault.LogFault.TheVariants.{Damaged, Failed, NoMemory}
@@ -17,7 +17,7 @@ use Rattle.alt_gatelog.specs.declared.gatelog.GateLog.{GateLog}
 use Rattle.alt_layout.specs.Entries.{HoldWrites, IsEntry, IsNoEntry}
 use Rattle.alt_layout.specs.Families.{next_after, with_later}
 use Rattle.alt_layout.specs.Files.{AreSegments, Image, IsSegment, all_of}
-use Rattle.alt_layout.specs.Sizes.{AreSized, IsSized, bytes_in}
+use Rattle.alt_layout.specs.Sizes.{SegmentsAreSized, LogIsSized, bytes_in}
 use Rattle.alt_layout.proofs.EntryLaws.{holds_none, holds_push}
 use Rattle.alt_layout.proofs.FileLaws.{segments_on, segments_with, rising-join}
 use Rattle.alt_layout.proofs.RowLaws.{with_later-append}
@@ -29,7 +29,7 @@ use Rattle.alt_writes.specs.Writes.{AreRising, Write}
 use Rattle.alt_writes.specs.declared.read.LoggedWrite.{LoggedWrite}
 use Rattle.alt_recovery.specs.Entries.{ExplainsEntry}
 use Rattle.alt_recovery.specs.Flushed.{flushed_in}
-use Rattle.alt_recovery.specs.Replays.{ExplainsLog, ExplainsSegment, ExplainsSegments, IsBadSegment, IsJoinedTo, Replays, ReplaysLast}
+use Rattle.alt_recovery.specs.Replays.{ExplainsBadEntry, ExplainsSegment, ExplainsSegments, IsBadSegment, IsJoinedTo, Replays, ReplaysLast}
 use Rattle.alt_recovery.specs.declared.replay.Replay.{Replay}
 use Rattle.alt_writes.proofs.PushLaws.{held-join}
 
@@ -174,7 +174,7 @@ split entries i within =
 -- an entry that holds no writes
 pub entry_explains : (form : Form) (f : ℕ) (old now : Replay) (entries : List (List ℕ)) (i : ℕ)
     (fault : LogFault) → i < length entries → ReplayedSoFar form old now (take i entries)
-    → ExplainsEntry form f entries i now.least fault → ExplainsLog form f entries old.least fault
+    → ExplainsEntry form f entries i now.least fault → ExplainsBadEntry form f entries old.least fault
 entry_explains form f old now entries i (Damaged file at) within so_far h =
     let size : i ≡ length (take i entries) = omega (arith, length-take i entries, within) in (
       h.0,
@@ -209,9 +209,9 @@ so_far_all form old new entries i past so_far =
 
 -- a log in hand reads as it read while its file does
 pub log_while : (a b : DiskState) (log : GateLog) (entries : List (List ℕ)) → Quiet a b
-    → Reads a log entries → Reads b log entries
+    → ReadsEntries a log entries → ReadsEntries b log entries
 log_while a b log entries quiet reads =
-    reads_stays a b log entries (quiet.file (file_of log)) reads
+    reads_stays a b log entries (quiet.file (file_of_gate_log log)) reads
 
 -- a segment that is no log
 pub no_log_explains : (f least : ℕ) (file : Option (List ℕ)) (fault : LogFault)
@@ -222,7 +222,7 @@ no_log_explains f least file NoMemory h = tt
 
 -- one with an entry that is no write
 pub log_explains : (form : Form) (f least : ℕ) (file : Option (List ℕ)) (entries : List (List ℕ))
-    (fault : LogFault) → IsLog form entries file → ExplainsLog form f entries least fault
+    (fault : LogFault) → IsLog form entries file → ExplainsBadEntry form f entries least fault
     → ExplainsSegment f least file fault
 log_explains form f least file entries (Damaged g at) is h = (h.0, inr (form, entries, is, h.1))
 log_explains form f least file entries Failed is h = tt
@@ -230,13 +230,13 @@ log_explains form f least file entries NoMemory is h = tt
 
 -- a segment that was replayed
 abbrev pub SegmentDone : DiskState → GateLog → Replay → Replay → Type 0
-SegmentDone s log b c = (ws : List Write) × (entries : List (List ℕ)) × Reads s log entries
+SegmentDone s log b c = (ws : List Write) × (entries : List (List ℕ)) × ReadsEntries s log entries
     × HoldWrites (form_of log) entries ws × Replays b c ws (bytes_in entries)
 
 -- is one, and has so many bytes
 done_segment : (s : DiskState) (log : GateLog) (b c : Replay) (f : ℕ) (image : Image)
-    → file_of log ≡ f → s.file f ≡ image f → (done : SegmentDone s log b c)
-    → IsSegment done.0 (image f) × IsSized (bytes_in done.1) (image f)
+    → file_of_gate_log log ≡ f → s.file f ≡ image f → (done : SegmentDone s log b c)
+    → IsSegment done.0 (image f) × LogIsSized (bytes_in done.1) (image f)
 done_segment s log b c f image named same done =
     let there : IsLog (form_of log) done.1 (image f) =
     subst (IsLog (form_of log) done.1) (ap s.file named ∙ same) (reads_log s log done.1 done.2) in (
@@ -251,7 +251,7 @@ pub record SegmentsSoFar (image : Image) (old new : Replay) (segments : List ℕ
   pub parts : List (List Write)
   pub bytes : ℕ
   pub are : AreSegments image segments parts
-  pub sized : AreSized image segments bytes
+  pub sized : SegmentsAreSized image segments bytes
   pub replays : Replays old new (all_of parts) bytes
 
 -- no segment yet
@@ -275,7 +275,7 @@ replays_push a b c parts ws m n first later =
 
 -- one segment more
 pub segments_more : (image : Image) (s : DiskState) (a b c : Replay) (segments : List ℕ) (i : ℕ)
-    (log : GateLog) → i < length segments → file_of log ≡ get_or segments i 0
+    (log : GateLog) → i < length segments → file_of_gate_log log ≡ get_or segments i 0
     → ((f : ℕ) → s.file f ≡ image f) → SegmentsSoFar image a b (take i segments)
     → SegmentDone s log b c → SegmentsSoFar image a c (take (i + 1) segments)
 segments_more image s a b c segments i log within named same so_far one =
@@ -339,11 +339,11 @@ split_at xs i within =
 
 -- all segments were replayed, where the last one was behind the first ones
 pub replays_last : (image : Image) (s : DiskState) (a b c : Replay) (segments firsts : List ℕ)
-    (log : GateLog) → segments ≡ firsts ++ file_of log ∷ [] → ((f : ℕ) → s.file f ≡ image f)
+    (log : GateLog) → segments ≡ firsts ++ file_of_gate_log log ∷ [] → ((f : ℕ) → s.file f ≡ image f)
     → (front : SegmentsSoFar image a b firsts) → SegmentDone s log b c
     → ReplaysLast s segments a c log
 replays_last image s a b c segments firsts log is same front one =
-    let last = done_segment s log b c (file_of log) s.file refl refl one in
+    let last = done_segment s log b c (file_of_gate_log log) s.file refl refl one in
     record {
       firsts = firsts;
       fronts = front.parts;
@@ -352,10 +352,10 @@ replays_last image s a b c segments firsts log is same front one =
       bytes = front.bytes + bytes_in one.1;
       segments_are = is;
       are = subst (λ fs. AreSegments s.file fs (front.parts ++ one.0 ∷ [])) (sym is)
-          (segments_with s.file firsts (file_of log) front.parts one.0
+          (segments_with s.file firsts (file_of_gate_log log) front.parts one.0
           (segments_on image s.file firsts front.parts (λ g there. same g) front.are) last.0);
-      sized = subst (λ fs. AreSized s.file fs (front.bytes + bytes_in one.1)) (sym is)
-          (sized_with s.file firsts (file_of log) front.bytes (bytes_in one.1)
+      sized = subst (λ fs. SegmentsAreSized s.file fs (front.bytes + bytes_in one.1)) (sym is)
+          (sized_with s.file firsts (file_of_gate_log log) front.bytes (bytes_in one.1)
           (sized_on image s.file firsts front.bytes (λ g there. same g) front.sized) last.1);
       reads = one.2;
       holds = one.3;
@@ -366,7 +366,7 @@ replays_last image s a b c segments firsts log is same front one =
 -- what is said of several segments
 abbrev pub SegmentsDone : Image → Replay → Replay → List ℕ → Type 0
 SegmentsDone image old new segments = (parts : List (List Write)) × (bytes : ℕ)
-    × AreSegments image segments parts × AreSized image segments bytes
+    × AreSegments image segments parts × SegmentsAreSized image segments bytes
     × Replays old new (all_of parts) bytes
 
 -- all segments in a list
@@ -378,7 +378,7 @@ segments_all image old new segments i past so_far =
       so_far.parts,
       so_far.bytes,
       subst (λ fs. AreSegments image fs so_far.parts) all so_far.are,
-      subst (λ fs. AreSized image fs so_far.bytes) all so_far.sized,
+      subst (λ fs. SegmentsAreSized image fs so_far.bytes) all so_far.sized,
       so_far.replays,
     )
 

@@ -18,12 +18,12 @@ use Rattle.alt_cells.proofs.CellLaws.{key_total}
 use Rattle.alt_cells.proofs.Entries.{below_less}
 use Rattle.alt_cells.proofs.Rising.{sorted_front}
 use Rattle.alt_fields.proofs.Apart.{field-apart, all_append, all_back, flat_map_snoc}
-use Rattle.alt_rowblocks.specs.Format.{Entry, Mark, entry_bytes, rows_bytes, block_bytes, front, rows_of, first_key, marks_from, IsBlock, IsFull, AreBlocks, IsHeldEntry, IsHeldBlock}
+use Rattle.alt_rowblocks.specs.Format.{Entry, Mark, row_entry_bytes, rows_bytes, block_bytes, front, rows_of, first_key, marks_from, IsBlock, IsFull, AreBlocks, IsHeldEntry, IsHeldBlock}
 use Rattle.alt_filter.specs.declared.filter.Filter.{Filter}
 use Rattle.alt_rowblocks.specs.Decoding.{AreRows, StandBefore}
-use Rattle.alt_rowblocks.specs.Filtering.{AreFilters, HoldsRows}
-use Rattle.alt_rowblocks.specs.Blocks.{IsAbove, IsNext, IsNextBlock, IsReadBlock, AreBlocksOf, IsFoundAs}
-use Rattle.alt_rowblocks.specs.Summaries.{joined, last_key, summary_of}
+use Rattle.alt_rowblocks.specs.Filtering.{AreFilters, FilterHoldsRows}
+use Rattle.alt_rowblocks.specs.Blocks.{IsAbove, BeginsWithNextBlock, IsNextBlock, IsReadBlock, AreBlocksOf, IsFoundAs}
+use Rattle.alt_rowblocks.specs.Summaries.{joined_summary, last_key, summary_of}
 use Rattle.alt_rowblocks.specs.declared.summary.Summary.{Summary}
 use Rattle.alt_rowblocks.proofs.FilterLaws.{filters-push}
 use Rattle.alt_rowblocks.proofs.SummaryLaws.{summary-append}
@@ -116,7 +116,7 @@ pub block_read : (rows : List Entry) (bytes : List ℕ) (before : ℕ) (f l : En
     → before < 4096 → (is_last ≡ false → 4096 ≤ length bytes) → length bytes < 2 ^ 64
     → Some f ≡ slice_get rows 0 → Some l ≡ slice_get rows (length rows - 1) → IsAbove after f.0
     → one ≡ f.0 → two ≡ l.0 → count ≡ length rows → summary ≡ summary_of rows
-    → HoldsRows filter rows → (b : List Entry)
+    → FilterHoldsRows filter rows → (b : List Entry)
     × IsNextBlock after is_last bytes b × IsReadBlock one two count summary filter b
 block_read [] bytes before f l after is_last one two count summary filter are is place short full
     small fst
@@ -223,7 +223,7 @@ full_from b (inr other) is = absurd (let f : true ≡ false = sym other ∙ is i
 -- a block with its length
 pub next_whole : (after : Option (List ℕ)) (is_last : Bool) (bytes block behind : List ℕ)
     (b : List Entry) → is_last ≡ (length behind == 0) → bytes ≡ field block ++ behind
-    → IsNextBlock after is_last block b → IsNext after bytes behind b
+    → IsNextBlock after is_last block b → BeginsWithNextBlock after bytes behind b
 unfolding block_bytes
 next_whole after is_last bytes block behind b last is n = record {
   block = n.block;
@@ -238,7 +238,7 @@ next_whole after is_last bytes block behind b last is n = record {
 pub no_next_block : (after : Option (List ℕ)) (is_last : Bool) (bytes block behind : List ℕ)
     → is_last ≡ (length behind == 0) → length block < 2 ^ 64 → bytes ≡ field block ++ behind
     → ((b : List Entry) → IsNextBlock after is_last block b → ⊥) → (b : List Entry) (x : List ℕ)
-    → IsNext after bytes x b → ⊥
+    → BeginsWithNextBlock after bytes x b → ⊥
 unfolding block_bytes
 no_next_block after is_last bytes block behind last small is none b x n =
     let same = field-apart block (rows_bytes b) behind x small n.held.1 (sym is ∙ n.is) in
@@ -259,7 +259,7 @@ no_next_block after is_last bytes block behind last small is none b x n =
 -- where there is no field, no block is next
 pub no_next_field : (after : Option (List ℕ)) (bytes : List ℕ)
     → ((s x : List ℕ) → length s < 2 ^ 64 → bytes ≡ field s ++ x → ⊥)
-    → (b : List Entry) (x : List ℕ) → IsNext after bytes x b → ⊥
+    → (b : List Entry) (x : List ℕ) → BeginsWithNextBlock after bytes x b → ⊥
 unfolding block_bytes
 no_next_field after bytes none b x n = none (rows_bytes b) x n.held.1 n.is
 
@@ -267,7 +267,7 @@ no_next_field after bytes none b x n = none (rows_bytes b) x n.held.1 n.is
 pub rows_few : (rows : List Entry) → length rows ≤ length (rows_bytes rows)
 rows_few [] = omega arith
 rows_few (e ∷ rows) =
-    omega (arith, rows_few rows, length-append (entry_bytes e) (rows_bytes rows), length-entry e)
+    omega (arith, rows_few rows, length-append (row_entry_bytes e) (rows_bytes rows), length-entry e)
 
 -- blocks have no more rows than bytes
 pub blocks_few : (blocks : List (List Entry))
@@ -287,7 +287,7 @@ blocks_few (b ∷ blocks) =
 pub no_blocks_yet : (bytes : List ℕ) (marks : List Mark) (summary : Summary)
     (filters : List Filter) → marks ≡ [] → summary ≡ summary_of [] → filters ≡ []
     → BlocksSoFar bytes bytes 8 None marks 0 summary filters
-unfolding Rattle.alt_rowblocks.specs.Format.header
+unfolding Rattle.alt_rowblocks.specs.Format.row_file_header
 no_blocks_yet bytes marks summary filters none told unfiltered = record {
   blocks = [];
   is = refl;
@@ -311,9 +311,9 @@ pub one_block_more : (bytes rest behind : List ℕ) (at next : ℕ) (after : Opt
     (marks new : List Mark) (rows count : ℕ) (summary more joint : Summary)
     (filters new_filters : List Filter) (filter : Filter) (first last : List ℕ)
     (b : List Entry) → BlocksSoFar bytes rest at after marks rows summary filters
-    → 0 < length rest → IsNext after rest behind b → IsReadBlock first last count more filter b
+    → 0 < length rest → BeginsWithNextBlock after rest behind b → IsReadBlock first last count more filter b
     → next ≡ at + (length rest - length behind) → new ≡ marks ++ (at, first) ∷ []
-    → joint ≡ joined summary more → new_filters ≡ filters ++ filter ∷ []
+    → joint ≡ joined_summary summary more → new_filters ≡ filters ++ filter ∷ []
     → BlocksSoFar bytes behind next (Some last) new (rows + count) joint new_filters
 one_block_more bytes rest behind at next after marks new rows count summary more joint filters
     new_filters filter first last b so_far some n r place added told filtered =
@@ -355,7 +355,7 @@ one_block_more bytes rest behind at next after marks new rows count summary more
           ap length joined_rows,
           length-append (rows_of so_far.blocks) b,
         );
-        summary_is = told ∙ (λ i. joined (so_far.found.summary_is i) (r.summary_is i))
+        summary_is = told ∙ (λ i. joined_summary (so_far.found.summary_is i) (r.summary_is i))
             ∙ sym (summary-append (rows_of so_far.blocks) b) ∙ ap summary_of (sym joined_rows);
         filters_are = subst (λ (l : List Filter). AreFilters l (so_far.blocks ++ b ∷ []))
             (sym filtered)
@@ -381,7 +381,7 @@ one_block_more bytes rest behind at next after marks new rows count summary more
 -- no block that could be the next, no blocks
 pub no_more_blocks : {summary : Summary} {filters : List Filter} (bytes rest : List ℕ) (at : ℕ) (after : Option (List ℕ)) (marks : List Mark)
     (rows : ℕ) → BlocksSoFar bytes rest at after marks rows summary filters → 0 < length rest
-    → ((b : List Entry) (behind : List ℕ) → IsNext after rest behind b → ⊥)
+    → ((b : List Entry) (behind : List ℕ) → BeginsWithNextBlock after rest behind b → ⊥)
     → (blocks : List (List Entry)) → AreBlocksOf blocks bytes → ⊥
 no_more_blocks bytes rest at after marks rows so_far some none blocks are =
     let r = rest_of block_bytes IsHeldBlock block-apart block_some so_far.blocks blocks rest
@@ -449,7 +449,7 @@ blocks_read bytes rest at after marks rows so_far none = (
 pub counts_fit : {summary more : Summary} {filters : List Filter} {filter : Filter} (bytes rest behind : List ℕ) (at : ℕ) (after : Option (List ℕ)) (marks : List Mark)
     (rows count : ℕ) (first last : List ℕ) (b : List Entry)
     → BlocksSoFar bytes rest at after marks rows summary filters
-    → IsNext after rest behind b → IsReadBlock first last count more filter b → (rows + count ≤ length bytes)
+    → BeginsWithNextBlock after rest behind b → IsReadBlock first last count more filter b → (rows + count ≤ length bytes)
     × (at + (length rest - length behind) ≤ 8 + length bytes) × (length behind < length rest)
 counts_fit bytes rest behind at after marks rows count first last b so_far n r =
     let size : length rest ≡ length (block_bytes b) + length behind = ap length n.is

@@ -10,9 +10,9 @@ use Rattle.alt_fields.specs.Field.{field}
 use Rattle.alt_fields.proofs.Apart.{all_append, all_back, all_front, flat_map_snoc}
 use Rattle.alt_cells.specs.Keys.{key_cmp}
 use Rattle.alt_cells.specs.Walks.{Gives, turned}
-use Rattle.alt_rowblocks.specs.Cut.{IsFrom, IsCut, IsPassed}
+use Rattle.alt_rowblocks.specs.Cut.{IsFromKey, IsCutAtKey, IsPassed}
 use Rattle.alt_rowblocks.specs.Decoding.{AreRows, NoRows}
-use Rattle.alt_rowblocks.specs.Format.{Entry, entry_bytes, rows_bytes, block_bytes, IsHeldEntry, IsHeldBlock}
+use Rattle.alt_rowblocks.specs.Format.{Entry, row_entry_bytes, rows_bytes, block_bytes, IsHeldEntry, IsHeldBlock}
 use Rattle.alt_rowblocks.specs.Taken.{IsBegunAt, IsBegunIn, IsPassedBy}
 use Rattle.alt_rowblocks.specs.Taken.IsAhead.{at_end, stays}
 use Rattle.alt_rowblocks.specs.Holding.{StandAt, AreRowsAt, IsCutIn, IsCutBlock, IsInHand}
@@ -63,8 +63,8 @@ module _ {K : Type 0} (spell : K → List ℕ) (bytes : List ℕ) where
 
 -- where the pieces of rows stand, the rows do
 unsealed : (bytes places : List ℕ) (rows : List Entry)
-    → StandAt piece_bytes bytes places (map sealed rows) → StandAt entry_bytes bytes places rows
-unfolding entry_bytes
+    → StandAt piece_bytes bytes places (map sealed rows) → StandAt row_entry_bytes bytes places rows
+unfolding row_entry_bytes
 unsealed bytes [] [] s = tt
 unsealed bytes [] (e ∷ rows) s = absurd s
 unsealed bytes (p ∷ places) [] s = absurd s
@@ -78,7 +78,7 @@ no_rows (e ∷ rows) none =
       arith,
       entry_some e,
       ap length none,
-      length-append (entry_bytes e) (rows_bytes rows),
+      length-append (row_entry_bytes e) (rows_bytes rows),
     ))
 
 -- ---- the rows that a walk passes
@@ -206,7 +206,7 @@ module _ (bytes all rest : List ℕ) (to : Option (List ℕ)) (places : List ℕ
 
   -- those that were passed stand at their places
   stand : (front : List ℕ) → bytes ≡ front ++ all → (rows : List Entry)
-      → map sealed rows ≡ so.pieces → StandAt entry_bytes bytes places rows
+      → map sealed rows ≡ so.pieces → StandAt row_entry_bytes bytes places rows
   stand front whole rows e =
       unsealed bytes places rows
       (subst (StandAt piece_bytes bytes places) (sym e) (so.at front whole))
@@ -214,7 +214,7 @@ module _ (bytes all rest : List ℕ) (to : Option (List ℕ)) (places : List ℕ
   -- where no piece stands next, the bytes are of no rows
   pub no_piece_there : 0 < length rest
       → ((p : Piece) (x : List ℕ) → IsShortPiece p → rest ≡ piece_bytes p ++ x → ⊥) → NoRows all
-  unfolding entry_bytes
+  unfolding row_entry_bytes
   no_piece_there some none rows are is =
       let p = parts rows are is in
       refute p.back p.rest_is
@@ -230,7 +230,7 @@ module _ (bytes all rest : List ℕ) (to : Option (List ℕ)) (places : List ℕ
       (forward : Bool) → AreRows rows → all ≡ rows_bytes rows → bytes ≡ front ++ all
       → IsShortPiece p → rest ≡ piece_bytes p ++ behind → (IsPassed to p.0 → ⊥)
       → place ≡ length bytes - length rest → IsCutIn bytes places place to forward rows
-  unfolding entry_bytes
+  unfolding row_entry_bytes
   cut_there front rows p behind place forward are is whole short there kept at =
       let q = parts rows are is in
       record {
@@ -268,11 +268,11 @@ module _ (bytes all rest : List ℕ) (to : Option (List ℕ)) (places : List ℕ
 
       cut_of : (t : Option (List ℕ)) (xs ys : List Entry) → (IsPassed t p.0 → ⊥)
           → AllByRecursion (λ e. IsPassed t e.0) xs → FirstIs p.0 ys → T (is_sorted key_cmp ys)
-          → IsCut t forward xs ys
+          → IsCutAtKey t forward xs ys
       cut_of None xs ys never passed f sorted = absurd (never tt)
       cut_of (Some key) xs ys never passed f sorted = (
         passed,
-        subst (AllByRecursion (IsFrom key)) (sym f.is)
+        subst (AllByRecursion (IsFromKey key)) (sym f.is)
             (from_first key f.first f.others
             (subst (λ (l : List Entry). T (is_sorted key_cmp l)) f.is sorted)
             (λ lower. never (ap (λ (k : List ℕ). key_cmp k key) (sym f.key_is) ∙ lower))),
@@ -296,10 +296,10 @@ module _ (bytes all rest : List ℕ) (to : Option (List ℕ)) (places : List ℕ
       }
     where
       cut_of : (t : Option (List ℕ)) (xs ys : List Entry)
-          → AllByRecursion (λ e. IsPassed t e.0) xs → ys ≡ [] → IsCut t false xs ys
+          → AllByRecursion (λ e. IsPassed t e.0) xs → ys ≡ [] → IsCutAtKey t false xs ys
       cut_of None xs ys passed last = last
       cut_of (Some key) xs ys passed last =
-          (passed, subst (AllByRecursion (IsFrom key)) (sym last) tt)
+          (passed, subst (AllByRecursion (IsFromKey key)) (sym last) tt)
 
   -- whatever the bytes are, a walk begins where the next one isn't passed
   pub begun_there : (front : List ℕ) (p : Piece) (behind : List ℕ) (place : ℕ)
@@ -374,7 +374,7 @@ cut_front bytes front all places place b none is whole at = record {
   back = b;
   is = refl;
   cut = refl;
-  before = subst (λ (l : List ℕ). StandAt entry_bytes bytes l []) (sym none) tt;
+  before = subst (λ (l : List ℕ). StandAt row_entry_bytes bytes l []) (sym none) tt;
   behind = ap (drop place) whole
       ∙ drop_at front all place (omega (arith, at, ap length whole, length-append front all)) ∙ is;
 }
@@ -452,7 +452,7 @@ module _ (hand new : Hand) (rows : List Entry) (h : IsInHand hand true rows) whe
 
     -- the row that was taken is the first of them
     pub behind_next : (given : Entry) (behind : List ℕ) → IsHeldEntry given
-        → rest ≡ entry_bytes given ++ behind → new.bytes.items ≡ hand.bytes.items
+        → rest ≡ row_entry_bytes given ++ behind → new.bytes.items ≡ hand.bytes.items
         → new.at ≡ length hand.bytes.items - length behind
         → Gives (IsInHand new true) rows (Some given)
     behind_next given behind fits taken same at = by_rows rows rest_is h.0
@@ -470,7 +470,7 @@ module _ (hand new : Hand) (rows : List Entry) (h : IsInHand hand true rows) whe
             (one.0, (held.1, place ∙ one.1))
 
     -- and one was
-    pub behind_some : ((e : Entry) (x : List ℕ) → IsHeldEntry e → rest ≡ entry_bytes e ++ x → ⊥) → ⊥
+    pub behind_some : ((e : Entry) (x : List ℕ) → IsHeldEntry e → rest ≡ row_entry_bytes e ++ x → ⊥) → ⊥
     behind_some none = by_rows rows rest_is h.0
       where
         by_rows : (rows : List Entry) → rest ≡ rows_bytes rows → AllByRecursion IsHeldEntry rows → ⊥
@@ -485,7 +485,7 @@ pub record IsBefore (bytes places : List ℕ) (rows : List Entry) (n d : ℕ) : 
   pub others : List Entry
   pub is : rows ≡ first ∷ others
   pub held : IsHeldEntry first
-  pub here : StandAt entry_bytes bytes (get_or places n d ∷ []) (first ∷ [])
+  pub here : StandAt row_entry_bytes bytes (get_or places n d ∷ []) (first ∷ [])
   pub left : AreRowsAt bytes (take n places) (reverse others)
 
 module _ (hand : Hand) (rows : List Entry) (h : IsInHand hand false rows) where
@@ -493,7 +493,7 @@ module _ (hand : Hand) (rows : List Entry) (h : IsInHand hand false rows) where
   pub before_none : length hand.before.items ≡ 0 → Gives (IsInHand hand false) rows None
   before_none size =
       let turned : reverse rows ≡ [] =
-      stand_none entry_bytes hand.bytes.items hand.before.items (reverse rows) size h.1 in
+      stand_none row_entry_bytes hand.bytes.items hand.before.items (reverse rows) size h.1 in
       let none : rows ≡ [] = sym (reverse-reverse rows) ∙ ap reverse turned in
       subst (λ (l : List Entry). Gives (IsInHand hand false) l None) (sym none)
       (subst (IsInHand hand false) none h)
@@ -508,13 +508,13 @@ module _ (hand : Hand) (rows : List Entry) (h : IsInHand hand false rows) where
           absurd (none_there hand.before.items size k.1)
         where
           none_there : (ps : List ℕ) → length ps ≡ n + 1
-              → StandAt entry_bytes hand.bytes.items ps [] → ⊥
+              → StandAt row_entry_bytes hand.bytes.items ps [] → ⊥
           none_there [] size s = omega (arith, size)
           none_there (p ∷ ps) size s = s
       by_rows (e ∷ es) k =
           let turned : reverse (e ∷ es) ≡ reverse es ++ e ∷ [] = reverse-append (e ∷ []) es in
           let both = subst (AreRowsAt hand.bytes.items hand.before.items) turned k in
-          let s = stand_last entry_bytes hand.bytes.items hand.before.items (reverse es) e n d size
+          let s = stand_last row_entry_bytes hand.bytes.items hand.before.items (reverse es) e n d size
           both.1 in
           record {
             first = e;
@@ -528,10 +528,10 @@ module _ (hand : Hand) (rows : List Entry) (h : IsInHand hand false rows) where
   -- there it stands
   pub before_stands : (n place : ℕ) (b : IsBefore hand.bytes.items hand.before.items rows n place)
       (bytes : List ℕ) → bytes ≡ hand.bytes.items → place ≡ get_or hand.before.items n place
-      → StandAt entry_bytes bytes (place ∷ []) (b.first ∷ [])
+      → StandAt row_entry_bytes bytes (place ∷ []) (b.first ∷ [])
   before_stands n place b bytes same is =
-      subst (λ (l : List ℕ). StandAt entry_bytes l (place ∷ []) (b.first ∷ [])) (sym same)
-      (subst (λ (p : ℕ). StandAt entry_bytes hand.bytes.items (p ∷ []) (b.first ∷ [])) (sym is)
+      subst (λ (l : List ℕ). StandAt row_entry_bytes l (place ∷ []) (b.first ∷ [])) (sym same)
+      (subst (λ (p : ℕ). StandAt row_entry_bytes hand.bytes.items (p ∷ []) (b.first ∷ [])) (sym is)
       b.here)
 
   -- it is given, where it was read
@@ -550,7 +550,7 @@ module _ (hand : Hand) (rows : List Entry) (h : IsInHand hand false rows) where
 -- the row at a place
 
 module _ (bytes : List ℕ) (place : ℕ) (e : Entry) (held : IsHeldEntry e)
-    (at : StandAt entry_bytes bytes (place ∷ []) (e ∷ [])) where
+    (at : StandAt row_entry_bytes bytes (place ∷ []) (e ∷ [])) where
   -- the place lies within the bytes
   pub place_within : place ≤ length bytes
   place_within =
@@ -558,17 +558,17 @@ module _ (bytes : List ℕ) (place : ℕ) (e : Entry) (held : IsHeldEntry e)
         arith,
         entry_some e,
         ap length at.0.1,
-        length-append (entry_bytes e) at.0.0,
+        length-append (row_entry_bytes e) at.0.0,
         length-drop place bytes,
       )
 
   -- what was taken there is the row
   pub entry_there : (given : Entry) (rest behind : List ℕ) → IsHeldEntry given
-      → rest ≡ drop place bytes → rest ≡ entry_bytes given ++ behind → given ≡ e
+      → rest ≡ drop place bytes → rest ≡ row_entry_bytes given ++ behind → given ≡ e
   entry_there given rest behind fits is taken =
       (entry-apart given e behind at.0.0 fits held (sym taken ∙ is ∙ at.0.1)).0
 
   -- and some was
   pub entry_none : (rest : List ℕ) → rest ≡ drop place bytes
-      → ((f : Entry) (x : List ℕ) → IsHeldEntry f → rest ≡ entry_bytes f ++ x → ⊥) → ⊥
+      → ((f : Entry) (x : List ℕ) → IsHeldEntry f → rest ≡ row_entry_bytes f ++ x → ⊥) → ⊥
   entry_none rest is none = none e at.0.0 held (is ∙ at.0.1)

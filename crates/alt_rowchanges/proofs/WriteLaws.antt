@@ -29,7 +29,7 @@ use Rattle.alt_machine.specs.Indexed.{index_items}
 use Rattle.alt_machine.specs.Same.{is_same}
 use Rattle.alt_machine.specs.Sources.{index_at}
 use Rattle.alt_machine.specs.State.{State, Table, Texts, Change, families_of}
-use Rattle.alt_machine.specs.Valid.{IsStored, IsTable, IsValid, IsHeldChange, IsHeldState}
+use Rattle.alt_machine.specs.Valid.{IsStored, IsTable, IsValid, IsChangeOfValues, IsHeldState}
 use Rattle.alt_machine.specs.Writes.{with_item, with_write_by as with_row, after_item_by}
 use Rattle.alt_machine.proofs.Building.{built_part-beyond, built_part-reached, get-built_part}
 use Rattle.alt_machine.proofs.Families.{of_contained}
@@ -454,9 +454,9 @@ held_after s moment writer name t place new held at given fits = record {
 
     changes : (other : List ℕ) (u : Table)
         → ((other ≡ name) × (with_row s.next_number moment writer t place new ≡ u))
-        ⊎ (map.get s.tables other ≡ Some u) → All IsHeldChange u.changes
-    changes other u (inl changed) = subst (λ (x : Table). All IsHeldChange x.changes) changed.1
-        (all_left IsHeldChange (was_held (map.get t.items place) refl, given)
+        ⊎ (map.get s.tables other ≡ Some u) → All IsChangeOfValues u.changes
+    changes other u (inl changed) = subst (λ (x : Table). All IsChangeOfValues x.changes) changed.1
+        (all_left IsChangeOfValues (was_held (map.get t.items place) refl, given)
         (held.items.changes name t at))
     changes other u (inr old) = held.items.changes other u old
 

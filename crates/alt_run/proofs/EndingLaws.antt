@@ -9,11 +9,11 @@ use Rattle.alt_shell.specs.Calls.{Aside}
 use Rattle.alt_shell.specs.Log.{Log, Grows, moments_of, taken}
 use Rattle.alt_shell.proofs.Telling.{Grows-then}
 use Rattle.alt_talks.specs.Connections.{ServedSome, turns_of}
-use Rattle.alt_run.specs.Endings.{BrokenFrom, status_of, HasDone, HasMade, HasRun, Makes, BreaksOff, WasDamaged, IsReadable, Done, Broken, LacksNumber, SaysNothing, SaysSome}
+use Rattle.alt_run.specs.Endings.{BrokenFrom, status_of, HasDone, HasMade, HasRun, MakesStore, BreaksOff, WasDamaged, IsReadable, Done, Broken, LacksNumber, SaysNothing, SaysSome}
 use Rattle.alt_run.specs.private.EndingOf.{HasNumbers}
-use Rattle.alt_run.specs.Runs.{Answers, AnswersSome, LeftThen, IsOpening, Opened}
+use Rattle.alt_run.specs.Runs.{AnswersAllLines, AnswersSomeLines, LeftThen, IsOpening, Opened}
 use Rattle.alt_talks.specs.Stretches.{DoesSome}
-use Rattle.alt_talks.specs.TalkRules.{rules}
+use Rattle.alt_talks.specs.TalkRules.{talk_rules}
 use Rattle.alt_talks.specs.TalkStops.{LeftAmong, ServedOn, ServedSomeOn, LeavesNow}
 use Rattle.alt_talks.specs.Talks.{Rules, Turn}
 use Rattle.alt_run.specs.Trials.{Tries, TriesSome, LeftOfTrial, all_turns}
@@ -30,13 +30,13 @@ use Rattle.alt_talks.proofs.Stretching.{stretch_quiet, stretch_as}
 use Rattle.alt_run.proofs.Initing.{quiet_behind}
 use Rattle.alt_talks.proofs.Stopping.{leaves-before-aside}
 use Rattle.alt_talks.specs.Turns.{after}
-use Rattle.alt_run.specs.Turns.{turns, asks}
+use Rattle.alt_run.specs.Turns.{turns_of_lines, asks}
 
 -- ---- what was done, whatever the cause was
 
 -- a run that was broken off is one that was broken off for want of memory
 pub some_answers : (a b : DiskState) (fault : RunFault) (next : ℕ) (s : State) (es : Log) (ms : List ℕ)
-    → AnswersSome fault next s a b es ms → AnswersSome why.NoMemory next s a b es ms
+    → AnswersSomeLines fault next s a b es ms → AnswersSomeLines why.NoMemory next s a b es ms
 some_answers a b fault next s es ms x = record {
   breaks = record {
     done = x.breaks.done;
@@ -122,13 +122,13 @@ some_tries a b fault next s seed count es ms x = record {
 broken_memory : (job : Job) (next : ℕ) (fault : RunFault) (s : State) (a b : DiskState)
     → BrokenFrom next fault job s a b → BrokenFrom next why.NoMemory job s a b
 unfolding some_served
-broken_memory Replay next fault s a b x = stretch_as a b {P = AnswersSome fault next s}
-    {Q = AnswersSome why.NoMemory next s}
+broken_memory Replay next fault s a b x = stretch_as a b {P = AnswersSomeLines fault next s}
+    {Q = AnswersSomeLines why.NoMemory next s}
     (λ es ms within y. some_answers a b fault next s es ms y) x
 broken_memory (Serve per count) next fault s a b x = stretch_as a b
-    {P = ServedSomeOn rules per count fault next s}
-    {Q = ServedSomeOn rules per count why.NoMemory next s}
-    (λ es ms within y. (some_served rules per count fault next s es ms y.0, y.1)) x
+    {P = ServedSomeOn talk_rules per count fault next s}
+    {Q = ServedSomeOn talk_rules per count why.NoMemory next s}
+    (λ es ms within y. (some_served talk_rules per count fault next s es ms y.0, y.1)) x
 broken_memory (Trial seed count) next fault s a b x = stretch_as a b
     {P = TriesSome fault next s seed count} {Q = TriesSome why.NoMemory next s seed count}
     (λ es ms within y. some_tries a b fault next s seed count es ms y) x
@@ -218,8 +218,8 @@ module _ (b c : DiskState) (g : Grows b.beside c.beside [])
       (ap (λ (t : ℕ). c.fates t f) aside.moment ∙ aside.keeps.past b.moment f (omega arith))
       (is_image f))
 
-  all_behind : (a : DiskState) (s : State) (es : Log) (ms : List ℕ) → Answers s a b es ms
-      → Answers s a c es ms
+  all_behind : (a : DiskState) (s : State) (es : Log) (ms : List ℕ) → AnswersAllLines s a b es ms
+      → AnswersAllLines s a c es ms
   all_behind a s es ms x = record {
     at_end = x.at_end;
     inside = x.inside;
@@ -227,11 +227,11 @@ module _ (b c : DiskState) (g : Grows b.beside c.beside [])
     count = x.count;
     enough = x.enough;
     leaves = leaves-before-aside a b c (LeftThen s es ms) aside x.leaves;
-    last = last_behind (after s (turns s (asks true (taken es)) ms)) x.last;
+    last = last_behind (after s (turns_of_lines s (asks true (taken es)) ms)) x.last;
   }
 
   some_behind : (a : DiskState) (fault : RunFault) (next : ℕ) (s : State) (es : Log) (ms : List ℕ)
-      → AnswersSome fault next s a b es ms → AnswersSome fault next s a c es ms
+      → AnswersSomeLines fault next s a b es ms → AnswersSomeLines fault next s a c es ms
   some_behind a fault next s es ms x = record {
     breaks = x.breaks;
     inside = x.inside;
@@ -264,7 +264,7 @@ module _ (b c : DiskState) (g : Grows b.beside c.beside [])
     leaves = leaves-before-aside a b c (LeftOfTrial s seed count es) aside x.leaves;
   }
 
-  makes_behind : (a : DiskState) (es : Log) (ms : List ℕ) → Makes a b es ms → Makes a c es ms
+  makes_behind : (a : DiskState) (es : Log) (ms : List ℕ) → MakesStore a b es ms → MakesStore a c es ms
   makes_behind a es ms x = record {
     said = x.said;
     untaken = x.untaken;
@@ -308,14 +308,14 @@ module _ (b c : DiskState) (g : Grows b.beside c.beside [])
   }
 
   done_behind : (job : Job) (s : State) (o : DiskState) → Done job s o b → Done job s o c
-  done_behind Replay s o x = stretch_quiet o b c {P = Answers s} (all_behind o s) x aside g m
+  done_behind Replay s o x = stretch_quiet o b c {P = AnswersAllLines s} (all_behind o s) x aside g m
   done_behind (Serve per count) s o x = stretch_quiet o b c
-      {P = λ old new es ms. (t : State) × ServedOn rules per count s t old new es ms × LeavesNow new t}
+      {P = λ old new es ms. (t : State) × ServedOn talk_rules per count s t old new es ms × LeavesNow new t}
       (λ es ms y. (
         y.0,
         (
           y.1.0,
-          leaves-before-aside o b c (LeftAmong rules per 1 None s y.1.0.all) aside y.1.1,
+          leaves-before-aside o b c (LeftAmong talk_rules per 1 None s y.1.0.all) aside y.1.1,
         ),
         last_behind y.0 y.2,
       ))
@@ -326,12 +326,12 @@ module _ (b c : DiskState) (g : Grows b.beside c.beside [])
   from_behind : (next : ℕ) (fault : RunFault) (job : Job) (s : State) (o : DiskState)
       → BrokenFrom next fault job s o b → BrokenFrom next fault job s o c
   from_behind next fault Replay s o x =
-      stretch_quiet o b c {P = AnswersSome fault next s} (some_behind o fault next s) x aside g m
+      stretch_quiet o b c {P = AnswersSomeLines fault next s} (some_behind o fault next s) x aside g m
   from_behind next fault (Serve per count) s o x = stretch_quiet o b c
-      {P = ServedSomeOn rules per count fault next s}
+      {P = ServedSomeOn talk_rules per count fault next s}
       (λ es ms y. (
         y.0,
-        leaves-before-aside o b c (LeftAmong rules per 1 None s (y.0.all ++ y.0.last)) aside y.1,
+        leaves-before-aside o b c (LeftAmong talk_rules per 1 None s (y.0.all ++ y.0.last)) aside y.1,
       ))
       x aside g m
   from_behind next fault (Trial seed count) s o x = stretch_quiet o b c
@@ -404,7 +404,7 @@ module _ (b c : DiskState) (g : Grows b.beside c.beside [])
   still_done a None Device h = absurd h
   still_done a None Memory h = absurd h
   still_done a None (Spent number) h = absurd h
-  still_done a (Some Init) Whole h = stretch_quiet a b c {P = Makes} (makes_behind a) h aside g m
+  still_done a (Some Init) Whole h = stretch_quiet a b c {P = MakesStore} (makes_behind a) h aside g m
   still_done a (Some Init) Words h = absurd h
   still_done a (Some Init) (NotEmpty first) h = (
     silent_behind a h.0,

@@ -28,9 +28,9 @@ use Rattle.alt_run.specs.Runs.{Rests}
 use Rattle.alt_talks.specs.Stops.{Image, StandsBehind, AtEach, IsAmong, IsUncut, AreWithin}
 use Rattle.alt_run.specs.Trials.{trial_asks, trial_moment, trial_turns, beginning, all_turns, trial_text, IsTried, LeftOfTrial, Tries, TriesFor, TriesSome}
 use Rattle.alt_run.specs.private.Tallies.{IsTally, Counted, CountedSome}
-use Rattle.alt_run.specs.Turns.{Asked, request, control_of, asked_as, asked_by, is_space, carried_out, outcome_of, turns, requests}
-use Rattle.alt_run.specs.private.Rungs.{left_by}
-use Rattle.alt_talks.specs.Turns.{Turn, WritesLast, after, wanted, or_next}
+use Rattle.alt_run.specs.Turns.{AskedLine, request, control_of, asked_as, asked_by, is_space, carried_out, outcome_by_name, turns_of_lines, requests}
+use Rattle.alt_run.specs.private.Rungs.{left_by_named_request}
+use Rattle.alt_talks.specs.Turns.{Turn, WritesLast, after, wanted_by_turns, or_next}
 use Rattle.alt_talks.specs.declared.fault.RunFault.{RunFault}
 use Rattle.alt_talks.specs.declared.fault.RunFault.TheVariants.{Failed, NoMemory}
 use Rattle.alt_run.specs.declared.tally.Tally.{Tally}
@@ -92,10 +92,10 @@ asked_next g = ap (asked_as (next_line g)) (no_word g)
 
 -- ---- turns, and then more of them
 
-pub turns_then : (s : State) (ls ks : List Asked)
+pub turns_then : (s : State) (ls ks : List AskedLine)
     → trial_turns s (ls ++ ks) ≡ trial_turns s ls ++ trial_turns (after s (trial_turns s ls)) ks
 turns_then s ls ks =
-    ap (turns s (ls ++ ks)) (ap (λ n. replicate n trial_moment) (requests-append ls ks)
+    ap (turns_of_lines s (ls ++ ks)) (ap (λ n. replicate n trial_moment) (requests-append ls ks)
     ∙ sym (replicate-append-replicate (requests ls) (requests ks) trial_moment))
     ∙ turns-append s ls ks (replicate (requests ls) trial_moment) (replicate (requests ks) trial_moment)
     (length-replicate (requests ls) trial_moment)
@@ -108,13 +108,13 @@ stands-any image s ts least x = stands-fewer image s ts [] least (least, refl) x
 -- ---- requests, and then more of them
 
 -- the state behind requests
-abbrev pub reached_by : State → List Asked → State
+abbrev pub reached_by : State → List AskedLine → State
 reached_by s ls = after s (trial_turns s ls)
 
-module _ (a b c : DiskState) (t1 : Tables) (s : State) (ls ks : List Asked) (x y : Tally)
+module _ (a b c : DiskState) (t1 : Tables) (s : State) (ls ks : List AskedLine) (x y : Tally)
     (goes : Goes a b) (p : Counted s ls x y a b t1) where
-  wanted_both : wanted (trial_turns s (ls ++ ks)) ≡ wanted (trial_turns (reached_by s ls) ks)
-  wanted_both = ap wanted (turns_then s ls ks)
+  wanted_both : wanted_by_turns (trial_turns s (ls ++ ks)) ≡ wanted_by_turns (trial_turns (reached_by s ls) ks)
+  wanted_both = ap wanted_by_turns (turns_then s ls ks)
       ∙ wanted-append (trial_turns s ls) (trial_turns (reached_by s ls) ks) p.enough
 
   leaves_both : AtEach b c (λ _ image. StandsBehind image (reached_by s ls) (trial_turns (reached_by s ls) ks) [])
@@ -144,13 +144,13 @@ module _ (a b c : DiskState) (t1 : Tables) (s : State) (ls ks : List Asked) (x y
     leaves = leaves_both q.leaves;
   }
 
-  wanted_begun : (begun : List Asked)
-      → wanted (trial_turns s (ls ++ begun)) ≡ wanted (trial_turns (reached_by s ls) begun)
-  wanted_begun begun = ap wanted (turns_then s ls begun)
+  wanted_begun : (begun : List AskedLine)
+      → wanted_by_turns (trial_turns s (ls ++ begun)) ≡ wanted_by_turns (trial_turns (reached_by s ls) begun)
+  wanted_begun begun = ap wanted_by_turns (turns_then s ls begun)
       ∙ wanted-append (trial_turns s ls) (trial_turns (reached_by s ls) begun) p.enough
 
   tries_for : (fault : RunFault) (next then : ℕ) → then ≤ next + length ls * most_files
-      → (begun : List Asked) → TriesFor fault then (reached_by s ls) begun
+      → (begun : List AskedLine) → TriesFor fault then (reached_by s ls) begun
       → TriesFor fault next s (ls ++ begun)
   tries_for fault next then low begun why = ⊎_elim
       (λ cause. inl (subst (λ (w : Option Lack). IsCausedBy w fault) (sym (wanted_begun begun)) cause))
@@ -162,7 +162,7 @@ module _ (a b c : DiskState) (t1 : Tables) (s : State) (ls ks : List Asked) (x y
             (λ (w : WritesLast (trial_turns (reached_by s ls) begun)).
             inl (subst (λ (ts : List Turn). WritesLast ts) (sym (turns_then s ls begun))
             (writes_behind (trial_turns s ls) (trial_turns (reached_by s ls) begun) p.enough w)))
-            (λ (at : (wanted (trial_turns (reached_by s ls) begun) ≡ None) × (0 < length begun)). inr (
+            (λ (at : (wanted_by_turns (trial_turns (reached_by s ls) begun) ≡ None) × (0 < length begun)). inr (
               wanted_begun begun ∙ at.0,
               let l = length-append ls begun in let some = at.1 in omega (arith, l, some),
             ))
@@ -195,8 +195,8 @@ module _ (a b : DiskState) (s : State) (name body : List ℕ)
     (leaves : AtEach a b (λ _ image. IsUncut image s (carried_out s name body trial_moment).atoms)) where
   -- it broke off
   pub one_broke : (fault : RunFault) (next : ℕ)
-      → IsAnswerFault next (wanted_by s (outcome_of s name body trial_moment))
-      (outcome_of s name body trial_moment).atoms fault
+      → IsAnswerFault next (wanted_by s (outcome_by_name s name body trial_moment))
+      (outcome_by_name s name body trial_moment).atoms fault
       → CountedSome fault next s (request name body ∷ []) a b
   one_broke fault next cause = record {
     begun = request name body ∷ [];
@@ -208,7 +208,7 @@ module _ (a b : DiskState) (s : State) (name body : List ℕ)
           file_more fault next (next + 1 * most_files) (omega arith) last.2,
           inl (writes_one (carried_out s name body trial_moment) (inl (last.0, last.1))),
         ))
-        (answer_first next alone (own_behind (left_by s name body trial_moment)).lacks atoms fault cause);
+        (answer_first next alone (own_behind (left_by_named_request s name body trial_moment)).lacks atoms fault cause);
     leaves = leaves-weaker a b
         (λ _ image. IsUncut image s (carried_out s name body trial_moment).atoms)
         (λ _ image. StandsBehind image s (one_turn s name body) [])
@@ -216,7 +216,7 @@ module _ (a b : DiskState) (s : State) (name body : List ℕ)
   }
     where
       alone : Option Lack
-      alone = wanted_by s (outcome_of s name body trial_moment)
+      alone = wanted_by s (outcome_by_name s name body trial_moment)
 
       lacks : Option Lack
       lacks = (carried_out s name body trial_moment).lacks
@@ -228,14 +228,14 @@ module _ (a b : DiskState) (s : State) (name body : List ℕ)
 module _ (a b c : DiskState) (s : State) (name body : List ℕ)
     (leaves : AtEach a b (λ _ image. IsUncut image s (carried_out s name body trial_moment).atoms))
     (trusts : IsTrusted a → IsTrusted b)
-    (follows : Follows b c (left_by s name body trial_moment)
-    (own_behind (left_by s name body trial_moment)).atoms)
-    (enough : wanted_by s (outcome_of s name body trial_moment) ≡ None) where
+    (follows : Follows b c (left_by_named_request s name body trial_moment)
+    (own_behind (left_by_named_request s name body trial_moment)).atoms)
+    (enough : wanted_by s (outcome_by_name s name body trial_moment) ≡ None) where
   leaves_followed : AtEach a c (λ _ image. StandsBehind image s (one_turn s name body) [])
   leaves_followed trusted =
       spans_two a b c (λ _ image. IsUncut image s (carried_out s name body trial_moment).atoms)
-      (λ _ image. IsAmong image (left_by s name body trial_moment)
-      (own_behind (left_by s name body trial_moment)).atoms)
+      (λ _ image. IsAmong image (left_by_named_request s name body trial_moment)
+      (own_behind (left_by_named_request s name body trial_moment)).atoms)
       (λ _ image. StandsBehind image s (one_turn s name body) [])
       (leaves trusted) (follows.leaves (trusts trusted))
       (λ u image before h. stands-uncut image s (carried_out s name body trial_moment) h)
@@ -244,8 +244,8 @@ module _ (a b c : DiskState) (s : State) (name body : List ℕ)
 
   -- what follows it was done
   pub one_done : (tables : Tables) (x y : Tally)
-      → (own_behind (left_by s name body trial_moment)).lacks ≡ None
-      → Stands c tables (after_behind (left_by s name body trial_moment))
+      → (own_behind (left_by_named_request s name body trial_moment)).lacks ≡ None
+      → Stands c tables (after_behind (left_by_named_request s name body trial_moment))
       → ((ts : List Turn) → IsTally x ts → IsTally y (ts ++ carried_out s name body trial_moment ∷ []))
       → Counted s (request name body ∷ []) x y a c tables
   one_done tables x y own stands counts = record {
@@ -257,7 +257,7 @@ module _ (a b c : DiskState) (s : State) (name body : List ℕ)
 
   -- or it broke off
   pub one_followed_some : (fault : RunFault) (next : ℕ)
-      → FollowsNot true next (own_behind (left_by s name body trial_moment)) fault
+      → FollowsNot true next (own_behind (left_by_named_request s name body trial_moment)) fault
       → CountedSome fault next s (request name body ∷ []) a c
   one_followed_some fault next why = record {
     begun = request name body ∷ [];
@@ -270,7 +270,7 @@ module _ (a b c : DiskState) (s : State) (name body : List ℕ)
           file_more fault next (next + 1 * most_files) (omega arith) last.2,
           inl (writes_one turn (inr (last.0, last.1))),
         ))
-        (answer_behind next (wanted_by s (outcome_of s name body trial_moment)) behind.lacks behind.atoms
+        (answer_behind next (wanted_by s (outcome_by_name s name body trial_moment)) behind.lacks behind.atoms
         fault enough own))
         (λ work. inr (
           file_more fault (next + most_files) (next + 1 * most_files) (omega arith) work.2,
@@ -284,10 +284,10 @@ module _ (a b c : DiskState) (s : State) (name body : List ℕ)
       turn = carried_out s name body trial_moment
 
       behind : Own
-      behind = own_behind (left_by s name body trial_moment)
+      behind = own_behind (left_by_named_request s name body trial_moment)
 
 -- none was begun for want of memory
-pub none_begun : (a : DiskState) (tables : Tables) (next : ℕ) (s : State) (ls : List Asked)
+pub none_begun : (a : DiskState) (tables : Tables) (next : ℕ) (s : State) (ls : List AskedLine)
     → Stands a tables s → CountedSome NoMemory next s ls a a
 none_begun a tables next s ls stands = record {
   begun = [];
@@ -307,7 +307,7 @@ asked_parts g line is =
     ∙ sym (asked_next g)
 
 -- a break among requests is one among these and more
-counted_some_more : (a b : DiskState) (fault : RunFault) (next : ℕ) (s : State) (ls ks : List Asked)
+counted_some_more : (a b : DiskState) (fault : RunFault) (next : ℕ) (s : State) (ls ks : List AskedLine)
     → CountedSome fault next s ls a b → CountedSome fault next s (ls ++ ks) a b
 counted_some_more a b fault next s ls ks q =
     let us = trial_turns (after s (trial_turns s ls)) ks in
@@ -378,7 +378,7 @@ module _ (a : DiskState) (t0 : Tables) (b : DiskState) (t1 : Tables) (y : Tally)
     goes = goes_on a b c p.goes goes;
     counted = λ s stands.
         let front = p.counted s stands in
-        subst (λ (ls : List Asked). Counted s ls p.none z a c t2)
+        subst (λ (ls : List AskedLine). Counted s ls p.none z a c t2)
         (sym (map-append asked_by p.done (line ∷ [])))
         (counted_then a b c t1 s (map asked_by p.done) (asked_by line ∷ []) p.none y p.goes front t2 z
         (go (after s (trial_turns s (map asked_by p.done))) front.stands));
@@ -397,7 +397,7 @@ module _ (a : DiskState) (t0 : Tables) (b : DiskState) (t1 : Tables) (y : Tally)
   trying_break c fault go s stands =
       let front = p.counted s stands in
       let r : State = after s (trial_turns s (map asked_by p.done)) in
-      subst (λ (ls : List Asked). CountedSome fault (bounds_of t0).file s ls a c)
+      subst (λ (ls : List AskedLine). CountedSome fault (bounds_of t0).file s ls a c)
       (sym (ap (map asked_by) (p.lines ∙ ap (λ ls. p.done ++ ls) first)
       ∙ map-append asked_by p.done (line ∷ behind)))
       (counted_break a b c t1 s (map asked_by p.done) (asked_by line ∷ map asked_by behind) p.none y
@@ -414,7 +414,7 @@ pub trying_all : (a : DiskState) (t0 : Tables) (b : DiskState) (t1 : Tables) (y 
 trying_all a t0 b t1 y all rest p end s stands = (
   p.none,
   p.empty,
-  subst (λ (ls : List Asked). Counted s ls p.none y a b t1)
+  subst (λ (ls : List AskedLine). Counted s ls p.none y a b t1)
       (ap (map asked_by) (sym (p.lines ∙ ap (λ ls. p.done ++ ls) end ∙ append-nil p.done)))
       (p.counted s stands),
 )

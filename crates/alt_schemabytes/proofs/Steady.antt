@@ -12,7 +12,7 @@ use Rattle.alt_schema.specs.Bare.{bare}
 use Rattle.alt_schema.specs.Described.{key_attr, IsDescription}
 use Rattle.alt_schemabytes.specs.Format.{kind_byte, view_byte, description_bytes, truth_byte, projection_byte}
 use Rattle.alt_schemabytes.specs.Held.{IsHeld}
-use Rattle.alt_schemabytes.specs.Parts.{Read, got, stops, followed_by, read_bytes, read_u64, read_u32, read_field, read_name, any_name, read_byte, read_more, read_counted, kinds, read_definition, read_key, truths, read_range, projections, read_included, read_projection, read_index, views, read_stream, read_head, read_keyed, read_description, left_of, StopsAt}
+use Rattle.alt_schemabytes.specs.Parts.{ReadOutcome, got, stops, followed_by, read_bytes, read_u64, read_u32, read_field, read_name, any_name, read_byte, read_more, read_counted, kinds, read_definition, read_key, truths, read_range, projection_kinds, read_included, read_projection, read_index, views, read_stream, read_description_head, read_keyed, read_description, bytes_left_at_stop, StopsAt}
 use Rattle.alt_schemabytes.specs.Places.{NoFurther}
 use Rattle.alt_schema.specs.Rules.{is_defined}
 use Rattle.alt_schema.specs.declared.schema.KeyAttr.{KeyAttr}
@@ -24,7 +24,7 @@ use Rattle.alt_schemabytes.proofs.Wholes.{got_value, got_rest, no_stop, both_got
 use Rattle.alt_schemabytes.proofs.WholeDescriptions.{description_read}
 
 -- bytes that give a value: a piece of theirs does, whatever follows
-pub record Gives {A : Type 0} (R : List ℕ → Read A) (bytes : List ℕ) (v : A)
+pub record Gives {A : Type 0} (R : List ℕ → ReadOutcome A) (bytes : List ℕ) (v : A)
     (rest : List ℕ) : Type 0 where
   pub piece : List ℕ
   pub is : bytes ≡ piece ++ rest
@@ -32,7 +32,7 @@ pub record Gives {A : Type 0} (R : List ℕ → Read A) (bytes : List ℕ) (v : 
 
 -- a piece at the front of those behind, a byte or a whole field, with which reading stops at it,
 -- whatever follows
-pub record Wrong {A : Type 0} (R : List ℕ → Read A) (front back : List ℕ) : Type 0 where
+pub record Wrong {A : Type 0} (R : List ℕ → ReadOutcome A) (front back : List ℕ) : Type 0 where
   pub piece : List ℕ
   pub behind : List ℕ
   pub is : back ≡ piece ++ behind
@@ -40,7 +40,7 @@ pub record Wrong {A : Type 0} (R : List ℕ → Read A) (front back : List ℕ) 
   pub alone : (z : List ℕ) → R (front ++ (piece ++ z)) ≡ stops (length (piece ++ z))
 
 -- bytes that stop: those before the place are cut off, and if there are others, a wrong piece stands there
-pub record Halts {A : Type 0} (R : List ℕ → Read A) (bytes : List ℕ) (n : ℕ) : Type 0 where
+pub record Halts {A : Type 0} (R : List ℕ → ReadOutcome A) (bytes : List ℕ) (n : ℕ) : Type 0 where
   pub front : List ℕ
   pub back : List ℕ
   pub is : bytes ≡ front ++ back
@@ -49,7 +49,7 @@ pub record Halts {A : Type 0} (R : List ℕ → Read A) (bytes : List ℕ) (n : 
   pub wrong : 0 < n → Wrong R front back
 
 -- reading looks at what it reads alone
-pub record Steady {A : Type 0} (R : List ℕ → Read A) : Type 0 where
+pub record Steady {A : Type 0} (R : List ℕ → ReadOutcome A) : Type 0 where
   pub gives : (bytes : List ℕ) (v : A) (rest : List ℕ) → R bytes ≡ got v rest → Gives R bytes v rest
   pub halts : (bytes : List ℕ) (n : ℕ) → R bytes ≡ stops n → Halts R bytes n
 
@@ -58,7 +58,7 @@ pub no_got : {A : Type 0} (x : A) (r : List ℕ) (n : ℕ) → got x r ≡ stops
 no_got x r n e = cc
 
 -- a stop has one place
-pub stop_count : {A : Type 0} (m n : ℕ) → (let r : Read A = stops m in r) ≡ stops n → m ≡ n
+pub stop_count : {A : Type 0} (m n : ℕ) → (let r : ReadOutcome A = stops m in r) ≡ stops n → m ≡ n
 stop_count m n e = cc
 
 -- a value that is made of nothing
@@ -75,9 +75,9 @@ pure v = record {
 
 -- ---- one part behind another
 
-module _ {A B : Type 0} (next : A → List ℕ → Read B) (R : List ℕ → Read A) (first : Steady R)
+module _ {A B : Type 0} (next : A → List ℕ → ReadOutcome B) (R : List ℕ → ReadOutcome A) (first : Steady R)
     (second : (x : A) → Steady (next x)) where
-  both : List ℕ → Read B
+  both : List ℕ → ReadOutcome B
   both bytes = followed_by next (R bytes)
 
   gives_both : (bytes : List ℕ) (v : B) (rest : List ℕ) → followed_by next (R bytes) ≡ got v rest
@@ -138,7 +138,7 @@ module _ {A B : Type 0} (next : A → List ℕ → Read B) (R : List ℕ → Rea
             };
       }
 
-  halts_both : (bytes : List ℕ) (r : Read A) (n : ℕ) → R bytes ≡ r → followed_by next r ≡ stops n
+  halts_both : (bytes : List ℕ) (r : ReadOutcome A) (n : ℕ) → R bytes ≡ r → followed_by next r ≡ stops n
       → Halts (λ b. followed_by next (R b)) bytes n
   halts_both bytes (got x mid) n e f = halts_second bytes x mid n e f
   halts_both bytes (stops m) n e f = halts_first bytes n (e ∙ ap stops (stop_count m n f))
@@ -163,7 +163,7 @@ outside k m x r n e =
     ]) e
 
 -- a stop at the end
-halts_at_end : {A : Type 0} (R : List ℕ → Read A) (bytes : List ℕ) (n : ℕ) → R bytes ≡ stops n → 0
+halts_at_end : {A : Type 0} (R : List ℕ → ReadOutcome A) (bytes : List ℕ) (n : ℕ) → R bytes ≡ stops n → 0
     ≡ n → Halts R bytes n
 halts_at_end R bytes n e z = record {
   front = bytes;
@@ -269,7 +269,7 @@ name_gives test bytes v rest e =
     }
 
 -- where no text is read, whatever follows
-name_halts : (test : List ℕ → Bool) (bytes : List ℕ) (r : Read (List ℕ)) (n : ℕ) → read_field bytes
+name_halts : (test : List ℕ → Bool) (bytes : List ℕ) (r : ReadOutcome (List ℕ)) (n : ℕ) → read_field bytes
     ≡ r
     → followed_by (λ s q. if is_utf8 s && test s then got s q else stops (length bytes)) r ≡ stops n
     → Halts (read_name test) bytes n
@@ -386,7 +386,7 @@ byte byte_of values = record {
 }
 
 -- so many parts
-more : {A : Type 0} (R : List A → List ℕ → Read A) → ((before : List A) → Steady (R before))
+more : {A : Type 0} (R : List A → List ℕ → ReadOutcome A) → ((before : List A) → Steady (R before))
     → (n : ℕ) (before : List A) → Steady (read_more R n before)
 unfolding read_more
 more R each zero before = pure before
@@ -394,7 +394,7 @@ more R each (suc n) before = steady_both (λ x rest. read_more R n (before ++ x 
     (R before) (each before) (λ x. more R each n (before ++ x ∷ []))
 
 -- a count and so many parts
-many : {A : Type 0} (R : List A → List ℕ → Read A) → ((before : List A) → Steady (R before))
+many : {A : Type 0} (R : List A → List ℕ → ReadOutcome A) → ((before : List A) → Steady (R before))
     → Steady (read_counted R)
 unfolding read_counted
 many R each = steady_both (λ n rest. read_more R n [] rest) read_u64 u64 (λ n. more R each n [])
@@ -435,7 +435,7 @@ included (Include names) = steady_both _ _
 -- projections
 projection : Steady read_projection
 unfolding read_projection
-projection = steady_both read_included _ (byte projection_byte projections) included
+projection = steady_both read_included _ (byte projection_byte projection_kinds) included
 
 -- indexes
 index : (ds : List KeyAttr) → Steady (read_index ds)
@@ -452,8 +452,8 @@ stream None = pure None
 stream (Some w) = steady_both _ _ u32 (λ f. pure (Some f))
 
 -- heads
-head : Steady read_head
-unfolding read_head
+head : Steady read_description_head
+unfolding read_description_head
 head =
     steady_both _ _ (name any_name)
     (λ x. steady_both _ _ u64 (λ c. steady_both _ _ u64 (λ n. steady_both _ _ u32
@@ -534,8 +534,8 @@ pub record FirstPlace (bytes : List ℕ) (at left : ℕ) : Type 0 where
   pub no_further : at < length bytes → NoFurther bytes at
 
 -- the place from what was read
-first_from : (bytes : List ℕ) (at left : ℕ) (r : Read TableSchema) → read_description bytes ≡ r
-    → left_of r ≡ Some left → at ≡ length bytes - left → FirstPlace bytes at left
+first_from : (bytes : List ℕ) (at left : ℕ) (r : ReadOutcome TableSchema) → read_description bytes ≡ r
+    → bytes_left_at_stop r ≡ Some left → at ≡ length bytes - left → FirstPlace bytes at left
 first_from bytes at left (got s []) e l p = absurd (none_some left l)
 first_from bytes at left (got s (b ∷ rest)) e l p =
     let g = description.gives bytes s (b ∷ rest) e in

@@ -9,10 +9,10 @@ use Rattle.std.proofs.lemmas.Bool.{and_from, not-true, leb-false, true≢false}
 use Rattle.alt_fields.specs.Field.{field, told_length}
 use Rattle.alt_value.specs.declared.kind.KeyKind.{KeyKind}
 use Rattle.alt_schema.specs.Described.{key_attr, IsDescription}
-use Rattle.alt_schemabytes.specs.Format.{each, counted, view_byte, stream_bytes, kind_byte, definition_bytes, range_bytes, index_bytes, truth_byte, projection_byte, description_bytes}
+use Rattle.alt_schemabytes.specs.Format.{each, counted_list, view_byte, stream_bytes, kind_byte, definition_bytes, range_bytes, index_bytes, truth_byte, projection_byte, description_bytes}
 use Rattle.alt_schemabytes.specs.Held.{IsHeldText, Where, IsHeldProjection, IsHeldIndex}
-use Rattle.alt_schemabytes.specs.Parts.{Read, got, stops, followed_by, read_bytes, read_u64, read_u32, read_field, read_name, any_name, read_byte, read_more, read_counted, kinds, read_definition, read_key, truths, read_range, projections, read_included, read_projection, read_index, views, read_stream, read_head, read_keyed, joined, read_description, left_of, StopsAt}
-use Rattle.alt_schemabytes.specs.Places.{NoNumber, NoText, text_cut_off, another_field, NoByte, byte_cut_off, another_byte, Unfinished, no_first, no_next, AllNext, Fewer, NoCounted, AnyText, IsNewName, IsDefinedName, IsNextDefinition, NoDefinition, IsKey, key_bytes, NoKey, NoRange, no_truth, no_range_name, NoNames, NoProjection, no_kind_of_projection, no_names, IsIndex, NoIndex, NoIndexes, NoStream, IsStream, NoKeyed, NoDescription, IsBadAt}
+use Rattle.alt_schemabytes.specs.Parts.{ReadOutcome, got, stops, followed_by, read_bytes, read_u64, read_u32, read_field, read_name, any_name, read_byte, read_more, read_counted, kinds, read_definition, read_key, truths, read_range, projection_kinds, read_included, read_projection, read_index, views, read_stream, read_description_head, read_keyed, joined_description, read_description, bytes_left_at_stop, StopsAt}
+use Rattle.alt_schemabytes.specs.Places.{NoNumberOfWidth, NoText, text_cut_off, another_field, NoByte, byte_cut_off, another_byte, Unfinished, no_first, no_next, AllNext, Fewer, NoCounted, AnyText, IsNewName, IsDefinedName, IsNextDefinition, NoDefinition, IsDefinedKey, key_attribute_bytes, NoKey, NoRange, no_truth, no_range_name, NoNames, NoProjection, no_kind_of_projection, no_names, IsIndex, NoIndex, NoIndexes, NoStream, IsStream, NoKeyed, NoDescription, IsBadDescriptionAt}
 use Rattle.alt_schema.specs.Rules.{is_defined}
 use Rattle.alt_schemabytes.specs.declared.parsing.Head.{Head}
 use Rattle.alt_schema.specs.declared.schema.Built.TheVariants.{Whole}
@@ -53,12 +53,12 @@ u32_below bytes n rest small e =
 
 module _ {A : Type 0} where
   -- a part that is read stands there, and is a right one
-  abbrev Sound : (A → List ℕ) → (A → Type 0) → (List ℕ → Read A) → Type 0
+  abbrev Sound : (A → List ℕ) → (A → Type 0) → (List ℕ → ReadOutcome A) → Type 0
   Sound bytes_of Is R = (b : List ℕ) (x : A) (r : List ℕ) → Small b → R b ≡ got x r
       → (b ≡ bytes_of x ++ r) × Is x
 
   -- where reading stops, the part doesn't stand there
-  abbrev Complete : (List ℕ → ℕ → Type 0) → (List ℕ → Read A) → Type 0
+  abbrev Complete : (List ℕ → ℕ → Type 0) → (List ℕ → ReadOutcome A) → Type 0
   Complete No R = (b : List ℕ) (n : ℕ) → Small b → R b ≡ stops n → No b n
 
 -- numbers
@@ -80,23 +80,23 @@ too_short k m x r n e =
     ]) refl e
 
 -- where no number is read, it is cut off
-u64_none : Complete (NoNumber 8) read_u64
+u64_none : Complete (NoNumberOfWidth 8) read_u64
 unfolding read_u64
 u64_none = λ b n small e. too_short 8 (length b) (from_be_bytes w64 (take 8 b)) (drop 8 b) n e
 
 -- the same of 4 bytes
-u32_none : Complete (NoNumber 4) read_u32
+u32_none : Complete (NoNumberOfWidth 4) read_u32
 unfolding read_u32
 u32_none = λ b n small e. too_short 4 (length b) (from_be_bytes w32 (take 4 b)) (drop 4 b) n e
 
 -- ---- one part behind another
 
 module _ {A B : Type 0} (bytes_of : A → List ℕ) (Is : A → Type 0) (NoFirst : List ℕ → ℕ → Type 0)
-    (NoNext : A → List ℕ → ℕ → Type 0) (R : List ℕ → Read A) (next : A → List ℕ → Read B)
+    (NoNext : A → List ℕ → ℕ → Type 0) (R : List ℕ → ReadOutcome A) (next : A → List ℕ → ReadOutcome B)
     (sound : Sound bytes_of Is R) (none : Complete NoFirst R)
     (after : (x : A) → Is x → Complete (NoNext x) (next x)) where
   -- whichever of the two stops
-  one_by_one : (bytes : List ℕ) (r : Read A) (n : ℕ) → Small bytes → R bytes ≡ r
+  one_by_one : (bytes : List ℕ) (r : ReadOutcome A) (n : ℕ) → Small bytes → R bytes ≡ r
       → followed_by next r ≡ stops n → Unfinished bytes_of Is NoFirst NoNext bytes n
   one_by_one bytes (got x mid) n small e f =
       let s = sound bytes x mid small e in
@@ -111,21 +111,21 @@ module _ {A B : Type 0} (bytes_of : A → List ℕ) (Is : A → Type 0) (NoFirst
   unfinished bytes n small e = one_by_one bytes (R bytes) n small refl e
 
 -- the last part, of which something is made
-last_stops : {A B : Type 0} (f : A → B) (r : Read A) (n : ℕ)
+last_stops : {A B : Type 0} (f : A → B) (r : ReadOutcome A) (n : ℕ)
     → followed_by (λ x q. got (f x) q) r ≡ stops n → r ≡ stops n
 last_stops f (got x q) n e = absurd (no_got (f x) q n e)
 last_stops f (stops m) n e = ap stops (stop_count m n e)
 
 -- parts of a part
-followed_by-followed_by : {A B C : Type 0} (k : B → List ℕ → Read C) (f : A → List ℕ → Read B)
-    (r : Read A) → followed_by k (followed_by f r) ≡ followed_by (λ x q. followed_by k (f x q)) r
+followed_by-followed_by : {A B C : Type 0} (k : B → List ℕ → ReadOutcome C) (f : A → List ℕ → ReadOutcome B)
+    (r : ReadOutcome A) → followed_by k (followed_by f r) ≡ followed_by (λ x q. followed_by k (f x q)) r
 followed_by-followed_by k f (got x q) = refl
 followed_by-followed_by k f (stops n) = refl
 
 -- one part behind another, in a part that something follows
 module _ {A B C : Type 0} (bytes_of : A → List ℕ) (Is : A → Type 0)
-    (NoFirst : List ℕ → ℕ → Type 0) (NoNext : A → List ℕ → ℕ → Type 0) (R : List ℕ → Read A)
-    (next : A → List ℕ → Read B) (k : B → List ℕ → Read C)
+    (NoFirst : List ℕ → ℕ → Type 0) (NoNext : A → List ℕ → ℕ → Type 0) (R : List ℕ → ReadOutcome A)
+    (next : A → List ℕ → ReadOutcome B) (k : B → List ℕ → ReadOutcome C)
     (sound : Sound bytes_of Is R) (none : Complete NoFirst R)
     (after : (x : A) → Is x → Complete (NoNext x) (λ q. followed_by k (next x q))) where
   -- where reading stops, the same holds
@@ -138,7 +138,7 @@ module _ {A B C : Type 0} (bytes_of : A → List ℕ) (Is : A → Type 0)
 -- ---- so many parts
 
 module _ {A : Type 0} (bytes_of : A → List ℕ) (P : List A → A → Type 0)
-    (NoNext : List A → List ℕ → ℕ → Type 0) (R : List A → List ℕ → Read A)
+    (NoNext : List A → List ℕ → ℕ → Type 0) (R : List A → List ℕ → ReadOutcome A)
     (sound : (before : List A) → Sound bytes_of (P before) (R before))
     (none : (before : List A) → Complete (NoNext before) (R before)) where
   -- fewer stand there behind those before
@@ -153,7 +153,7 @@ module _ {A : Type 0} (bytes_of : A → List ℕ) (P : List A → A → Type 0)
   fewer_step : (k : ℕ)
       → ((before : List A) (bytes : List ℕ) (n : ℕ) → Small bytes
       → read_more R k before bytes ≡ stops n → FewerFrom k before bytes n)
-      → (before : List A) (bytes : List ℕ) (r : Read A) (n : ℕ) → Small bytes → R before bytes ≡ r
+      → (before : List A) (bytes : List ℕ) (r : ReadOutcome A) (n : ℕ) → Small bytes → R before bytes ≡ r
       → followed_by (λ x rest. read_more R k (before ++ x ∷ []) rest) r ≡ stops n
       → FewerFrom (suc k) before bytes n
   fewer_step k walk before bytes (got x mid) n small e f =
@@ -193,7 +193,7 @@ module _ {A : Type 0} (bytes_of : A → List ℕ) (P : List A → A → Type 0)
   pub counted_none : Complete (NoCounted bytes_of P NoNext) (read_counted R)
   unfolding read_counted
   counted_none = λ b n small e.
-      unfinished (to_be_bytes w64) (λ count. count < 2 ^ 64) (NoNumber 8) (Fewer bytes_of P NoNext)
+      unfinished (to_be_bytes w64) (λ count. count < 2 ^ 64) (NoNumberOfWidth 8) (Fewer bytes_of P NoNext)
       read_u64 (λ count rest. read_more R count [] rest) u64_sound u64_none
       (λ count is c m behind f.
       let g = fewer_from count [] c m behind f in
@@ -209,11 +209,11 @@ module _ {A : Type 0} (bytes_of : A → List ℕ) (P : List A → A → Type 0)
       b n small e
 
   -- a count and parts that are read stand there, and are right ones
-  pub counted_sound : Sound (counted bytes_of) (AllNext P []) (read_counted R)
+  pub counted_sound : Sound (counted_list bytes_of) (AllNext P []) (read_counted R)
   counted_sound = λ b xs r small e. counted_got bytes_of P R sound b xs r small e
 
 -- so many are read as were told
-more_length : {A : Type 0} (R : List A → List ℕ → Read A) (k : ℕ) (before : List A) (bytes : List ℕ)
+more_length : {A : Type 0} (R : List A → List ℕ → ReadOutcome A) (k : ℕ) (before : List A) (bytes : List ℕ)
     (xs : List A) (rest : List ℕ) → read_more R k before bytes ≡ got xs rest
     → length xs ≡ length before + k
 unfolding read_more
@@ -230,7 +230,7 @@ more_length R (suc k) before bytes xs rest e =
     )
 
 -- so their number fits
-counted_short : {A : Type 0} (R : List A → List ℕ → Read A) (bytes : List ℕ) (xs : List A)
+counted_short : {A : Type 0} (R : List A → List ℕ → ReadOutcome A) (bytes : List ℕ) (xs : List A)
     (rest : List ℕ) → Small bytes → read_counted R bytes ≡ got xs rest → length xs < 2 ^ 64
 unfolding read_counted
 counted_short R bytes xs rest small e =
@@ -285,7 +285,7 @@ held_name test bytes s rest small e =
 module _ (test : List ℕ → Bool) (Fits : List ℕ → Type 0)
     (passed : (s : List ℕ) → Fits s → test s ≡ true) where
   -- whatever is read as the field
-  text_by : (bytes : List ℕ) (r : Read (List ℕ)) (n : ℕ) → Small bytes → read_field bytes ≡ r
+  text_by : (bytes : List ℕ) (r : ReadOutcome (List ℕ)) (n : ℕ) → Small bytes → read_field bytes ≡ r
       → followed_by (λ s q. if is_utf8 s && test s then got s q else stops (length bytes)) r
       ≡ stops n
       → NoText Fits bytes n
@@ -390,7 +390,7 @@ key_none ds = λ b n small e.
     (last_stops (key_attr ds) (read_name (is_defined ds) b) n e)
 
 -- a key that is read is a right one
-key_sound : (ds : List KeyAttr) → Sound key_bytes (IsKey ds) (read_key ds)
+key_sound : (ds : List KeyAttr) → Sound key_attribute_bytes (IsDefinedKey ds) (read_key ds)
 unfolding read_key
 key_sound ds = λ b k r small e.
     let g = key_got ds b k r small e in
@@ -419,7 +419,7 @@ range_next ds true b mid n small is e =
 range_next ds false b mid n small is e = absurd (no_got None mid n e)
 
 -- the byte of a RANGE key, and what follows
-range_by : (ds : List KeyAttr) (b : List ℕ) (r : Read Bool) (n : ℕ) → Small b
+range_by : (ds : List KeyAttr) (b : List ℕ) (r : ReadOutcome Bool) (n : ℕ) → Small b
     → read_byte truth_byte truths b ≡ r
     → followed_by (λ there q. if there then followed_by (λ key p. got (Some key) p)
     (read_key ds q) else got None q) r ≡ stops n → NoRange ds b n
@@ -438,15 +438,15 @@ range_none ds = λ b n small e. range_by ds b (read_byte truth_byte truths b) n 
 range_from : (ds : List KeyAttr) (there : Bool) (mid : List ℕ) (r : Option KeyAttr) (rest : List ℕ)
     → Small mid
     → (if there then followed_by (λ key q. got (Some key) q) (read_key ds mid) else got None mid)
-    ≡ got r rest → Where (IsKey ds) r
+    ≡ got r rest → Where (IsDefinedKey ds) r
 range_from ds true mid r rest small e =
     let b = both_got (λ key q. got (Some key) q) (read_key ds mid) r rest e in
-    subst (Where (IsKey ds)) (got_value _ _ _ _ b.second)
+    subst (Where (IsDefinedKey ds)) (got_value _ _ _ _ b.second)
     (key_sound ds mid b.x b.mid small b.first).1
-range_from ds false mid r rest small e = subst (Where (IsKey ds)) (got_value None r mid rest e) tt
+range_from ds false mid r rest small e = subst (Where (IsDefinedKey ds)) (got_value None r mid rest e) tt
 
 -- a RANGE key that is read is a right one
-range_sound : (ds : List KeyAttr) → Sound range_bytes (Where (IsKey ds)) (read_range ds)
+range_sound : (ds : List KeyAttr) → Sound range_bytes (Where (IsDefinedKey ds)) (read_range ds)
 unfolding read_range
 range_sound ds = λ b r rest small e.
     let parts = both_got (λ there q. if there then followed_by (λ key p. got (Some key) p)
@@ -466,7 +466,7 @@ names_none = counted_none field (λ before. IsHeldText) (λ before. NoText AnyTe
 
 -- each projection has a byte
 some_projection : (p : Projection)
-    → is_some (find (λ y. projection_byte p == projection_byte y) projections) ≡ true
+    → is_some (find (λ y. projection_byte p == projection_byte y) projection_kinds) ≡ true
 some_projection All = refl
 some_projection KeysOnly = refl
 some_projection (Include names) = refl
@@ -482,21 +482,21 @@ projection_next (Include names) b mid n small is e =
     (last_stops Include (read_counted (λ before. read_name any_name) mid) n e))
 
 -- the byte of a projection, and what follows
-projection_by : (b : List ℕ) (r : Read Projection) (n : ℕ) → Small b
-    → read_byte projection_byte projections b ≡ r → followed_by read_included r ≡ stops n
+projection_by : (b : List ℕ) (r : ReadOutcome Projection) (n : ℕ) → Small b
+    → read_byte projection_byte projection_kinds b ≡ r → followed_by read_included r ≡ stops n
     → NoProjection b n
 projection_by b (got p mid) n small e f =
-    let t = byte_got projection_byte projections b p mid e in
+    let t = byte_got projection_byte projection_kinds b p mid e in
     projection_next p b mid n (small_back (projection_byte p ∷ []) mid (subst Small t small)) t f
 projection_by b (stops m) n small e f =
-    no_kind_of_projection (byte_none projection_byte projections some_projection b n small
+    no_kind_of_projection (byte_none projection_byte projection_kinds some_projection b n small
     (e ∙ ap stops (stop_count m n f)))
 
 -- where no projection is read, none stands
 projection_none : Complete NoProjection read_projection
 unfolding read_projection
 projection_none = λ b n small e. projection_by b
-    (read_byte projection_byte projections b) n small refl e
+    (read_byte projection_byte projection_kinds b) n small refl e
 
 -- the names that are read are texts that the program can hold
 included_held : (q : Projection) (mid : List ℕ) (p : Projection) (rest : List ℕ) → Small mid
@@ -521,13 +521,13 @@ projection_held : (b : List ℕ) (p : Projection) (rest : List ℕ) → Small b 
     ≡ got p rest → IsHeldProjection p
 unfolding read_projection
 projection_held b p rest small e =
-    let parts = both_got read_included (read_byte projection_byte projections b) p rest e in
-    let t = byte_got projection_byte projections b parts.x parts.mid parts.first in
+    let parts = both_got read_included (read_byte projection_byte projection_kinds b) p rest e in
+    let t = byte_got projection_byte projection_kinds b parts.x parts.mid parts.first in
     included_held parts.x parts.mid p rest
     (small_back (projection_byte parts.x ∷ []) parts.mid (subst Small t small)) parts.second
 
 -- a right RANGE key is one that the program can hold
-where_held : (ds : List KeyAttr) (r : Option KeyAttr) → Where (IsKey ds) r
+where_held : (ds : List KeyAttr) (r : Option KeyAttr) → Where (IsDefinedKey ds) r
     → Where (λ k. IsHeldText k.name) r
 where_held ds None h = tt
 where_held ds (Some k) h = h.0
@@ -539,10 +539,10 @@ index_none ds = λ b n small e.
     unfinished field IsHeldText (NoText AnyText) _ (read_name any_name) _ any_sound any_none
     (λ name i1 b1 n1 s1 e1.
     unfinished (to_be_bytes w32) (λ family. family < 2 ^ 32)
-    (NoNumber 4) _ read_u32 _ u32_sound u32_none (λ family i2 b2 n2 s2 e2.
-    unfinished key_bytes (IsKey ds) (NoKey ds) _ (read_key ds) _ (key_sound ds) (key_none ds)
+    (NoNumberOfWidth 4) _ read_u32 _ u32_sound u32_none (λ family i2 b2 n2 s2 e2.
+    unfinished key_attribute_bytes (IsDefinedKey ds) (NoKey ds) _ (read_key ds) _ (key_sound ds) (key_none ds)
     (λ hash i3 b3 n3 s3 e3.
-    unfinished range_bytes (Where (IsKey ds)) (NoRange ds) _ (read_range ds) _ (range_sound ds)
+    unfinished range_bytes (Where (IsDefinedKey ds)) (NoRange ds) _ (read_range ds) _ (range_sound ds)
     (range_none ds) (λ range i4 b4 n4 s4 e4.
     projection_none b4 n4 s4 (last_stops _ _ n4 e4))
     b3 n3 s3 e3) b2 n2 s2 e2) b1 n1 s1 e1) b n small e
@@ -596,7 +596,7 @@ indexes_none ds = counted_none index_bytes (λ before. IsIndex ds) (λ before. N
 
 -- indexes that are read are right ones
 indexes_sound : (ds : List KeyAttr)
-    → Sound (counted index_bytes) (AllByRecursion (IsIndex ds))
+    → Sound (counted_list index_bytes) (AllByRecursion (IsIndex ds))
     (read_counted (λ before. read_index ds))
 indexes_sound ds = λ b is r small e.
     let g = counted_got index_bytes (λ before. IsIndex ds) (λ before. read_index ds)
@@ -640,29 +640,29 @@ stream_sound v = λ b o r small e.
 keyed_none : (ds : List KeyAttr) → Complete (NoKeyed ds) (read_keyed ds)
 unfolding read_keyed
 keyed_none ds = λ b n small e.
-    unfinished key_bytes (IsKey ds) (NoKey ds) _ (read_key ds) _ (key_sound ds) (key_none ds)
+    unfinished key_attribute_bytes (IsDefinedKey ds) (NoKey ds) _ (read_key ds) _ (key_sound ds) (key_none ds)
     (λ hash i1 b1 n1 s1 e1.
-    unfinished range_bytes (Where (IsKey ds)) (NoRange ds) _ (read_range ds) _ (range_sound ds)
+    unfinished range_bytes (Where (IsDefinedKey ds)) (NoRange ds) _ (read_range ds) _ (range_sound ds)
     (range_none ds) (λ range i2 b2 n2 s2 e2.
-    unfinished (counted index_bytes) (AllByRecursion (IsIndex ds)) (NoIndexes ds) _
+    unfinished (counted_list index_bytes) (AllByRecursion (IsIndex ds)) (NoIndexes ds) _
     (read_counted (λ before. read_index ds)) _ (indexes_sound ds) (indexes_none ds)
     (λ locals i3 b3 n3 s3 e3.
     indexes_none ds b3 n3 s3 (last_stops _ _ n3 e3))
     b2 n2 s2 e2) b1 n1 s1 e1) b n small e
 
 -- what stands behind the head
-behind_head : Head → List ℕ → Read TableSchema
+behind_head : Head → List ℕ → ReadOutcome TableSchema
 behind_head head b =
-    followed_by (λ definitions b2. followed_by (λ keyed b3. got (joined head definitions keyed) b3)
+    followed_by (λ definitions b2. followed_by (λ keyed b3. got (joined_description head definitions keyed) b3)
     (read_keyed definitions b2)) (read_counted read_definition b)
 
 -- what stands behind the head
 behind_head_none : (head : Head)
-    → Complete (Unfinished (counted definition_bytes) (AllNext IsNextDefinition [])
+    → Complete (Unfinished (counted_list definition_bytes) (AllNext IsNextDefinition [])
     (NoCounted definition_bytes IsNextDefinition NoDefinition) NoKeyed) (behind_head head)
 unfolding behind_head
 behind_head_none head = λ b n small e.
-    unfinished (counted definition_bytes) (AllNext IsNextDefinition [])
+    unfinished (counted_list definition_bytes) (AllNext IsNextDefinition [])
     (NoCounted definition_bytes IsNextDefinition NoDefinition) NoKeyed
     (read_counted read_definition) _
     (counted_sound definition_bytes IsNextDefinition NoDefinition read_definition definition_sound
@@ -674,11 +674,11 @@ behind_head_none head = λ b n small e.
 -- what stands behind the parts of the head, one after another
 abbrev NoRest : List ℕ → ℕ → Type 0
 NoRest =
-    Unfinished (counted definition_bytes) (AllNext IsNextDefinition [])
+    Unfinished (counted_list definition_bytes) (AllNext IsNextDefinition [])
     (NoCounted definition_bytes IsNextDefinition NoDefinition) NoKeyed
 
 -- all parts are read
-abbrev head_6 : List ℕ → ℕ → ℕ → ℕ → Option View → Option ℕ → List ℕ → Read Head
+abbrev head_6 : List ℕ → ℕ → ℕ → ℕ → Option View → Option ℕ → List ℕ → ReadOutcome Head
 head_6 name created number family view stream b =
     got (record {
       name = name;
@@ -690,25 +690,25 @@ head_6 name created number family view stream b =
     }) b
 
 -- from the stream's family on
-abbrev head_5 : List ℕ → ℕ → ℕ → ℕ → Option View → List ℕ → Read Head
+abbrev head_5 : List ℕ → ℕ → ℕ → ℕ → Option View → List ℕ → ReadOutcome Head
 head_5 name created number family view b =
     followed_by (head_6 name created number family view) (read_stream view b)
 
 -- from the view on
-abbrev head_4 : List ℕ → ℕ → ℕ → ℕ → List ℕ → Read Head
+abbrev head_4 : List ℕ → ℕ → ℕ → ℕ → List ℕ → ReadOutcome Head
 head_4 name created number family b =
     followed_by (head_5 name created number family) (read_byte view_byte views b)
 
 -- from the family on
-abbrev head_3 : List ℕ → ℕ → ℕ → List ℕ → Read Head
+abbrev head_3 : List ℕ → ℕ → ℕ → List ℕ → ReadOutcome Head
 head_3 name created number b = followed_by (head_4 name created number) (read_u32 b)
 
 -- from the number on
-abbrev head_2 : List ℕ → ℕ → List ℕ → Read Head
+abbrev head_2 : List ℕ → ℕ → List ℕ → ReadOutcome Head
 head_2 name created b = followed_by (head_3 name created) (read_u64 b)
 
 -- from the moment on
-abbrev head_1 : List ℕ → List ℕ → Read Head
+abbrev head_1 : List ℕ → List ℕ → ReadOutcome Head
 head_1 name b = followed_by (head_2 name) (read_u64 b)
 
 -- no stream's family, or nothing behind it
@@ -721,15 +721,15 @@ NoViewOn = Unfinished (λ view. view_byte view ∷ []) (λ view. Unit {0}) (NoBy
 
 -- no family, or nothing behind it
 abbrev NoFamilyOn : List ℕ → ℕ → Type 0
-NoFamilyOn = Unfinished (to_be_bytes w32) (λ c. c < 2 ^ 32) (NoNumber 4) (λ family. NoViewOn)
+NoFamilyOn = Unfinished (to_be_bytes w32) (λ c. c < 2 ^ 32) (NoNumberOfWidth 4) (λ family. NoViewOn)
 
 -- no number, or nothing behind it
 abbrev NoNumberOn : List ℕ → ℕ → Type 0
-NoNumberOn = Unfinished (to_be_bytes w64) (λ c. c < 2 ^ 64) (NoNumber 8) (λ number. NoFamilyOn)
+NoNumberOn = Unfinished (to_be_bytes w64) (λ c. c < 2 ^ 64) (NoNumberOfWidth 8) (λ number. NoFamilyOn)
 
 -- no moment, or nothing behind it
 abbrev NoMomentOn : List ℕ → ℕ → Type 0
-NoMomentOn = Unfinished (to_be_bytes w64) (λ c. c < 2 ^ 64) (NoNumber 8) (λ created. NoNumberOn)
+NoMomentOn = Unfinished (to_be_bytes w64) (λ c. c < 2 ^ 64) (NoNumberOfWidth 8) (λ created. NoNumberOn)
 
 -- where reading stops from the stream's family on
 none_5 : (name : List ℕ) (created number family : ℕ) (view : Option View)
@@ -759,7 +759,7 @@ none_4 name created number family =
 none_3 : (name : List ℕ) (created number : ℕ)
     → Complete NoFamilyOn (λ b. followed_by behind_head (head_3 name created number b))
 none_3 name created number =
-    unfinished_in (to_be_bytes w32) (λ c. c < 2 ^ 32) (NoNumber 4) (λ family. NoViewOn) read_u32
+    unfinished_in (to_be_bytes w32) (λ c. c < 2 ^ 32) (NoNumberOfWidth 4) (λ family. NoViewOn) read_u32
     (head_4 name created number) behind_head u32_sound u32_none
     (λ family is. none_4 name created number family)
 
@@ -767,19 +767,19 @@ none_3 name created number =
 none_2 : (name : List ℕ) (created : ℕ)
     → Complete NoNumberOn (λ b. followed_by behind_head (head_2 name created b))
 none_2 name created =
-    unfinished_in (to_be_bytes w64) (λ c. c < 2 ^ 64) (NoNumber 8) (λ number. NoFamilyOn) read_u64
+    unfinished_in (to_be_bytes w64) (λ c. c < 2 ^ 64) (NoNumberOfWidth 8) (λ number. NoFamilyOn) read_u64
     (head_3 name created) behind_head u64_sound u64_none (λ number is. none_3 name created number)
 
 -- where it stops from the moment on
 none_1 : (name : List ℕ)
     → Complete NoMomentOn (λ b. followed_by behind_head (head_1 name b))
 none_1 name =
-    unfinished_in (to_be_bytes w64) (λ c. c < 2 ^ 64) (NoNumber 8) (λ created. NoNumberOn) read_u64
+    unfinished_in (to_be_bytes w64) (λ c. c < 2 ^ 64) (NoNumberOfWidth 8) (λ created. NoNumberOn) read_u64
     (head_2 name) behind_head u64_sound u64_none (λ created is. none_2 name created)
 
 -- where no description is read, none stands
 description_none : Complete NoDescription read_description
-unfolding read_description read_head behind_head
+unfolding read_description read_description_head behind_head
 description_none =
     unfinished_in field IsHeldText (NoText AnyText) (λ name. NoMomentOn) (read_name any_name) head_1
     behind_head any_sound any_none (λ name is. none_1 name)
@@ -787,8 +787,8 @@ description_none =
 -- ---- the place
 
 -- whichever way the bytes are no description's
-bad_from : (bytes : List ℕ) (at left : ℕ) (r : Read TableSchema) → Small bytes
-    → read_description bytes ≡ r → left_of r ≡ Some left
+bad_from : (bytes : List ℕ) (at left : ℕ) (r : ReadOutcome TableSchema) → Small bytes
+    → read_description bytes ≡ r → bytes_left_at_stop r ≡ Some left
     → at + left ≡ length bytes
     → ((left : ℕ) × NoDescription bytes left × (at + left ≡ length bytes))
     ⊎ ((s : TableSchema) × (behind : List ℕ) × IsDescription s × (0 < length behind)
@@ -811,7 +811,7 @@ bad_from bytes at left (stops m) small e l p =
     inl (left, description_none bytes left small (e ∙ ap stops n), p)
 
 -- the place that is told is that of the bytes
-pub bad_at : (bytes : List ℕ) (at : ℕ) → Small bytes → StopsAt bytes at → IsBadAt bytes at
+pub bad_at : (bytes : List ℕ) (at : ℕ) → Small bytes → StopsAt bytes at → IsBadDescriptionAt bytes at
 bad_at bytes at small s =
     let f = first_place bytes at s in
     record {

@@ -18,10 +18,10 @@ use Rattle.alt_fields.specs.declared.bytes.BytesFault.{BytesFault}
 use Rattle.alt_fields.specs.declared.bytes.BytesFault.TheVariants.{Bad, NoMemory as NoRoom}
 use Rattle.alt_schema.specs.Bare.{as_whole, bare}
 use Rattle.alt_schema.specs.Described.{kind_in, key_attr, same_kind, is_one_of, keys_defined, IsDescription}
-use Rattle.alt_schemabytes.specs.Format.{counted, view_byte, stream_bytes, kind_byte, definition_bytes, range_bytes, keys_bytes, projection_bytes, index_bytes, description_bytes, truth_byte, projection_byte}
+use Rattle.alt_schemabytes.specs.Format.{counted_list, view_byte, stream_bytes, kind_byte, definition_bytes, range_bytes, keys_bytes, projection_bytes, index_bytes, description_bytes, truth_byte, projection_byte}
 use Rattle.alt_schema.specs.Indexes.{of_range}
 use Rattle.alt_schemabytes.specs.Held.{IsHeldText, Where, IsHeldProjection, IsHeldIndex, IsHeld, OneSpelling, IsReadAs}
-use Rattle.alt_schemabytes.specs.Parts.{Read, got, followed_by, read_u64, read_u32, read_name, any_name, read_byte, read_counted, kinds, read_definition, read_key, truths, read_range, projections, read_included, read_projection, read_index, views, read_stream, read_head, read_keyed, joined, read_description, StopsAt, left_of}
+use Rattle.alt_schemabytes.specs.Parts.{ReadOutcome, got, followed_by, read_u64, read_u32, read_name, any_name, read_byte, read_counted, kinds, read_definition, read_key, truths, read_range, projection_kinds, read_included, read_projection, read_index, views, read_stream, read_description_head, read_keyed, joined_description, read_description, StopsAt, bytes_left_at_stop}
 use Rattle.alt_schemabytes.specs.Places.{AllNext}
 use Rattle.alt_schema.specs.Rules.{is_defined, all_differ}
 use Rattle.alt_schemabytes.specs.declared.parsing.Head.{Head}
@@ -79,7 +79,7 @@ definition_read : (before : List KeyAttr) (d : KeyAttr) (rest : List ℕ) → Is
     → read_definition before (definition_bytes d ++ rest) ≡ got d rest
 unfolding read_definition
 definition_read before d rest h =
-    let next : List ℕ → List ℕ → Read KeyAttr =
+    let next : List ℕ → List ℕ → ReadOutcome KeyAttr =
     λ name r. followed_by (λ kind q. got (record { name = name; kind = kind }) q)
     (read_byte kind_byte kinds r) in
     ap (λ b. followed_by next (read_name (λ name. not (is_defined before name)) b))
@@ -246,8 +246,8 @@ projection_got : (bytes : List ℕ) (p : Projection) (rest : List ℕ) → Small
     → read_projection bytes ≡ got p rest → bytes ≡ projection_bytes p ++ rest
 unfolding read_projection
 projection_got bytes p rest small e =
-    let b = both_got read_included (read_byte projection_byte projections bytes) p rest e in
-    let t = byte_got projection_byte projections bytes b.x b.mid b.first in
+    let b = both_got read_included (read_byte projection_byte projection_kinds bytes) p rest e in
+    let t = byte_got projection_byte projection_kinds bytes b.x b.mid b.first in
     t ∙ included_got b.x b.mid p rest
     (behind (projection_byte b.x ∷ []) b.mid bytes small t) b.second
 
@@ -390,10 +390,10 @@ head_piece h = field h.name ++
     (to_be_bytes w64 h.created ++ (to_be_bytes w64 h.number ++ to_be_bytes w32 h.family))
 
 -- a head that is read stands there
-head_got : (bytes : List ℕ) (h : Head) (rest : List ℕ) → Small bytes → read_head bytes ≡ got h rest
+head_got : (bytes : List ℕ) (h : Head) (rest : List ℕ) → Small bytes → read_description_head bytes ≡ got h rest
     → (bytes ≡ head_piece h ++ (view_byte h.view ∷ (stream_bytes h.stream_family ++ rest)))
     × (is_some h.stream_family ≡ is_some h.view)
-unfolding read_head head_piece
+unfolding read_description_head head_piece
 head_got bytes h rest small e =
     let b1 = both_got _ (read_name any_name bytes) h rest e in
     let s1 = (name_got any_name bytes b1.x b1.mid small b1.first).0 in
@@ -435,16 +435,16 @@ head_got bytes h rest small e =
 head_read : (h : Head) (rest : List ℕ) → IsHeldText h.name → h.created < 2 ^ 64 → h.number < 2 ^ 64
     → h.family < 2 ^ 32
     → is_some h.stream_family ≡ is_some h.view → Where (λ f. f < 2 ^ 32) h.stream_family
-    → read_head (head_piece h ++ (view_byte h.view ∷ (stream_bytes h.stream_family ++ rest)))
+    → read_description_head (head_piece h ++ (view_byte h.view ∷ (stream_bytes h.stream_family ++ rest)))
     ≡ got h rest
-unfolding read_head head_piece
+unfolding read_description_head head_piece
 head_read h rest name created number family stream held =
     let s = stream_bytes h.stream_family ++ rest in
     let v = view_byte h.view ∷ s in
     let f = to_be_bytes w32 h.family ++ v in
     let n = to_be_bytes w64 h.number ++ f in
     let c = to_be_bytes w64 h.created ++ n in
-    ap read_head (sym (head_pieces (field h.name) (to_be_bytes w64 h.created)
+    ap read_description_head (sym (head_pieces (field h.name) (to_be_bytes w64 h.created)
     (to_be_bytes w64 h.number) (to_be_bytes w32 h.family) (stream_bytes h.stream_family)
     (view_byte h.view) rest))
     ∙ ap (followed_by _) (text_read h.name c name)
@@ -466,7 +466,7 @@ head_read h rest name created number family stream held =
 -- the bytes of what stands behind the definitions
 keyed_piece : Keyed → List ℕ
 keyed_piece k = keys_bytes k.hash k.range
-    ++ (counted index_bytes k.locals ++ counted index_bytes k.globals)
+    ++ (counted_list index_bytes k.locals ++ counted_list index_bytes k.globals)
 
 -- its pieces in a row
 keyed_pieces : (a b c d m : List ℕ) → a ++ (b ++ (c ++ (d ++ m))) ≡ ((a ++ b) ++ (c ++ d)) ++ m
@@ -492,7 +492,7 @@ keyed_got ds bytes k rest small e =
     let b3 = both_got _ (read_counted (λ before. read_index ds) b2.mid) k rest b2.second in
     let s3 = counted_got index_bytes (λ before. HasKeys ds) (λ before. read_index ds)
     (λ before b i r g f. index_got ds b i r g f) b2.mid b3.x b3.mid m2 b3.first in
-    let m3 = behind (counted index_bytes b3.x) b3.mid b2.mid m2 s3.0 in
+    let m3 = behind (counted_list index_bytes b3.x) b3.mid b2.mid m2 s3.0 in
     let b4 = both_got _ (read_counted (λ before. read_index ds) b3.mid) k rest b3.second in
     let s4 = counted_got index_bytes (λ before. HasKeys ds) (λ before. read_index ds)
     (λ before b i r g f. index_got ds b i r g f) b3.mid b4.x b4.mid m3 b4.first in
@@ -500,9 +500,9 @@ keyed_got ds bytes k rest small e =
     got_value _ _ _ _ b4.second in (
       s1.0 ∙ ap (λ m. field b1.x.name ++ m)
           (s2.0 ∙ ap (λ m. range_bytes b2.x ++ m)
-          (s3.0 ∙ ap (λ m. counted index_bytes b3.x ++ m) s4.0))
-          ∙ keyed_pieces (field b1.x.name) (range_bytes b2.x) (counted index_bytes b3.x)
-          (counted index_bytes b4.x) b4.mid
+          (s3.0 ∙ ap (λ m. counted_list index_bytes b3.x ++ m) s4.0))
+          ∙ keyed_pieces (field b1.x.name) (range_bytes b2.x) (counted_list index_bytes b3.x)
+          (counted_list index_bytes b4.x) b4.mid
           ∙ (λ j. keyed_piece (v j) ++ got_rest _ _ _ _ b4.second j),
       ap (λ (t : Keyed). keys_defined ds t.hash t.range) (sym v) ∙ (λ j. s1.1 j && s2.1 j),
       subst (λ (t : Keyed). AllByRecursion (HasKeys ds) t.locals) v
@@ -528,8 +528,8 @@ keyed_read : (ds : List KeyAttr) (k : Keyed) (rest : List ℕ) → all_differ (�
     → read_keyed ds (keyed_piece k ++ rest) ≡ got k rest
 unfolding read_keyed keyed_piece HasKeys
 keyed_read ds k rest a h hash range ln lh lk gn gh gk =
-    let g = counted index_bytes k.globals ++ rest in
-    let l = counted index_bytes k.locals ++ g in
+    let g = counted_list index_bytes k.globals ++ rest in
+    let l = counted_list index_bytes k.locals ++ g in
     let r = range_bytes k.range ++ l in
     let one = first_so (is_one_of ds k.hash) (of_range (is_one_of ds) true k.range) h in
     let two = second_so (is_one_of ds k.hash) (of_range (is_one_of ds) true k.range) h in
@@ -538,7 +538,7 @@ keyed_read ds k rest a h hash range ln lh lk gn gh gk =
     = λ before i q p. index_read ds i q a p.1.0 p.0
     ∙ ap (λ x. got x q) (as_whole-same i p.1.1) in
     ap (read_keyed ds) (sym (keyed_pieces (field k.hash.name) (range_bytes k.range)
-    (counted index_bytes k.locals) (counted index_bytes k.globals) rest))
+    (counted_list index_bytes k.locals) (counted_list index_bytes k.globals) rest))
     ∙ ap (followed_by _) (key_read ds k.hash r a one hash)
     ∙ ap (followed_by _) (range_read ds k.range l a two range)
     ∙ ap (followed_by _) (counted_read index_bytes (λ before i. IsHeldIndex i × HasKeys ds i)
@@ -593,7 +593,7 @@ pub description_got : (bytes : List ℕ) (s : TableSchema) (rest : List ℕ) →
     → (bytes ≡ description_bytes s ++ rest) × IsDescription s × (bare s ≡ s)
 unfolding read_description description_bytes head_piece keyed_piece HasKeys
 description_got bytes s rest small e =
-    let b1 = both_got _ (read_head bytes) s rest e in
+    let b1 = both_got _ (read_description_head bytes) s rest e in
     let s1 = head_got bytes b1.x b1.mid small b1.first in
     let m1 = behind (stream_bytes b1.x.stream_family) b1.mid _
     (behind (view_byte b1.x.view ∷ []) (stream_bytes b1.x.stream_family ++ b1.mid) _
@@ -601,13 +601,13 @@ description_got bytes s rest small e =
     let b2 = both_got _ (read_counted read_definition b1.mid) s rest b1.second in
     let s2 = counted_got definition_bytes HasNewName read_definition definition_got b1.mid b2.x
     b2.mid m1 b2.first in
-    let m2 = behind (counted definition_bytes b2.x) b2.mid b1.mid m1 s2.0 in
+    let m2 = behind (counted_list definition_bytes b2.x) b2.mid b1.mid m1 s2.0 in
     let b3 = both_got _ (read_keyed b2.x b2.mid) s rest b2.second in
     let s3 = keyed_got b2.x b2.mid b3.x b3.mid m2 b3.first in
-    let v : joined b1.x b2.x b3.x ≡ s = got_value _ _ _ _ b3.second in
+    let v : joined_description b1.x b2.x b3.x ≡ s = got_value _ _ _ _ b3.second in
     let Keys : IndexSchema → Type 0 = λ i. keys_defined b2.x i.hash i.range ≡ true in
     let IsOne : IndexSchema → Type 0 = λ i. i.built ≡ Whole in
-    let good : IsDescription (joined b1.x b2.x b3.x) = record {
+    let good : IsDescription (joined_description b1.x b2.x b3.x) = record {
       stream = s1.1;
       once = next_differ b2.x [] refl s2.1;
       keys = s3.1;
@@ -620,12 +620,12 @@ description_got bytes s rest small e =
     } in (
       s1.0 ∙ ap (λ m. head_piece b1.x
           ++ (view_byte b1.x.view ∷ (stream_bytes b1.x.stream_family ++ m)))
-          (s2.0 ∙ ap (λ m. counted definition_bytes b2.x ++ m) s3.0)
+          (s2.0 ∙ ap (λ m. counted_list definition_bytes b2.x ++ m) s3.0)
           ∙ description_pieces (head_piece b1.x) (stream_bytes b1.x.stream_family)
-          (counted definition_bytes b2.x) (keyed_piece b3.x) (view_byte b1.x.view) b3.mid
+          (counted_list definition_bytes b2.x) (keyed_piece b3.x) (view_byte b1.x.view) b3.mid
           ∙ (λ j. description_bytes (v j) ++ got_rest _ _ _ _ b3.second j),
       subst IsDescription v good,
-      subst (λ t. bare t ≡ t) v (bare-same (joined b1.x b2.x b3.x)
+      subst (λ t. bare t ≡ t) v (bare-same (joined_description b1.x b2.x b3.x)
           (second_all Keys IsOne b3.x.locals s3.2) (second_all Keys IsOne b3.x.globals s3.3) refl),
     )
 
@@ -660,13 +660,13 @@ bare_read s rest d h ls gs none =
           s.globals;
     } in
     let k = keyed_piece keyed ++ rest in
-    let ds = counted definition_bytes s.definitions ++ k in
+    let ds = counted_list definition_bytes s.definitions ++ k in
     let all_keys : (list_all (λ i. keys_defined s.definitions i.hash i.range) s.locals
     && list_all (λ i. keys_defined s.definitions i.hash i.range) s.globals) ≡ true
     = sym (list_all-append (λ i. keys_defined s.definitions i.hash i.range) s.locals s.globals)
     ∙ d.index_keys in
     ap read_description (sym (description_pieces (head_piece head) (stream_bytes s.stream_family)
-    (counted definition_bytes s.definitions) (keyed_piece keyed) (view_byte s.view) rest))
+    (counted_list definition_bytes s.definitions) (keyed_piece keyed) (view_byte s.view) rest))
     ∙ ap (followed_by _) (head_read head ds h.name h.created h.number h.family d.stream
     h.stream_family)
     ∙ ap (followed_by _) (counted_read definition_bytes
@@ -674,7 +674,7 @@ bare_read s rest d h ls gs none =
     h.definitions.0
     (both_next (λ x. IsHeldText x.name) HasNewName s.definitions [] h.definitions.1
     (differ_next s.definitions [] d.once)))
-    ∙ ap (followed_by (λ x q. got (joined head s.definitions x) q))
+    ∙ ap (followed_by (λ x q. got (joined_description head s.definitions x) q))
     (keyed_read s.definitions keyed rest d.once d.keys h.hash h.range
     h.locals.0 h.locals.1 (both_all (λ i. keys_defined s.definitions i.hash i.range ≡ true)
     (λ i. i.built ≡ Whole) s.locals
@@ -729,6 +729,6 @@ read_again (Ok t) bytes whole place s d h e =
     ∙ description_read s [] d h)
 read_again (Err (Bad at)) bytes whole place s d h e =
     let p = place at refl in
-    none-some p.0 (ap left_of (sym (description_read s [] d h))
-    ∙ ap (λ b. left_of (read_description b)) (append-nil (description_bytes s) ∙ sym e) ∙ p.1)
+    none-some p.0 (ap bytes_left_at_stop (sym (description_read s [] d h))
+    ∙ ap (λ b. bytes_left_at_stop (read_description b)) (append-nil (description_bytes s) ∙ sym e) ∙ p.1)
 read_again (Err NoRoom) bytes whole place s d h e = tt

@@ -40,8 +40,8 @@ pub struct MemoryShell {
 
 impl MemoryShell {
     ghost use Rattle.std.specs.Prelude.{ℕ, ◌≢◌, ◌+◌, IfSome};
-    ghost use Rattle.alt_shell.specs.Memory.{log_of, pieces, clock_left, last_moment, disk_in, streams, coming};
-    ghost use Rattle.alt_shell.specs.Memory.{added, talk_pieces, talk_calls, fails_talk, SameInput, SameTalk};
+    ghost use Rattle.alt_shell.specs.Memory.{log_of, pieces, clock_left, last_moment, disk_in, streams, connections_coming};
+    ghost use Rattle.alt_shell.specs.Memory.{connections_added, talk_pieces, talk_calls, fails_talk, SameInput, SameTalk};
     ghost use Rattle.alt_shell.specs.Pieces.{with_more, sent_last, sent_here};
     ghost use Rattle.alt_shell.specs.Streams.{said_on};
     ghost use Rattle.alt_shell.specs.Log.{log, notes_of, talk_head};
@@ -53,7 +53,7 @@ impl MemoryShell {
         ensures input { pieces result ≡ [] }
         ensures clock { clock_left result ≡ [] }
         ensures last { last_moment result ≡ 0 }
-        ensures coming { coming result ≡ [] }
+        ensures connections_coming { connections_coming result ≡ [] }
         ensures calls { talk_calls result ≡ 0 }
         ensures none_fails { (call : ℕ) → fails_talk result call ≡ false }
     {
@@ -87,9 +87,9 @@ impl MemoryShell {
 
     /// Adds a connection: one more will be accepted, behind those added before.
     pub fn connection(&mut self) -> Result<(), NoMemory>
-        ensures ok { OnOk result (coming self.new ≡ coming self.old ++ [] ∷ []) }
-        ensures added { OnOk result (added self.new ≡ added self.old + 1) }
-        ensures err { OnErr result (coming self.new ≡ coming self.old) }
+        ensures ok { OnOk result (connections_coming self.new ≡ connections_coming self.old ++ [] ∷ []) }
+        ensures connections_added { OnOk result (connections_added self.new ≡ connections_added self.old + 1) }
+        ensures err { OnErr result (connections_coming self.new ≡ connections_coming self.old) }
         ensures log { log_of self.new ≡ log_of self.old }
         ensures disk { disk_in self.new ≡ disk_in self.old }
         ensures input { SameInput self.old self.new }
@@ -103,13 +103,13 @@ impl MemoryShell {
     /// Adds a piece on the connection added last, which may be the one at hand; an empty piece is none, and so is one behind an end
     /// that was taken, or on a connection that was hung up.
     pub fn send(&mut self, piece: &[u8]) -> Result<(), NoMemory>
-        requires { 0 < added self.old }
-        ensures ok { IfOk result (λ _. (coming self.new ≡ sent_last (coming self.old) piece.now)
-            × (talk_pieces self.new ≡ sent_here (coming self.old) (streams self.old).talking
+        requires { 0 < connections_added self.old }
+        ensures ok { IfOk result (λ _. (connections_coming self.new ≡ sent_last (connections_coming self.old) piece.now)
+            × (talk_pieces self.new ≡ sent_here (connections_coming self.old) (streams self.old).talking
             (streams self.old).talk.over (talk_pieces self.old) piece.now)) }
-        ensures err { OnErr result ((coming self.new ≡ coming self.old)
+        ensures err { OnErr result ((connections_coming self.new ≡ connections_coming self.old)
             × (talk_pieces self.new ≡ talk_pieces self.old)) }
-        ensures added { added self.new ≡ added self.old }
+        ensures connections_added { connections_added self.new ≡ connections_added self.old }
         ensures log { log_of self.new ≡ log_of self.old }
         ensures disk { disk_in self.new ≡ disk_in self.old }
         ensures input { SameInput self.old self.new }
@@ -141,8 +141,8 @@ impl MemoryShell {
         ensures log { log_of self.new ≡ log_of self.old }
         ensures disk { disk_in self.new ≡ disk_in self.old }
         ensures input { SameInput self.old self.new }
-        ensures coming { coming self.new ≡ coming self.old }
-        ensures added { added self.new ≡ added self.old }
+        ensures connections_coming { connections_coming self.new ≡ connections_coming self.old }
+        ensures connections_added { connections_added self.new ≡ connections_added self.old }
         ensures talk { talk_pieces self.new ≡ talk_pieces self.old }
         ensures calls { talk_calls self.new ≡ talk_calls self.old }
     {
@@ -177,11 +177,11 @@ impl MemoryShell {
     ghost use Rattle.alt_shell.specs.Calls.{ShellCall, Adds, Accepted};
     ghost use Rattle.alt_shell.specs.Kept.{failed_of, fails_of};
     ghost use Rattle.alt_shell.specs.Log.{entry, took, said, none_came, accepted, talk_head};
-    ghost use Rattle.alt_shell.specs.Pieces.{given_of, pieces_behind};
-    ghost use Rattle.alt_shell.specs.Memory.{shell_state, pieces, coming, talk_pieces, at_hand, aside, entries_by, streams};
-    ghost use Rattle.alt_shell.specs.Memory.{added, talk_calls, fails_now, CallCounted, SameNotes, SameRest, SameList, Unmoved, NextOf};
-    ghost use Rattle.alt_shell.specs.States.{told_by, head_of};
-    ghost use Rattle.alt_shell.specs.Steps.{Starts, Fails};
+    ghost use Rattle.alt_shell.specs.Pieces.{bytes_given_by_take, pieces_behind};
+    ghost use Rattle.alt_shell.specs.Memory.{shell_state, pieces, connections_coming, talk_pieces, at_hand, aside, entries_by, streams};
+    ghost use Rattle.alt_shell.specs.Memory.{connections_added, talk_calls, fails_now, CallCounted, SameNotes, SameRest, SameList, Unmoved, NextOf};
+    ghost use Rattle.alt_shell.specs.States.{told_by, head_of_talk};
+    ghost use Rattle.alt_shell.specs.Steps.{Starts, CallFails};
 
     // Takes the moment of a call, and says whether it may go on. In a talk the list of talk calls alone decides, else that of the disk.
     fn start(&mut self) -> bool
@@ -209,11 +209,11 @@ impl MemoryShell {
         ensures call { MatchOption result (Starts (shell_state self.old) (shell_state self.new))
             (λ n. ShellCall (shell_state self.old) (shell_state self.new) true
             × Adds (shell_state self.old) (shell_state self.new) (took (take n buf.new))) }
-        ensures head { head_of self.new.talks ≡ head_of self.old.talks }
+        ensures head { head_of_talk self.new.talks ≡ head_of_talk self.old.talks }
         ensures rest { SameRest self.old self.new }
         ensures count { IfSome result (λ n. n ≤ length buf.new) }
         ensures gives { MatchOption result (at_hand self.new ≡ at_hand self.old)
-            (λ n. (take n buf.new ≡ given_of (at_hand self.old) (length buf.old))
+            (λ n. (take n buf.new ≡ bytes_given_by_take (at_hand self.old) (length buf.old))
             × (at_hand self.new ≡ pieces_behind (at_hand self.old) (length buf.old))) }
         ensures aside { aside self.new ≡ aside self.old }
         ensures end { IfSome result (λ n. (n ≡ 0) ↔ (at_hand self.old ≡ [])) }
@@ -234,7 +234,7 @@ impl MemoryShell {
         requires { 0 < length buf.old }
         ensures disk { self.new.disk ≡ self.old.disk }
         ensures faults { self.new.faults ≡ self.old.faults }
-        ensures head { head_of self.new.talks ≡ head_of self.old.talks }
+        ensures head { head_of_talk self.new.talks ≡ head_of_talk self.old.talks }
         ensures calls { talk_calls self.new ≡ talk_calls self.old }
         ensures rest { SameRest self.old self.new }
         ensures count { IfOk result (λ n. n ≤ length buf.new) }
@@ -245,7 +245,7 @@ impl MemoryShell {
             (λ _. entries_by self.new ≡ entries_by self.old) }
         ensures life { length (taken (entries_by self.new)) ≤ 2 ^ 62 }
         ensures gives { MatchResult result
-            (λ n. (take n buf.new ≡ given_of (at_hand self.old) (length buf.old))
+            (λ n. (take n buf.new ≡ bytes_given_by_take (at_hand self.old) (length buf.old))
             × (at_hand self.new ≡ pieces_behind (at_hand self.old) (length buf.old)))
             (λ _. at_hand self.new ≡ at_hand self.old) }
         ensures aside { aside self.new ≡ aside self.old }
@@ -274,7 +274,7 @@ impl MemoryShell {
         ensures call { MatchOption result (Starts (shell_state self.old) (shell_state self.new))
             (λ _. ShellCall (shell_state self.old) (shell_state self.new) true
             × Adds (shell_state self.old) (shell_state self.new) (said bytes.now)) }
-        ensures head { head_of self.new.talks ≡ head_of self.old.talks }
+        ensures head { head_of_talk self.new.talks ≡ head_of_talk self.old.talks }
         ensures rest { SameRest self.old self.new }
         ensures pieces { (pieces self.new ≡ pieces self.old)
             × (talk_pieces self.new ≡ talk_pieces self.old) }
@@ -295,7 +295,7 @@ impl MemoryShell {
     fn keep(&mut self, bytes: &[u8]) -> Result<(), NoMemory>
         ensures disk { self.new.disk ≡ self.old.disk }
         ensures faults { self.new.faults ≡ self.old.faults }
-        ensures head { head_of self.new.talks ≡ head_of self.old.talks }
+        ensures head { head_of_talk self.new.talks ≡ head_of_talk self.old.talks }
         ensures calls { talk_calls self.new ≡ talk_calls self.old }
         ensures rest { SameRest self.old self.new }
         ensures log { MatchResult result
@@ -318,7 +318,7 @@ impl MemoryShell {
 
     // Fails a call of this kind, which was begun at the last moment or not.
     fn fail(&mut self, stream: Stream, last: bool) -> Failed
-        ensures fails { Fails (shell_state self.old) (shell_state self.new) last stream }
+        ensures fails { CallFails (shell_state self.old) (shell_state self.new) last stream }
         ensures stays { Unmoved self.old self.new }
     {
         if self.talks.talking {
@@ -334,8 +334,8 @@ impl MemoryShell {
     // Tells that a call of this kind failed in the talk, where it is the first, and counts it.
     fn miss_in_talk(&mut self, stream: Stream)
         requires { self.old.talks.talking ≡ true }
-        ensures fails { Fails (shell_state self.old) (shell_state self.new) false stream }
-        ensures fails_last { Fails (shell_state self.old) (shell_state self.new) true stream }
+        ensures fails { CallFails (shell_state self.old) (shell_state self.new) false stream }
+        ensures fails_last { CallFails (shell_state self.old) (shell_state self.new) true stream }
         ensures stays { Unmoved self.old self.new }
     {
         let (moment, _) = self.disk.counts();
@@ -389,11 +389,11 @@ impl MemoryShell {
         ensures call { MatchOption result (Starts (shell_state self.old) (shell_state self.new))
             (λ came. ShellCall (shell_state self.old) (shell_state self.new) true
             × Accepted (shell_state self.old) (shell_state self.new) came) }
-        ensures none { result ≡ None → head_of self.new.talks ≡ head_of self.old.talks }
-        ensures next { MatchOption result ((coming self.new ≡ coming self.old)
+        ensures none { result ≡ None → head_of_talk self.new.talks ≡ head_of_talk self.old.talks }
+        ensures next { MatchOption result ((connections_coming self.new ≡ connections_coming self.old)
             × (talk_pieces self.new ≡ talk_pieces self.old))
-            (λ came. NextOf (coming self.old) self.old self.new came) }
-        ensures added { added self.new ≡ added self.old }
+            (λ came. NextOf (connections_coming self.old) self.old self.new came) }
+        ensures connections_added { connections_added self.new ≡ connections_added self.old }
         ensures pieces { pieces self.new ≡ pieces self.old }
         ensures clock { self.new.clock ≡ self.old.clock }
         ensures notes { SameNotes self.old self.new }
@@ -420,14 +420,14 @@ impl MemoryShell {
             (if came then accepted else none_came) ∷ [])
             (λ _. entries_by self.new ≡ entries_by self.old) }
         ensures head { MatchResult result
-            (λ came. head_of self.new.talks ≡ (if came then talk_head true self.old.talks.faults 0 0
-            else head_of self.old.talks))
-            (λ _. head_of self.new.talks ≡ head_of self.old.talks) }
+            (λ came. head_of_talk self.new.talks ≡ (if came then talk_head true self.old.talks.faults 0 0
+            else head_of_talk self.old.talks))
+            (λ _. head_of_talk self.new.talks ≡ head_of_talk self.old.talks) }
         ensures next { MatchResult result
-            (λ came. NextOf (coming self.old) self.old self.new came)
-            (λ _. (coming self.new ≡ coming self.old)
+            (λ came. NextOf (connections_coming self.old) self.old self.new came)
+            (λ _. (connections_coming self.new ≡ connections_coming self.old)
             × (talk_pieces self.new ≡ talk_pieces self.old)) }
-        ensures added { added self.new ≡ added self.old }
+        ensures connections_added { connections_added self.new ≡ connections_added self.old }
         ensures pieces { pieces self.new ≡ pieces self.old }
         ensures clock { self.new.clock ≡ self.old.clock }
         ensures notes { SameNotes self.old self.new }
@@ -459,7 +459,7 @@ impl Disk for MemoryShell {
     ghost use Rattle.alt_disk.specs.Acted.{Acted};
     ghost use Rattle.alt_disk.specs.declared.made.Deed.TheVariants.{WriteFailed, RemoveFailed};
     ghost use Rattle.alt_disk.specs.Honest.{reads_as_image_of};
-    ghost use Rattle.alt_disk.specs.Disk.{IsNames, contents, answered, Tick, ReadCall, Same, Written, Synced, Removed, Read};
+    ghost use Rattle.alt_disk.specs.Disk.{IsNames, contents, call_answered, Tick, ReadCall, Same, Written, Synced, Removed, Read};
     ghost use Rattle.alt_disk.specs.MemoryState.{fails_at};
     ghost use Rattle.alt_shell.specs.Memory.{shell_state};
 
@@ -473,11 +473,11 @@ impl Disk for MemoryShell {
     fn names(&mut self, list: &mut Vec<u32>) -> Result<(), DiskFault>
         ensures names { OnOk result (IsNames list.new.items (shell_state self.old).file) }
         ensures emptied { OnErr result (list.new.items ≡ []) }
-        ensures call { Tick (shell_state self.old) (shell_state self.new) (answered result) }
+        ensures call { Tick (shell_state self.old) (shell_state self.new) (call_answered result) }
         ensures same { Same (shell_state self.old) (shell_state self.new) }
         ensures stays { self.new ≡ record self.old { disk = self.new.disk; faults = self.new.faults } }
         ensures to_fail { fails_at self.old.disk (shell_state self.old).moment ≡ true
-            → answered result ≡ false }
+            → call_answered result ≡ false }
         ensures fails { (t : ℕ) → fails_at self.new.disk t ≡ fails_at self.old.disk t }
     {
         let made = self.disk.names(list);
@@ -606,18 +606,18 @@ impl Shell for MemoryShell {
     ghost use Rattle.std.specs.Prelude.{ℕ, is_ok, ◌↔◌, OnErr};
     ghost use Rattle.alt_disk.specs.MemoryState.{fails_at};
     ghost use Rattle.alt_shell.specs.Calls.{ShellCall, Aside, Takes, Says, Accepts, Adds, StaysIn};
-    ghost use Rattle.alt_shell.specs.Log.{Grows, StillGrows, Tells, notes_of, moments_of, has_ended, WithinLife};
+    ghost use Rattle.alt_shell.specs.Log.{Grows, StillGrows, TellsMoments, notes_of, moments_of, has_input_ended, WithinLife};
     ghost use Rattle.alt_shell.specs.Log.{hung_up, talk_of, talks, talk_faults, takes_missed, says_missed};
-    ghost use Rattle.alt_shell.specs.Pieces.{given_of, pieces_behind, told_of};
-    ghost use Rattle.alt_shell.specs.Memory.{shell_state, pieces, talk_pieces, at_hand, aside, coming, streams, clock_left, last_moment};
-    ghost use Rattle.alt_shell.specs.Memory.{added, fails_now, CallCounted, SameInput, SameComing, SameTalk, SameList, NextOf};
+    ghost use Rattle.alt_shell.specs.Pieces.{bytes_given_by_take, pieces_behind, next_told_moment};
+    ghost use Rattle.alt_shell.specs.Memory.{shell_state, pieces, talk_pieces, at_hand, aside, connections_coming, streams, clock_left, last_moment};
+    ghost use Rattle.alt_shell.specs.Memory.{connections_added, fails_now, CallCounted, SameInput, SameComing, SameTalk, SameList, NextOf};
 
     fn take(&mut self, buf: &mut [u8]) -> Result<usize, Failed>
         requires { 0 < length buf.old }
         ensures count { IfOk result (λ n. n ≤ length buf.new) }
         ensures taken { Takes (shell_state self.old) (shell_state self.new) result buf.new }
         ensures over { talks (shell_state self.old).beside ≡ false
-            → has_ended (shell_state self.old).beside ≡ true → IfOk result (λ n. n ≡ 0) }
+            → has_input_ended (shell_state self.old).beside ≡ true → IfOk result (λ n. n ≡ 0) }
         ensures talk { StaysIn (shell_state self.old) (shell_state self.new) (is_ok result)
             takes_missed says_missed }
         ensures life { WithinLife (shell_state self.old).beside
@@ -630,12 +630,12 @@ impl Shell for MemoryShell {
 
         // It gives bytes of the first piece at hand alone, and nothing exactly where no piece is left.
         ensures gives { MatchResult result
-            (λ n. (take n buf.new ≡ given_of (at_hand self.old) (length buf.old))
+            (λ n. (take n buf.new ≡ bytes_given_by_take (at_hand self.old) (length buf.old))
             × (at_hand self.new ≡ pieces_behind (at_hand self.old) (length buf.old)))
             (λ _. at_hand self.new ≡ at_hand self.old) }
         ensures end { IfOk result (λ n. (n ≡ 0) ↔ (at_hand self.old ≡ [])) }
         ensures aside { aside self.new ≡ aside self.old }
-        ensures coming { SameComing self.old self.new }
+        ensures connections_coming { SameComing self.old self.new }
         ensures clock { (clock_left self.new ≡ clock_left self.old)
             × (last_moment self.new ≡ last_moment self.old) }
         ensures calls { CallCounted self.old self.new }
@@ -665,7 +665,7 @@ impl Shell for MemoryShell {
         ensures err { OnErr result (streams self.new ≡ streams self.old) }
         ensures input { SameInput self.old self.new }
         ensures pieces { talk_pieces self.new ≡ talk_pieces self.old }
-        ensures coming { SameComing self.old self.new }
+        ensures connections_coming { SameComing self.old self.new }
         ensures calls { CallCounted self.old self.new }
         ensures to_fail { fails_now self.old ≡ true → is_ok result ≡ false }
         ensures fails { (t : ℕ) → fails_at self.new.disk t ≡ fails_at self.old.disk t }
@@ -689,10 +689,10 @@ impl Shell for MemoryShell {
             ≡ moments_of (shell_state self.old).beside }
 
         // It answers true exactly where a connection is left, which is then the one at hand.
-        ensures next { MatchResult result (λ came. NextOf (coming self.old) self.old self.new came)
-            (λ _. (coming self.new ≡ coming self.old)
+        ensures next { MatchResult result (λ came. NextOf (connections_coming self.old) self.old self.new came)
+            (λ _. (connections_coming self.new ≡ connections_coming self.old)
             × (talk_pieces self.new ≡ talk_pieces self.old)) }
-        ensures added { added self.new ≡ added self.old }
+        ensures connections_added { connections_added self.new ≡ connections_added self.old }
         ensures input { SameInput self.old self.new }
         ensures list { SameList self.old self.new }
         ensures to_fail { fails_at self.old.disk (shell_state self.old).moment ≡ true
@@ -723,9 +723,9 @@ impl Shell for MemoryShell {
 
         // It takes no memory. What the client sent and wasn't taken is dropped.
         ensures dropped { talks (shell_state self.old).beside ≡ true → talk_pieces self.new ≡ [] }
-        ensures added { added self.new ≡ added self.old }
+        ensures connections_added { connections_added self.new ≡ connections_added self.old }
         ensures input { SameInput self.old self.new }
-        ensures coming { coming self.new ≡ coming self.old }
+        ensures connections_coming { connections_coming self.new ≡ connections_coming self.old }
         ensures list { SameList self.old self.new }
         ensures disk { self.new.disk ≡ self.old.disk }
     {
@@ -762,7 +762,7 @@ impl Shell for MemoryShell {
 
     fn now(&mut self) -> u64
         ensures range { result < CLOCK_END }
-        ensures told { Tells (moments_of (shell_state self.old).beside)
+        ensures told { TellsMoments (moments_of (shell_state self.old).beside)
             (moments_of (shell_state self.new).beside) (result ∷ []) }
         ensures log { Grows (shell_state self.old).beside (shell_state self.new).beside [] }
         ensures talk { talk_of (shell_state self.new).beside
@@ -772,7 +772,7 @@ impl Shell for MemoryShell {
             ≡ notes_of (shell_state self.old).beside }
 
         // It tells the first moment that is left, and where none is the last one again.
-        ensures moment { result ≡ told_of (clock_left self.old) (last_moment self.old) }
+        ensures moment { result ≡ next_told_moment (clock_left self.old) (last_moment self.old) }
         ensures left { clock_left self.new ≡ drop 1 (clock_left self.old) }
         ensures last { last_moment self.new ≡ result }
         ensures pieces { pieces self.new ≡ pieces self.old }

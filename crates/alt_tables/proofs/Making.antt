@@ -29,18 +29,18 @@ use Rattle.alt_schema.specs.declared.schema.TableSchema.{TableSchema}
 use Rattle.alt_tables.specs.Faults.{AreMade, AreSome, BreakOff, IsLastFile, Writes}
 use Rattle.alt_rowchanges.specs.Faults.{IsFindFault}
 use Rattle.alt_rowchanges.specs.OpeningLive.{with_all, without_all}
-use Rattle.alt_rowchanges.specs.OpeningOpened.{Holds}
+use Rattle.alt_rowchanges.specs.OpeningOpened.{EngineHoldsState}
 use Rattle.alt_rowchanges.proofs.OpeningLiveLaws.{live_insert, live_remove}
 use Rattle.alt_layout.specs.Layout.{Layout, shown}
 use Rattle.alt_rowchanges.specs.OpeningStateRows.{catalog_family}
-use Rattle.alt_rowchanges.specs.OpeningTrimmed.{AreTrimmedOf, IsRenumbered, number_at, without}
+use Rattle.alt_rowchanges.specs.OpeningTrimmed.{AreTrimmedOf, IsRenumbered, number_at, without_table_number}
 use Rattle.alt_rowchanges.proofs.OpeningOverEngine.{one_layout_in_hand, stands_past}
 use Rattle.alt_rowchanges.proofs.OpeningTrimmedLaws.{trimmed-new, trimmed-put, trimmed-remove}
 use Rattle.alt_tables.specs.Built.{NoneBuilds}
 use Rattle.alt_tables.specs.Foreseen.{Foresees, ForeseesWrite}
 use Rattle.alt_rowchanges.specs.Fronts.{AreFronts, IsFront, front_at, without_front}
 use Rattle.alt_rowchanges.specs.Leftovers.{leftovers}
-use Rattle.alt_tables.specs.Stands.{HasRows, Stands, catalog_of, due_of, fronts_of, largest_of, number_of, trimmed_of}
+use Rattle.alt_tables.specs.Stands.{HasRows, Stands, catalog_of, due_of, fronts_of, largest_of, next_write_of_tables, trimmed_of}
 use Rattle.alt_rowchanges.specs.RowChanges.{Turns, changed_rows, write_changes, creation_changes, drop_changes}
 use Rattle.alt_rowchanges.specs.Trims.{IsNoted, IsTrim}
 use Rattle.alt_rowchanges.specs.declared.fronts.Front.{Front}
@@ -62,7 +62,7 @@ use Rattle.alt_value.specs.Tree.{Pair}
 use Rattle.alt_value.specs.Values.{IsItemOfValues}
 use Rattle.std.proofs.Math.Nat.{le_refl}
 use Rattle.std.proofs.lemmas.Option.{same_Some as some}
-use Rattle.alt_tables.specs.private.Foretold.{Fits, FitsWrite}
+use Rattle.alt_tables.specs.private.Foretold.{ItemFits, FitsWrite}
 use Rattle.alt_tables.proofs.Sizing.{each_left, each_new, each_written, fits_of, largest_is, sized_valid}
 use Rattle.alt_value.specs.Size.{item_size}
 
@@ -135,7 +135,7 @@ module _ (before : DiskState) (old : Tables) (s : State) (t : Table) (stands : S
 
   module _ (r : Trim) (is : IsTrim stands.rows.layout t moment r) (d : TableSchema) (number : ℕ)
       (batch : List RowChange) (described : map.get (catalog_of old) name ≡ Some d)
-      (numbered : number ≡ number_of old)
+      (numbered : number ≡ next_write_of_tables old)
       (written : batch ≡ write_changes d number moment writer place found to
       (number_at name (trimmed_of old)) r.number r.leftovers.items)
       (differ : is_same found to ≡ false) where
@@ -165,7 +165,7 @@ module _ (before : DiskState) (old : Tables) (s : State) (t : Table) (stands : S
         (there i) to (trimmed_is i) r.number r.leftovers.items)
 
     -- They turn the rows of the state into those of the state after it.
-    pub item_turned : number_of old < NUMBERS_END → IfSome to (IsStored d place)
+    pub item_turned : next_write_of_tables old < NUMBERS_END → IfSome to (IsStored d place)
         → IfSome to IsItemOfValues → moment < 2 ^ 64 → Turns batch s after
     item_turned room stored given fits =
         subst (λ cs. Turns cs s after)
@@ -231,13 +231,13 @@ module _ (before : DiskState) (old : Tables) (s : State) (t : Table) (stands : S
         others None e q apart = ap (front_at q) (noted.none e)
 
     -- The tables stand for the state after it.
-    pub item_stands : (now : DiskState) (new : Tables) → Holds now new.engine after → IsValid after
+    pub item_stands : (now : DiskState) (new : Tables) → EngineHoldsState now new.engine after → IsValid after
         → HasRows now new (changed_rows stands.rows.layout batch) → T (is_distinct batch)
         → new.catalog ≡ old.catalog → new.live ≡ old.live → new.family ≡ old.family
         → IsRenumbered name r.number (trimmed_of old) (trimmed_of new)
         → IsNoted d name moment r (fronts_of old) (fronts_of new)
         → ForeseesWrite (catalog_of old) name place to (due_of old) → new.due ≡ old.due
-        → FitsWrite (largest_of old) to → new.largest ≡ old.largest → new.builds ≡ old.builds → number_of new ≡ number_of old + 1 → Stands now new after
+        → FitsWrite (largest_of old) to → new.largest ≡ old.largest → new.builds ≡ old.builds → next_write_of_tables new ≡ next_write_of_tables old + 1 → Stands now new after
     item_stands now new holds valid rows distinct catalog live family trimmed noted told due fits largest builds next = record {
       catalog = catalog ∙ stands.catalog ∙ sym (descriptions-stay s.tables name t table_after at refl);
       number = next ∙ ap (λ n. n + 1) stands.number;
@@ -254,7 +254,7 @@ module _ (before : DiskState) (old : Tables) (s : State) (t : Table) (stands : S
           stands.due s.next_number moment writer t place to at
           (told t.description (known before old s name t stands at)));
       sized = largest_is after.tables old.largest new.largest largest
-          (sized_valid after valid old.largest (each_written (Fits old.largest) s.tables name
+          (sized_valid after valid old.largest (each_written (ItemFits old.largest) s.tables name
           (fits_of s.tables old.largest old.largest (le_refl old.largest) stands.sized)
           s.next_number moment writer t place to at fits));
       builds = none_on old new catalog builds stands.builds;
@@ -293,7 +293,7 @@ module _ (before : DiskState) (old : Tables) (s : State) (stands : Stands before
   -- a table less
   pub drop_turned : (name : List ℕ) (d : TableSchema) (batch : List RowChange)
       → map.get (catalog_of old) name ≡ Some d → batch ≡ drop_changes d
-      → number_of old < NUMBERS_END → Turns batch s (without_table s name)
+      → next_write_of_tables old < NUMBERS_END → Turns batch s (without_table s name)
   drop_turned name d batch described is room =
       let (t, at, same) = there before old s name d stands described in
       subst (λ cs. Turns cs s (without_table s name)) (ap drop_changes same ∙ sym is)
@@ -302,12 +302,12 @@ module _ (before : DiskState) (old : Tables) (s : State) (stands : Stands before
   -- the tables stand for the state without it
   pub drop_stands : (name : List ℕ) (d : TableSchema) (now : DiskState) (new : Tables)
       → map.get (catalog_of old) name ≡ Some d
-      → Holds now new.engine (without_table s name) → IsValid (without_table s name)
+      → EngineHoldsState now new.engine (without_table s name) → IsValid (without_table s name)
       → new.catalog ≡ map.remove old.catalog name
       → new.live ≡ without_all (families_of d) old.live → new.family ≡ old.family
-      → trimmed_of new ≡ without name (trimmed_of old)
+      → trimmed_of new ≡ without_table_number name (trimmed_of old)
       → fronts_of new ≡ without_front name (fronts_of old) → new.due ≡ old.due
-      → new.largest ≡ old.largest → new.builds ≡ old.builds → number_of new ≡ number_of old + 1
+      → new.largest ≡ old.largest → new.builds ≡ old.builds → next_write_of_tables new ≡ next_write_of_tables old + 1
       → (batch : List RowChange) → batch ≡ drop_changes d → T (is_distinct batch)
       → HasRows now new (changed_rows stands.rows.layout batch)
       → Stands now new (without_table s name)
@@ -345,17 +345,17 @@ module _ (before : DiskState) (old : Tables) (s : State) (stands : Stands before
       }
 
   module _ (d : TableSchema) (few : map.len (catalog_of old) < MOST_TABLES) (made : IsMade d)
-      (is_new : IsNew d) (number : d.number ≡ number_of old)
-      (family : table_lack (number_of old) old.family ≡ None → d.family ≡ old.family)
+      (is_new : IsNew d) (number : d.number ≡ next_write_of_tables old)
+      (family : table_lack (next_write_of_tables old) old.family ≡ None → d.family ≡ old.family)
       (free : map.get (catalog_of old) d.name ≡ None) where
     -- a table more
     pub table_turned : (after : ℕ) (batch : List RowChange)
         → after ≡ old.family + length (families_of d)
-        → batch ≡ creation_changes old.family after d → IsHeld d → number_of old < NUMBERS_END
+        → batch ≡ creation_changes old.family after d → IsHeld d → next_write_of_tables old < NUMBERS_END
         → old.family + MOST_FAMILIES ≤ FAMILIES_END → Turns batch s (with_table s d)
     table_turned after batch counted is held room enough =
-        let has : table_lack (number_of old) old.family ≡ None =
-        has_table (number_of old) old.family room enough in
+        let has : table_lack (next_write_of_tables old) old.family ≡ None =
+        has_table (next_write_of_tables old) old.family room enough in
         subst (λ cs. Turns cs s (with_table s d))
         (ap (λ f. creation_changes f after d) (sym stands.family) ∙ sym is)
         (creation_turns s d after (counted ∙ ap (λ f. f + length (families_of d)) stands.family)
@@ -366,13 +366,13 @@ module _ (before : DiskState) (old : Tables) (s : State) (stands : Stands before
         (omega (arith, room, stands.number), omega (arith, enough, stands.family)))
 
     -- the tables stand for the state with it
-    pub table_stands : (now : DiskState) (new : Tables) → Holds now new.engine (with_table s d)
+    pub table_stands : (now : DiskState) (new : Tables) → EngineHoldsState now new.engine (with_table s d)
         → IsValid (with_table s d) → new.catalog ≡ map.insert old.catalog d.name d
         → new.live ≡ with_all (families_of d) old.live
         → new.family ≡ old.family + length (families_of d) → new.trimmed ≡ old.trimmed
         → new.fronts ≡ old.fronts → new.due ≡ old.due → new.largest ≡ old.largest
         → new.builds ≡ old.builds
-        → number_of new ≡ number_of old + 1
+        → next_write_of_tables new ≡ next_write_of_tables old + 1
         → (next : ℕ) (batch : List RowChange) → batch ≡ creation_changes old.family next d
         → T (is_distinct batch) → HasRows now new (changed_rows stands.rows.layout batch)
         → Stands now new (with_table s d)
@@ -407,7 +407,7 @@ module _ (before : DiskState) (old : Tables) (s : State) (stands : Stands before
         }
 
     -- or it can't be had
-    pub table_lacked : (n : ℕ) → table_lack (number_of old) old.family ≡ Some n
+    pub table_lacked : (n : ℕ) → table_lack (next_write_of_tables old) old.family ≡ Some n
         → lack_of a_table s ≡ Some n
     table_lacked n lacks = sym (λ i. table_lack (stands.number i) (stands.family i)) ∙ lacks
 

@@ -15,7 +15,7 @@ use Rattle.alt_base.proofs.Prefixes.{prefix_trans}
 use Rattle.alt_shell.specs.Calls.{Aside, Keeps}
 use Rattle.alt_shell.proofs.Keeping.{keeps-none}
 use Rattle.alt_shell.specs.Log.{Log, until, said_in, taken, ended, event_of, bytes_said, bytes_taken, is_end}
-use Rattle.alt_talks.specs.Turns.{answered, Turn, text_of, after, after_turn}
+use Rattle.alt_talks.specs.Turns.{answered_turns, Turn, turns_text, after, after_turn}
 use Rattle.alt_talks.specs.Stops.{Image, state_behind, StandsBehind, IsLeft, IsAmong, IsUncut, AtEach, AreWithin}
 use Rattle.alt_tables.specs.Images.{StandsFor}
 use Rattle.alt_tables.specs.Stands.{AreReady, Stands}
@@ -138,13 +138,13 @@ AllSay [] = Unit {0}
 AllSay (t ∷ ts) = (0 < length t.text) × AllSay ts
 
 -- where nothing was said none was answered
-pub answered-none : (ts : List Turn) → AllSay ts → answered ts [] ≡ []
+pub answered-none : (ts : List Turn) → AllSay ts → answered_turns ts [] ≡ []
 answered-none [] say = refl
 answered-none (t ∷ ts) say = grind (arith, say)
 
 -- where no more was said than the first turns say, none of the others was answered
 pub answered-front : (ts us : List Turn) (said : List ℕ) → AllSay us
-    → length said ≤ length (text_of ts) → answered (ts ++ us) said ≡ answered ts said
+    → length said ≤ length (turns_text ts) → answered_turns (ts ++ us) said ≡ answered_turns ts said
 answered-front [] us [] say le = answered-none us say
 answered-front [] us (b ∷ bytes) say le = absurd (omega (arith, le))
 answered-front (t ∷ ts) us said say le =
@@ -153,39 +153,39 @@ answered-front (t ∷ ts) us said say le =
     rest : List ℕ
     rest = drop (length t.text) said
 
-    fits : length rest ≤ length (text_of ts)
-    fits = let d = length-drop (length t.text) said in let l = length-append t.text (text_of ts) in
+    fits : length rest ≤ length (turns_text ts)
+    fits = let d = length-drop (length t.text) said in let l = length-append t.text (turns_text ts) in
         omega (arith, le, d, l)
 
-    by_test : answered (ts ++ us) rest ≡ answered ts rest → (b : Bool)
-        → cond b (t ∷ answered (ts ++ us) rest) [] ≡ cond b (t ∷ answered ts rest) []
+    by_test : answered_turns (ts ++ us) rest ≡ answered_turns ts rest → (b : Bool)
+        → cond b (t ∷ answered_turns (ts ++ us) rest) [] ≡ cond b (t ∷ answered_turns ts rest) []
     by_test h true = ap (λ vs. t ∷ vs) h
     by_test h false = refl
 
 -- where all of the first turns' text was said, they were answered
 pub answered-behind : (ts us : List Turn) (said : List ℕ)
-    → answered (ts ++ us) (text_of ts ++ said) ≡ ts ++ answered us said
+    → answered_turns (ts ++ us) (turns_text ts ++ said) ≡ ts ++ answered_turns us said
 answered-behind [] us said = refl
 answered-behind (t ∷ ts) us said =
-    let rest = text_of ts ++ said in
+    let rest = turns_text ts ++ said in
     let fits : length t.text ≤ length (t.text ++ rest) = let k = length-append t.text rest in
     omega (arith, k) in
-    ap (answered (t ∷ (ts ++ us))) (append_assoc t.text (text_of ts) said)
-    ∙ ap (λ b. cond b (t ∷ answered (ts ++ us) (drop (length t.text) (t.text ++ rest))) [])
+    ap (answered_turns (t ∷ (ts ++ us))) (append_assoc t.text (turns_text ts) said)
+    ∙ ap (λ b. cond b (t ∷ answered_turns (ts ++ us) (drop (length t.text) (t.text ++ rest))) [])
     (le-leb (length t.text) (length (t.text ++ rest)) fits)
-    ∙ ap (λ (bytes : List ℕ). t ∷ answered (ts ++ us) bytes) (drop-append_seam t.text rest)
+    ∙ ap (λ (bytes : List ℕ). t ∷ answered_turns (ts ++ us) bytes) (drop-append_seam t.text rest)
     ∙ ap (λ vs. t ∷ vs) (answered-behind ts us said)
 
 -- those that were answered are the first
-pub answered-prefix : (ts : List Turn) (said : List ℕ) → IsPrefix (answered ts said) ts
+pub answered-prefix : (ts : List Turn) (said : List ℕ) → IsPrefix (answered_turns ts said) ts
 answered-prefix [] said = ([], refl)
 answered-prefix (t ∷ ts) said = by_test (answered-prefix ts rest) (nat_le (length t.text) (length said))
   where
     rest : List ℕ
     rest = drop (length t.text) said
 
-    by_test : IsPrefix (answered ts rest) ts → (b : Bool)
-        → IsPrefix (cond b (t ∷ answered ts rest) []) (t ∷ ts)
+    by_test : IsPrefix (answered_turns ts rest) ts → (b : Bool)
+        → IsPrefix (cond b (t ∷ answered_turns ts rest) []) (t ∷ ts)
     by_test p true = (p.0, ap (λ us. t ∷ us) p.1)
     by_test p false = (t ∷ ts, refl)
 
@@ -298,20 +298,20 @@ pub left-more : (s : State) (ts us : List Turn) (said : List ℕ) (image : Image
     → IsLeft s ts said image → IsLeft s (ts ++ us) said image
 left-more s ts us said image say p = record {
   behind = subst (StandsBehind image s (ts ++ us))
-      (sym (answered-front ts us said say (prefix-within said (text_of ts) p.front)))
-      (stands-more image s ts us (answered ts said) p.behind);
+      (sym (answered-front ts us said say (prefix-within said (turns_text ts) p.front)))
+      (stands-more image s ts us (answered_turns ts said) p.behind);
   front = subst (IsPrefix said) (sym (text_of-append ts us))
-      (IsPrefix-longer said (text_of ts) (text_of us) p.front);
+      (IsPrefix-longer said (turns_text ts) (turns_text us) p.front);
 }
 
 -- behind turns that were done
 pub left-behind : (s : State) (ts us : List Turn) (said : List ℕ) (image : Image)
-    → IsLeft (after s ts) us said image → IsLeft s (ts ++ us) (text_of ts ++ said) image
+    → IsLeft (after s ts) us said image → IsLeft s (ts ++ us) (turns_text ts ++ said) image
 left-behind s ts us said image p = record {
   behind = subst (StandsBehind image s (ts ++ us)) (sym (answered-behind ts us said))
-      (stands-behind image s ts us (answered us said) p.behind);
-  front = subst (IsPrefix (text_of ts ++ said)) (sym (text_of-append ts us))
-      (IsPrefix-behind (text_of ts) said (text_of us) p.front);
+      (stands-behind image s ts us (answered_turns us said) p.behind);
+  front = subst (IsPrefix (turns_text ts ++ said)) (sym (text_of-append ts us))
+      (IsPrefix-behind (turns_text ts) said (turns_text us) p.front);
 }
 
 -- where nothing was said yet nothing needs to have been done
@@ -319,7 +319,7 @@ pub left-nothing-of : (s : State) (ts : List Turn) (image : Image) → AllSay ts
     → StandsFor image s → IsLeft s ts [] image
 left-nothing-of s ts image say stands = record {
   behind = subst (StandsBehind image s ts) (sym (answered-none ts say)) (stands-none image s ts stands);
-  front = (text_of ts, refl);
+  front = (turns_text ts, refl);
 }
 
 -- ---- tables and what a stop leaves
@@ -441,18 +441,18 @@ module _ (s : State) (vs : List Turn) (t : Turn) (one : vs ≡ t ∷ []) (say : 
   pub left-unsaid : (said : List ℕ) (image : Image) → said ≡ [] → IsUncut image s t.atoms
       → IsLeft s vs said image
   left-unsaid said image none p = record {
-    behind = subst (StandsBehind image s vs) (sym (ap (answered vs) none ∙ answered-none vs say))
+    behind = subst (StandsBehind image s vs) (sym (ap (answered_turns vs) none ∙ answered-none vs say))
         (subst (λ us. StandsBehind image s us []) (sym one) (stands-uncut image s t p));
-    front = subst (λ (bs : List ℕ). IsPrefix bs (text_of vs)) (sym none) (text_of vs, refl);
+    front = subst (λ (bs : List ℕ). IsPrefix bs (turns_text vs)) (sym none) (turns_text vs, refl);
   }
 
   -- it is there, and some of what the server does by itself behind it
   pub left-followed : (said : List ℕ) (image : Image) → IsPrefix said t.text
       → IsAmong image (last_state s t.atoms) t.own → IsLeft s vs said image
   left-followed said image front p = record {
-    behind = stands-fewer image s vs (answered vs said) vs (answered-prefix vs said)
+    behind = stands-fewer image s vs (answered_turns vs said) vs (answered-prefix vs said)
         (subst (λ us. StandsBehind image s us us) (sym one) (stands-one image s t p));
-    front = subst (IsPrefix said) (sym (ap text_of one ∙ append-nil t.text)) front;
+    front = subst (IsPrefix said) (sym (ap turns_text one ∙ append-nil t.text)) front;
   }
 
   -- none of those yet

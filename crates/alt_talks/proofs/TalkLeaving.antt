@@ -10,19 +10,19 @@ use Rattle.alt_disk.proofs.Runs.{trusted_on}
 use Rattle.alt_machine.specs.Outcomes.{last_state}
 use Rattle.alt_machine.specs.State.{State}
 use Rattle.alt_shell.specs.Calls.{Adds, Aside, Keeps, Untold, IsUntoldBy}
-use Rattle.alt_shell.specs.Log.{Log, Grows, Tells, moments_of, until, entry, told_count, took, take_failed, takes_failed, takes_missed, talks, accepted, hung_up, said_in, taken, bytes_said, bytes_taken, event_of}
+use Rattle.alt_shell.specs.Log.{Log, Grows, TellsMoments, moments_of, until, entry, told_count, took, take_failed, takes_failed, takes_missed, talks, accepted, hung_up, said_in, taken, bytes_said, bytes_taken, event_of}
 use Rattle.alt_shell.proofs.Telling.{Grows-then, Tells-then}
 use Rattle.alt_tables.specs.Images.{StandsFor}
 use Rattle.alt_talks.specs.Faults.{IsAnswerFault, IsFileFault, reach}
 use Rattle.alt_talks.specs.Runs.{OfStretch, Stretch}
-use Rattle.alt_talks.specs.private.Rungs.{Timed, Utters, AtRest, Goes}
+use Rattle.alt_talks.specs.private.Rungs.{KnowsLastMoment, Utters, AtRest, GoesOneTake}
 use Rattle.alt_talks.specs.Stops.{Image, IsLeft, IsAmong, IsUncut, AtEach, AreWithin}
 use Rattle.alt_talks.specs.Stretches.{Idle, Does, DoesSome}
-use Rattle.alt_talks.specs.Talks.{Turn, onward, asked, refused, Rules, Request, Head, Place, at, unread, bad, good, greets, is_whole, size_of, request_of, turns, final, turns_at}
+use Rattle.alt_talks.specs.Talks.{Turn, onward, asked, refused, Rules, Request, Head, ConnectionPlace, at, unread, bad, good, greets, is_request_whole, request_size, request_of, turns, final, turns_at}
 use Rattle.alt_talks.specs.private.Lawful.{Lawful}
 use Rattle.alt_talks.specs.TalkStops.{deeds, carrying, saying, LeavesNow, LeftOn, LeftTaken}
 use Rattle.alt_talks.specs.private.RungStops.{AnswersOn, AnswersSomeOn, CarriesOn, CarriesSomeOn, MovesOn, StepsOn, MovesAllOn, MovesSomeOn, GoesOn, GoesSomeOn}
-use Rattle.alt_talks.specs.TalkTexts.{asks}
+use Rattle.alt_talks.specs.TalkTexts.{moments_taken}
 use Rattle.alt_talks.specs.Turns.{Turn as Deed}
 use Rattle.alt_talks.specs.declared.fault.RunFault.{RunFault}
 use Rattle.alt_talks.proofs.Breaking.{broke_behind}
@@ -38,7 +38,7 @@ use Rattle.alt_talks.proofs.Uttering.{does_asked, does_refused, some_asked, some
 -- ---- calls behind one that told a moment
 
 pub told_then : (a b c : DiskState) {Q R : OfStretch} (moment : ℕ) → Grows a.beside b.beside []
-    → Tells (moments_of a.beside) (moments_of b.beside) (moment ∷ []) → a.moment ≤ b.moment
+    → TellsMoments (moments_of a.beside) (moments_of b.beside) (moment ∷ []) → a.moment ≤ b.moment
     → (IsTrusted a → IsTrusted b)
     → ((fs : Log) (ns : List ℕ) → AreWithin b.moment c.moment fs → Q b c fs ns
     → R a c fs (moment ∷ ns))
@@ -57,7 +57,7 @@ told_then a b c moment g m later trusts law q = record {
 
 -- that one alone
 pub told_alone : (a b : DiskState) {R : OfStretch} (moment : ℕ) → Grows a.beside b.beside []
-    → Tells (moments_of a.beside) (moments_of b.beside) (moment ∷ []) → a.moment ≤ b.moment
+    → TellsMoments (moments_of a.beside) (moments_of b.beside) (moment ∷ []) → a.moment ≤ b.moment
     → (IsTrusted a → IsTrusted b) → R a b [] (moment ∷ []) → Stretch a b R
 told_alone a b moment g m later trusts h = record {
   entries = [];
@@ -114,19 +114,19 @@ left_saying a b s vs t one say none es within by here keeps =
 -- The front of a request: its moment was asked for, and it was carried out or broke off.
 pub record Asked (r : Rules) (old done : DiskState) (s : State) (q : Request) (moment : ℕ) : Type 0 where
   pub silent : Grows old.beside done.beside []
-  pub told : Tells (moments_of old.beside) (moments_of done.beside) (moment ∷ [])
+  pub told : TellsMoments (moments_of old.beside) (moments_of done.beside) (moment ∷ [])
   pub later : old.moment ≤ done.moment
   pub trusts : IsTrusted old → IsTrusted done
   pub leaves : AtEach old done (λ _ image. IsUncut image s (r.atoms s q moment))
 
 pub asked_of : (r : Rules) (old mid done : DiskState) (s : State) (q : Request) (moment : ℕ)
     → Aside old mid → Grows old.beside mid.beside []
-    → Tells (moments_of old.beside) (moments_of mid.beside) (moment ∷ []) → DiskGoes mid done
+    → TellsMoments (moments_of old.beside) (moments_of mid.beside) (moment ∷ []) → DiskGoes mid done
     → AtEach mid done (λ _ image. IsUncut image s (r.atoms s q moment))
     → Asked r old done s q moment
 asked_of r old mid done s q moment aside silent told goes leaves = record {
   silent = subst (λ (log : Log). Grows old.beside log []) (sym goes.beside) silent;
-  told = subst (λ (log : Log). Tells (moments_of old.beside) (moments_of log) (moment ∷ []))
+  told = subst (λ (log : Log). TellsMoments (moments_of old.beside) (moments_of log) (moment ∷ []))
       (sym goes.beside) told;
   later = let k = aside.keeps in omega (arith, k, goes.later);
   trusts = λ trusted. trusted_on mid done goes (trusts-kept old mid aside.keeps trusted);
@@ -228,13 +228,13 @@ greets_on r w a b s m n false true is not es ms within here keeps u = (
 -- ---- turns at hand
 
 -- none was
-pub steps_unread_on : (r : Rules) (a : DiskState) (p : Place) (s : State) (m : Bool)
+pub steps_unread_on : (r : Rules) (a : DiskState) (p : ConnectionPlace) (s : State) (m : Bool)
     → r.scan p.bytes ≡ unread → LeavesNow a s → StepsOn r false p s m p s m a a [] []
 unfolding steps_unread moves_none
 steps_unread_on r a p s m e here = (steps_unread r p s m e, none_on r a s here)
 
 -- before the first
-pub moves_none_on : (r : Rules) (a : DiskState) (p : Place) (s : State) (m : Bool) → LeavesNow a s
+pub moves_none_on : (r : Rules) (a : DiskState) (p : ConnectionPlace) (s : State) (m : Bool) → LeavesNow a s
     → MovesOn r p s m p s m a a [] []
 unfolding moves_none
 moves_none_on r a p s m here = (moves_none r p s m, none_on r a s here)
@@ -242,7 +242,7 @@ moves_none_on r a p s m here = (moves_none r p s m, none_on r a s here)
 module _ (r : Rules) (w : Lawful r) (a b : DiskState) where
   -- what breaks off some turns breaks off more
   pub left_some : (s : State) (ts us vs : List Turn) (es : Log) (ms : List ℕ) → vs ≡ ts ++ us
-      → length ms ≤ asks ts → AtEach a b (LeftOn r s ts es ms) → AtEach a b (LeftOn r s vs es ms)
+      → length ms ≤ moments_taken ts → AtEach a b (LeftOn r s ts es ms) → AtEach a b (LeftOn r s vs es ms)
   left_some s ts us vs es ms e few left =
       let more = deeds-more r w s ts us ms few in
       leaves-weaker a b (LeftOn r s ts es ms) (LeftOn r s vs es ms)
@@ -250,7 +250,7 @@ module _ (r : Rules) (w : Lawful r) (a b : DiskState) where
       (sym more.2 ∙ ap (λ (ks : List Turn). deeds r s ks ms) (sym e))
       (left-more s (deeds r s ts ms) more.0 (said_in (until u es)) image more.1 x)) left
 
-  pub moves_some_on : (fault : RunFault) (next : ℕ) (p : Place) (s : State) (m : Bool) (es : Log) (ms : List ℕ)
+  pub moves_some_on : (fault : RunFault) (next : ℕ) (p : ConnectionPlace) (s : State) (m : Bool) (es : Log) (ms : List ℕ)
       (ts us : List Turn) → turns r p.left p.greeted p.bytes ≡ ts ++ us
       → AnswersSomeOn r fault next s m ts a b es ms → MovesSomeOn r fault next p s m a b es ms
   moves_some_on fault next p s m es ms ts us e x = (
@@ -258,21 +258,21 @@ module _ (r : Rules) (w : Lawful r) (a b : DiskState) where
     left_some s ts us (turns r p.left p.greeted p.bytes) es ms e x.0.some.most x.1,
   )
 
-  pub steps_bad_on : (p : Place) (s t : State) (m n : Bool) (k : ℕ) (es : Log) (ms : List ℕ)
+  pub steps_bad_on : (p : ConnectionPlace) (s t : State) (m n : Bool) (k : ℕ) (es : Log) (ms : List ℕ)
       → 0 < p.left → r.scan p.bytes ≡ bad k → AnswersOn r s m (refused k ∷ []) t n a b es ms
       → StepsOn r true p s m (at 0 p.greeted p.bytes) t n a b es ms
   unfolding steps_bad
   steps_bad_on p s t m n k es ms h e x = (steps_bad r p s t m n k es ms h e x.0, x.1)
 
-  pub steps_short_on : (p : Place) (h : Head) (s t : State) (m n : Bool) (es : Log) (ms : List ℕ)
-      → 0 < p.left → r.scan p.bytes ≡ good h → is_whole h p.bytes ≡ false
+  pub steps_short_on : (p : ConnectionPlace) (h : Head) (s t : State) (m n : Bool) (es : Log) (ms : List ℕ)
+      → 0 < p.left → r.scan p.bytes ≡ good h → is_request_whole h p.bytes ≡ false
       → AnswersOn r s m (greets p.greeted h.expect) t n a b es ms
       → StepsOn r false p s m (at p.left (p.greeted || h.expect) p.bytes) t n a b es ms
   unfolding steps_short moves_hello
   steps_short_on p h s t m n es ms l e v x = (steps_short r p h s t m n es ms l e v x.0, x.1)
 
   -- all at hand were done
-  pub moves_all_on : (p q : Place) (s t : State) (m n : Bool) (es : Log) (ms : List ℕ)
+  pub moves_all_on : (p q : ConnectionPlace) (s t : State) (m n : Bool) (es : Log) (ms : List ℕ)
       → turns r q.left q.greeted q.bytes ≡ []
       → final r q.left q.greeted q.bytes ≡ q
       → MovesOn r p s m q t n a b es ms → MovesAllOn r p s m q t n a b es ms
@@ -285,7 +285,7 @@ module _ (r : Rules) (w : Lawful r) (a b : DiskState) where
 
 module _ (r : Rules) (w : Lawful r) (a b c : DiskState) where
   -- moves and then more
-  pub moves_then_on : (p q v : Place) (s t u : State) (m n o : Bool) (es fs : Log) (ms ns : List ℕ)
+  pub moves_then_on : (p q v : ConnectionPlace) (s t u : State) (m n o : Bool) (es fs : Log) (ms ns : List ℕ)
       → Meet a b c es fs → 0 < q.left → MovesOn r p s m q t n a b es ms
       → MovesOn r q t n v u o b c fs ns → MovesOn r p s m v u o a c (es ++ fs) (ms ++ ns)
   unfolding moves_then
@@ -296,7 +296,7 @@ module _ (r : Rules) (w : Lawful r) (a b c : DiskState) where
   )
 
   -- moves and then a break
-  pub moves_break_on : (fault : RunFault) (next : ℕ) (p q : Place) (s t : State) (m n : Bool) (es fs : Log)
+  pub moves_break_on : (fault : RunFault) (next : ℕ) (p q : ConnectionPlace) (s t : State) (m n : Bool) (es fs : Log)
       (ms ns : List ℕ) → Meet a b c es fs → 0 < q.left → MovesOn r p s m q t n a b es ms
       → MovesSomeOn r fault (reach next ms) q t n b c fs ns → MovesSomeOn r fault next p s m a c (es ++ fs) (ms ++ ns)
   moves_break_on fault next p q s t m n es fs ms ns meet going x y = (
@@ -307,15 +307,15 @@ module _ (r : Rules) (w : Lawful r) (a b c : DiskState) where
   )
 
   -- the client was let go on, and the whole request was carried out
-  module _ (p : Place) (h : Head) (s t u : State) (m n o : Bool) (es fs : Log) (ms ns : List ℕ)
+  module _ (p : ConnectionPlace) (h : Head) (s t u : State) (m n o : Bool) (es fs : Log) (ms ns : List ℕ)
       (meet : Meet a b c es fs) (l : 0 < p.left) (e : r.scan p.bytes ≡ good h)
-      (v : is_whole h p.bytes ≡ true)
+      (v : is_request_whole h p.bytes ≡ true)
       (x : AnswersOn r s m (greets p.greeted h.expect) t n a b es ms) where
-    abbrev mid : Place
+    abbrev mid : ConnectionPlace
     mid = at p.left (p.greeted || h.expect) p.bytes
 
-    abbrev end : Place
-    end = at (cond h.close 0 (p.left - 1)) false (drop (size_of h) p.bytes)
+    abbrev end : ConnectionPlace
+    end = at (cond h.close 0 (p.left - 1)) false (drop (request_size h) p.bytes)
 
     abbrev whole : Turn
     whole = asked (request_of h p.bytes (p.left - 1))
@@ -324,7 +324,7 @@ module _ (r : Rules) (w : Lawful r) (a b c : DiskState) where
     unfolding moves_hello
     first = (moves_hello r p h s t m n es ms l e x.0, x.1)
 
-    pub steps_whole_on : (q : Place) → CarriesOn r h mid t n q u o b c fs ns
+    pub steps_whole_on : (q : ConnectionPlace) → CarriesOn r h mid t n q u o b c fs ns
         → StepsOn r true p s m q u o a c (es ++ fs) (ms ++ ns)
     steps_whole_on q y =
         let f = whole_at r p.left p.greeted p.bytes h l e v in
@@ -340,7 +340,7 @@ module _ (r : Rules) (w : Lawful r) (a b c : DiskState) where
           y.1,
         ) in
         let both = moves_then_on p mid end s t u m n o es fs ms ns meet l first second in
-        subst (λ (z : Place). StepsOn r true p s m z u o a c (es ++ fs) (ms ++ ns)) (sym y.0.place) (
+        subst (λ (z : ConnectionPlace). StepsOn r true p s m z u o a c (es ++ fs) (ms ++ ns)) (sym y.0.place) (
           record {
             moves = both.0;
             rests = λ z. absurd (let g : ⊥ = cc in g);
@@ -385,10 +385,10 @@ pub record Passive (e : ℕ × List ℕ) : Type 0 where
   pub still : taken (e ∷ []) ≡ []
 
 -- what is left where these bytes were taken and these said
-abbrev LeftFor : Rules → Place → State → List ℕ → List ℕ → List ℕ → Image → Type 0
+abbrev LeftFor : Rules → ConnectionPlace → State → List ℕ → List ℕ → List ℕ → Image → Type 0
 LeftFor r p s bytes ms said image = IsLeft s (deeds r s (turns_at r p bytes) ms) said image
 
-module _ (r : Rules) (w : Lawful r) (p : Place) (s : State) where
+module _ (r : Rules) (w : Lawful r) (p : ConnectionPlace) (s : State) where
   -- where the same bytes were taken and said
   pub left_same : (es fs : Log) (ms : List ℕ) (t u : ℕ) (image : Image)
       → taken (until u fs) ≡ taken (until t es) → said_in (until u fs) ≡ said_in (until t es)
@@ -450,7 +450,7 @@ module _ (r : Rules) (w : Lawful r) (p : Place) (s : State) where
 
 -- ---- taking
 
-module _ (r : Rules) (p : Place) (s : State) (a b c : DiskState) (bytes : List ℕ) (clocked : ℕ)
+module _ (r : Rules) (p : ConnectionPlace) (s : State) (a b c : DiskState) (bytes : List ℕ) (clocked : ℕ)
     (keeps : Keeps a b) (here : LeavesNow a s) where
   abbrev one : ℕ × List ℕ
   one = entry b.moment clocked (took bytes)
@@ -480,11 +480,11 @@ module _ (r : Rules) (p : Place) (s : State) (a b c : DiskState) (bytes : List �
       (subst (λ (bs : List ℕ). LeftFor r p s bytes ms bs image)
       (sym (said-behind one es u refl)) y))
 
-  abbrev into : Place
+  abbrev into : ConnectionPlace
   into = at p.left p.greeted (p.bytes ++ bytes)
 
   -- bytes were taken, and the turns at hand then were done
-  pub goes_taken_on : (w : Lawful r) (m : Bool) (ready : Idle r p s m [] []) (q : Place) (t : State) (n : Bool) (es : Log)
+  pub goes_taken_on : (w : Lawful r) (m : Bool) (ready : Idle r p s m [] []) (q : ConnectionPlace) (t : State) (n : Bool) (es : Log)
       (ms : List ℕ) → AreWithin b.moment c.moment es → 0 < length bytes
       → MovesAllOn r into s m q t n b c es ms → GoesOn r true p s m q t n a c (one ∷ es) ms
   goes_taken_on w m ready q t n es ms within some x = (
@@ -504,7 +504,7 @@ module _ (r : Rules) (p : Place) (s : State) (a b c : DiskState) (bytes : List �
 -- ---- one take after another
 
 -- before the first
-pub goes_start_on : (r : Rules) (w : Lawful r) (a : DiskState) (p : Place) (s : State) (m : Bool)
+pub goes_start_on : (r : Rules) (w : Lawful r) (a : DiskState) (p : ConnectionPlace) (s : State) (m : Bool)
     → AtRest r p → LeavesNow a s → GoesOn r true p s m p s m a a [] []
 goes_start_on r w a p s m rest here = (
   goes_start r p s m rest,
@@ -513,8 +513,8 @@ goes_start_on r w a p s m rest here = (
 
 module _ (r : Rules) (w : Lawful r) (a b c : DiskState) where
   -- what is left while more is taken behind what was
-  left_goes : (p q : Place) (s t : State) (m n : Bool) (es fs : Log) (ms ns : List ℕ)
-      → Meet a b c es fs → 0 < q.left → Goes r true p s m q t n es ms
+  left_goes : (p q : ConnectionPlace) (s t : State) (m n : Bool) (es fs : Log) (ms ns : List ℕ)
+      → Meet a b c es fs → 0 < q.left → GoesOneTake r true p s m q t n es ms
       → (n ≡ true → said_in fs ≡ []) → AtEach a b (LeftTaken r p s es ms)
       → AtEach b c (LeftTaken r q t fs ns) → AtEach a c (LeftTaken r p s (es ++ fs) (ms ++ ns))
   left_goes p q s t m n es fs ms ns meet going x mute first then trusted =
@@ -548,7 +548,7 @@ module _ (r : Rules) (w : Lawful r) (a b c : DiskState) where
       (behind r w a b c s t m n ts us es fs ms ns meet (x.clear going) x.does mute u image n refl
       y)))))
 
-  pub goes_then_on : (more : Bool) (p q v : Place) (s t u : State) (m n o : Bool) (es fs : Log)
+  pub goes_then_on : (more : Bool) (p q v : ConnectionPlace) (s t u : State) (m n o : Bool) (es fs : Log)
       (ms ns : List ℕ) → Meet a b c es fs → 0 < q.left → GoesOn r true p s m q t n a b es ms
       → GoesOn r more q t n v u o b c fs ns → GoesOn r more p s m v u o a c (es ++ fs) (ms ++ ns)
   goes_then_on more p q v s t u m n o es fs ms ns meet going x y = (
@@ -556,7 +556,7 @@ module _ (r : Rules) (w : Lawful r) (a b c : DiskState) where
     left_goes p q s t m n es fs ms ns meet going x.0 (λ e. (y.0.does.silent e).0) x.1 y.1,
   )
 
-  pub goes_break_on : (fault : RunFault) (next : ℕ) (p q : Place) (s t : State) (m n : Bool) (es fs : Log)
+  pub goes_break_on : (fault : RunFault) (next : ℕ) (p q : ConnectionPlace) (s t : State) (m n : Bool) (es fs : Log)
       (ms ns : List ℕ) → Meet a b c es fs → 0 < q.left → GoesOn r true p s m q t n a b es ms
       → GoesSomeOn r fault (reach next ms) q t n b c fs ns → GoesSomeOn r fault next p s m a c (es ++ fs) (ms ++ ns)
   goes_break_on fault next p q s t m n es fs ms ns meet going x y = (
@@ -565,13 +565,13 @@ module _ (r : Rules) (w : Lawful r) (a b c : DiskState) where
   )
 
 -- a take that failed in a talk in which none had failed
-pub goes_missed_on : (last : Option ℕ) (r : Rules) (w : Lawful r) (p : Place) (s : State) (m : Bool) (rest : AtRest r p)
+pub goes_missed_on : (last : Option ℕ) (r : Rules) (w : Lawful r) (p : ConnectionPlace) (s : State) (m : Bool) (rest : AtRest r p)
     (ready : Idle r p s m [] []) (a b : DiskState) → talks a.beside ≡ true → takes_missed a.beside ≡ false
     → (Adds a b take_failed ⊎ Untold a b takes_failed takes_missed)
     → moments_of b.beside ≡ moments_of a.beside → Keeps a b → LeavesNow a s
-    → Stretch a b (Timed last last (GoesOn r false p s m p s m))
+    → Stretch a b (KnowsLastMoment last last (GoesOn r false p s m p s m))
 goes_missed_on last r w p s m rest ready a b talking none (inl told) moments keeps here =
-    stretch_one a b (Timed last last (GoesOn r false p s m p s m)) _ told moments (keeps.later, omega arith, tt) keeps (
+    stretch_one a b (KnowsLastMoment last last (GoesOn r false p s m p s m)) _ told moments (keeps.later, omega arith, tt) keeps (
       (
         goes_failed r p s m rest b.moment (told_count a.beside) ready,
         left_silent r w p s a b (entry b.moment (told_count a.beside) take_failed ∷ []) [] keeps refl
@@ -606,7 +606,7 @@ stretch_hung a b c d since clocked P Q came m keeps went n aside join p =
     (λ es ms within q. (within, q)) p))
 
 -- what is left while a connection is served is left from its accept to its hanging up
-pub left_hung : (r : Rules) (w : Lawful r) (p : Place) (s : State) (a b c d : DiskState)
+pub left_hung : (r : Rules) (w : Lawful r) (p : ConnectionPlace) (s : State) (a b c d : DiskState)
     (since clocked : ℕ) → Keeps a b → Aside c d → LeavesNow a s → (es : Log) (ms : List ℕ)
     → AreWithin b.moment c.moment es → b.moment ≤ c.moment
     → AtEach b c (LeftTaken r p s es ms)

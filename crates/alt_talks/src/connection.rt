@@ -9,13 +9,13 @@ ghost use Rattle.alt_shell.specs.Log.{talks, takes_missed, says_missed};
 ghost use Rattle.alt_tables.specs.Stands.{AreReady, Stands, bounds_of};
 ghost use Rattle.alt_http.specs.Reading.{scan_of};
 ghost use Rattle.alt_talks.specs.Arrivals.{Came, CameAll, CameAtMost};
-ghost use Rattle.alt_talks.specs.private.Rungs.{CameOne, Timed, Utters, AtRest};
+ghost use Rattle.alt_talks.specs.private.Rungs.{CameOne, KnowsLastMoment, Utters, AtRest};
 ghost use Rattle.alt_talks.specs.private.HeadViews.{scan_in};
 ghost use Rattle.alt_talks.specs.Runs.{LeadsOn, Passes, Stretch};
-ghost use Rattle.alt_talks.specs.TalkRules.{rules};
+ghost use Rattle.alt_talks.specs.TalkRules.{talk_rules};
 ghost use Rattle.alt_talks.specs.TalkStops.{LeavesNow, ServedOn, ServedSomeOn};
 ghost use Rattle.alt_talks.specs.private.RungStops.{AnswersOn, AnswersSomeOn, CarriesOn, CarriesSomeOn, ComesOn, ComesSomeOn, EndsOn, GoesOn, GoesSomeOn, MovesAllOn, MovesSomeOn, StepsOn};
-ghost use Rattle.alt_talks.specs.private.InHand.{place_of, head_in, asking};
+ghost use Rattle.alt_talks.specs.private.InHand.{place_of_talk, head_in, asking};
 ghost use Rattle.alt_talks.specs.Talks.{onward, asked, refused, greets};
 
 use crate::fault::RunFault;
@@ -79,10 +79,10 @@ fn refuse<S: Shell>(
     requires hears { mute.old ≡ false → says_missed (S.state shell.old).beside ≡ false }
     ensures answered { (s : State) → LeavesNow (S.state shell.old) s → MatchResult result
         (λ _. Stretch (S.state shell.old) (S.state shell.new)
-        (Timed last.old last.new
-        (AnswersOn rules s mute.old (refused number ∷ []) s mute.new)))
+        (KnowsLastMoment last.old last.new
+        (AnswersOn talk_rules s mute.old (refused number ∷ []) s mute.new)))
         (λ f. (next : ℕ) → Stretch (S.state shell.old) (S.state shell.new)
-        (AnswersSomeOn rules f next s mute.old (refused number ∷ []))) }
+        (AnswersSomeOn talk_rules f next s mute.old (refused number ∷ []))) }
     ensures hears { mute.new ≡ false → says_missed (S.state shell.new).beside ≡ false }
     ensures takes { takes_missed (S.state shell.new).beside
         ≡ takes_missed (S.state shell.old).beside }
@@ -125,10 +125,10 @@ fn respond<S: Shell>(
     ensures answered { (s : State) → Stands (S.state shell.old) tables.old s → MatchResult result
         (λ _. LeadsOn (bounds_of tables.old).file (S.state shell.old)
         (S.state shell.new) tables.new
-        (λ t. Timed last.old last.new
-        (AnswersOn rules s mute.old (asked (asking target.now body.now close) ∷ []) t mute.new)))
+        (λ t. KnowsLastMoment last.old last.new
+        (AnswersOn talk_rules s mute.old (asked (asking target.now body.now close) ∷ []) t mute.new)))
         (λ f. Stretch (S.state shell.old) (S.state shell.new)
-        (AnswersSomeOn rules f (bounds_of tables.old).file s mute.old (asked (asking target.now body.now close) ∷ []))) }
+        (AnswersSomeOn talk_rules f (bounds_of tables.old).file s mute.old (asked (asking target.now body.now close) ∷ []))) }
     ensures hears { mute.new ≡ false → says_missed (S.state shell.new).beside ≡ false }
     ensures takes { takes_missed (S.state shell.new).beside
         ≡ takes_missed (S.state shell.old).beside }
@@ -155,8 +155,8 @@ fn hello<S: Shell>(expect: bool, greeted: bool, mute: &mut bool, shell: &mut S)
     requires talking { talks (S.state shell.old).beside ≡ true }
     requires hears { mute.old ≡ false → says_missed (S.state shell.old).beside ≡ false }
     ensures greeted { (s : State) (last : Option ℕ) → LeavesNow (S.state shell.old) s
-        → Stretch (S.state shell.old) (S.state shell.new) (Timed last last
-        (AnswersOn rules s mute.old (greets greeted expect) s mute.new)) }
+        → Stretch (S.state shell.old) (S.state shell.new) (KnowsLastMoment last last
+        (AnswersOn talk_rules s mute.old (greets greeted expect) s mute.new)) }
     ensures hears { mute.new ≡ false → says_missed (S.state shell.new).beside ≡ false }
     ensures takes { takes_missed (S.state shell.new).beside
         ≡ takes_missed (S.state shell.old).beside }
@@ -231,11 +231,11 @@ fn carry<S: Shell>(
     ensures carried { (s : State) → Stands (S.state shell.old) tables.old s → MatchResult result
         (λ _. LeadsOn (bounds_of tables.old).file (S.state shell.old)
         (S.state shell.new) tables.new
-        (λ t. Timed talk.old.last talk.new.last
-        (CarriesOn rules (head_in head.now) (place_of talk.old) s talk.old.mute
-        (place_of talk.new) t talk.new.mute)))
+        (λ t. KnowsLastMoment talk.old.last talk.new.last
+        (CarriesOn talk_rules (head_in head.now) (place_of_talk talk.old) s talk.old.mute
+        (place_of_talk talk.new) t talk.new.mute)))
         (λ f. Stretch (S.state shell.old) (S.state shell.new)
-        (CarriesSomeOn rules f (bounds_of tables.old).file (head_in head.now) (place_of talk.old) s
+        (CarriesSomeOn talk_rules f (bounds_of tables.old).file (head_in head.now) (place_of_talk talk.old) s
         talk.old.mute)) }
     ensures fewer { OnOk result (talk.new.left < talk.old.left) }
     ensures hears { talk.new.mute ≡ false → says_missed (S.state shell.new).beside ≡ false }
@@ -288,11 +288,11 @@ fn found<S: Shell>(
     ensures stepped { (s : State) → Stands (S.state shell.old) tables.old s → MatchResult result
         (λ more. LeadsOn (bounds_of tables.old).file (S.state shell.old)
         (S.state shell.new) tables.new
-        (λ t. Timed talk.old.last talk.new.last
-        (StepsOn rules more (place_of talk.old) s talk.old.mute
-        (place_of talk.new) t talk.new.mute)))
+        (λ t. KnowsLastMoment talk.old.last talk.new.last
+        (StepsOn talk_rules more (place_of_talk talk.old) s talk.old.mute
+        (place_of_talk talk.new) t talk.new.mute)))
         (λ f. Stretch (S.state shell.old) (S.state shell.new)
-        (MovesSomeOn rules f (bounds_of tables.old).file (place_of talk.old) s talk.old.mute)) }
+        (MovesSomeOn talk_rules f (bounds_of tables.old).file (place_of_talk talk.old) s talk.old.mute)) }
     ensures fewer { IfOk result (λ more. more ≡ true → talk.new.left < talk.old.left) }
     ensures hears { talk.new.mute ≡ false → says_missed (S.state shell.new).beside ≡ false }
     ensures takes { takes_missed (S.state shell.new).beside
@@ -329,11 +329,11 @@ fn one<S: Shell>(
     ensures stepped { (s : State) → Stands (S.state shell.old) tables.old s → MatchResult result
         (λ more. LeadsOn (bounds_of tables.old).file (S.state shell.old)
         (S.state shell.new) tables.new
-        (λ t. Timed talk.old.last talk.new.last
-        (StepsOn rules more (place_of talk.old) s talk.old.mute
-        (place_of talk.new) t talk.new.mute)))
+        (λ t. KnowsLastMoment talk.old.last talk.new.last
+        (StepsOn talk_rules more (place_of_talk talk.old) s talk.old.mute
+        (place_of_talk talk.new) t talk.new.mute)))
         (λ f. Stretch (S.state shell.old) (S.state shell.new)
-        (MovesSomeOn rules f (bounds_of tables.old).file (place_of talk.old) s talk.old.mute)) }
+        (MovesSomeOn talk_rules f (bounds_of tables.old).file (place_of_talk talk.old) s talk.old.mute)) }
     ensures fewer { IfOk result (λ more. more ≡ true → talk.new.left < talk.old.left) }
     ensures hears { talk.new.mute ≡ false → says_missed (S.state shell.new).beside ≡ false }
     ensures takes { takes_missed (S.state shell.new).beside
@@ -390,11 +390,11 @@ fn at_hand<S: Shell>(
     ensures moved { (s : State) → Stands (S.state shell.old) tables.old s → MatchResult result
         (λ _. LeadsOn (bounds_of tables.old).file (S.state shell.old)
         (S.state shell.new) tables.new
-        (λ t. Timed talk.old.last talk.new.last
-        (MovesAllOn rules (place_of talk.old) s talk.old.mute
-        (place_of talk.new) t talk.new.mute)))
+        (λ t. KnowsLastMoment talk.old.last talk.new.last
+        (MovesAllOn talk_rules (place_of_talk talk.old) s talk.old.mute
+        (place_of_talk talk.new) t talk.new.mute)))
         (λ f. Stretch (S.state shell.old) (S.state shell.new)
-        (MovesSomeOn rules f (bounds_of tables.old).file (place_of talk.old) s talk.old.mute)) }
+        (MovesSomeOn talk_rules f (bounds_of tables.old).file (place_of_talk talk.old) s talk.old.mute)) }
     ensures hears { talk.new.mute ≡ false → says_missed (S.state shell.new).beside ≡ false }
     ensures takes { takes_missed (S.state shell.new).beside
         ≡ takes_missed (S.state shell.old).beside }
@@ -430,14 +430,14 @@ fn pull<S: Shell>(
     requires hears { says_missed (S.state shell.old).beside ≡ false }
     requires taking { takes_missed (S.state shell.old).beside ≡ false }
     ensures turned { (s : State) → Stands (S.state shell.old) tables.old s
-        → AtRest rules (place_of talk.old) → MatchResult result
+        → AtRest talk_rules (place_of_talk talk.old) → MatchResult result
         (λ more. LeadsOn (bounds_of tables.old).file (S.state shell.old)
         (S.state shell.new) tables.new
-        (λ t. Timed talk.old.last talk.new.last
-        (GoesOn rules more (place_of talk.old) s talk.old.mute
-        (place_of talk.new) t talk.new.mute)))
+        (λ t. KnowsLastMoment talk.old.last talk.new.last
+        (GoesOn talk_rules more (place_of_talk talk.old) s talk.old.mute
+        (place_of_talk talk.new) t talk.new.mute)))
         (λ f. Stretch (S.state shell.old) (S.state shell.new)
-        (GoesSomeOn rules f (bounds_of tables.old).file (place_of talk.old) s talk.old.mute)) }
+        (GoesSomeOn talk_rules f (bounds_of tables.old).file (place_of_talk talk.old) s talk.old.mute)) }
     ensures hears { talk.new.mute ≡ false → says_missed (S.state shell.new).beside ≡ false }
     ensures taking { IfOk result (λ more. more ≡ true
         → takes_missed (S.state shell.new).beside ≡ false) }
@@ -482,15 +482,15 @@ fn pulls<S: Shell>(
     requires talking { talks (S.state shell.old).beside ≡ true }
     requires hears { says_missed (S.state shell.old).beside ≡ false }
     requires taking { takes_missed (S.state shell.old).beside ≡ false }
-    requires rest { AtRest rules (place_of talk.old) }
+    requires rest { AtRest talk_rules (place_of_talk talk.old) }
     ensures ended { (s : State) → Stands (S.state shell.old) tables.old s → MatchResult result
         (λ _. LeadsOn (bounds_of tables.old).file (S.state shell.old)
         (S.state shell.new) tables.new
-        (λ t. Timed talk.old.last talk.new.last
-        (EndsOn rules (place_of talk.old) s talk.old.mute
-        (place_of talk.new) t talk.new.mute)))
+        (λ t. KnowsLastMoment talk.old.last talk.new.last
+        (EndsOn talk_rules (place_of_talk talk.old) s talk.old.mute
+        (place_of_talk talk.new) t talk.new.mute)))
         (λ f. Stretch (S.state shell.old) (S.state shell.new)
-        (GoesSomeOn rules f (bounds_of tables.old).file (place_of talk.old) s talk.old.mute)) }
+        (GoesSomeOn talk_rules f (bounds_of tables.old).file (place_of_talk talk.old) s talk.old.mute)) }
     ensures cause { IsErrOf result RunFault.Failed
         → Rose (S.state shell.old).faults (S.state shell.new).faults }
     ensures none { Came 0 (S.state shell.old) (S.state shell.new) }
@@ -528,9 +528,9 @@ fn connection<S: Shell>(
     ensures served { (s : State) → Stands (S.state shell.old) tables.old s → MatchResult result
         (λ came. LeadsOn (bounds_of tables.old).file (S.state shell.old)
         (S.state shell.new) tables.new
-        (λ t. Timed last.old last.new (ComesOn rules per came s t)))
+        (λ t. KnowsLastMoment last.old last.new (ComesOn talk_rules per came s t)))
         (λ f. Stretch (S.state shell.old) (S.state shell.new)
-        (ComesSomeOn rules per f (bounds_of tables.old).file s)) }
+        (ComesSomeOn talk_rules per f (bounds_of tables.old).file s)) }
     ensures cause { IsErrOf result RunFault.Failed
         → Rose (S.state shell.old).faults (S.state shell.new).faults }
     ensures came { MatchResult result
@@ -578,9 +578,9 @@ pub fn connections<S: Shell>(
     ensures served { (s : State) → Stands (S.state shell.old) tables.old s → MatchResult result
         (λ _. LeadsOn (bounds_of tables.old).file (S.state shell.old)
         (S.state shell.new) tables.new
-        (λ t. ServedOn rules per count s t))
+        (λ t. ServedOn talk_rules per count s t))
         (λ f. Stretch (S.state shell.old) (S.state shell.new)
-        (ServedSomeOn rules per count f (bounds_of tables.old).file s)) }
+        (ServedSomeOn talk_rules per count f (bounds_of tables.old).file s)) }
     ensures cause { IsErrOf result RunFault.Failed
         → Rose (S.state shell.old).faults (S.state shell.new).faults }
     // On any disk: so many came, or fewer and then none will come; and never more.

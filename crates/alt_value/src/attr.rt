@@ -7,7 +7,7 @@ ghost use Rattle.alt_value.specs.Stands.{tree_of, pair_of};
 ghost use Rattle.alt_value.specs.Item.{IsItem, at_name, with_pair, without};
 ghost use Rattle.alt_value.specs.Members.{text_order};
 ghost use Rattle.alt_value.specs.declared.attr.Pair.{Pair as Entry};
-ghost use Rattle.alt_value.specs.Place.{StandsAt, GoesTo};
+ghost use Rattle.alt_value.specs.Place.{NameStandsAt, GoesTo};
 ghost use Rattle.alt_value.specs.Values.{IsText, IsValue, IsListOfValues, IsItemOfValues};
 
 use crate::{BytesSet, NumberSet, Text, TextSet};
@@ -272,7 +272,7 @@ impl Item {
 /// Where a name stands, or where it is to go.
 fn place(entries: &Vec<Pair>, name: &str) -> Result<usize, usize>
     requires { IsItem (map pair_of entries.now.items) }
-    ensures { MatchResult result (StandsAt name.now entries.now.items)
+    ensures { MatchResult result (NameStandsAt name.now entries.now.items)
         (GoesTo name.now entries.now.items) }
 {
     let mut low = 0;
@@ -291,7 +291,7 @@ fn place(entries: &Vec<Pair>, name: &str) -> Result<usize, usize>
 /// The same, at once for a name above all others, as names come that are read in their order.
 fn place_to_put(entries: &Vec<Pair>, name: &str) -> Result<usize, usize>
     requires { IsItem (map pair_of entries.now.items) }
-    ensures { MatchResult result (StandsAt name.now entries.now.items)
+    ensures { MatchResult result (NameStandsAt name.now entries.now.items)
         (GoesTo name.now entries.now.items) }
 {
     let count = entries.len();

@@ -8,8 +8,8 @@ use Rattle.alt_fields.specs.Bytes.{IsShort}
 use Rattle.alt_fields.specs.Field.{field, told_length}
 use Rattle.alt_fields.proofs.Apart.{field_whole, number-apart, field-apart, number_four-apart}
 use Rattle.alt_writes.specs.Writes.{AreRising, Write, past}
-use Rattle.alt_writes.specs.Bytes.{clear_byte, value_bytes, cells_bytes, change_bytes, changes_bytes, write_bytes, writes_bytes, group_bytes, IsShortValue, AreShortCells, IsHeldChange, AreHeldChanges, IsHeldWrite, AllHeld, IsHeldGroup}
-use Rattle.alt_writes.specs.Reading.{IsNoGroup, IsNoWrite, IsNone, NoNumber, NoFamily, NoField, NoFlag, NoValue, NoCells, NoChange, NoChanges, NoWrite, NoWrites, write_of, writes_of}
+use Rattle.alt_writes.specs.Bytes.{clear_byte, value_bytes, columns_bytes, change_bytes, changes_bytes, write_bytes, writes_bytes, group_bytes, IsShortValue, AreShortCells, IsHeldChange, AreHeldChanges, IsHeldWrite, AllHeld, IsHeldGroup}
+use Rattle.alt_writes.specs.Reading.{IsNoGroup, IsNoWrite, IsNone, NoNumber, NoFamilyNumber, NoField, NoFlag, NoColumnValue, NoColumns, NoChange, NoChanges, NoWrite, NoWrites, write_of, writes_of}
 use Rattle.alt_writes.specs.declared.read.LoggedWrite.{LoggedWrite}
 use Rattle.alt_writes.specs.declared.read.Stop.{Stop}
 use Rattle.alt_writes.specs.declared.read.Stop.TheVariants.{Bad, NoMemory}
@@ -29,7 +29,7 @@ no_number bytes few n behind small e =
     ap length e ∙ length-append (to_be_bytes w64 n) behind in omega arith
 
 -- or for that of a family
-pub no_family : (bytes : List ℕ) → length bytes < 4 → NoFamily bytes
+pub no_family : (bytes : List ℕ) → length bytes < 4 → NoFamilyNumber bytes
 no_family bytes few n behind small e =
     let l : length bytes ≡ 4 + length behind =
     ap length e ∙ length-append (to_be_bytes w32 n) behind in omega arith
@@ -41,13 +41,13 @@ no_field bytes few s behind short e = field_whole bytes s behind short e few
 -- ---- what a column is given
 
 -- no flag
-pub no_value-flag : (bytes : List ℕ) → NoFlag bytes → NoValue bytes
+pub no_value-flag : (bytes : List ℕ) → NoFlag bytes → NoColumnValue bytes
 no_value-flag bytes non None behind short e = non false behind e
 no_value-flag bytes non (Some v) behind short e = non true (field v ++ behind) e
 
 -- the flag of a value, and no value behind it
 pub no_value-field : (bytes rest : List ℕ) → bytes ≡ clear_byte true ∷ rest → NoField rest
-    → NoValue bytes
+    → NoColumnValue bytes
 no_value-field bytes rest is non None behind short e =
     let n : 1 ∷ rest ≡ 0 ∷ behind = sym is ∙ e in cc n
 no_value-field bytes rest is non (Some v) behind short e =
@@ -57,18 +57,18 @@ no_value-field bytes rest is non (Some v) behind short e =
 
 -- a column more
 pub cells_push : (es : List (List ℕ × Option (List ℕ))) (name : List ℕ) (v : Option (List ℕ))
-    (bytes rest flagged behind : List ℕ) → bytes ≡ cells_bytes es ++ rest
+    (bytes rest flagged behind : List ℕ) → bytes ≡ columns_bytes es ++ rest
     → rest ≡ field name ++ flagged → flagged ≡ value_bytes v ++ behind
-    → bytes ≡ cells_bytes (es ++ (name, v) ∷ []) ++ behind
+    → bytes ≡ columns_bytes (es ++ (name, v) ∷ []) ++ behind
 cells_push [] name v bytes rest flagged behind is named given =
     is ∙ named ∙ ap (λ x. field name ++ x) given
     ∙ sym (append_assoc (field name) (value_bytes v) behind)
     ∙ ap (λ x. x ++ behind) (sym (append-nil (field name ++ value_bytes v)))
 cells_push (e ∷ es) name v bytes rest flagged behind is named given =
-    is ∙ append_assoc (field e.0 ++ value_bytes e.1) (cells_bytes es) rest
+    is ∙ append_assoc (field e.0 ++ value_bytes e.1) (columns_bytes es) rest
     ∙ ap (λ x. (field e.0 ++ value_bytes e.1) ++ x)
-    (cells_push es name v (cells_bytes es ++ rest) rest flagged behind refl named given)
-    ∙ sym (append_assoc (field e.0 ++ value_bytes e.1) (cells_bytes (es ++ (name, v) ∷ [])) behind)
+    (cells_push es name v (columns_bytes es ++ rest) rest flagged behind refl named given)
+    ∙ sym (append_assoc (field e.0 ++ value_bytes e.1) (columns_bytes (es ++ (name, v) ∷ [])) behind)
 
 -- which is short, so all are
 pub short_push : (es : List (List ℕ × Option (List ℕ))) (name : List ℕ) (v : Option (List ℕ))
@@ -87,44 +87,44 @@ pub record NextCell (rest : List ℕ) : Type 0 where
 
 -- where there are more columns than were read
 pub next_cell : (done es : List (List ℕ × Option (List ℕ))) (rest y : List ℕ) → AreShortCells done
-    → AreShortCells es → length done < length es → cells_bytes done ++ rest ≡ cells_bytes es ++ y
+    → AreShortCells es → length done < length es → columns_bytes done ++ rest ≡ columns_bytes es ++ y
     → NextCell rest
 next_cell [] [] rest y h k less e = absurd (omega arith)
 next_cell [] (b ∷ es) rest y h k less e = record {
   name = b.0;
   value = b.1;
-  more = cells_bytes es ++ y;
+  more = columns_bytes es ++ y;
   short = k.0;
   given = k.1;
-  is = e ∙ append_assoc (field b.0 ++ value_bytes b.1) (cells_bytes es) y
-      ∙ append_assoc (field b.0) (value_bytes b.1) (cells_bytes es ++ y);
+  is = e ∙ append_assoc (field b.0 ++ value_bytes b.1) (columns_bytes es) y
+      ∙ append_assoc (field b.0) (value_bytes b.1) (columns_bytes es ++ y);
 }
 next_cell (a ∷ done) [] rest y h k less e = absurd (omega arith)
 next_cell (a ∷ done) (b ∷ es) rest y h k less e =
-    let name = field-apart a.0 b.0 (value_bytes a.1 ++ (cells_bytes done ++ rest))
-    (value_bytes b.1 ++ (cells_bytes es ++ y)) h.0 k.0
+    let name = field-apart a.0 b.0 (value_bytes a.1 ++ (columns_bytes done ++ rest))
+    (value_bytes b.1 ++ (columns_bytes es ++ y)) h.0 k.0
     (sym (pieces a done rest) ∙ e ∙ pieces b es y) in
-    let value = value_apart a.1 b.1 (cells_bytes done ++ rest) (cells_bytes es ++ y) h.1 k.1 name.1
+    let value = value_apart a.1 b.1 (columns_bytes done ++ rest) (columns_bytes es ++ y) h.1 k.1 name.1
     in next_cell done es rest y h.2 k.2 (omega arith) value.1
   where
     pieces : (a : List ℕ × Option (List ℕ)) (es : List (List ℕ × Option (List ℕ))) (x : List ℕ)
-        → ((field a.0 ++ value_bytes a.1) ++ cells_bytes es) ++ x
-        ≡ field a.0 ++ (value_bytes a.1 ++ (cells_bytes es ++ x))
-    pieces a es x = append_assoc (field a.0 ++ value_bytes a.1) (cells_bytes es) x
-        ∙ append_assoc (field a.0) (value_bytes a.1) (cells_bytes es ++ x)
+        → ((field a.0 ++ value_bytes a.1) ++ columns_bytes es) ++ x
+        ≡ field a.0 ++ (value_bytes a.1 ++ (columns_bytes es ++ x))
+    pieces a es x = append_assoc (field a.0 ++ value_bytes a.1) (columns_bytes es) x
+        ∙ append_assoc (field a.0) (value_bytes a.1) (columns_bytes es ++ x)
 
 module _ (count : ℕ) (done : List (List ℕ × Option (List ℕ))) (bytes rest : List ℕ)
-    (few : length done < count) (short : AreShortCells done) (is : bytes ≡ cells_bytes done ++ rest)
+    (few : length done < count) (short : AreShortCells done) (is : bytes ≡ columns_bytes done ++ rest)
   where
     -- no name behind them
-    pub no_cells-name : NoField rest → NoCells count bytes
+    pub no_cells-name : NoField rest → NoColumns count bytes
     no_cells-name non es y h n e =
         let next = next_cell done es rest y short h (omega (arith, n)) (sym is ∙ e) in
         non next.name (value_bytes next.value ++ next.more) next.short next.is
 
     -- or a name with nothing that is given
     pub no_cells-value : (name flagged : List ℕ) → IsShort name → rest ≡ field name ++ flagged
-        → NoValue flagged → NoCells count bytes
+        → NoColumnValue flagged → NoColumns count bytes
     no_cells-value name flagged short_name named non es y h n e =
         let next = next_cell done es rest y short h (omega (arith, n)) (sym is ∙ e) in
         non next.value next.more next.given
@@ -135,14 +135,14 @@ module _ (count : ℕ) (done : List (List ℕ × Option (List ℕ))) (bytes rest
 
 module _ (bytes : List ℕ) where
   -- where no family is named there is no change
-  pub no_change-family : NoFamily bytes → NoChange bytes
+  pub no_change-family : NoFamilyNumber bytes → NoChange bytes
   no_change-family non d y h e = non d.family _ h.family (e ∙ change_pieces d y)
 
   module _ (family : ℕ) (keyed : List ℕ) (small : family < 2 ^ 32)
       (is : bytes ≡ to_be_bytes w32 family ++ keyed) where
     behind_family : (d : RowChange) (y : List ℕ) → IsHeldChange d → bytes ≡ change_bytes d ++ y
         → keyed ≡ field d.key ++ (clear_byte d.clear ∷ (to_be_bytes w64 (length d.cells)
-        ++ (cells_bytes d.cells ++ y)))
+        ++ (columns_bytes d.cells ++ y)))
     behind_family d y h e = (number_four-apart family d.family keyed _ small h.family
         (sym is ∙ e ∙ change_pieces d y)).1
 
@@ -153,7 +153,7 @@ module _ (bytes : List ℕ) where
       where
         behind_key : (d : RowChange) (y : List ℕ) → IsHeldChange d → bytes ≡ change_bytes d ++ y
             → flagged ≡ clear_byte d.clear ∷ (to_be_bytes w64 (length d.cells)
-            ++ (cells_bytes d.cells ++ y))
+            ++ (columns_bytes d.cells ++ y))
         behind_key d y h e = (field-apart key d.key flagged _ short h.key
             (sym named ∙ behind_family d y h e)).1
 
@@ -163,7 +163,7 @@ module _ (bytes : List ℕ) where
         module _ (clear : Bool) (counted : List ℕ)
             (flag : flagged ≡ clear_byte clear ∷ counted) where
           behind_flag : (d : RowChange) (y : List ℕ) → IsHeldChange d → bytes ≡ change_bytes d ++ y
-              → counted ≡ to_be_bytes w64 (length d.cells) ++ (cells_bytes d.cells ++ y)
+              → counted ≡ to_be_bytes w64 (length d.cells) ++ (columns_bytes d.cells ++ y)
           behind_flag d y h e =
               (clear_apart clear d.clear counted _ (sym flag ∙ behind_key d y h e)).1
 
@@ -172,16 +172,16 @@ module _ (bytes : List ℕ) where
 
           module _ (count : ℕ) (listed : List ℕ) (fits : count < 2 ^ 64)
               (told : counted ≡ to_be_bytes w64 count ++ listed) where
-            pub no_change-cells : NoCells count listed → NoChange bytes
+            pub no_change-cells : NoColumns count listed → NoChange bytes
             no_change-cells non d y h e =
                 let parts = number-apart count (length d.cells) listed
-                (cells_bytes d.cells ++ y) fits
+                (columns_bytes d.cells ++ y) fits
                 h.count (sym told ∙ behind_flag d y h e) in
                 non d.cells y h.cells (sym parts.0) parts.1
 
             -- what was read is a change
             pub change_read : (c : RowChange) (rest : List ℕ) → c.family ≡ family → c.key ≡ key
-                → c.clear ≡ clear → length c.cells ≡ count → listed ≡ cells_bytes c.cells ++ rest
+                → c.clear ≡ clear → length c.cells ≡ count → listed ≡ columns_bytes c.cells ++ rest
                 → bytes ≡ change_bytes c ++ rest
             change_read c rest f k b n cells =
                 is ∙ (λ i. to_be_bytes w32 (sym f i) ++ (named ∙ (λ i. field (sym k i)

@@ -1,7 +1,7 @@
 use Rattle.std.proofs.Common.{[], false, refl}
 use Rattle.alt_tables.specs.Stands.{bounds_of}
 use Rattle.alt_run.specs.Turns.{asks}
-use Rattle.alt_run.specs.Runs.{AnswersSome, LeftThen}
+use Rattle.alt_run.specs.Runs.{AnswersSomeLines, LeftThen}
 use Rattle.alt_talks.specs.declared.fault.RunFault.TheVariants.{NoMemory}
 use Rattle.alt_run.proofs.Pulling.{answers_some}
 use Rattle.alt_talks.proofs.Stretching.{stretch_none}
@@ -14,7 +14,7 @@ use Rattle.alt_run.proofs.running.replay.Goals as goal
 pub returns-in_default-clause-answered : goal.returns-in_default-clause-answered
 returns-in_default-clause-answered g c = λ s stands.
     let here = g.S.Disk.state c.args.shell.now in
-    stretch_none here {P = AnswersSome NoMemory (bounds_of c.args.tables.now).file s}
+    stretch_none here {P = AnswersSomeLines NoMemory (bounds_of c.args.tables.now).file s}
     (answers_some here here NoMemory (bounds_of c.args.tables.now).file s _ _ (record {
       breaks = breaks_none NoMemory _ tt s _;
       inside = refl;

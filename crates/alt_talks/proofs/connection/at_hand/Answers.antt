@@ -2,10 +2,10 @@ use Rattle.std.proofs.Common.{◌≡◌, ◌<◌, ◌++◌, ℕ, List, arith, �
 use Rattle.alt_machine.specs.State.{State}
 use Rattle.alt_shell.specs.Log.{Log}
 use Rattle.alt_tables.specs.Stands.{bounds_of}
-use Rattle.alt_talks.specs.private.Rungs.{Timed}
+use Rattle.alt_talks.specs.private.Rungs.{KnowsLastMoment}
 use Rattle.alt_talks.specs.private.RungStops.{MovesOn, MovesAllOn, MovesSomeOn, StepsOn}
-use Rattle.alt_talks.specs.TalkRules.{rules}
-use Rattle.alt_talks.specs.private.InHand.{place_of}
+use Rattle.alt_talks.specs.TalkRules.{talk_rules}
+use Rattle.alt_talks.specs.private.InHand.{place_of_talk}
 use Rattle.alt_talks.proofs.Passing.{passes_none, passes_then, passes_back}
 use Rattle.alt_talks.proofs.TalkReach.{reach_none, reach_as, reach_then, reach_break}
 use Rattle.alt_talks.proofs.TalkWider.{moves_wider}
@@ -20,11 +20,11 @@ use Rattle.alt_talks.proofs.connection.at_hand.Goals as goal
 pub loop-talk-init : goal.loop-talk-init
 loop-talk-init g c =
     let old = g.S.Disk.state c.args.shell.now in
-    let p = place_of c.args.talk.now in
+    let p = place_of_talk c.args.talk.now in
     let l = c.args.talk.now.last in
     let m = c.args.talk.now.mute in (
-      λ s stands. reach_none old c.args.tables.now s (λ t. Timed l l (MovesOn rules p s m p t m)) stands (
-        moves_none_on rules old p s m
+      λ s stands. reach_none old c.args.tables.now s (λ t. KnowsLastMoment l l (MovesOn talk_rules p s m p t m)) stands (
+        moves_none_on talk_rules old p s m
             (λ trusted image is. stands_left old c.args.tables.now s stands image is),
         refl,
       ),
@@ -40,9 +40,9 @@ loop-talk-preserved g c =
     let a = state c.args.shell.now in
     let b = state c.loop-talk.shell in
     let d = state c.one.new.shell in
-    let p = place_of c.args.talk.now in
-    let q = place_of c.loop-talk.talk in
-    let v = place_of c.one.new.talk in
+    let p = place_of_talk c.args.talk.now in
+    let q = place_of_talk c.loop-talk.talk in
+    let v = place_of_talk c.one.new.talk in
     let m = c.args.talk.now.mute in
     let n = c.loop-talk.talk.mute in
     let o = c.one.new.talk.mute in
@@ -52,11 +52,11 @@ loop-talk-preserved g c =
     let going : 0 < c.loop-talk.talk.left = grind arith in
     let inv = c.loop-talk.invariant in (
       λ s stands. reach_then a b d (bounds_of c.args.tables.now).file c.loop-talk.tables c.one.new.tables
-          (λ t. Timed l k (MovesOn rules p s m q t n))
-          (λ t u. Timed k h (StepsOn rules c.in-Ok-true.field-0 q t n v u o))
-          (λ u. Timed l h (MovesOn rules p s m v u o))
+          (λ t. KnowsLastMoment l k (MovesOn talk_rules p s m q t n))
+          (λ t u. KnowsLastMoment k h (StepsOn talk_rules c.in-Ok-true.field-0 q t n v u o))
+          (λ u. KnowsLastMoment l h (MovesOn talk_rules p s m v u o))
           (λ (t u : State) (es fs : Log) (ms ns : List ℕ) meet x y. (
-            moves_then_on rules lawful a b d p q v s t u m n o es fs ms ns meet going x.0
+            moves_then_on talk_rules lawful a b d p q v s t u m n o es fs ms ns meet going x.0
                 (y.0.0.moves, y.0.1),
             told_both l k h ms ns x.1 y.1,
           ))
@@ -73,9 +73,9 @@ returns-in-Ok-false-clause-moved g c = λ s stands.
     let a = state c.args.shell.now in
     let b = state c.loop-talk.shell in
     let d = state c.one.new.shell in
-    let p = place_of c.args.talk.now in
-    let q = place_of c.loop-talk.talk in
-    let v = place_of c.one.new.talk in
+    let p = place_of_talk c.args.talk.now in
+    let q = place_of_talk c.loop-talk.talk in
+    let v = place_of_talk c.one.new.talk in
     let m = c.args.talk.now.mute in
     let n = c.loop-talk.talk.mute in
     let o = c.one.new.talk.mute in
@@ -84,13 +84,13 @@ returns-in-Ok-false-clause-moved g c = λ s stands.
     let h = c.one.new.talk.last in
     let going : 0 < c.loop-talk.talk.left = grind arith in
     reach_then a b d (bounds_of c.args.tables.now).file c.loop-talk.tables c.one.new.tables
-    (λ t. Timed l k (MovesOn rules p s m q t n))
-    (λ t u. Timed k h (StepsOn rules c.in-Ok-false.field-0 q t n v u o))
-    (λ u. Timed l h (MovesAllOn rules p s m v u o))
+    (λ t. KnowsLastMoment l k (MovesOn talk_rules p s m q t n))
+    (λ t u. KnowsLastMoment k h (StepsOn talk_rules c.in-Ok-false.field-0 q t n v u o))
+    (λ u. KnowsLastMoment l h (MovesAllOn talk_rules p s m v u o))
     (λ (t u : State) (es fs : Log) (ms ns : List ℕ) meet x y.
     let rest = y.0.0.rests c.in-Ok-false.field-0-test in (
-      moves_all_on rules lawful a d p v s u m o (es ++ fs) (ms ++ ns) rest.0 rest.1
-          (moves_then_on rules lawful a b d p q v s t u m n o es fs ms ns meet going x.0
+      moves_all_on talk_rules lawful a d p v s u m o (es ++ fs) (ms ++ ns) rest.0 rest.1
+          (moves_then_on talk_rules lawful a b d p q v s t u m n o es fs ms ns meet going x.0
           (y.0.0.moves, y.0.1)),
       told_both l k h ms ns x.1 y.1,
     ))
@@ -102,20 +102,20 @@ returns-in-Err-clause-moved g c = λ s stands.
     let a = state c.args.shell.now in
     let b = state c.loop-talk.shell in
     let d = state c.one.new.shell in
-    let p = place_of c.args.talk.now in
-    let q = place_of c.loop-talk.talk in
+    let p = place_of_talk c.args.talk.now in
+    let q = place_of_talk c.loop-talk.talk in
     let m = c.args.talk.now.mute in
     let n = c.loop-talk.talk.mute in
     let fault = c.in-Err.fault in
     let next = (bounds_of c.args.tables.now).file in
     let going : 0 < c.loop-talk.talk.left = grind arith in
     reach_break a b d next c.loop-talk.tables
-    (λ t. Timed c.args.talk.now.last c.loop-talk.talk.last (MovesOn rules p s m q t n))
-    (λ k t. MovesSomeOn rules fault k q t n)
-    (MovesSomeOn rules fault next p s m)
-    (λ k l t es ms le x. moves_wider rules fault b d k l t es ms le q n x)
+    (λ t. KnowsLastMoment c.args.talk.now.last c.loop-talk.talk.last (MovesOn talk_rules p s m q t n))
+    (λ k t. MovesSomeOn talk_rules fault k q t n)
+    (MovesSomeOn talk_rules fault next p s m)
+    (λ k l t es ms le x. moves_wider talk_rules fault b d k l t es ms le q n x)
     (λ (t : State) (es fs : Log) (ms ns : List ℕ) meet x y.
-    moves_break_on rules lawful a b d fault next p q s t m n es fs ms ns meet going x.0 y)
+    moves_break_on talk_rules lawful a b d fault next p q s t m n es fs ms ns meet going x.0 y)
     (c.loop-talk.invariant.0 s stands) c.in-Err.ensures.stepped
 
 pub returns-clause-moved : goal.returns-clause-moved
@@ -123,18 +123,18 @@ returns-clause-moved g c = λ s stands.
     let state = g.S.Disk.state in
     let a = state c.args.shell.now in
     let b = state c.loop-talk.shell in
-    let p = place_of c.args.talk.now in
-    let q = place_of c.loop-talk.talk in
+    let p = place_of_talk c.args.talk.now in
+    let q = place_of_talk c.loop-talk.talk in
     let m = c.args.talk.now.mute in
     let n = c.loop-talk.talk.mute in
     let none : c.loop-talk.talk.left ≡ 0 = grind arith in
-    let rest = rests_at_end rules q none in
+    let rest = rests_at_end talk_rules q none in
     let l = c.args.talk.now.last in
     let k = c.loop-talk.talk.last in
-    reach_as a b (bounds_of c.args.tables.now).file c.loop-talk.tables (λ t. Timed l k (MovesOn rules p s m q t n))
-    (λ t. Timed l k (MovesAllOn rules p s m q t n))
+    reach_as a b (bounds_of c.args.tables.now).file c.loop-talk.tables (λ t. KnowsLastMoment l k (MovesOn talk_rules p s m q t n))
+    (λ t. KnowsLastMoment l k (MovesAllOn talk_rules p s m q t n))
     (λ (t : State) (es : Log) (ms : List ℕ) x.
-    (moves_all_on rules lawful a b p q s t m n es ms rest.0 rest.1 x.0, x.1))
+    (moves_all_on talk_rules lawful a b p q s t m n es ms rest.0 rest.1 x.0, x.1))
     (c.loop-talk.invariant.0 s stands)
 
 pub one-requires-clause-ready : goal.one-requires-clause-ready

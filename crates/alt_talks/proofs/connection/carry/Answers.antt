@@ -3,10 +3,10 @@ use Rattle.alt_machine.specs.State.{State}
 use Rattle.alt_shell.specs.Log.{Log}
 use Rattle.alt_tables.specs.Stands.{bounds_of}
 use Rattle.alt_talks.specs.Runs.{Stretch}
-use Rattle.alt_talks.specs.private.Rungs.{Timed}
-use Rattle.alt_talks.specs.TalkRules.{rules}
+use Rattle.alt_talks.specs.private.Rungs.{KnowsLastMoment}
+use Rattle.alt_talks.specs.TalkRules.{talk_rules}
 use Rattle.alt_talks.specs.private.RungStops.{AnswersOn, AnswersSomeOn, CarriesOn}
-use Rattle.alt_talks.specs.private.InHand.{place_of, head_in, asking}
+use Rattle.alt_talks.specs.private.InHand.{place_of_talk, head_in, asking}
 use Rattle.alt_talks.specs.Talks.{asked, at, Request}
 use Rattle.alt_talks.proofs.Stepping.{asking_same, left_at}
 use Rattle.alt_talks.proofs.TalkReach.{reach_as}
@@ -17,7 +17,7 @@ returns-clause-carried g c = λ s stands.
     let state = g.S.Disk.state in
     let a = state c.args.shell.now in
     let d = state c.respond.new.shell in
-    let p = place_of c.args.talk.now in
+    let p = place_of_talk c.args.talk.now in
     let h = head_in c.args.head.now in
     let m = c.args.talk.now.mute in
     let n = c.respond.new.mute in
@@ -29,10 +29,10 @@ returns-clause-carried g c = λ s stands.
     let same = asking_same h p.bytes c.as_slice.result.now body p.left last
     c.as_slice.ensures.same c.body_in.ensures c.is_last-last.ensures in
     reach_as a d (bounds_of c.args.tables.now).file c.respond.new.tables
-    (λ t. Timed before behind (AnswersOn rules s m (asked (asking h.target body last) ∷ []) t n))
-    (λ t. Timed before behind (CarriesOn rules h p s m q t n))
+    (λ t. KnowsLastMoment before behind (AnswersOn talk_rules s m (asked (asking h.target body last) ∷ []) t n))
+    (λ t. KnowsLastMoment before behind (CarriesOn talk_rules h p s m q t n))
     (λ (t : State) (es : Log) (ms : List ℕ) x.
-    let y = subst (λ (r : Request). AnswersOn rules s m (asked r ∷ []) t n a d es ms) same x.0 in (
+    let y = subst (λ (r : Request). AnswersOn talk_rules s m (asked r ∷ []) t n a d es ms) same x.0 in (
       (
         record {
           answers = y.0;
@@ -50,7 +50,7 @@ returns-in-Err-clause-carried g c = λ s stands.
     let state = g.S.Disk.state in
     let a = state c.args.shell.now in
     let d = state c.respond.new.shell in
-    let p = place_of c.args.talk.now in
+    let p = place_of_talk c.args.talk.now in
     let h = head_in c.args.head.now in
     let m = c.args.talk.now.mute in
     let body = c.body_in.result.now in
@@ -59,7 +59,7 @@ returns-in-Err-clause-carried g c = λ s stands.
     let next = (bounds_of c.args.tables.now).file in
     let same = asking_same h p.bytes c.as_slice.result.now body p.left last
     c.as_slice.ensures.same c.body_in.ensures c.is_last-last.ensures in
-    subst (λ (r : Request). Stretch a d (AnswersSomeOn rules fault next s m (asked r ∷ [])))
+    subst (λ (r : Request). Stretch a d (AnswersSomeOn talk_rules fault next s m (asked r ∷ [])))
     same (c.in-Err.ensures.answered s stands)
 
 pub returns-clause-none : goal.returns-clause-none

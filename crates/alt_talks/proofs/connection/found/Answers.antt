@@ -5,12 +5,12 @@ use Rattle.alt_tables.proofs.Left.{stands_left}
 use Rattle.alt_tables.specs.Stands.{bounds_of}
 use Rattle.alt_talks.specs.Faults.{reach}
 use Rattle.alt_talks.specs.Runs.{Counting}
-use Rattle.alt_talks.specs.private.Rungs.{Timed}
-use Rattle.alt_talks.specs.TalkRules.{rules}
+use Rattle.alt_talks.specs.private.Rungs.{KnowsLastMoment}
+use Rattle.alt_talks.specs.TalkRules.{talk_rules}
 use Rattle.alt_talks.specs.private.RungStops.{AnswersOn, CarriesOn, CarriesSomeOn, MovesSomeOn, StepsOn}
 use Rattle.alt_talks.specs.TalkViews.{scanned}
-use Rattle.alt_talks.specs.private.InHand.{place_of, head_in}
-use Rattle.alt_talks.specs.Talks.{greets, good, at, is_whole}
+use Rattle.alt_talks.specs.private.InHand.{place_of_talk, head_in}
+use Rattle.alt_talks.specs.Talks.{greets, good, at, is_request_whole}
 use Rattle.alt_talks.proofs.FileFaults.{reach_behind, reach_least}
 use Rattle.alt_talks.proofs.TalkWider.{answers_wider}
 use Rattle.alt_talks.proofs.Stretching.{stretch_as, stretch_then}
@@ -26,30 +26,30 @@ returns-then-not-is_whole-clause-stepped g c = λ s stands.
     let state = g.S.Disk.state in
     let a = state c.args.shell.now in
     let b = state c.hello.new.shell in
-    let p = place_of c.args.talk.now in
+    let p = place_of_talk c.args.talk.now in
     let m = c.args.talk.now.mute in
     let n = c.hello.new.mute in
     let h = head_in c.args.head in
     let l = c.args.talk.now.last in
-    let w : is_whole h p.bytes ≡ false =
+    let w : is_request_whole h p.bytes ≡ false =
     ap (nat_le (h.taken + h.length)) (sym c.len.ensures)
     ∙ sym c.is_whole.ensures ∙ c.if-not-is_whole.true in
-    let e : rules.scan p.bytes ≡ good h = rules-scan p.bytes ∙ ap scanned c.requires.head in
+    let e : talk_rules.scan p.bytes ≡ good h = rules-scan p.bytes ∙ ap scanned c.requires.head in
     let next = (bounds_of c.args.tables.now).file in
     record {
       to = s;
       stands = stands_kept a b c.hello.ensures.keeps c.args.tables.now s stands;
-      calls = stretch_as a b {P = Timed l l (AnswersOn rules s m (greets p.greeted h.expect) s n)}
-          {Q = Counting next next (Timed l l
-          (StepsOn rules false p s m (at p.left c.either-talk.result c.keep.new.self) s n))}
+      calls = stretch_as a b {P = KnowsLastMoment l l (AnswersOn talk_rules s m (greets p.greeted h.expect) s n)}
+          {Q = Counting next next (KnowsLastMoment l l
+          (StepsOn talk_rules false p s m (at p.left c.either-talk.result c.keep.new.self) s n))}
           (λ (es : Log) (ms : List ℕ) within x. (
             (
               subst (λ (bs : List ℕ).
-                  StepsOn rules false p s m (at p.left c.either-talk.result bs) s n a b es ms)
+                  StepsOn talk_rules false p s m (at p.left c.either-talk.result bs) s n a b es ms)
                   (sym c.keep.ensures.stays)
-                  (subst (λ (v : Bool). StepsOn rules false p s m (at p.left v p.bytes) s n a b es ms)
+                  (subst (λ (v : Bool). StepsOn talk_rules false p s m (at p.left v p.bytes) s n a b es ms)
                   (sym c.either-talk.ensures)
-                  (steps_short_on rules lawful a b p h s s m n es ms c.requires.going e w x.0)),
+                  (steps_short_on talk_rules lawful a b p h s s m n es ms c.requires.going e w x.0)),
               x.1,
             ),
             reach_least next ms,
@@ -64,17 +64,17 @@ returns-in-Ok-clause-stepped g c = λ s stands.
     let a = state c.args.shell.now in
     let b = state c.hello.new.shell in
     let d = state c.carry.new.shell in
-    let p = place_of c.args.talk.now in
-    let q = place_of c.carry.new.talk in
+    let p = place_of_talk c.args.talk.now in
+    let q = place_of_talk c.carry.new.talk in
     let m = c.args.talk.now.mute in
     let n = c.hello.new.mute in
     let o = c.carry.new.talk.mute in
     let h = head_in c.args.head in
     let l = c.args.talk.now.last in
-    let w : is_whole h p.bytes ≡ true =
+    let w : is_request_whole h p.bytes ≡ true =
     ap (nat_le (h.taken + h.length)) (sym c.len.ensures)
     ∙ sym c.is_whole.ensures ∙ c.if-not-is_whole.false in
-    let e : rules.scan p.bytes ≡ good h = rules-scan p.bytes ∙ ap scanned c.requires.head in
+    let e : talk_rules.scan p.bytes ≡ good h = rules-scan p.bytes ∙ ap scanned c.requires.head in
     let last = c.carry.new.talk.last in
     let carried = c.in-Ok.ensures.carried s
     (stands_kept a b c.hello.ensures.keeps c.args.tables.now s stands) in
@@ -84,16 +84,16 @@ returns-in-Ok-clause-stepped g c = λ s stands.
       to = carried.to;
       stands = carried.stands;
       calls = stretch_then a b d
-          {P = Timed l l (AnswersOn rules s m (greets p.greeted h.expect) s n)}
-          {Q = Counting next k (Timed l last
-          (CarriesOn rules h (at p.left c.either-talk.result p.bytes) s n q carried.to o))}
-          {R = Counting next k (Timed l last (StepsOn rules true p s m q carried.to o))}
+          {P = KnowsLastMoment l l (AnswersOn talk_rules s m (greets p.greeted h.expect) s n)}
+          {Q = Counting next k (KnowsLastMoment l last
+          (CarriesOn talk_rules h (at p.left c.either-talk.result p.bytes) s n q carried.to o))}
+          {R = Counting next k (KnowsLastMoment l last (StepsOn talk_rules true p s m q carried.to o))}
           (λ (es fs : Log) (ms ns : List ℕ) meet x y. (
             (
-              steps_whole_on rules lawful a b d p h s s carried.to m n o es fs ms ns meet
+              steps_whole_on talk_rules lawful a b d p h s s carried.to m n o es fs ms ns meet
                   c.requires.going e w x.0 q
                   (subst (λ (v : Bool).
-                  CarriesOn rules h (at p.left v p.bytes) s n q carried.to o b d fs ns)
+                  CarriesOn talk_rules h (at p.left v p.bytes) s n q carried.to o b d fs ns)
                   c.either-talk.ensures y.0.0),
               told_both l l last ms ns x.1 y.0.1,
             ),
@@ -110,25 +110,25 @@ returns-clause-stepped g c = λ s stands.
     let a = state c.args.shell.now in
     let b = state c.hello.new.shell in
     let d = state c.carry.new.shell in
-    let p = place_of c.args.talk.now in
+    let p = place_of_talk c.args.talk.now in
     let m = c.args.talk.now.mute in
     let n = c.hello.new.mute in
     let h = head_in c.args.head in
     let l = c.args.talk.now.last in
     let fault = c.in-Err.fault in
     let next = (bounds_of c.args.tables.now).file in
-    let w : is_whole h p.bytes ≡ true =
+    let w : is_request_whole h p.bytes ≡ true =
     ap (nat_le (h.taken + h.length)) (sym c.len.ensures)
     ∙ sym c.is_whole.ensures ∙ c.if-not-is_whole.false in
-    let e : rules.scan p.bytes ≡ good h = rules-scan p.bytes ∙ ap scanned c.requires.head in
+    let e : talk_rules.scan p.bytes ≡ good h = rules-scan p.bytes ∙ ap scanned c.requires.head in
     stretch_then a b d
-    {P = Timed l l (AnswersOn rules s m (greets p.greeted h.expect) s n)}
-    {Q = CarriesSomeOn rules fault next h (at p.left c.either-talk.result p.bytes) s n}
-    {R = MovesSomeOn rules fault next p s m}
+    {P = KnowsLastMoment l l (AnswersOn talk_rules s m (greets p.greeted h.expect) s n)}
+    {Q = CarriesSomeOn talk_rules fault next h (at p.left c.either-talk.result p.bytes) s n}
+    {R = MovesSomeOn talk_rules fault next p s m}
     (λ (es fs : Log) (ms ns : List ℕ) meet x y.
-    some_whole_on rules lawful a b d p h s s s m n n es fs ms ns meet c.requires.going
+    some_whole_on talk_rules lawful a b d p h s s s m n n es fs ms ns meet c.requires.going
     e w x.0 fault next
-    (answers_wider rules fault b d next (reach next ms) s fs ns (reach_least next ms) n _ y))
+    (answers_wider talk_rules fault b d next (reach next ms) s fs ns (reach_least next ms) n _ y))
     (c.hello.ensures.greeted s l
     (λ trusted image is. stands_left a c.args.tables.now s stands image is))
     (c.in-Err.ensures.carried s

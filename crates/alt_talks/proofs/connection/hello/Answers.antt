@@ -1,9 +1,9 @@
 use Rattle.std.proofs.Common.{List, ℕ, [], refl, sym, subst}
 use Rattle.alt_shell.specs.Log.{Log}
 use Rattle.alt_talks.specs.Runs.{Stretch}
-use Rattle.alt_talks.specs.private.Rungs.{Timed, Utters}
+use Rattle.alt_talks.specs.private.Rungs.{KnowsLastMoment, Utters}
 use Rattle.alt_talks.specs.Stops.{AreWithin, AtEach}
-use Rattle.alt_talks.specs.TalkRules.{rules}
+use Rattle.alt_talks.specs.TalkRules.{talk_rules}
 use Rattle.alt_talks.specs.TalkStops.{LeftOn}
 use Rattle.alt_talks.specs.private.RungStops.{AnswersOn}
 use Rattle.alt_talks.specs.Talks.{greets, Turn}
@@ -20,11 +20,11 @@ returns-then-not-expect-clause-greeted g c = λ s last here.
     let a = g.S.Disk.state c.args.shell.now in
     let m = c.args.mute.now in
     let none = greets_off c.args.greeted c.args.expect c.if-not-expect.true in
-    stretch_none a {P = Timed last last (AnswersOn rules s m (greets c.args.greeted c.args.expect) s m)} (
+    stretch_none a {P = KnowsLastMoment last last (AnswersOn talk_rules s m (greets c.args.greeted c.args.expect) s m)} (
       (
-        answers_nothing rules s m _ none,
-        subst (λ (ts : List Turn). AtEach a a (LeftOn rules s ts [] [])) (sym none)
-            (none_on rules a s here),
+        answers_nothing talk_rules s m _ none,
+        subst (λ (ts : List Turn). AtEach a a (LeftOn talk_rules s ts [] [])) (sym none)
+            (none_on talk_rules a s here),
       ),
       refl,
     )
@@ -34,11 +34,11 @@ returns-then-greeted-clause-greeted g c = λ s last here.
     let a = g.S.Disk.state c.args.shell.now in
     let m = c.args.mute.now in
     let none = greets_done c.args.greeted c.args.expect c.if-greeted.true in
-    stretch_none a {P = Timed last last (AnswersOn rules s m (greets c.args.greeted c.args.expect) s m)} (
+    stretch_none a {P = KnowsLastMoment last last (AnswersOn talk_rules s m (greets c.args.greeted c.args.expect) s m)} (
       (
-        answers_nothing rules s m _ none,
-        subst (λ (ts : List Turn). AtEach a a (LeftOn rules s ts [] [])) (sym none)
-            (none_on rules a s here),
+        answers_nothing talk_rules s m _ none,
+        subst (λ (ts : List Turn). AtEach a a (LeftOn talk_rules s ts [] [])) (sym none)
+            (none_on talk_rules a s here),
       ),
       refl,
     )
@@ -50,10 +50,10 @@ returns-clause-greeted g c = λ s last here.
     let b = state c.utter.new.shell in
     let m = c.args.mute.now in
     let n = c.utter.new.mute in
-    stretch_as a b {P = λ _ _. Utters m rules.greeting n}
-    {Q = Timed last last (AnswersOn rules s m (greets c.args.greeted c.args.expect) s n)}
+    stretch_as a b {P = λ _ _. Utters m talk_rules.greeting n}
+    {Q = KnowsLastMoment last last (AnswersOn talk_rules s m (greets c.args.greeted c.args.expect) s n)}
     (λ (es : Log) (ms : List ℕ) (within : AreWithin a.moment b.moment es) u. (
-      greets_on rules lawful a b s m n c.args.greeted c.args.expect c.if-not-expect.false
+      greets_on talk_rules lawful a b s m n c.args.greeted c.args.expect c.if-not-expect.false
           c.if-greeted.false es ms within here c.utter.ensures.keeps u,
       told_none last ms u.timeless,
     ))

@@ -10,10 +10,10 @@ use Rattle.alt_tables.specs.Stands.{Stands, bounds_of}
 use Rattle.alt_talks.specs.TalkStops.{deeds}
 use Rattle.alt_talks.specs.private.RungStops.{AnswersOn, AnswersSomeOn, MovesSomeOn, StepsOn}
 use Rattle.alt_talks.specs.Runs.{Counting, LeadsOn, Stretch}
-use Rattle.alt_talks.specs.private.Rungs.{Timed}
-use Rattle.alt_talks.specs.TalkRules.{rules}
+use Rattle.alt_talks.specs.private.Rungs.{KnowsLastMoment}
+use Rattle.alt_talks.specs.TalkRules.{talk_rules}
 use Rattle.alt_talks.specs.TalkViews.{scanned}
-use Rattle.alt_talks.specs.private.InHand.{place_of}
+use Rattle.alt_talks.specs.private.InHand.{place_of_talk}
 use Rattle.alt_talks.specs.Talks.{refused, unread, bad, at, turns}
 use Rattle.alt_talks.proofs.Stopping.{stands_kept}
 use Rattle.alt_tables.proofs.Left.{stands_left}
@@ -31,30 +31,30 @@ use Rattle.alt_talks.proofs.connection.one.Goals as goal
 
 pub returns-in-Err-clause-stepped : goal.returns-in-Err-clause-stepped
 returns-in-Err-clause-stepped g c = λ s stands.
-    let p = place_of c.args.talk.now in
+    let p = place_of_talk c.args.talk.now in
     let m = c.args.talk.now.mute in
     let a = g.S.Disk.state c.args.shell.now in
     let next = (bounds_of c.args.tables.now).file in
-    stretch_none a {P = MovesSomeOn rules NoMemory next p s m} (
-      moves_some rules NoMemory next p s m [] [] _ [] (sym (append-nil _)) (answers_some_none rules next s m _),
-      left_nothing a s (deeds rules s (turns rules p.left p.greeted p.bytes) [])
-          (deeds_say rules lawful s (turns rules p.left p.greeted p.bytes) [])
+    stretch_none a {P = MovesSomeOn talk_rules NoMemory next p s m} (
+      moves_some talk_rules NoMemory next p s m [] [] _ [] (sym (append-nil _)) (answers_some_none talk_rules next s m _),
+      left_nothing a s (deeds talk_rules s (turns talk_rules p.left p.greeted p.bytes) [])
+          (deeds_say talk_rules lawful s (turns talk_rules p.left p.greeted p.bytes) [])
           (λ trusted image is. stands_left a c.args.tables.now s stands image is),
     )
 
 pub returns-in-More-clause-stepped : goal.returns-in-More-clause-stepped
 returns-in-More-clause-stepped g c = λ s stands.
     let a = g.S.Disk.state c.args.shell.now in
-    let p = place_of c.args.talk.now in
+    let p = place_of_talk c.args.talk.now in
     let m = c.args.talk.now.mute in
-    let e : rules.scan p.bytes ≡ unread =
+    let e : talk_rules.scan p.bytes ≡ unread =
     rules-scan p.bytes ∙ ap scanned (sym c.in-Ok.ensures.answer ∙ c.in-More.is) in
     let after = at p.left p.greeted c.scan.new.self in
     let l = c.args.talk.now.last in
-    reach_none a c.args.tables.now s (λ t. Timed l l (StepsOn rules false p s m after t m)) stands (
-      subst (λ (bs : List ℕ). StepsOn rules false p s m (at p.left p.greeted bs) s m a a [] [])
+    reach_none a c.args.tables.now s (λ t. KnowsLastMoment l l (StepsOn talk_rules false p s m after t m)) stands (
+      subst (λ (bs : List ℕ). StepsOn talk_rules false p s m (at p.left p.greeted bs) s m a a [] [])
           (sym c.in-Ok.ensures.stays)
-          (steps_unread_on rules a p s m e
+          (steps_unread_on talk_rules a p s m e
           (λ trusted image is. stands_left a c.args.tables.now s stands image is)),
       refl,
     )
@@ -76,17 +76,17 @@ returns-in-Err-refuse-clause-stepped g c = λ s stands.
     let state = g.S.Disk.state in
     let a = state c.args.shell.now in
     let b = state c.refuse.new.shell in
-    let p = place_of c.args.talk.now in
+    let p = place_of_talk c.args.talk.now in
     let m = c.args.talk.now.mute in
     let k = c.in-Refused.number in
     let fault = c.in-Err-refuse.fault in
-    let e : rules.scan p.bytes ≡ bad k =
+    let e : talk_rules.scan p.bytes ≡ bad k =
     rules-scan p.bytes ∙ ap scanned (sym c.in-Ok.ensures.answer ∙ c.in-Refused.is) in
     let next = (bounds_of c.args.tables.now).file in
-    stretch_as a b {P = AnswersSomeOn rules fault next s m (refused k ∷ [])}
-    {Q = MovesSomeOn rules fault next p s m}
-    (λ (es : Log) (ms : List ℕ) within x. moves_some_on rules lawful a b fault next p s m es ms
-    (refused k ∷ []) [] (at_bad rules p.left p.greeted p.bytes k c.requires.going e).0 x)
+    stretch_as a b {P = AnswersSomeOn talk_rules fault next s m (refused k ∷ [])}
+    {Q = MovesSomeOn talk_rules fault next p s m}
+    (λ (es : Log) (ms : List ℕ) within x. moves_some_on talk_rules lawful a b fault next p s m es ms
+    (refused k ∷ []) [] (at_bad talk_rules p.left p.greeted p.bytes k c.requires.going e).0 x)
     (c.in-Err-refuse.ensures.answered s
     (λ trusted image is. stands_left a c.args.tables.now s stands image is) next)
 
@@ -95,26 +95,26 @@ returns-in-Ok-refuse-clause-stepped g c = λ s stands.
     let state = g.S.Disk.state in
     let a = state c.args.shell.now in
     let b = state c.refuse.new.shell in
-    let p = place_of c.args.talk.now in
+    let p = place_of_talk c.args.talk.now in
     let m = c.args.talk.now.mute in
     let n = c.refuse.new.mute in
     let l = c.args.talk.now.last in
     let h = c.refuse.new.last in
     let k = c.in-Refused.number in
-    let e : rules.scan p.bytes ≡ bad k =
+    let e : talk_rules.scan p.bytes ≡ bad k =
     rules-scan p.bytes ∙ ap scanned (sym c.in-Ok.ensures.answer ∙ c.in-Refused.is) in
     let next = (bounds_of c.args.tables.now).file in
     record {
       to = s;
       stands = stands_kept a b c.in-Ok-refuse.ensures.keeps c.args.tables.now s stands;
-      calls = stretch_as a b {P = Timed l h (AnswersOn rules s m (refused k ∷ []) s n)}
+      calls = stretch_as a b {P = KnowsLastMoment l h (AnswersOn talk_rules s m (refused k ∷ []) s n)}
           {Q = Counting next next
-          (Timed l h (StepsOn rules true p s m (at 0 p.greeted c.scan.new.self) s n))}
+          (KnowsLastMoment l h (StepsOn talk_rules true p s m (at 0 p.greeted c.scan.new.self) s n))}
           (λ (es : Log) (ms : List ℕ) within x. (
             (
-              subst (λ (bs : List ℕ). StepsOn rules true p s m (at 0 p.greeted bs) s n a b es ms)
+              subst (λ (bs : List ℕ). StepsOn talk_rules true p s m (at 0 p.greeted bs) s n a b es ms)
                   (sym c.in-Ok.ensures.stays)
-                  (steps_bad_on rules lawful a b p s s m n k es ms c.requires.going e x.0),
+                  (steps_bad_on talk_rules lawful a b p s s m n k es ms c.requires.going e x.0),
               x.1,
             ),
             reach_least next ms,
@@ -137,16 +137,16 @@ returns-in-Head-clause-stepped g c =
     let state = g.S.Disk.state in
     let a = state c.args.shell.now in
     let b = state c.found.new.shell in
-    let p = place_of c.args.talk.now in
-    let q = place_of c.found.new.talk in
+    let p = place_of_talk c.args.talk.now in
+    let q = place_of_talk c.found.new.talk in
     let m = c.args.talk.now.mute in
     let n = c.found.new.talk.mute in
     let next = (bounds_of c.args.tables.now).file in
     subst (λ (bs : List ℕ). (s : State) → Stands a c.args.tables.now s → MatchResult c.found.result
     (λ more. LeadsOn next a b c.found.new.tables
-    (λ t. Timed c.args.talk.now.last c.found.new.talk.last
-    (StepsOn rules more (at p.left p.greeted bs) s m q t n)))
-    (λ f. Stretch a b (MovesSomeOn rules f next (at p.left p.greeted bs) s m)))
+    (λ t. KnowsLastMoment c.args.talk.now.last c.found.new.talk.last
+    (StepsOn talk_rules more (at p.left p.greeted bs) s m q t n)))
+    (λ f. Stretch a b (MovesSomeOn talk_rules f next (at p.left p.greeted bs) s m)))
     c.in-Ok.ensures.stays c.found.ensures.stepped
 
 pub returns-in-Err-clause-none : goal.returns-in-Err-clause-none

@@ -1,9 +1,9 @@
 use Rattle.std.proofs.Common.{◌∙◌, List, ℕ, [], ◌∷◌, Some, true, Bool, refl, sym, subst}
 use Rattle.alt_shell.specs.Log.{Log}
 use Rattle.alt_talks.specs.Runs.{Stretch}
-use Rattle.alt_talks.specs.private.Rungs.{Timed, Utters}
+use Rattle.alt_talks.specs.private.Rungs.{KnowsLastMoment, Utters}
 use Rattle.alt_talks.specs.Stops.{AreWithin}
-use Rattle.alt_talks.specs.TalkRules.{rules}
+use Rattle.alt_talks.specs.TalkRules.{talk_rules}
 use Rattle.alt_talks.specs.private.RungStops.{AnswersOn, AnswersSomeOn}
 use Rattle.alt_talks.specs.Talks.{refused}
 use Rattle.alt_talks.specs.declared.fault.RunFault.TheVariants.{NoMemory}
@@ -21,11 +21,11 @@ returns-then-mute-clause-answered g c = λ s here.
     let a = g.S.Disk.state c.args.shell.now in
     let k = c.args.number in
     let l = c.args.last.now in
-    subst (λ (m : Bool). Stretch a a (Timed l l (AnswersOn rules s m (refused k ∷ []) s m)))
+    subst (λ (m : Bool). Stretch a a (KnowsLastMoment l l (AnswersOn talk_rules s m (refused k ∷ []) s m)))
     (sym c.if-mute.true)
-    (stretch_none a {P = Timed l l (AnswersOn rules s true (refused k ∷ []) s true)} (
+    (stretch_none a {P = KnowsLastMoment l l (AnswersOn talk_rules s true (refused k ∷ []) s true)} (
       (
-        record { does = does_refused_mute rules s k; quiet = quiet_none },
+        record { does = does_refused_mute talk_rules s k; quiet = quiet_none },
         left_nothing a s [] tt here,
       ),
       refl,
@@ -44,10 +44,10 @@ returns-in-Ok-clause-answered g c = λ s here.
     let keeps = c.now-moment.ensures.call.keeps in
     let same = c.deref.ensures.value ∙ c.in-Ok.ensures ∙ sym (rules-refusal k at) in
     told_then a b d {Q = λ _ _. Utters m c.deref.result.now n}
-    {R = Timed c.args.last.now (Some at) (AnswersOn rules s m (refused k ∷ []) s n)} at
+    {R = KnowsLastMoment c.args.last.now (Some at) (AnswersOn talk_rules s m (refused k ∷ []) s n)} at
     c.now-moment.ensures.log c.now-moment.ensures.told keeps.later (trusts-kept a b keeps)
     (λ (fs : Log) (ns : List ℕ) (within : AreWithin b.moment d.moment fs) u. (
-      refused_on rules lawful a b d s m n k at fs ns c.if-mute.false c.now-moment.ensures.call
+      refused_on talk_rules lawful a b d s m n k at fs ns c.if-mute.false c.now-moment.ensures.call
           c.utter.ensures.keeps here within
           (subst (λ (bs : List ℕ). Utters m bs n fs ns) same u),
       told_one c.args.last.now at ns u.timeless,
@@ -63,10 +63,10 @@ returns-in-Err-clause-answered g c = λ s here next.
     let at = c.now-moment.result in
     let k = c.args.number in
     let keeps = c.now-moment.ensures.call.keeps in
-    told_alone a b {R = AnswersSomeOn rules NoMemory next s m (refused k ∷ [])} at
+    told_alone a b {R = AnswersSomeOn talk_rules NoMemory next s m (refused k ∷ [])} at
     c.now-moment.ensures.log c.now-moment.ensures.told keeps.later (trusts-kept a b keeps) (
-      some_refused rules next s m k at [] (at ∷ []) (record { nothing = refl; one = refl }),
-      left_untold rules lawful a b s (refused k ∷ []) (at ∷ []) keeps here,
+      some_refused talk_rules next s m k at [] (at ∷ []) (record { nothing = refl; one = refl }),
+      left_untold talk_rules lawful a b s (refused k ∷ []) (at ∷ []) keeps here,
     )
 
 pub returns-then-mute-clause-none : goal.returns-then-mute-clause-none

@@ -9,9 +9,9 @@ use Rattle.alt_tables.specs.FilesLeft.{most_files}
 use Rattle.alt_tables.specs.Stands.{Stands, bounds_of}
 use Rattle.alt_talks.specs.Own.{FollowsNot, own_behind}
 use Rattle.alt_talks.specs.Runs.{Counting}
-use Rattle.alt_talks.specs.private.Rungs.{Timed}
+use Rattle.alt_talks.specs.private.Rungs.{KnowsLastMoment}
 use Rattle.alt_talks.specs.Stops.{AtEach, IsUncut}
-use Rattle.alt_talks.specs.TalkRules.{rules, left_by, outcome_of}
+use Rattle.alt_talks.specs.TalkRules.{talk_rules, left_by, outcome_of}
 use Rattle.alt_talks.specs.private.RungStops.{AnswersOn}
 use Rattle.alt_talks.specs.private.InHand.{asking}
 use Rattle.alt_talks.specs.Talks.{asked}
@@ -61,7 +61,7 @@ returns-in-Ok-follow-clause-answered g c = λ s stands.
     let left = left_by s q at in
     let after = c.in-Ok.ensures.state s here in
     let there = stands_kept done new c.utter.ensures.keeps c.response.new.tables left after in
-    let t = rules.next s q at in
+    let t = talk_rules.next s q at in
     let m = c.args.mute.now in
     let n = c.utter.new.mute in
     let before = c.args.last.now in
@@ -71,17 +71,17 @@ returns-in-Ok-follow-clause-answered g c = λ s stands.
       to = t;
       stands = subst (λ (u : State). Stands last c.follow.new.tables u) (sym (rules-next s q at))
           (c.in-Ok-follow.ensures.stands left there);
-      calls = stretch_as old last {P = Timed before (Some at) (AnswersOn rules s m (asked q ∷ []) t n)}
-          {Q = Counting next k (Timed before (Some at) (AnswersOn rules s m (asked q ∷ []) t n))}
+      calls = stretch_as old last {P = KnowsLastMoment before (Some at) (AnswersOn talk_rules s m (asked q ∷ []) t n)}
+          {Q = Counting next k (KnowsLastMoment before (Some at) (AnswersOn talk_rules s m (asked q ∷ []) t n))}
           (λ es ms within x. (
             x,
-            asked_reach rules s t m n q es ms next k x.0.0.does
+            asked_reach talk_rules s t m n q es ms next k x.0.0.does
                 (subst (λ (b : Bounds). k ≤ b.file + most_files) c.in-Ok.ensures.limits
                 (c.in-Ok-follow.ensures.files left there)),
           ))
-          (follow_made rules lawful old done new last s m n q at
+          (follow_made talk_rules lawful old done new last s m n q at
           c.deref.result.now
-          (asked_of rules old mid done s q at c.now-moment.ensures.call c.now-moment.ensures.log
+          (asked_of talk_rules old mid done s q at c.now-moment.ensures.call c.now-moment.ensures.log
           c.now-moment.ensures.told c.in-Ok.ensures.goes
           (subst (λ (atoms : List State). AtEach mid done (λ _ image. IsUncut image s atoms))
           (sym (rules-atoms s q at)) (c.in-Ok.ensures.leaves s here)))
@@ -111,7 +111,7 @@ returns-clause-answered g c = λ s stands.
     let there = stands_kept done new c.utter.ensures.keeps c.response.new.tables left after in
     follow_broke old done new last s c.args.mute.now c.utter.new.mute q at
     c.deref.result.now
-    (asked_of rules old mid done s q at c.now-moment.ensures.call c.now-moment.ensures.log
+    (asked_of talk_rules old mid done s q at c.now-moment.ensures.call c.now-moment.ensures.log
     c.now-moment.ensures.told c.in-Ok.ensures.goes
     (subst (λ (atoms : List State). AtEach mid done (λ _ image. IsUncut image s atoms))
     (sym (rules-atoms s q at)) (c.in-Ok.ensures.leaves s here)))
@@ -136,11 +136,11 @@ returns-in-Err-clause-answered g c = λ s stands.
     let q = asking c.args.target.now c.args.body.now c.args.close in
     let aside = c.now-moment.ensures.call in
     let here = stands_kept old mid aside.keeps c.args.tables.now s stands in
-    let front : Asked rules old done s q at = asked_of rules old mid done s q at
+    let front : Asked talk_rules old done s q at = asked_of talk_rules old mid done s q at
     aside c.now-moment.ensures.log c.now-moment.ensures.told c.in-Err.ensures.goes
     (subst (λ (atoms : List State). AtEach mid done (λ _ image. IsUncut image s atoms))
     (sym (rules-atoms s q at)) (c.in-Err.ensures.leaves s here)) in
-    asked_some_on rules lawful old done s m q at c.in-Err.fault
+    asked_some_on talk_rules lawful old done s m q at c.in-Err.fault
     (bounds_of c.args.tables.now).file front
     (asked_fault s q at (bounds_of c.args.tables.now).file c.in-Err.fault
     (c.in-Err.ensures.cause s here))

@@ -1,12 +1,12 @@
 -- A page of changes more, until one of them is kept or there are no more.
-use Rattle.std.proofs.Common.{◌≡◌, ◌≤◌, ◌+◌, sym, ap, subst, ◌∙◌, ℕ, length, map, take, inl, inr, true, rules, arith}
+use Rattle.std.proofs.Common.{◌≡◌, refl, ◌≤◌, ◌+◌, sym, ap, subst, ◌∙◌, ℕ, length, map, take, inl, inr, true, rules, arith}
 use Rattle.std.proofs.lemmas.Bool.{eqb-true}
 use Rattle.std.proofs.lemmas.List.{length-map}
 use Rattle.std.specs.Prelude.{◌==◌, ◌-◌}
 use Rattle.alt_changes.specs.ChangeRows.{change_in}
 use Rattle.alt_machine.specs.Ops.GetRecords.{changes_from}
 use Rattle.alt_rowchanges.specs.Trims.{IsKeptFrom}
-use Rattle.alt_tables.proofs.Looking.{fails_behind}
+use Rattle.alt_tables.proofs.Looking.{fails_behind, fails_told}
 use Rattle.alt_tables.proofs.Standing.{keeps_nothing, keeps_then, ready_kept, stands_kept}
 use Rattle.alt_tables.proofs.TrimSteps.{walk_begins, walk_ends, walk_further}
 use Rattle.alt_tables.proofs.tables.Tables.first_kept.Goals as goal
@@ -37,9 +37,9 @@ returns-in-Err-clause-keeps g c = keeps_then (g.D.Disk.state c.args.disk.now)
     c.changes.new.self c.pages.invariant.keeps c.changes.ensures.keeps
 
 pub returns-in-Err-clause-fails : goal.returns-in-Err-clause-fails
-returns-in-Err-clause-fails g c = fails_behind c.pages.invariant.keeps.reads.goes (stands_kept (g.D.Disk.state c.args.disk.now)
-    (g.D.Disk.state c.pages.disk) c.args.self.now c.pages.self c.pages.invariant.keeps)
-    c.in-Err.ensures.fails
+returns-in-Err-clause-fails g c = fails_told refl (fails_behind c.pages.invariant.keeps.reads.goes
+    (stands_kept (g.D.Disk.state c.args.disk.now) (g.D.Disk.state c.pages.disk) c.args.self.now
+    c.pages.self c.pages.invariant.keeps) c.in-Err.ensures.fails)
 
 pub returns-then-is_some-clause-keeps : goal.returns-then-is_some-clause-keeps
 returns-then-is_some-clause-keeps g c = keeps_then (g.D.Disk.state c.args.disk.now)

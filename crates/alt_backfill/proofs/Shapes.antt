@@ -12,7 +12,8 @@ use Rattle.alt_machine.specs.Lists.{is_given}
 use Rattle.alt_machine.specs.Ops.UpdateTable.{acts, asked_at, asked_in, change_members, changes}
 use Rattle.alt_schema.specs.Stated.{at_most_one, stated_by}
 use Rattle.alt_shape.specs.Bodies as bodies
-use Rattle.alt_shape.specs.Bodies.{in_items, index_update, object_fault}
+use Rattle.alt_shape.specs.Bodies.{index_update}
+use Rattle.alt_shape.specs.BodyParts.{in_items, object_fault}
 use Rattle.alt_shape.specs.Shape.{an_object, fault_of, given, or_next_fault}
 use Rattle.alt_shape.specs.declared.rule.Broken.{Broken}
 use Rattle.alt_shape.specs.declared.rule.Broken.TheVariants.{WrongKind}

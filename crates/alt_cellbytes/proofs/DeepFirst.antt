@@ -15,7 +15,8 @@ use Rattle.alt_cellbytes.specs.declared.fault.Stop.{Stop}
 use Rattle.alt_cellbytes.specs.declared.fault.Stop.TheVariants.{Left, Deep, NoMemory}
 use Rattle.alt_cellbytes.proofs.Apart.{value_apart, pair_apart}
 use Rattle.alt_cellbytes.proofs.Fields.{field-refuted, length-counted}
-use Rattle.alt_cellbytes.proofs.Stopped.{stops-refuted, deep-refuted, deep-inside, deep-left, next_name_of}
+use Rattle.alt_cellbytes.proofs.Stopped.{stops-refuted, deep-refuted, deep-inside, next_name_of}
+use Rattle.alt_cellbytes.proofs.StopsWithin.{deep-left}
 
 -- ---- where something is nested too deep
 

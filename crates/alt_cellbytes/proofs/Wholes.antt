@@ -11,7 +11,8 @@ use Rattle.alt_cellbytes.specs.Values.{HasBytes}
 use Rattle.alt_cellbytes.proofs.Apart.{cell_bytes-apart}
 use Rattle.alt_value.proofs.Trees.{elements-trees_of, pairs-fields_of}
 use Rattle.alt_cellbytes.proofs.Shapes.{list_bytes, map_bytes, values_all, entries_all}
-use Rattle.alt_cellbytes.proofs.Stopped.{stops-refuted, stops-left, deep-left}
+use Rattle.alt_cellbytes.proofs.Stopped.{stops-refuted}
+use Rattle.alt_cellbytes.proofs.StopsWithin.{stops-left, deep-left}
 
 -- ---- written
 

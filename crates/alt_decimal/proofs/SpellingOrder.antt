@@ -21,7 +21,7 @@ use Rattle.alt_decimal.proofs.Widths.{width-le, mul-width_gt, mul-width_le, mul-
 use Rattle.alt_decimal.proofs.Orders.{nat_cmp-mul, int_cmp-pos, int_cmp-neg, int_cmp-neg_pos, int_cmp-pos_neg, lt-by_place}
 use Rattle.alt_decimal.proofs.Unspelling.{IsPairs, hundred, pairs_after, pairs_below, AreOf}
 use Rattle.alt_decimal.proofs.Spelling.{magnitude_bytes-mul, spelled-zero, spelled-above, spelled-below}
-use Rattle.alt_decimal.proofs.ReadBack.{Filling, filling, filled_pairs, filled_whole, filled_few}
+use Rattle.alt_decimal.proofs.MagnitudeReads.{Filling, filling, filled_pairs, filled_whole, filled_few}
 
 -- a first byte decides
 cmp_less : (x y : ℕ) (xs ys : List ℕ) → x < y → slice_cmp nat_cmp (x ∷ xs) (y ∷ ys) ≡ Less

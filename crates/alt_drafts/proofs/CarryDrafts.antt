@@ -18,7 +18,7 @@ use Rattle.alt_layout.specs.Files.{all_of}
 use Rattle.alt_layout.specs.Layout.{Layout}
 use Rattle.alt_layout.specs.Merges.{IsMapFrom}
 use Rattle.alt_layout.proofs.FileLaws.{in_either}
-use Rattle.alt_layout.proofs.FlushLaws.{IsPut, flushed_of-own, of-other, put_file}
+use Rattle.alt_layout.proofs.FlushedFiles.{IsPut, flushed_of-own, of-other, put_file}
 use Rattle.alt_layout.proofs.MergeLaws.{none_from, with_later-behind}
 use Rattle.alt_layout.proofs.MomentLaws.{same_or_not}
 use Rattle.alt_manifest.specs.Versions.{IsFamily, IsIn, files_named, row_files}

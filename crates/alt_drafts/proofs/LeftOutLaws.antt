@@ -12,7 +12,7 @@ use Rattle.alt_flush.proofs.NamedLaws.{without_drops}
 use Rattle.alt_layout.specs.Families.{files_of, flushed_of}
 use Rattle.alt_layout.specs.Flushes.{with_file}
 use Rattle.alt_layout.specs.Merged.{with_made}
-use Rattle.alt_layout.proofs.FlushLaws.{differs}
+use Rattle.alt_layout.proofs.FlushedFiles.{differs}
 use Rattle.alt_layout.proofs.MomentLaws.{same_or_not}
 use Rattle.alt_manifest.specs.Versions.{IsIn, files_named, numbers_of}
 use Rattle.alt_manifest.specs.declared.version.FamilyVersion.{FamilyVersion}

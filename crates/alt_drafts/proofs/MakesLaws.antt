@@ -16,7 +16,8 @@ use Rattle.alt_layout.specs.Families.{Held, files_of, flushed_of, layout_of, wit
 use Rattle.alt_layout.specs.Files.{all_of}
 use Rattle.alt_layout.specs.Flushes.{with_rows}
 use Rattle.alt_layout.specs.Layout.{Layout, RowMap}
-use Rattle.alt_layout.proofs.FlushLaws.{files_of-own, flushed_of-own, of-other, other_rows, own_rows}
+use Rattle.alt_layout.proofs.FlushLaws.{other_rows, own_rows}
+use Rattle.alt_layout.proofs.FlushedFiles.{files_of-own, flushed_of-own, of-other}
 use Rattle.alt_layout.proofs.MomentLaws.{same_or_not}
 use Rattle.alt_layout.proofs.RowLaws.{with_later-none}
 use Rattle.alt_manifest.specs.Versions.{IsIn, files_named, row_files}

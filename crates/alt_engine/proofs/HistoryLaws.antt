@@ -9,7 +9,7 @@ use Rattle.alt_cells.specs.Shown.{row_shown}
 use Rattle.alt_cells.specs.declared.batch.RowChange.{RowChange}
 use Rattle.alt_layout.specs.Layout.{Layout, IsPast, RowMap, shown}
 use Rattle.alt_layout.specs.Writes.{with_write, with_writes}
-use Rattle.alt_layout.proofs.MergeLaws.{same_after_all}
+use Rattle.alt_layout.proofs.LaterWrites.{same_after_all}
 use Rattle.alt_layout.proofs.PastLaws.{is_past_after}
 use Rattle.alt_layout.proofs.RowLaws.{next_number-numbered, none_behind}
 use Rattle.alt_writes.specs.Writes.{AreRising, Write, numbered}

@@ -23,7 +23,7 @@ use Rattle.alt_expr.proofs.Seen.{Derived, then_some, some_pair, mark_seen, expec
 use Rattle.alt_expr.proofs.PathFound.{path_sound}
 use Rattle.alt_expr.proofs.Lists.{listed_sound}
 use Rattle.alt_expr.specs.UpdateReader as r
-use Rattle.alt_expr.proofs.CondSound.{comma_found}
+use Rattle.alt_expr.proofs.TestSound.{comma_found}
 use Rattle.alt_expr.proofs.UpdateBehind.{behind}
 
 -- ---- terms

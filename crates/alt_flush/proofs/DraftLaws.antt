@@ -26,7 +26,8 @@ use Rattle.alt_layout.specs.Layout.{RowMap}
 use Rattle.alt_layout.specs.Moments.{Has, HasEither, IsIt, Lies}
 use Rattle.alt_layout.proofs.FamilyLaws.{same_layouts}
 use Rattle.alt_layout.proofs.FileLaws.{stored_on}
-use Rattle.alt_layout.proofs.FlushLaws.{above_all, all_later, flush_same, named_with, next_after-stays, stored_with, version_with_is}
+use Rattle.alt_layout.proofs.FlushLaws.{above_all, all_later, stored_with, version_with_is}
+use Rattle.alt_layout.proofs.FlushedLayout.{flush_same, named_with, next_after-stays}
 use Rattle.alt_layout.proofs.MomentLaws.{layout_where, lies_on, lies_version, spans_version}
 use Rattle.alt_layout.proofs.PastLaws.{none_below, with_later-past}
 use Rattle.alt_flush.specs.Drafts.{Drafted, From, over_new_log, renumbered, with_flush, with_segment, without_family}

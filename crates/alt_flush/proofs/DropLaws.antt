@@ -12,7 +12,8 @@ use Rattle.alt_manifest.specs.declared.version.Version.{Version}
 use Rattle.alt_layout.specs.Families.{Held, flushed_of, files_of, with_later, next_after, family_rows, joined_files}
 use Rattle.alt_layout.specs.Files.{Image, AreRowFiles, Stored}
 use Rattle.alt_layout.proofs.RowLaws.{with_later-none}
-use Rattle.alt_layout.proofs.FlushLaws.{count_numbers, differs, numbers_fit, rise_count}
+use Rattle.alt_layout.proofs.FlushLaws.{count_numbers, numbers_fit, rise_count}
+use Rattle.alt_layout.proofs.FlushedFiles.{differs}
 use Rattle.alt_flush.specs.Drafts.{with_none, without_family}
 
 -- ---- the families

@@ -17,7 +17,8 @@ use Rattle.alt_layout.specs.Files.{AreRowFiles, HoldsRows, IsLayout, IsOf, all_o
 use Rattle.alt_layout.specs.Layout.{Layout, RowMap}
 use Rattle.alt_layout.specs.Moments.{Has, IsIt}
 use Rattle.alt_layout.proofs.FileLaws.{last_named, stored_on}
-use Rattle.alt_layout.proofs.FlushLaws.{all_later, of_family, unnamed}
+use Rattle.alt_layout.proofs.FlushLaws.{all_later}
+use Rattle.alt_layout.proofs.FlushedLayout.{of_family, unnamed}
 use Rattle.alt_manifest.specs.InHand.{file_of_manifest as manifest_file, version_of}
 use Rattle.alt_manifest.specs.Versions.{files_named, row_files}
 use Rattle.alt_manifest.specs.declared.version.FamilyVersion.{FamilyVersion}

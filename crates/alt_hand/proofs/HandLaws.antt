@@ -32,7 +32,7 @@ use Rattle.alt_layout.specs.Files.{IsLayout, all_of}
 use Rattle.alt_layout.specs.Moments.{Lies, HasEither, IsIt}
 use Rattle.alt_layout.proofs.FileLaws.{all_of-join, apart, distinct_front, last_named, layout_join, named_later, stored_on}
 use Rattle.alt_layout.proofs.FamilyLaws.{flushed_below}
-use Rattle.alt_layout.proofs.FlushLaws.{unnamed}
+use Rattle.alt_layout.proofs.FlushedLayout.{unnamed}
 use Rattle.alt_layout.proofs.RowLaws.{next_after-least, next_number-numbered, with_later-above, with_later-append}
 use Rattle.alt_layout.proofs.MomentLaws.{in_each_image, lies_quiet, lies_writes, spans_writes}
 use Rattle.alt_layout.proofs.PastLaws.{stored_past}

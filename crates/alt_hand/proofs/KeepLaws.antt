@@ -13,7 +13,7 @@ use Rattle.alt_layout.specs.Files.{AreRowFiles, AreSegments, HoldsRows, Image, I
 use Rattle.alt_layout.specs.Fresh.{versions_file}
 use Rattle.alt_layout.specs.Layout.{Layout}
 use Rattle.alt_layout.proofs.FileLaws.{in_either, last_named, stored_on}
-use Rattle.alt_layout.proofs.FlushLaws.{unnamed}
+use Rattle.alt_layout.proofs.FlushedLayout.{unnamed}
 use Rattle.alt_layout.proofs.MomentLaws.{same_or_not}
 use Rattle.alt_manifest.specs.Versions.{HasVersion, IsIn, IsVersion, RiseFrom, files_named, row_files, version_bytes}
 use Rattle.alt_manifest.specs.declared.version.FamilyVersion.{FamilyVersion}

@@ -13,7 +13,7 @@ use Rattle.alt_layout.specs.Fresh.{versions_file}
 use Rattle.alt_layout.specs.Layout.{Layout}
 use Rattle.alt_layout.specs.Moments.{Has, HasEither, IsIt}
 use Rattle.alt_layout.proofs.FileLaws.{last_named, stored_on}
-use Rattle.alt_layout.proofs.FlushLaws.{unnamed}
+use Rattle.alt_layout.proofs.FlushedLayout.{unnamed}
 use Rattle.alt_manifest.specs.InHand.{file_of_manifest as manifest_file, version_of, OldOrNew, StandsForVersion as ManifestStands}
 use Rattle.alt_manifest.specs.Versions.{IsIn, files_named, row_files}
 use Rattle.alt_manifest.specs.declared.manifest.Manifest.{Manifest}

@@ -18,7 +18,8 @@ use Rattle.alt_http.specs.declared.outcome.Scan.{Scan}
 use Rattle.alt_http.specs.declared.outcome.Scan.TheVariants.{More, Refused, Head}
 use Rattle.alt_http.proofs.Fronts.{EndsInFeed, go_on, go_on_plain, bad}
 use Rattle.alt_http.proofs.Laws.{IsScan_unique, IsScan_nothing, IsScan_stays, IsScan_within, IsScan_plain}
-use Rattle.alt_http.proofs.Readers.{blank_cut, Reads, Reads-head, IsTail}
+use Rattle.alt_http.proofs.Readers.{Reads-head}
+use Rattle.alt_http.proofs.LinePieces.{blank_cut, Reads, IsTail}
 
 -- the longest front that ends in a line feed, and the plain bytes behind it
 record IsFrontOf (w front : List ℕ) : Type 0 where

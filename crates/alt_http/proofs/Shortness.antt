@@ -13,7 +13,9 @@ use Rattle.httparse.proofs.ReadLemmas.{blank_more}
 use Rattle.alt_http.specs.Feeds.{IsPlain}
 use Rattle.alt_http.specs.Reading.{PartRead, got, short, never, by_read, then_read, read_end, read_blank, read_word, read_method, read_target, read_expected_bytes, read_minor, read_version, read_value, read_header_field, read_fields, read_start}
 use Rattle.alt_http.proofs.Fronts.{EndsInFeed, prefix_split}
-use Rattle.alt_http.proofs.Readers.{Reads, ReadsBlank, IsTail, tail_behind, Reads-method, Reads-target, Reads-version, Reads-blank, Reads-field, Reads-word, Reads-bytes, word_short, is_feed, is_cr}
+use Rattle.alt_http.proofs.Readers.{Reads-field}
+use Rattle.alt_http.proofs.LinePieces.{Reads, ReadsBlank, IsTail, tail_behind, Reads-blank, Reads-word, word_short, is_feed, is_cr}
+use Rattle.alt_http.proofs.FirstLine.{Reads-method, Reads-target, Reads-version, Reads-bytes}
 
 last_same : (c : ℕ) (s : List ℕ) → (c == 10) ≡ false → c ∷ [] ≡ s ++ 10 ∷ [] → ⊥
 last_same c [] other e = let feed : c ≡ 10 = cc in let no_feed : c ≢ 10 = grind arith in

@@ -26,7 +26,8 @@ use Rattle.alt_readahead.specs.declared.batch.Write.TheVariants.{Put, Delete}
 use Rattle.alt_schema.specs.Rules.{is_name}
 use Rattle.alt_schema.specs.declared.schema.TableSchema.{TableSchema}
 use Rattle.alt_shape.specs.Bodies as bodies
-use Rattle.alt_shape.specs.Bodies.{array_fault, in_items, in_members, object_fault, write_request}
+use Rattle.alt_shape.specs.Bodies.{write_request}
+use Rattle.alt_shape.specs.BodyParts.{array_fault, in_items, in_members, object_fault}
 use Rattle.alt_shape.specs.Refusals.{Answer, not_found, bad_batch, bad_name}
 use Rattle.alt_shape.specs.Shape.{or_next_fault}
 

@@ -6,7 +6,8 @@ use Rattle.alt_machine.specs.Body.{MemberRules, paired_refusals}
 use Rattle.alt_machine.specs.Refusals.{first_answer}
 use Rattle.alt_ops_query.specs.private.Paged.{HasLimit, limit_in}
 use Rattle.alt_shape.specs.Bodies as bodies
-use Rattle.alt_shape.specs.Bodies.{required, optional, selections, first_shape_fault, condition_entry, in_entries, in_names, operator_demand, key_condition_demand, own_of_query}
+use Rattle.alt_shape.specs.Bodies.{selections, key_condition_demand, own_of_query}
+use Rattle.alt_shape.specs.BodyParts.{required, optional, first_shape_fault, condition_entry, in_entries, in_names, operator_demand}
 use Rattle.alt_shape.specs.Shape.{Demand, a_text, a_whole, a_truth, an_object, an_array, a_word, fault_of, given, natural_of, first_unmet, unmet_by}
 use Rattle.alt_shape.specs.declared.rule.Broken.{Broken}
 use Rattle.alt_shape.specs.declared.rule.Broken.TheVariants.{OutOfRange}

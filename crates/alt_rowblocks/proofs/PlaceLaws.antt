@@ -8,7 +8,8 @@ use Rattle.alt_rowblocks.specs.Format.{Entry, Mark, block_bytes, rows_bytes, IsH
 use Rattle.alt_rowblocks.specs.Loading.{place_at, next_place, LoadedAt}
 use Rattle.alt_rowblocks.proofs.PushLaws.{length-front, front-push}
 use Rattle.alt_rowblocks.proofs.OneFile.{block_some}
-use Rattle.alt_rowblocks.proofs.BlockLaws.{sorted_back, rows_of-append}
+use Rattle.alt_rowblocks.proofs.BlockLaws.{sorted_back}
+use Rattle.alt_rowblocks.proofs.BlockRuns.{rows_of-append}
 use Rattle.alt_cells.proofs.Rising.{sorted_front}
 use Rattle.alt_cells.proofs.CellLaws.{key_total}
 use Rattle.alt_fields.proofs.Apart.{field-apart}

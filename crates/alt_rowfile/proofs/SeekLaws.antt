@@ -22,7 +22,8 @@ use Rattle.alt_rowblocks.specs.Holding.{IsCutBlock, IsInHand}
 use Rattle.alt_rowfile.specs.Walking.{list_from, LeftAs, RowsAreLeft}
 use Rattle.alt_rowblocks.specs.declared.hand.Hand.{Hand}
 use Rattle.alt_rowfile.specs.declared.rowfile.RowFile.{RowFile}
-use Rattle.alt_rowblocks.proofs.BlockLaws.{rows_of-append, block_key, sorted_back}
+use Rattle.alt_rowblocks.proofs.BlockLaws.{sorted_back}
+use Rattle.alt_rowblocks.proofs.BlockRuns.{rows_of-append, block_key}
 use Rattle.alt_rowfile.proofs.SearchLaws.{above_first, AtBlock, at_block}
 use Rattle.alt_rowblocks.proofs.CutLaws.{below_front, from_first}
 use Rattle.alt_rowblocks.proofs.HandLaws.{from_cut, cut_in_hand}
@@ -137,7 +138,7 @@ module _ (key : List ℕ) where
       → AllByRecursion (IsFromKey key) (rows_of ys)
   from_blocks [] cut h up = tt
   from_blocks (y ∷ ys) cut h up =
-      let k = block_key y (Rattle.alt_rowblocks.proofs.BlockLaws.block_within [] y ys cut) in
+      let k = block_key y (Rattle.alt_rowblocks.proofs.BlockRuns.block_within [] y ys cut) in
       let same : rows_of (y ∷ ys) ≡ k.0 ∷ (k.1 ++ rows_of ys) =
       ap (λ (l : List Entry). l ++ rows_of ys) k.2 in
       let above : is_gt (key_cmp k.0.0 key) ≡ true =

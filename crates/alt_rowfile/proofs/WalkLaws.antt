@@ -19,7 +19,8 @@ use Rattle.alt_rowblocks.specs.declared.summary.Summary.{Summary}
 use Rattle.alt_rowfile.specs.declared.walk.RowFileWalk.{RowFileWalk}
 use Rattle.alt_rowblocks.proofs.HandLaws.{all_in_hand}
 use Rattle.alt_rowblocks.proofs.PlaceLaws.{length-marks, split_at}
-use Rattle.alt_rowblocks.proofs.BlockLaws.{no_block, block_within}
+use Rattle.alt_rowblocks.proofs.BlockLaws.{no_block}
+use Rattle.alt_rowblocks.proofs.BlockRuns.{block_within}
 use Rattle.alt_rowblocks.proofs.PushLaws.{rows_of-push}
 
 -- ---- the next block, and none

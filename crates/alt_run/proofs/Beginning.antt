@@ -13,9 +13,10 @@ use Rattle.alt_run.specs.Turns.{request, control, unread, obeyed, turned_away, c
 use Rattle.alt_tables.specs.Images.{StandsFor}
 use Rattle.alt_talks.specs.Works.{WorksOnStore}
 use Rattle.alt_run.specs.declared.lines.Control.{Control}
-use Rattle.alt_run.proofs.Serving.{Begins}
+use Rattle.alt_run.proofs.TurnServing.{Begins}
 use Rattle.alt_tables.proofs.Left.{stands_left}
-use Rattle.alt_talks.proofs.Stopping.{trusts-kept, leaves-here, leaves-weaker, leaves-behind-aside}
+use Rattle.alt_talks.proofs.Stopping.{trusts-kept}
+use Rattle.alt_talks.proofs.StretchLeaving.{leaves-here, leaves-weaker, leaves-behind-aside}
 
 pub begins : (old mid new : DiskState) (s : State) (name body : List ℕ) (m : ℕ)
     → Aside old mid → Grows old.beside mid.beside []

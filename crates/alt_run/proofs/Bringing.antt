@@ -20,7 +20,8 @@ use Rattle.alt_run.specs.private.Rungs.{HandsOut, asked_now, asked_later}
 use Rattle.alt_run.specs.Turns.{AskedLine, request, control, unread, asks}
 use Rattle.alt_run.specs.declared.lines.Control.TheVariants.{Flush, Merge, Step, Reopen}
 use Rattle.alt_talks.specs.declared.fault.RunFault.{RunFault}
-use Rattle.alt_run.proofs.Pulling.{fresh, took_is_no_end, given_later, ended_now}
+use Rattle.alt_run.proofs.Pulling.{fresh}
+use Rattle.alt_run.proofs.TakeServing.{took_is_no_end, given_later, ended_now}
 use Rattle.alt_talks.proofs.Arriving.{all_behind, all_before, most_behind, most_before, most_silent}
 use Rattle.alt_talks.proofs.Stretching.{taken-append, ended-append}
 use Rattle.alt_run.proofs.Serving.{rests_then}

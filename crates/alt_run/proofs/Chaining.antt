@@ -14,10 +14,11 @@ use Rattle.alt_talks.specs.Stops.{Image, AtEach, AreWithin}
 use Rattle.alt_talks.specs.TalkRules.{talk_rules}
 use Rattle.alt_talks.specs.TalkStops.{LeftAmong}
 use Rattle.alt_talks.specs.Talks.{Rules}
-use Rattle.alt_talks.proofs.Stopping.{leaves-weaker, until-before}
+use Rattle.alt_talks.proofs.Stopping.{until-before}
+use Rattle.alt_talks.proofs.StretchLeaving.{leaves-weaker}
 use Rattle.alt_talks.specs.declared.fault.RunFault.{RunFault}
 use Rattle.alt_talks.specs.declared.fault.RunFault.TheVariants as why
-use Rattle.alt_run.proofs.EndingLaws.{honest_of}
+use Rattle.alt_run.proofs.EndingMemory.{honest_of}
 use Rattle.alt_run.specs.Chains.{Step, disk_behind_steps, IsChain, LeftOf, LeftEarly, LeftLater, ChainHolds}
 use Rattle.alt_run.specs.Endings.{BrokenFrom, HasRun, Done, Broken, BreaksOff, WasDamaged, IsReadable}
 use Rattle.alt_run.specs.Runs.{IsOpening, Opened}

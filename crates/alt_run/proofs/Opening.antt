@@ -26,7 +26,7 @@ use Rattle.alt_tables.specs.Images.{StandsFor}
 use Rattle.alt_tables.specs.OpeningRecovery.{IsExplained, IsOfFiles, HasNoState, WasLeft}
 use Rattle.alt_tables.specs.OpeningDeclaredOpenFault.{OpenFault}
 use Rattle.alt_tables.proofs.Left.{stands_left, stands_read, stands_trusted}
-use Rattle.alt_talks.proofs.Stopping.{leaves-weaker}
+use Rattle.alt_talks.proofs.StretchLeaving.{leaves-weaker}
 use Rattle.alt_talks.specs.Works.{WorksOnStore}
 use Rattle.alt_tables.specs.declared.tables.Tables.{Tables}
 

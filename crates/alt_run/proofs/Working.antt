@@ -16,7 +16,7 @@ use Rattle.alt_talks.proofs.FileFaults.{file_more}
 use Rattle.alt_talks.proofs.Owning.{answer_behind, enough_both}
 use Rattle.alt_run.specs.private.Rungs.{ServesAtHand, BreaksAtHand, left_by_named_request}
 use Rattle.alt_run.specs.Turns.{request, carried_out, outcome_by_name}
-use Rattle.alt_run.proofs.Serving.{Begins, all_said, own_broke, turn_served, work_broke}
+use Rattle.alt_run.proofs.TurnServing.{Begins, all_said, own_broke, turn_served, work_broke}
 
 module _ (old mid done new : DiskState) (tables : Tables) (s : State) (name body : List ℕ) (m : ℕ)
     (bytes : List ℕ)

@@ -4,7 +4,7 @@ use Rattle.serde_json.specs.Data.{Data}
 use Rattle.serde_json.specs.View.{view, items_view}
 use Rattle.serde_json.specs.declared.value.Value.{Value}
 use Rattle.alt_shape.specs.declared.rule.Broken.{Broken}
-use Rattle.alt_shape.specs.Bodies.{in_items}
+use Rattle.alt_shape.specs.BodyParts.{in_items}
 use Rattle.alt_shape.specs.Shape.{or_next_fault}
 
 -- the same, with the next place as `suc i`

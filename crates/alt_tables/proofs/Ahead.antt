@@ -39,7 +39,7 @@ use Rattle.alt_rowchanges.proofs.KeptFrom.{young}
 use Rattle.alt_rowchanges.proofs.Rising.{filter_rising, rising_least}
 use Rattle.alt_tables.proofs.Standing.{descriptions-stay}
 use Rattle.alt_rowchanges.proofs.StreamShows.{stream_family}
-use Rattle.alt_rowchanges.proofs.WriteLaws.{item_turns}
+use Rattle.alt_rowchanges.proofs.ItemTurns.{item_turns}
 use Rattle.alt_value.specs.Tree.{Pair}
 use Rattle.alt_value.specs.Values.{IsItemOfValues}
 use Rattle.alt_value.proofs.Texts.{text_total}

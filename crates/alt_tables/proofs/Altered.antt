@@ -40,7 +40,8 @@ use Rattle.alt_rowchanges.specs.declared.fronts.Front.{Front}
 use Rattle.alt_tables.specs.declared.tables.Tables.{Tables}
 use Rattle.alt_rowchanges.proofs.AlterLaws.{alter_turns, alter_valid, is_longer}
 use Rattle.alt_tables.proofs.Foreseen.{foresees_redescribed}
-use Rattle.alt_tables.proofs.Making.{OfCatalog, catalog_fronts, fronts_of_rows}
+use Rattle.alt_tables.proofs.Making.{fronts_of_rows}
+use Rattle.alt_tables.proofs.TableMaking.{OfCatalog, catalog_fronts}
 use Rattle.alt_tables.proofs.Standing.{descriptions-insert, known, still_live, still_trimmed, there}
 use Rattle.alt_tables.proofs.Sizing.{each_alike, largest_is}
 use Rattle.alt_value.specs.Size.{item_size}

@@ -30,7 +30,8 @@ use Rattle.alt_rowchanges.specs.declared.fronts.Front.{Front}
 use Rattle.alt_tables.specs.declared.tables.Tables.{Tables}
 use Rattle.alt_tables.specs.private.Foretold.{TimeToLiveIsTold}
 use Rattle.alt_tables.proofs.Foreseen.{foresees_nothing, foresees_untimed}
-use Rattle.alt_tables.proofs.Making.{OfCatalog, catalog_fronts, fronts_of_rows}
+use Rattle.alt_tables.proofs.Making.{fronts_of_rows}
+use Rattle.alt_tables.proofs.TableMaking.{OfCatalog, catalog_fronts}
 use Rattle.alt_tables.proofs.NoneBuilt.{none_with}
 use Rattle.alt_tables.proofs.Standing.{descriptions-insert, known, still_live, still_trimmed}
 use Rattle.alt_rowchanges.proofs.TimeLaws.{time_turns}

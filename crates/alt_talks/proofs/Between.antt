@@ -19,7 +19,7 @@ use Rattle.alt_talks.specs.private.RungStops.{ComesOn}
 use Rattle.alt_talks.specs.Works.{Follows}
 use Rattle.alt_talks.specs.declared.fault.RunFault.{RunFault}
 use Rattle.alt_talks.proofs.FileFaults.{between_more, reach_both}
-use Rattle.alt_talks.proofs.Stopping.{Meet}
+use Rattle.alt_talks.proofs.StretchLeaving.{Meet}
 use Rattle.alt_talks.proofs.Stretching.{stretch_goes, stretch_then}
 use Rattle.alt_talks.proofs.TalkAmong.{SofarOn, served_between_on, sofar_more_on}
 use Rattle.alt_talks.proofs.TalkLaws.{lawful, rules-between}

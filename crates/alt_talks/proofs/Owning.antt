@@ -19,7 +19,7 @@ use Rattle.alt_talks.specs.Turns.{or_next}
 use Rattle.alt_talks.specs.Works.{Follows, WorksOnStore}
 use Rattle.alt_talks.specs.declared.fault.RunFault.{RunFault}
 use Rattle.alt_talks.proofs.FileFaults.{IsTurnFault}
-use Rattle.alt_talks.proofs.Stopping.{leaves-here, leaves-weaker}
+use Rattle.alt_talks.proofs.StretchLeaving.{leaves-here, leaves-weaker}
 
 -- a Build behind a request
 pub built_behind : (s : State) → own_behind s ≡ building s

@@ -28,7 +28,7 @@ use Rattle.alt_talks.proofs.Owning.{answer_behind, answer_first, enough_both}
 use Rattle.alt_talks.proofs.Stretching.{stretch_goes}
 use Rattle.alt_talks.proofs.TalkLaws.{lawful, rules-alone, rules-atoms, rules-left, rules-own, rules-wants}
 use Rattle.alt_talks.proofs.Timing.{told_one}
-use Rattle.alt_talks.proofs.TalkLeaving.{Asked, asked_on, asked_own_on, asked_work_on, told_then}
+use Rattle.alt_talks.proofs.AnswerLeaving.{Asked, asked_on, asked_own_on, asked_work_on, told_then}
 
 -- a request takes a moment
 pub asked_reach : (r : Rules) (s t : State) (m n : Bool) (q : Request) (es : Log) (ms : List ℕ)

@@ -10,7 +10,8 @@ use Rattle.alt_shell.specs.Log.{Log, Grows, TellsMoments, moments_of, event_of, 
 use Rattle.alt_talks.specs.Runs.{OfStretch, Stretch}
 use Rattle.alt_talks.specs.Stops.{AreWithin}
 use Rattle.alt_shell.proofs.Telling.{Grows-then, Grows-nil, Tells-then, Tells-nil}
-use Rattle.alt_talks.proofs.Stopping.{Meet, within-then, within-wider, trusts-kept}
+use Rattle.alt_talks.proofs.Stopping.{within-then, within-wider, trusts-kept}
+use Rattle.alt_talks.proofs.StretchLeaving.{Meet}
 
 -- ---- logs one after the other
 

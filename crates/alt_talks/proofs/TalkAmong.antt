@@ -18,7 +18,8 @@ use Rattle.alt_talks.specs.TalkTexts.{after}
 use Rattle.alt_talks.specs.Turns.{Turn as Deed}
 use Rattle.alt_talks.specs.declared.fault.RunFault.{RunFault}
 use Rattle.alt_talks.specs.declared.fault.RunFault.TheVariants.{NoMemory}
-use Rattle.alt_talks.proofs.Stopping.{Meet, leaves-here, spans_two, taken-until, until-append, until-before, until-behind}
+use Rattle.alt_talks.proofs.Stopping.{taken-until, until-append, until-before, until-behind}
+use Rattle.alt_talks.proofs.StretchLeaving.{Meet, leaves-here, spans_two}
 use Rattle.alt_talks.proofs.TalkAll.{Sofar, sofar_none, sofar_more, served_all, served_between, served_fewer, served_some, served_nothing, all_state, entries-append, number_behind, number_now, moment_behind, moment_now}
 use Rattle.alt_talks.proofs.TalkCuts.{at_unread}
 use Rattle.alt_talks.proofs.TalkLeaving.{left_same, left_unsaid, said-behind, taken-behind}

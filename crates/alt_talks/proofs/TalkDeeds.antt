@@ -14,7 +14,8 @@ use Rattle.alt_talks.specs.TalkStops.{deeds, saying, carrying, LeftOn}
 use Rattle.alt_talks.specs.TalkTexts.{text, after, moments_taken}
 use Rattle.alt_talks.specs.Turns.{answered_turns, Turn as Deed, turns_text, after as deed_after}
 use Rattle.alt_talks.proofs.Stretching.{said_in-append}
-use Rattle.alt_talks.proofs.Stopping.{AllSay, Meet, answered-front, answered-prefix, prefix-within, left-more, left-behind, said-by, spans_two, stands-behind, stands-fewer, until-append, until-before, until-behind, IsPrefix-longer}
+use Rattle.alt_talks.proofs.Stopping.{AllSay, answered-front, answered-prefix, prefix-within, left-more, left-behind, said-by, stands-behind, stands-fewer, until-append, until-before, until-behind, IsPrefix-longer}
+use Rattle.alt_talks.proofs.StretchLeaving.{Meet, spans_two}
 use Rattle.alt_talks.proofs.TalkFolds.{asks-requests}
 use Rattle.alt_talks.proofs.TurnLaws.{text_of-append}
 

@@ -13,7 +13,7 @@ use Rattle.alt_talks.specs.Runs.{Counting, LeadsOn, OfStretch, Stretch}
 use Rattle.alt_talks.specs.declared.fault.RunFault.{RunFault}
 use Rattle.alt_talks.proofs.FileFaults.{reach_both, reach_least}
 use Rattle.alt_talks.proofs.Stretching.{stretch_none, stretch_as, stretch_then}
-use Rattle.alt_talks.proofs.Stopping.{Meet}
+use Rattle.alt_talks.proofs.StretchLeaving.{Meet}
 use Rattle.alt_tables.proofs.Left.{stands_left}
 
 -- nothing was done

@@ -22,7 +22,8 @@ use Rattle.alt_request.specs.TablesForeseen.{Foresees, ForeseesItem, IsMomentFro
 use Rattle.alt_request.specs.TablesSeveral.{Every}
 use Rattle.alt_request.proofs.TablesEach.{every_weaker}
 use Rattle.alt_ttl.specs.private.Foresight.{Defers, ForeseesPlaced, ListSettles, ListSuffices, is_over_at, spot_at}
-use Rattle.alt_ttl.proofs.Ordered.{NoneBetween, every_over, has_over, is_less, left_behind, left_none, left_other, left_own, less_trans, rise_all}
+use Rattle.alt_ttl.proofs.Ordered.{every_over, has_over, is_less, less_trans, rise_all}
+use Rattle.alt_ttl.proofs.LeftBehind.{NoneBetween, left_behind, left_none, left_other, left_own}
 use Rattle.alt_value.specs.Item.{at_name}
 use Rattle.alt_value.specs.Members.{text_order}
 use Rattle.alt_value.specs.Tree.{Pair}

@@ -23,7 +23,7 @@ use Rattle.alt_ttl.specs.private.Searched.{StandingTablesAreThere}
 use Rattle.alt_ttl.proofs.Foretelling.{left_nothing, left_over, left_stale, none_over}
 use Rattle.alt_ttl.proofs.Founds.{every_both}
 use Rattle.alt_ttl.proofs.Fronts.{take_full, take_whole}
-use Rattle.alt_ttl.proofs.Ordered.{left_behind}
+use Rattle.alt_ttl.proofs.LeftBehind.{left_behind}
 
 -- ---- one more place
 

@@ -6,7 +6,7 @@ use Rattle.std.specs.Option.{option_map_or}
 use Rattle.std.specs.Str.{bytes_eq}
 use Rattle.serde_json.specs.Data.{Data, Members, boolean, member, no_members, object, string}
 use Rattle.serde_json.specs.Find.{as_bool, as_object}
-use Rattle.alt_shape.specs.Bodies.{first_shape_fault, in_object, required}
+use Rattle.alt_shape.specs.BodyParts.{first_shape_fault, in_object, required}
 use Rattle.alt_shape.specs.Refusals.{Answer, bad_time_to_live}
 use Rattle.alt_shape.specs.Shape.{a_text, a_truth, an_object, first_unmet, given}
 use Rattle.alt_shape.specs.declared.rule.Broken.{Broken}

@@ -11,7 +11,7 @@ use Rattle.alt_cellbytes.proofs.Kept.{stop_into, both_map}
 use Rattle.alt_cellbytes.proofs.Deep.{elements_within, fields_within}
 use Rattle.alt_cellbytes.proofs.DeepFirst.{deep_kind, other_kind, list_deeper, map_deeper, list_uncounted, map_uncounted, elements_ahead, entries_ahead, ahead_stop, name_stop, behind_name, never_ok}
 use Rattle.alt_cellbytes.proofs.OneMore.{entry_more, entry_shallow, name_length}
-use Rattle.alt_cellbytes.proofs.Stopped.{stops_here, list_stops, map_stops, list_deep, map_deep}
+use Rattle.alt_cellbytes.proofs.StopsWithin.{stops_here, list_stops, map_stops, list_deep, map_deep}
 use Rattle.alt_cellbytes.proofs.Wholes.{list_whole, map_whole}
 use Rattle.alt_cellbytes.proofs.reading.+reading.Goals as goal
 

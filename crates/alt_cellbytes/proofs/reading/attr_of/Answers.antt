@@ -4,7 +4,7 @@ use Rattle.std.proofs.Common.{◌⊎◌, length, ap, inl, inr, arith, ℕ, List}
 use Rattle.std.proofs.lemmas.Result.{IfOk-weaker}
 use Rattle.alt_cellbytes.specs.Places.{IsBadValueAt, IsDeepAt}
 use Rattle.alt_cellbytes.proofs.Apart.{cell_bytes-apart}
-use Rattle.alt_cellbytes.proofs.Stopped.{never_deep}
+use Rattle.alt_cellbytes.proofs.StopsWithin.{never_deep}
 use Rattle.alt_cellbytes.proofs.WholeValues.{whole_has, depth-short}
 use Rattle.alt_cellbytes.proofs.reading.attr_of.Goals as goal
 

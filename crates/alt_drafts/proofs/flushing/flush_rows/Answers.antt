@@ -18,7 +18,7 @@ use Rattle.alt_drafts.proofs.CarryDrafts.{carries_flush, carries_same}
 use Rattle.alt_flush.specs.Laws.{DropsOnly}
 use Rattle.alt_flush.proofs.NamedLaws.{flush_drops}
 use Rattle.alt_layout.specs.Families.{files_of, flushed_of}
-use Rattle.alt_layout.proofs.FlushLaws.{of-other}
+use Rattle.alt_layout.proofs.FlushedFiles.{of-other}
 use Rattle.alt_manifest.specs.declared.version.FamilyVersion.{FamilyVersion}
 use Rattle.alt_drafts.proofs.LeftOutLaws.{named_file}
 use Rattle.alt_drafts.proofs.flushing.flush_rows.Goals as goal

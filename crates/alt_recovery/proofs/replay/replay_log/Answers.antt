@@ -7,7 +7,8 @@ use Rattle.alt_disk.proofs.Staying.{tells_on}
 use Rattle.alt_gatelog.specs.InHand.{form_of, ReadsEntries}
 use Rattle.alt_gatelog.specs.declared.gatelog.GateLog.{GateLog}
 use Rattle.alt_recovery.specs.Entries.{ExplainsEntry}
-use Rattle.alt_recovery.proofs.ReplayLaws.{EntryDone, entry_explains, log_while, so_far_all, so_far_more}
+use Rattle.alt_recovery.proofs.ReplayLaws.{EntryDone, entry_explains, so_far_all, so_far_more}
+use Rattle.alt_recovery.proofs.SegmentReplays.{log_while}
 use Rattle.alt_recovery.proofs.replay.replay_log.Goals as goal
 
 pub returns-in-Err-clause-damaged : goal.returns-in-Err-clause-damaged

@@ -7,7 +7,7 @@ use Rattle.alt_gatelog.specs.declared.gatelog.GateLog.{GateLog}
 use Rattle.alt_gatelog.proofs.Elsewhere.{reads_log}
 use Rattle.alt_gatelog.specs.Log.{IsLog}
 use Rattle.alt_layout.specs.Entries.{HoldWrites}
-use Rattle.alt_recovery.proofs.ReplayLaws.{log_explains, log_while, no_log_explains}
+use Rattle.alt_recovery.proofs.SegmentReplays.{log_explains, log_while, no_log_explains}
 use Rattle.alt_recovery.proofs.replay.replay_segment.Goals as goal
 
 pub returns-in-Err-clause-explained : goal.returns-in-Err-clause-explained

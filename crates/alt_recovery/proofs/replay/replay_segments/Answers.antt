@@ -9,7 +9,7 @@ use Rattle.alt_gatelog.specs.declared.gatelog.GateLog.{GateLog}
 use Rattle.alt_gatelog.proofs.OneList.{if_err}
 use Rattle.alt_manifest.proofs.RecoverLaws.{if_both}
 use Rattle.alt_recovery.specs.Replays.{ExplainsSegment, ExplainsSegments, ReplaysLast}
-use Rattle.alt_recovery.proofs.ReplayLaws.{SegmentDone, firsts_explain, last_split, replays_last, segment_explains, so_far_of}
+use Rattle.alt_recovery.proofs.SegmentReplays.{SegmentDone, firsts_explain, last_split, replays_last, segment_explains, so_far_of}
 use Rattle.alt_recovery.proofs.replay.replay_segments.Goals as goal
 
 pub returns-in-Err-clause-explained : goal.returns-in-Err-clause-explained

@@ -6,7 +6,8 @@ use Rattle.alt_rowblocks.specs.Filtering.{FilterHoldsRows}
 use Rattle.alt_rowblocks.specs.Format.{Entry, first_key}
 use Rattle.alt_rowblocks.specs.Blocks.{IsAbove}
 use Rattle.alt_rowblocks.specs.Summaries.{summary_of}
-use Rattle.alt_rowblocks.proofs.BlockLaws.{block_read, same_rows, first_at, no_first, no_block, full_from}
+use Rattle.alt_rowblocks.proofs.BlockLaws.{block_read, same_rows, first_at, no_first, no_block}
+use Rattle.alt_rowblocks.proofs.BlockRuns.{full_from}
 use Rattle.alt_rowblocks.proofs.blocks.read_block.Goals as goal
 
 pub returns-then-decoded-ge4096-clause-none : goal.returns-then-decoded-ge4096-clause-none

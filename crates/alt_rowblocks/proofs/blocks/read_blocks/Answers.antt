@@ -8,7 +8,7 @@ use Rattle.alt_disk.proofs.Runs.{quiet_start, quiet_then}
 use Rattle.alt_disk.proofs.Staying.{tells_on}
 use Rattle.alt_rowblocks.specs.Format.{Entry}
 use Rattle.alt_rowblocks.specs.Blocks.{BeginsWithNextBlock, IsReadBlock}
-use Rattle.alt_rowblocks.proofs.BlockLaws.{no_blocks_yet, one_block_more, no_more_blocks}
+use Rattle.alt_rowblocks.proofs.BlockRuns.{no_blocks_yet, one_block_more, no_more_blocks}
 use Rattle.alt_rowblocks.proofs.StreamLaws.{same_bytes, length_up_to}
 use Rattle.alt_rowblocks.proofs.blocks.read_blocks.Goals as goal
 

@@ -7,7 +7,7 @@ use Rattle.alt_run.proofs.Pulling.{answers_some}
 use Rattle.alt_talks.proofs.Stretching.{stretch_none}
 use Rattle.alt_run.proofs.Serving.{breaks_none}
 use Rattle.alt_tables.proofs.Left.{stands_left}
-use Rattle.alt_talks.proofs.Stopping.{leaves-here}
+use Rattle.alt_talks.proofs.StretchLeaving.{leaves-here}
 use Rattle.alt_run.proofs.TurnLaws.{left-nothing}
 use Rattle.alt_run.proofs.running.replay.Goals as goal
 

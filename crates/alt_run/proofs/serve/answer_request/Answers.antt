@@ -9,7 +9,7 @@ use Rattle.alt_talks.specs.Own.{FollowsNot, own_behind}
 use Rattle.alt_talks.specs.Works.{HasFewEntries}
 use Rattle.alt_run.specs.Turns.{request, carried_out, outcome_by_name}
 use Rattle.alt_run.specs.private.Rungs.{left_by_named_request}
-use Rattle.alt_run.proofs.Serving.{turn_cut, turn_unsaid}
+use Rattle.alt_run.proofs.TurnServing.{turn_cut, turn_unsaid}
 use Rattle.alt_run.proofs.Working.{request_broke, request_served}
 use Rattle.alt_talks.proofs.Owning.{answer_first}
 use Rattle.alt_talks.proofs.Stopping.{ready_kept, stands_kept}

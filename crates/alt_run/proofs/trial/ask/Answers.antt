@@ -8,7 +8,7 @@ use Rattle.alt_talks.specs.Works.{HasFewEntries}
 use Rattle.alt_run.specs.Trials.{trial_moment}
 use Rattle.alt_run.specs.Turns.{carried_out}
 use Rattle.alt_run.specs.private.Rungs.{left_by_named_request}
-use Rattle.alt_run.proofs.Trying.{one_done, one_broke, one_followed_some}
+use Rattle.alt_run.proofs.TrialRequests.{one_done, one_broke, one_followed_some}
 use Rattle.alt_run.proofs.trial.ask.Goals as goal
 
 pub returns-in-Err-clause-counted : goal.returns-in-Err-clause-counted

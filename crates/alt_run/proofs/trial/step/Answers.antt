@@ -5,7 +5,7 @@ use Rattle.alt_tables.specs.Stands.{bounds_of}
 use Rattle.alt_run.specs.private.Tallies.{Counted, CountedSome}
 use Rattle.alt_run.specs.Turns.{AskedLine, asked_by}
 use Rattle.alt_talks.specs.declared.fault.RunFault.{RunFault}
-use Rattle.alt_run.proofs.Trying.{asked_parts, none_begun}
+use Rattle.alt_run.proofs.TrialRequests.{asked_parts, none_begun}
 use Rattle.alt_run.proofs.trial.step.Goals as goal
 
 pub returns-in-Ok-clause-counted : goal.returns-in-Ok-clause-counted

@@ -8,7 +8,7 @@ use Rattle.alt_schema.specs.declared.schema.TableSchema.{TableSchema}
 use Rattle.alt_request.proofs.TablesLooking.{only_nothing, only_then, ready_only}
 use Rattle.alt_request.specs.TablesStands.{catalog_of}
 use Rattle.alt_ttl.specs.private.Searched.{StandingTablesAreThere}
-use Rattle.alt_ttl.proofs.Ordered.{left_behind, left_first}
+use Rattle.alt_ttl.proofs.LeftBehind.{left_behind, left_first}
 use Rattle.alt_ttl.proofs.Ripening.{put_few, put_named, ripe_all, ripe_full, ripe_step, some_then}
 use Rattle.alt_ttl.proofs.foresight.ripe.Goals as goal
 

@@ -8,7 +8,7 @@ use Rattle.alt_request.specs.TablesForeseen.{Foresees}
 use Rattle.alt_request.specs.TablesLooking.{OnlyReads}
 use Rattle.alt_request.specs.TablesStands.{Stands, catalog_of}
 use Rattle.alt_ttl.specs.private.Searched.{StandingTablesAreThere}
-use Rattle.alt_ttl.proofs.Ordered.{left_behind}
+use Rattle.alt_ttl.proofs.LeftBehind.{left_behind}
 use Rattle.alt_ttl.proofs.foresight.ripe.Given as goal
 
 abbrev pub invariant-places : goal.invariant-places

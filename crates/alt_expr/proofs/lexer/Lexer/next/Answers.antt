@@ -4,7 +4,8 @@ use Rattle.alt_expr.specs.Spelling.{skip, TokenStands, NoneStands}
 use Rattle.alt_expr.specs.Look.{found, kind_tok, LooksFit}
 use Rattle.alt_expr.specs.Tokens.{tok_of}
 use Rattle.alt_expr.specs.Spelling.{is_blank}
-use Rattle.alt_expr.proofs.Longest.{stands_of, none_of, found_cut, fits_nine, prefix_fits, not_empty}
+use Rattle.alt_expr.proofs.Longest.{stands_of, none_of, fits_nine, prefix_fits, not_empty}
+use Rattle.alt_expr.proofs.AsciiCuts.{found_cut}
 use Rattle.alt_expr.proofs.Suffix.{IsBack, back_of_back}
 use Rattle.alt_expr.proofs.lexer.Lexer.next.Goals as goal
 

@@ -12,7 +12,8 @@ use Rattle.alt_rowchanges.specs.OpeningTrimmed.{without_table_number}
 use Rattle.alt_rowchanges.specs.Fronts.{without_front}
 use Rattle.alt_tables.specs.Stands.{Stands, bounds_of}
 use Rattle.alt_tables.proofs.Holding.{leaves_quiet}
-use Rattle.alt_tables.proofs.Making.{broke, drop_stands, drop_turned, one_made, spent, spent_file}
+use Rattle.alt_tables.proofs.Making.{broke, spent, spent_file}
+use Rattle.alt_tables.proofs.TableMaking.{drop_stands, drop_turned, one_made}
 use Rattle.alt_tables.proofs.tables.Tables.drop_table.Goals as goal
 
 pub returns-then-number-ge-NUMBERS_END-clause-disk :

@@ -14,7 +14,8 @@ use Rattle.alt_rowchanges.specs.RowChanges.{time_changes}
 use Rattle.alt_tables.specs.Stands.{Stands, bounds_of}
 use Rattle.alt_tables.specs.private.Foretold.{TimeToLiveIsTold}
 use Rattle.alt_tables.proofs.Holding.{leaves_quiet}
-use Rattle.alt_tables.proofs.Making.{broke, one_made, spent_file}
+use Rattle.alt_tables.proofs.Making.{broke, spent_file}
+use Rattle.alt_tables.proofs.TableMaking.{one_made}
 use Rattle.alt_tables.proofs.Timed.{given_time, time_stands, time_turned}
 use Rattle.alt_tables.proofs.tables.Tables.set_ttl.Goals as goal
 

@@ -17,7 +17,8 @@ use Rattle.alt_tables.specs.Stands.{Stands, bounds_of, fronts_of, trimmed_of}
 use Rattle.alt_rowchanges.specs.Trims.{IsNoted, TrimIsWithin}
 use Rattle.alt_tables.specs.private.Written.{IsWrittenAs}
 use Rattle.alt_tables.proofs.Holding.{leaves_quiet}
-use Rattle.alt_tables.proofs.Making.{broke, item_stands, item_turned, one_made, want_told}
+use Rattle.alt_tables.proofs.Making.{broke, item_stands, item_turned, want_told}
+use Rattle.alt_tables.proofs.TableMaking.{one_made}
 use Rattle.alt_rowchanges.proofs.CanTrim.{can_trim}
 use Rattle.alt_tables.proofs.tables.Tables.write_trimmed.Goals as goal
 

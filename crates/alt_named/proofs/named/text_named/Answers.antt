@@ -29,8 +29,8 @@ returns-in-Some-clause-refused c refused =
     object_and_more text r first (token_of c.in-Some.field-0) c.next.new.self done.0
     (done.1 ∙ ap (λ l. Some (done.0, l)) c.in-Some.ensures.value)
 
-pub returns-clause-named : goal.returns-clause-named
-returns-clause-named c =
+pub returns-in-None-clause-named : goal.returns-in-None-clause-named
+returns-in-None-clause-named c =
     let text = c.args.text.now in
     let r = c.open_object.new.reader in
     let s = c.members_named.new.reader in

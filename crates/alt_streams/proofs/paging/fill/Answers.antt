@@ -1,5 +1,5 @@
 -- A piece more was read, or the last one.
-use Rattle.std.proofs.Common.{sym, subst}
+use Rattle.std.proofs.Common.{sym, subst, ◌∙◌}
 use Rattle.alt_machine.specs.Ops.GetRecords.{changes_from}
 use Rattle.alt_streams.specs.private.Paged.{StepsPage}
 use Rattle.alt_streams.proofs.Pieces.{ended_before, find_passed, read_ended, read_on}

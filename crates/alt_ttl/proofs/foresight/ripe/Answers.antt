@@ -1,11 +1,11 @@
 -- There are enough, or none is ready any more, or one more was looked at.
-use Rattle.std.proofs.Common.{◌≡◌, ◌++◌, sym, ap, subst, ◌∙◌, None, Some, length, rules, arith}
+use Rattle.std.proofs.Common.{◌≡◌, refl, ◌++◌, sym, ap, subst, ◌∙◌, None, Some, length, rules, arith}
 use Rattle.std.specs.FinMap as map
 use Rattle.alt_due.specs.Due.{FindsNext}
 use Rattle.alt_machine.specs.Expiry.{all_expired, expiring}
 use Rattle.alt_machine.specs.State.{Texts}
 use Rattle.alt_schema.specs.declared.schema.TableSchema.{TableSchema}
-use Rattle.alt_request.proofs.TablesLooking.{only_nothing, only_then, ready_only}
+use Rattle.alt_request.proofs.TablesLooking.{fails_then, fails_told, only_nothing, only_then, ready_only}
 use Rattle.alt_request.specs.TablesStands.{catalog_of}
 use Rattle.alt_ttl.specs.private.Searched.{StandingTablesAreThere}
 use Rattle.alt_ttl.proofs.LeftBehind.{left_behind, left_first}
@@ -48,6 +48,10 @@ returns-in_err-put_over-clause-only g c = only_then c.places.invariant.only c.lo
 
 pub returns-in-Err-clause-only : goal.returns-in-Err-clause-only
 returns-in-Err-clause-only g c = only_then c.places.invariant.only c.look.ensures.only
+
+pub returns-in-Err-clause-fails : goal.returns-in-Err-clause-fails
+returns-in-Err-clause-fails g c = fails_told refl (fails_then c.places.invariant.only
+    c.in-Err.ensures.fails)
 
 pub places-preserved : goal.places-preserved
 places-preserved g c =

@@ -3,7 +3,7 @@ use Rattle.std.proofs.Common.{sym, ap, subst, ◌∙◌, map}
 use Rattle.alt_machine.specs.Expiry.{gone_at}
 use Rattle.alt_machine.specs.State.{Texts}
 use Rattle.alt_schema.specs.declared.schema.TableSchema.{TableSchema}
-use Rattle.alt_request.proofs.TablesLooking.{only_then, ready_only}
+use Rattle.alt_request.proofs.TablesLooking.{fails_then, only_then, ready_only}
 use Rattle.alt_request.specs.TablesSeveral.{AreAllApart, Every, MayWrite}
 use Rattle.alt_request.specs.TablesStands.{catalog_of}
 use Rattle.alt_ttl.specs.private.Searched.{StandingTablesAreThere, has_twice}
@@ -38,6 +38,10 @@ returns-in-Ok-find_all-clause-found g c s stands =
 
 pub returns-in-Err-find_all-clause-only : goal.returns-in-Err-find_all-clause-only
 returns-in-Err-find_all-clause-only g c = only_then c.in-Ok.ensures.only c.find_all.ensures.only
+
+pub returns-in-Err-find_all-clause-fails : goal.returns-in-Err-find_all-clause-fails
+returns-in-Err-find_all-clause-fails g c = fails_then c.in-Ok.ensures.only
+    c.in-Err-find_all.ensures.fails
 
 pub returns-in-Ok-find_all-clause-only : goal.returns-in-Ok-find_all-clause-only
 returns-in-Ok-find_all-clause-only g c = only_then c.in-Ok.ensures.only c.find_all.ensures.only

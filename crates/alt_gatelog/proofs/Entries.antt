@@ -4,7 +4,7 @@ use Rattle.std.proofs.lemmas.List.{append-nil, drop_more, drop-drop, length-take
 use Rattle.std.specs.Int.{w64, to_be_bytes, from_be_bytes}
 use Rattle.std.specs.List.{AllByRecursion}
 use Rattle.alt_gatelog.specs.Log.{framed, header, log_front, gates_from, IsCutEntry, IsShortEntry, ExplainsLog}
-use Rattle.alt_gatelog.specs.Log.IsDamaged.{ends_inside}
+use Rattle.alt_gatelog.specs.Log.LogIsDamagedAt.{ends_inside}
 use Rattle.alt_gatelog.specs.Parse.{HasEntry, IsCutAt}
 use Rattle.alt_gatelog.specs.declared.fault.LogFault.{LogFault}
 use Rattle.alt_gatelog.specs.declared.form.Form.{Form}

@@ -5,7 +5,7 @@ use Rattle.std.proofs.lemmas.Nat.{from_be_bytes-to_be_bytes_8}
 use Rattle.std.specs.Int.{w64, to_be_bytes, from_be_bytes}
 use Rattle.std.specs.List.{AllByRecursion}
 use Rattle.alt_gatelog.specs.Log.{header, framed, behind_gates, log_front, IsLog, IsShortEntry, IsCutEntry, LogIsDamagedAt, ExplainsLog}
-use Rattle.alt_gatelog.specs.Log.IsDamaged.{no_header, ends_inside}
+use Rattle.alt_gatelog.specs.Log.LogIsDamagedAt.{no_header, ends_inside}
 use Rattle.alt_gatelog.specs.Parse.{HasNoLog, HasNoHeader}
 use Rattle.alt_gatelog.specs.declared.fault.LogFault.{LogFault}
 use Rattle.alt_gatelog.specs.declared.fault.LogFault.TheVariants.{Damaged, Failed, NoMemory}

@@ -10,7 +10,7 @@ use Rattle.alt_rowblocks.specs.Cut.{IsFromKey, IsCutAtKey, IsPassed}
 use Rattle.alt_rowblocks.specs.Decoding.{AreRows, NoRows}
 use Rattle.alt_rowblocks.specs.Format.{Entry, row_entry_bytes, rows_bytes, IsHeldEntry}
 use Rattle.alt_rowblocks.specs.Taken.{IsPassedBy}
-use Rattle.alt_rowblocks.specs.Taken.IsAhead.{at_end, stays}
+use Rattle.alt_rowblocks.specs.Taken.PassesNoMore.{at_end, stays}
 use Rattle.alt_rowblocks.specs.Holding.{StandAt, IsCutIn}
 use Rattle.alt_rowblocks.specs.Picking.{Piece, piece_bytes, IsShortPiece}
 use Rattle.alt_rowblocks.proofs.BlockLaws.{sorted_back}

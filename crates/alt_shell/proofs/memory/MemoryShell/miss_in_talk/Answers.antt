@@ -4,7 +4,7 @@ use Rattle.alt_shell.specs.Waiting.{pieces_of}
 use Rattle.alt_shell.specs.declared.talks.Talks.{Talks}
 use Rattle.alt_shell.proofs.Missing.{with_failed}
 use Rattle.alt_shell.proofs.Leaving.{room_left}
-use Rattle.alt_shell.proofs.memory_calls.MemoryShell.miss_in_talk.Goals as goal
+use Rattle.alt_shell.proofs.memory.MemoryShell.miss_in_talk.Goals as goal
 
 pub invariant_of-self-2-clause-heard : goal.invariant_of-self-2-clause-heard
 invariant_of-self-2-clause-heard c =

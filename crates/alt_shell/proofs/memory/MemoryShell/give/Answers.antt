@@ -2,7 +2,7 @@ use Rattle.std.proofs.Common.{◌∙◌, length, arith}
 use Rattle.alt_base.proofs.Numbers.{told_zero}
 use Rattle.alt_shell.specs.States.{kept_entries, streams_by}
 use Rattle.alt_shell.proofs.Ending.{hand_ends, none_is, streams-took, taken_push}
-use Rattle.alt_shell.proofs.memory_calls.MemoryShell.give.Goals as goal
+use Rattle.alt_shell.proofs.memory.MemoryShell.give.Goals as goal
 
 pub advance-requires : goal.advance-requires
 advance-requires c none =

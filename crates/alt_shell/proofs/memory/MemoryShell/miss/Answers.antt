@@ -1,7 +1,7 @@
 use Rattle.std.proofs.Common.{◌∙◌, sym, ap, length, refl, rules}
 use Rattle.alt_shell.specs.States.{kept_entries}
 use Rattle.alt_shell.proofs.Missing.{failed_silent}
-use Rattle.alt_shell.proofs.memory_calls.MemoryShell.miss.Goals as goal
+use Rattle.alt_shell.proofs.memory.MemoryShell.miss.Goals as goal
 
 pub invariant_of-self-clause-heard : goal.invariant_of-self-clause-heard
 invariant_of-self-clause-heard c =

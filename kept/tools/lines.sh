@@ -1,6 +1,0 @@
-work=/work/p; program=${PROGRAM:-/work/bt.bin}
-create='CreateTable {"TableName":"Tab","KeySchema":[{"AttributeName":"pk","KeyType":"HASH"},{"AttributeName":"sk","KeyType":"RANGE"}],"AttributeDefinitions":[{"AttributeName":"pk","AttributeType":"S"},{"AttributeName":"sk","AttributeType":"N"}]}'
-item='"sk":{"N":"%d"},"at":{"S":"order#2026-11-27T03:26:31Z"},"total":{"N":"129.95"},"paid":{"BOOL":true},"note":{"S":"leave it at the door, and ring twice"},"tags":{"SS":["gift","priority"]},"lines":{"L":[{"M":{"sku":{"S":"A-1001"},"qty":{"N":"2"}}},{"M":{"sku":{"S":"B-2002"},"qty":{"N":"1"}}}]},"digest":{"B":"AAECAwQFBgc="}'
-puts() { seq "$1" "$(($1 + $2 - 1))" | awk -v line="PutItem {\"TableName\":\"Tab\",\"Item\":{\"pk\":{\"S\":\"customer#%07d\"},$item}}\n" '{ printf line, $1 / 100, $1 % 100 }'; }
-gets() { seq 0 "$(($1 - 1))" | awk -v line='GetItem {"TableName":"Tab","Key":{"pk":{"S":"customer#%07d"},"sk":{"N":"%d"}}}\n' -v of="$2" '{ n = ($1 * 7919) % of; printf line, n / 100, n % 100 }'; }
-queries() { seq 0 "$(($1 - 1))" | awk -v line='Query {"TableName":"Tab","KeyConditionExpression":"pk = :p","ExpressionAttributeValues":{":p":{"S":"customer#%07d"}}}\n' -v of="$2" '{ printf line, ($1 * 79) % (of / 100) }'; }

@@ -18,7 +18,7 @@ use alt_fields::Bytes;
 use alt_opening::change_at;
 use alt_schema::{IndexSchema, TableSchema};
 use alt_value::Item;
-use alt_views::{Unread, item_of_index_row, item_of_row};
+use alt_views::{Unread, item_from_row, item_of_index_row, item_of_row};
 use std::alloc::Global;
 
 /// The item of a row, where one is shown.
@@ -51,7 +51,7 @@ pub fn read_page(
 {
     let mut last = None;
     for (place, row) in page {
-        match item_of_row(alloc, &row) {
+        match item_from_row(alloc, row) {
             Ok(item) => out.push(item)?,
             Err(Unread::Bad) => return Err(TableFault::BadRow { family, key: place }),
             Err(Unread::NoMemory) => return Err(TableFault::NoMemory),

@@ -139,12 +139,6 @@ pub fn held(a: &Attr)
     }
 }
 
-fn text_held(text: &str)
-    ensures { IsText text.now }
-{
-    let _count = text.len();
-}
-
 impl AttrList {
     /// The list without elements.
     pub fn new(alloc: Global) -> Self
@@ -238,15 +232,24 @@ impl Item {
         ensures ok { OnOk result (self.new ≡ with_pair name.now (tree_of a) self.old) }
         ensures err { OnErr result (self.new ≡ self.old) }
     {
+        let name = Text::new(*self.entries.allocator(), name)?;
+        self.put_owned(name, a)
+    }
+
+    /// The same for a name of its own, which is moved and not copied.
+    pub fn put_owned(&mut self, name: Text, a: Attr) -> Result<(), NoMemory>
+        requires { 0 < length name }
+        ensures ok { OnOk result (self.new ≡ with_pair name (tree_of a) self.old) }
+        ensures err { OnErr result (self.new ≡ self.old) }
+    {
         held(&a);
-        text_held(name);
-        match place_to_put(&self.entries, name) {
+        let _length = name.len();
+        match place_to_put(&self.entries, name.as_str()) {
             Ok(i) => {
                 replace(&mut self.entries, i, a);
                 let _count = self.entries.len();
             }
             Err(i) => {
-                let name = Text::new(*self.entries.allocator(), name)?;
                 self.entries.insert(i, Pair { name, value: a })?;
                 let _count = self.entries.len();
             }

@@ -8,7 +8,7 @@ ghost use Rattle.alt_value.specs.Item.{IsItem, at_name, with_pair, without};
 ghost use Rattle.alt_value.specs.Members.{text_order};
 ghost use Rattle.alt_value.specs.declared.attr.Pair.{Pair as Entry};
 ghost use Rattle.alt_value.specs.Place.{NameStandsAt, GoesTo};
-ghost use Rattle.alt_value.specs.Values.{IsText, IsValue, IsListOfValues, IsItemOfValues};
+ghost use Rattle.alt_value.specs.Values.{IsValue, IsListOfValues, IsItemOfValues};
 
 use crate::{BytesSet, NumberSet, Text, TextSet};
 use alt_base::NoMemory;

@@ -5,28 +5,31 @@ use Rattle.alt_value.specs.declared.attr.Pair.{Pair}
 use Rattle.alt_value.specs.Stands.{tree_of, pair_of}
 use Rattle.alt_fields.specs.Bytes.{IsShort}
 use Rattle.alt_value.specs.Item.{with_pair}
+use Rattle.alt_value.specs.Place.{NameStandsAt, GoesTo}
 use Rattle.alt_value.specs.Values.{IsItemOfValues}
 use Rattle.alt_value.proofs.Values.{IsItemOfValues-with_pair}
 use Rattle.alt_value.proofs.Entries.{with_pair-stands, with_pair-goes}
-use Rattle.alt_value.proofs.attr.Item.put.Goals as goal
+use Rattle.alt_value.proofs.attr.Item.put_owned.Goals as goal
 use Rattle.std.proofs.Common.{refl}
 
 replaced : (c : goal.After-len-count) → map pair_of c.replace.new.entries.items
-    ≡ with_pair c.args.name.now (tree_of c.args.a) c.args.self.now
+    ≡ with_pair c.args.name (tree_of c.args.a) c.args.self.now
 replaced c =
-    let d : Pair = record { name = c.args.name.now; value = c.args.a } in
+    let d : Pair = record { name = c.args.name; value = c.args.a } in
     ap (map pair_of) (c.replace.ensures d)
-    ∙ sym (with_pair-stands c.args.name.now c.args.a c.self.inside.entries.items c.in-Ok.i d
-    c.in-Ok.ensures)
-    ∙ ap (with_pair c.args.name.now (tree_of c.args.a)) c.self.view_is
+    ∙ sym (with_pair-stands c.args.name c.args.a c.self.inside.entries.items c.in-Ok.i d
+    (subst (λ n. NameStandsAt n c.self.inside.entries.items c.in-Ok.i) c.as_str.ensures.same
+    c.in-Ok.ensures))
+    ∙ ap (with_pair c.args.name (tree_of c.args.a)) c.self.view_is
 
 inserted : (c : goal.After-len-count-in-Err) → map pair_of c.insert.new.self.items
-    ≡ with_pair c.args.name.now (tree_of c.args.a) c.args.self.now
+    ≡ with_pair c.args.name (tree_of c.args.a) c.args.self.now
 inserted c =
     ap (map pair_of) c.in_ok-insert-in-Err.ensures.items
-    ∙ sym (with_pair-goes c.args.name.now c.args.a c.self.inside.entries.items c.in-Err.i _
-    c.in_ok-name-in-Err.ensures.copied refl c.in-Err.ensures)
-    ∙ ap (with_pair c.args.name.now (tree_of c.args.a)) c.self.view_is
+    ∙ sym (with_pair-goes c.args.name c.args.a c.self.inside.entries.items c.in-Err.i _
+    refl refl (subst (λ n. GoesTo n c.self.inside.entries.items c.in-Err.i) c.as_str.ensures.same
+    c.in-Err.ensures))
+    ∙ ap (with_pair c.args.name (tree_of c.args.a)) c.self.view_is
 
 pub invariant_of-self : goal.invariant_of-self
 invariant_of-self c =
@@ -37,8 +40,8 @@ invariant_of-self c =
       c.len-count.type_inv,
       c.len-count.ensures,
     ) in
-    rw (replaced c) (IsItemOfValues-with_pair c.args.name.now
-    (tree_of c.args.a) c.args.self.now c.requires c.text_held.ensures c.held.ensures.value
+    rw (replaced c) (IsItemOfValues-with_pair c.args.name
+    (tree_of c.args.a) c.args.self.now c.requires c.len-length.ensures.text c.held.ensures.value
     (subst IsShort (replaced c) short) (subst IsItemOfValues c.self.view_is c.self.invariant))
 
 pub invariant_of-self-in-Err : goal.invariant_of-self-in-Err
@@ -50,8 +53,8 @@ invariant_of-self-in-Err c =
       c.len-count-in-Err.type_inv,
       c.len-count-in-Err.ensures,
     ) in
-    rw (inserted c) (IsItemOfValues-with_pair c.args.name.now
-    (tree_of c.args.a) c.args.self.now c.requires c.text_held.ensures c.held.ensures.value
+    rw (inserted c) (IsItemOfValues-with_pair c.args.name
+    (tree_of c.args.a) c.args.self.now c.requires c.len-length.ensures.text c.held.ensures.value
     (subst IsShort (inserted c) short) (subst IsItemOfValues c.self.view_is c.self.invariant))
 
 pub returns-in-Ok-clause-ok : goal.returns-in-Ok-clause-ok

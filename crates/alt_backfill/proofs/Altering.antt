@@ -1,11 +1,11 @@
 -- The description that a table gets: it may take the place of its own, and it is as a description has to be.
-use Rattle.std.proofs.Common.{◌≡◌, refl, sym, ap, subst, ◌∙◌, ◌+◌, ℕ, true, false, not, List, [], ◌∷◌, map, length, Option, Some, None, is_some, inl, inr}
-use Rattle.std.specs.Prelude.{◌&&◌, ◌⊎◌, codes, if◌then◌else◌}
+use Rattle.std.proofs.Common.{◌≡◌, refl, sym, ap, ◌∙◌, ◌+◌, ℕ, true, false, not, List, [], ◌∷◌, map, length, Option, Some, None, is_some, inl, inr}
+use Rattle.std.specs.Prelude.{◌&&◌, codes, if◌then◌else◌}
 use Rattle.std.specs.List.{filter, list_all, list_any}
 use Rattle.std.proofs.lemmas.Bool.{le-ltb}
 use Rattle.std.specs.Cmp.{first_so, second_so}
 use Rattle.serde_json.specs.Data.{Members}
-use Rattle.alt_backfill.specs.private.Asked.{first_asked, first_of}
+use Rattle.alt_backfill.specs.private.Asked.{first_of}
 use Rattle.alt_backfill.proofs.Shapes.{none_acts}
 use Rattle.alt_backfill.proofs.Tests.{shape_kept}
 use Rattle.alt_base.proofs.Lists.{length-filter}
@@ -13,8 +13,8 @@ use Rattle.alt_machine.specs.Body.{of_shape}
 use Rattle.alt_machine.specs.Building.{building_in}
 use Rattle.alt_machine.specs.Members.{may_name}
 use Rattle.alt_machine.specs.Ops.UpdateTable.{acts, altered, altered_by, are_keys_good, are_single, asked_at, changes, comes_early, coming, family_after, going, changed_index_names_fit, of_body, of_indexes, wanted_for}
-use Rattle.alt_machine.specs.Outcomes.{Wants, a_family, a_number}
-use Rattle.alt_machine.specs.Refusals.{first_answer, refuse_if, refuse_unless}
+use Rattle.alt_machine.specs.Outcomes.{a_family, a_number}
+use Rattle.alt_machine.specs.Refusals.{first_answer}
 use Rattle.alt_machine.specs.Valid.{IsMade}
 use Rattle.alt_machine.proofs.Added.{made_added}
 use Rattle.alt_machine.proofs.Removed.{made_removed}

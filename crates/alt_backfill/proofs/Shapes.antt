@@ -1,5 +1,5 @@
 -- What is asked of a body whose shape is good: an index comes or goes exactly where it is asked.
-use Rattle.std.proofs.Common.{◌≡◌, refl, sym, ap, ◌∙◌, ℕ, Bool, true, false, cond, List, [], ◌∷◌, ◌++◌, Option, Some, None, is_some}
+use Rattle.std.proofs.Common.{◌≡◌, refl, ap, ◌∙◌, ℕ, Bool, true, false, List, [], ◌∷◌, ◌++◌, Option, Some, None, is_some}
 use Rattle.std.proofs.lemmas.Bool.{or_left, or_right}
 use Rattle.std.specs.Prelude.{◌||◌, codes, option_and_then, if◌then◌else◌}
 use Rattle.std.specs.List.{flat_map, list_any}
@@ -7,15 +7,13 @@ use Rattle.std.specs.Option.{option_map_or}
 use Rattle.serde_json.specs.Data.{Data, Items, no_items, item, Members}
 use Rattle.serde_json.specs.Find.{as_array, as_object}
 use Rattle.alt_backfill.specs.private.Asked.{first_asked, first_of}
-use Rattle.alt_backfill.proofs.Singles.{none_first}
 use Rattle.alt_machine.specs.Lists.{is_given}
-use Rattle.alt_machine.specs.Ops.UpdateTable.{acts, asked_at, asked_in, change_members, changes}
+use Rattle.alt_machine.specs.Ops.UpdateTable.{acts, asked_in, change_members, changes}
 use Rattle.alt_schema.specs.Stated.{at_most_one, stated_by}
 use Rattle.alt_shape.specs.Bodies as bodies
 use Rattle.alt_shape.specs.Bodies.{index_update}
 use Rattle.alt_shape.specs.BodyParts.{in_items, object_fault}
-use Rattle.alt_shape.specs.Shape.{an_object, fault_of, given, or_next_fault}
-use Rattle.alt_shape.specs.declared.rule.Broken.{Broken}
+use Rattle.alt_shape.specs.Shape.{an_object, fault_of, given}
 use Rattle.alt_shape.specs.declared.rule.Broken.TheVariants.{WrongKind}
 use Rattle.alt_shape.proofs.Places.{or_next_first, or_next_second}
 

@@ -1,5 +1,5 @@
 -- The write of an UpdateTable: its description may be given to the table, and then the request has come to what it is to.
-use Rattle.std.proofs.Common.{◌≡◌, ◌<◌, ◌≤◌, sym, ap, subst, ◌∙◌, ℕ, Bool, true, false, cond, List, [], ◌∷◌, length, nat_le, Option, Some, None, is_some, arith}
+use Rattle.std.proofs.Common.{◌≡◌, ◌<◌, sym, ap, subst, ◌∙◌, ℕ, true, cond, List, [], ◌∷◌, length, nat_le, Option, Some, None, is_some, arith}
 use Rattle.std.proofs.lemmas.Bool.{leb-true}
 use Rattle.std.proofs.lemmas.Option.{same_Some}
 use Rattle.std.specs.Cmp.{first_so}

@@ -1,6 +1,6 @@
 //! What reads gave, by file, place and length of the buffer; the places used last stay.
 
-ghost use Rattle.std.specs.Prelude.{◌≡◌, ◌<◌, ◌≤◌, true, [], length, take, min, is_some, IfOk, IfSome, IfNone};
+ghost use Rattle.std.specs.Prelude.{◌≡◌, ◌<◌, ◌≤◌, length, take, min, is_some, IfOk, IfSome, IfNone};
 ghost use Rattle.alt_blocks.specs.Short.{AreShort};
 
 use alt_base::NoMemory;

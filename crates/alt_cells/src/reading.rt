@@ -1,13 +1,13 @@
 //! Reading the bytes of a row.
 
-ghost use Rattle.std.specs.Prelude.{◌≡◌, ◌<◌, ◌^◌, ◌∷◌, ◌++◌, [], ℕ, ◌↔◌, length, IsTrue, IfSome, IfOk, IfErr, Err};
+ghost use Rattle.std.specs.Prelude.{◌≡◌, ◌<◌, ◌^◌, ◌++◌, [], ℕ, ◌↔◌, length, IsTrue, IfSome, IfOk, IfErr, Err};
 ghost use Rattle.std.specs.List.{flat_map};
 ghost use Rattle.std.specs.Int.{w64, to_be_bytes};
 ghost use Rattle.alt_fields.specs.Field.{field};
 ghost use Rattle.alt_fields.specs.declared.bytes.BytesFault.{BytesFault};
 ghost use Rattle.alt_cells.specs.declared.row.RowCells.{RowCells};
 ghost use Rattle.alt_cells.specs.Format.{tombstone_bytes, value_bytes, cell_bytes, bytes_of_row, IsHeldCell, IsHeldRow};
-ghost use Rattle.alt_cells.specs.Places.{IsCut, FieldIsCutOff, NumberIsCutOff, NoFlagged, IsNextColumnName, NoName, NoCell, AreCells, NoCells, IsHeldNumber, Stops, IsBadAt, NoRow, IsReadAsRow, IsStop};
+ghost use Rattle.alt_cells.specs.Places.{FieldIsCutOff, NumberIsCutOff, NoFlagged, IsNextColumnName, NoName, NoCell, AreCells, NoCells, IsHeldNumber, Stops, IsBadAt, NoRow, IsReadAsRow, IsStop};
 
 use crate::stop::Stop;
 use crate::{Cell, CellMap, RowCells};

@@ -8,7 +8,7 @@ ghost use Rattle.alt_value.specs.Values.{IsWhole, IsWholeItem};
 ghost use Rattle.alt_decimal.specs.NumberText.{TextReadsAs};
 ghost use Rattle.alt_codec.specs.JsonOf.{JsonOf, ItemJsonOf, SendsNumber, AnswersNumber};
 ghost use Rattle.alt_codec.specs.Numbers.{number_of};
-ghost use Rattle.alt_codec.specs.Reading.{value_in, item_in, only_member, only_present as the_only_present, payload_in, list_in, map_in, elements_in, fields_in};
+ghost use Rattle.alt_codec.specs.Reading.{value_in, item_in, only_present as the_only_present, payload_in, list_in, map_in, elements_in, fields_in};
 
 use crate::ValueFault;
 use crate::flat::flat_of;

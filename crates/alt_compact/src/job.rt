@@ -1,7 +1,7 @@
 //! How far a merge has come, and how it goes on.
 
-ghost use Rattle.std.specs.Prelude.{◌≡◌, ◌<◌, ◌++◌, ℕ, Bool, IsTrue, IfOk, IfErr, OnOk, take, drop, []};
-ghost use Rattle.alt_disk.specs.Disk.{DiskState, IsTrusted};
+ghost use Rattle.std.specs.Prelude.{◌≡◌, ◌<◌, ◌++◌, IsTrue, IfOk, IfErr, OnOk, take, drop, []};
+ghost use Rattle.alt_disk.specs.Disk.{IsTrusted};
 ghost use Rattle.std.specs.FinMap.{entries};
 ghost use Rattle.alt_cells.specs.Walks.{RowMap, RowList, KeepsSource, Fails, HasCause, IsDamaged, answered_by};
 ghost use Rattle.alt_compact.specs.Jobs.{purges, HasTaken, IsUnderWay, StepSays, MovesOnlyTouched, TakesRows, Took};

@@ -2,7 +2,7 @@
 
 ghost use Rattle.std.specs.Prelude.{◌≡◌, ◌++◌, ◌∷◌, [], ℕ, Bool, IsTrue, IfOk, IfErr, OnOk, T, if◌then◌else◌};
 ghost use Rattle.std.specs.FinMap.Entries.{is_sorted};
-ghost use Rattle.alt_disk.specs.Disk.{DiskState, IsTrusted};
+ghost use Rattle.alt_disk.specs.Disk.{IsTrusted};
 ghost use Rattle.alt_cells.specs.Compacted.{compacted, is_bare};
 ghost use Rattle.alt_cells.specs.Keys.{key_cmp};
 ghost use Rattle.alt_cells.specs.Walks.{RowList, HasCause, IsDamaged, answered_by};

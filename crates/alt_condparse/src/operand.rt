@@ -1,6 +1,5 @@
 //! Operands, read from tokens.
 
-ghost use Rattle.std.specs.Prelude.{◌≡◌, ◌∷◌, ◌++◌, []};
 ghost use Rattle.alt_expr.specs.Reader.{left, ReadsExpression};
 ghost use Rattle.alt_expr.specs.CondReader as spec;
 ghost use Rattle.alt_expr.specs.Lookups.{given_by_lookups};

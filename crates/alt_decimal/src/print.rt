@@ -1,6 +1,6 @@
 //! Numbers are printed in plain decimal notation.
 
-ghost use Rattle.std.specs.Prelude.{◌≡◌, ◌+◌, ◌*◌, ◌^◌, ◌<◌, ◌≤◌, take, replicate, Ok, length, List, ◌++◌};
+ghost use Rattle.std.specs.Prelude.{◌≡◌, ◌+◌, ◌<◌, ◌≤◌, take, replicate, Ok, length, ◌++◌};
 ghost use Rattle.std.specs.Fmt.{sign_text as minus_if};
 ghost use Rattle.alt_decimal.specs.Printed.{printed};
 ghost use Rattle.alt_decimal.specs.Layout.{magnitude_text};

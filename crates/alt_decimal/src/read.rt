@@ -1,6 +1,6 @@
 //! Number texts are read.
 
-ghost use Rattle.std.specs.Prelude.{◌≡◌, ◌≢◌, ℕ, ◌-◌, replicate, slice_index, ◌+◌, ◌*◌, ◌^◌, ◌<◌, ◌≤◌, length, MatchOption, None, Some, Ok, Err, if◌then◌else◌, ◌++◌, Bool};
+ghost use Rattle.std.specs.Prelude.{◌≡◌, ◌≢◌, ◌-◌, replicate, slice_index, ◌+◌, ◌<◌, ◌≤◌, length, MatchOption, None, Some, Ok, Err, if◌then◌else◌, ◌++◌, Bool};
 ghost use Rattle.std.specs.Str.Parse.{AllDigits, digits_value};
 ghost use Rattle.std.specs.Float.Numeral.{digits_len};
 ghost use Rattle.alt_decimal.specs.Number.{fitted};

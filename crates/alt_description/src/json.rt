@@ -1,6 +1,6 @@
 //! A description as the client is shown it.
 
-ghost use Rattle.std.specs.Prelude.{◌≡◌, false, option_map, string_bytes, IfOk, OnOk, codes};
+ghost use Rattle.std.specs.Prelude.{◌≡◌, false, option_map, string_bytes, IfOk, OnOk};
 ghost use Rattle.serde_json.specs.Data.{array, string};
 ghost use Rattle.serde_json.specs.View.{view, items_view, members_view};
 ghost use Rattle.serde_json.specs.Written.{has_float};

@@ -31,7 +31,7 @@ pub struct MemoryDisk {
 }
 
 impl MemoryDisk {
-    ghost use Rattle.std.specs.Prelude.{ℕ, ◌≢◌, ◌⊎◌, ◌-◌, ◌^◌, ◌<◌, true, false, None, IsTrue, IfOk, IfSome, OnOk, OnErr, is_ok};
+    ghost use Rattle.std.specs.Prelude.{ℕ, ◌≢◌, ◌⊎◌, ◌-◌, ◌^◌, ◌<◌, true, false, None, IfOk, IfSome, OnOk, OnErr, is_ok};
     ghost use Rattle.alt_disk.specs.Fates.{missing};
     ghost use Rattle.alt_disk.specs.Disk.{Tick, Silent, Faulted, Same, now, IsImage};
     ghost use Rattle.alt_disk.specs.Stopped.{files_at_stop, picked_image, settled_fates};

@@ -1,5 +1,5 @@
 -- Families that aren't live, gathered and left out.
-use Rattle.std.proofs.Common.{◌≡◌, ◌<◌, ◌+◌, ◌^◌, ◌++◌, ⊎_elim, inl, inr, cond, ℕ, Bool, true, false, List, [], ◌∷◌, length, take, drop, get_or, map, Option, refl, sym, ap, subst, ◌∙◌, arith, eqb-true, zero, suc}
+use Rattle.std.proofs.Common.{◌≡◌, ◌<◌, ◌+◌, ◌^◌, ◌++◌, ⊎_elim, inl, inr, cond, ℕ, Bool, true, false, List, [], ◌∷◌, length, take, drop, get_or, Option, refl, sym, ap, subst, ◌∙◌, arith, eqb-true, zero, suc}
 use Rattle.std.proofs.lemmas.List.{drop_more, take_more}
 use Rattle.std.specs.Prelude.{◌⊎◌, ◌==◌, ◌||◌, is_some, None}
 use Rattle.std.specs.BTreeMap.{get}

@@ -1,16 +1,15 @@
 -- What a phrase of a condition derives is read as its tree.
-use Rattle.std.proofs.Common.{◌≡◌, refl, sym, ap, ◌∙◌, ℕ, zero, suc, ◌+◌, ◌<◌, ◌≤◌, Bool, true, false, List, [], ◌∷◌, ◌++◌, length, Some, None, arith, append_assoc, append-nil, length-append}
-use Rattle.alt_expr.specs.Tokens.{Tok, key, colon, mark}
+use Rattle.std.proofs.Common.{◌≡◌, refl, ap, ◌∙◌, ℕ, zero, suc, ◌+◌, ◌<◌, ◌≤◌, true, false, List, [], ◌∷◌, ◌++◌, length, Some, arith, append_assoc, append-nil, length-append}
+use Rattle.alt_expr.specs.Tokens.{Tok, key, mark}
 use Rattle.alt_expr.specs.Given.{Given}
 use Rattle.alt_expr.specs.declared.token.Keyword.{Keyword}
 use Rattle.alt_expr.specs.declared.token.Keyword.TheVariants as k
 use Rattle.alt_expr.specs.declared.token.Mark.TheVariants as m
 use Rattle.alt_expr.specs.declared.cond.Cond.{Cond}
 use Rattle.alt_expr.specs.declared.cond.Cond.TheVariants as cond
-use Rattle.alt_expr.specs.PathGrammar.{call_toks}
 use Rattle.alt_expr.specs.CondGrammar.{OperandPhrase, at, TestPhrase, compared, between, among, exists, not_exists, has_kind, begins, contains, CondPhrase, last, either, AndPhrase, final, both, NotPhrase, negated, group, test, operand_toks, test_toks, cond_toks, and_toks, not_toks, test_tree, any_of, conjunction_of, cond_trees, and_trees, not_tree, cond_tree}
 use Rattle.alt_expr.specs.Reader as e
-use Rattle.alt_expr.specs.Reader.{Parser, sees_mark, sees_key, is_call, after_mark, after_key, expect, in_brackets}
+use Rattle.alt_expr.specs.Reader.{Parser, sees_mark, sees_key, after_mark, after_key, expect, in_brackets}
 use Rattle.alt_expr.proofs.PathRead.{Ends, close_read, ends_key, ends_close, ends_nothing}
 use Rattle.alt_expr.proofs.TestComplete.{operand_some, test_read, test_first}
 use Rattle.alt_expr.specs.CondReader as r

@@ -1,7 +1,7 @@
 -- A condition that is read was derived, and its tree is the phrase's.
-use Rattle.std.proofs.Common.{◌≡◌, refl, sym, ap, ◌∙◌, ℕ, zero, suc, Bool, false, ◌⊎◌, inl, inr, List, [], ◌∷◌, ◌++◌, length, map, drop, Some, append_assoc, append-nil}
+use Rattle.std.proofs.Common.{◌≡◌, refl, sym, ap, ◌∙◌, ℕ, zero, suc, inl, inr, List, [], ◌∷◌, ◌++◌, length, drop, Some, append_assoc}
 use Rattle.std.proofs.lemmas.Bool.{cases_Bool}
-use Rattle.alt_expr.specs.Tokens.{Tok, key, hash, index, mark}
+use Rattle.alt_expr.specs.Tokens.{Tok, key, mark}
 use Rattle.alt_expr.specs.Given.{Given}
 use Rattle.alt_expr.specs.declared.token.Keyword.{Keyword}
 use Rattle.alt_expr.specs.declared.token.Keyword.TheVariants as k

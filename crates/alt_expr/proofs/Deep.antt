@@ -1,5 +1,5 @@
 -- One walk finds exactly what nests too deep.
-use Rattle.std.proofs.Common.{◌≡◌, refl, ℕ, zero, suc, ◌+◌, ◌<◌, ◌≤◌, Bool, true, false, cond, ◌||◌, ◌⊎◌, ◌↔◌, inl, inr, if◌then◌else◌, List, [], ◌∷◌, take, nat_lt, arith, T}
+use Rattle.std.proofs.Common.{◌≡◌, refl, ℕ, zero, suc, ◌+◌, ◌<◌, ◌≤◌, Bool, true, false, cond, ◌||◌, ◌⊎◌, ◌↔◌, inl, inr, if◌then◌else◌, List, [], ◌∷◌, take, nat_lt, arith}
 use Rattle.std.specs.Prelude.{IsTrue}
 use Rattle.std.proofs.lemmas.Bool.{cases_Bool, ltb-true, ltb-false, or_parts, or_cases}
 use Rattle.alt_expr.specs.Tokens.{Tok, is_mark, is_keyword}

@@ -1,7 +1,6 @@
 -- A key condition holds of the items that meet what it asks, and of no others.
-use Rattle.std.proofs.Common.{◌≡◌, refl, sym, ap, ◌∙◌, Bool, true, false, ◌&&◌, ◌⊎◌, inl, inr, not, List, [], ◌∷◌, map, ℕ, Option, Some, None}
+use Rattle.std.proofs.Common.{◌≡◌, refl, sym, ap, ◌∙◌, Bool, true, false, ◌&&◌, not, List, [], ◌∷◌, map, Option, Some, None}
 use Rattle.std.specs.Prelude.{option_and_then, if◌then◌else◌}
-use Rattle.std.specs.Str.{bytes_eq}
 use Rattle.std.specs.Bool.{Decides}
 use Rattle.std.specs.List.{list_all}
 use Rattle.std.specs.declared.cmp.Ordering.{Ordering}
@@ -25,7 +24,7 @@ use Rattle.alt_expr.specs.declared.cond.Operand.{Operand}
 use Rattle.alt_expr.specs.declared.cond.Operand.TheVariants as o
 use Rattle.alt_expr.specs.declared.cond.Cond.{Cond, out-Cond, map-Cond, fold_out-Cond}
 use Rattle.alt_expr.specs.declared.cond.Cond.TheOpen.{Cond-F}
-use Rattle.alt_expr.specs.Located.{View, located, part}
+use Rattle.alt_expr.specs.Located.{View, part}
 use Rattle.alt_expr.specs.Holds.{denoted, judged, holds, compares, begins, same, order, equal}
 use Rattle.alt_expr.specs.KeyForm as k
 use Rattle.alt_expr.specs.KeyForm.{Key, Ask, RangeTest, is_key_operand, has_kind, value_for, mirrored, comparison_with_value, key_test, hash_at, hash_value, range_test, ask_of_parts, both_asked, or_else, in_range, ask_of, meets}

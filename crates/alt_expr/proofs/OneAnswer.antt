@@ -1,5 +1,5 @@
 -- A text has one tree or one first fault.
-use Rattle.std.proofs.Common.{◌≡◌, refl, sym, ap, ◌∙◌, ℕ, ◌⊎◌, inl, inr, true, List, [], ◌∷◌, Ok, Err}
+use Rattle.std.proofs.Common.{◌≡◌, refl, sym, ap, ◌∙◌, ℕ, inl, inr, true, List, [], ◌∷◌, Ok, Err}
 use Rattle.std.specs.Prelude.{Result}
 use Rattle.alt_expr.specs.Faults.{Language, IsFirst, NoneApplies, AnswersTreeOrFault, fault_order, HasFault, IsTreeOf, Parsed}
 use Rattle.alt_expr.specs.Given.{Given}

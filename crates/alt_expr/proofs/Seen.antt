@@ -1,5 +1,5 @@
 -- What a look at the next tokens tells of them, and what both halves of a reader gave.
-use Rattle.std.proofs.Common.{◌≡◌, refl, ap, ◌∙◌, ℕ, true, inl, inr, List, [], ◌∷◌, ◌++◌, drop, Option, Some, None, unwrap_or, rules}
+use Rattle.std.proofs.Common.{◌≡◌, refl, ap, ◌∙◌, ℕ, true, inl, inr, List, [], ◌∷◌, ◌++◌, drop, Some, None, unwrap_or, rules}
 use denote.Enum.Bare.{same_true}
 use Rattle.std.proofs.lemmas.Bool.{and_parts, cases_Bool}
 use Rattle.alt_base.proofs.Lists.{bytes_eq-true}

@@ -13,7 +13,7 @@
 --             | "attribute_type" "(" path "," operand ")"
 --             | "begins_with" "(" operand "," operand ")" | "contains" "(" operand "," operand ")"
 use Rattle.std.specs.Prelude.{ℕ, List, [], ◌∷◌, ◌++◌, map, codes}
-use Rattle.alt_expr.specs.Tokens.{Tok, key, word, colon, mark}
+use Rattle.alt_expr.specs.Tokens.{Tok, key, colon, mark}
 use Rattle.alt_expr.specs.Given.{Given, value_of}
 use Rattle.alt_expr.specs.PathGrammar.{PathPhrase, path_toks, path_tree, call_toks, between_toks}
 use Rattle.alt_expr.specs.declared.token.Keyword.TheVariants as k

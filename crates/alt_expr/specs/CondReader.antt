@@ -1,8 +1,8 @@
 -- What each function of the parser reads. Private contracts alone cite it; that it meets the grammar is proved of `parse`.
-use Rattle.std.specs.Prelude.{ℕ, zero, suc, Bool, true, false, if◌then◌else◌, List, [], ◌∷◌, ◌++◌, length, drop, Option, Some, None, codes}
+use Rattle.std.specs.Prelude.{ℕ, zero, suc, if◌then◌else◌, List, [], ◌∷◌, ◌++◌, length, Option, Some, None, codes}
 use Rattle.alt_expr.specs.Tokens.{Tok, colon, mark}
 use Rattle.alt_expr.specs.Given.{Given, value_of}
-use Rattle.alt_expr.specs.Reader.{ParseOutcome, Parser, ◌>>=◌, ◌>>◌, ◌<$>◌, pure, refuse, sees_mark, sees_key, calls, is_call, eat, eat_key, expect, expect_key, skip, path, in_brackets, comma_separated}
+use Rattle.alt_expr.specs.Reader.{ParseOutcome, Parser, ◌>>=◌, ◌>>◌, ◌<$>◌, pure, refuse, calls, is_call, eat, eat_key, expect, expect_key, skip, path, in_brackets, comma_separated}
 use Rattle.alt_expr.specs.declared.token.Keyword.{Keyword}
 use Rattle.alt_expr.specs.declared.token.Keyword.TheVariants as k
 use Rattle.alt_expr.specs.declared.token.Mark.{Mark}

@@ -5,7 +5,7 @@ use Rattle.alt_expr.specs.Tokens.{Tok}
 use Rattle.alt_expr.specs.Given.{Given, is_unknown, with_hashes, with_colons}
 use Rattle.alt_expr.specs.Lexed.{Lexes}
 use Rattle.alt_expr.specs.Nesting.{NestsTooDeep}
-use Rattle.alt_expr.specs.NamesGiven.{given_names, used_names, is_empty_given, given_values, used_values}
+use Rattle.alt_expr.specs.NamesGiven.{given_names, used_names, is_empty_given, used_values}
 use Rattle.alt_expr.specs.declared.fault.ExprFault.{ExprFault}
 use Rattle.alt_expr.specs.declared.fault.ExprFault.TheVariants as fault
 use Rattle.alt_expr.specs.declared.names.Names.{Names}

@@ -1,5 +1,5 @@
 -- The names and values that a request gives for the `#` and `:` words of its texts, and which of them the texts have used.
-use Rattle.std.specs.Prelude.{ℕ, Bool, true, false, not, List, [], ◌∷◌, Option, Some, None, is_none, unwrap_or}
+use Rattle.std.specs.Prelude.{ℕ, Bool, true, false, not, List, [], ◌∷◌, is_none, unwrap_or}
 use Rattle.std.specs.Option.{option_map_or}
 use Rattle.std.specs.List.{list_any, list_all}
 use Rattle.alt_value.specs.declared.attr.Attr.{Attr}

@@ -1,5 +1,5 @@
 -- The names that a request's member ExpressionAttributeNames gives.
-use Rattle.std.specs.Prelude.{ℕ, Bool, true, false, ◌&&◌, ◌||◌, List, [], ◌∷◌, Option, Some, None}
+use Rattle.std.specs.Prelude.{Bool, true, false, ◌&&◌, List, [], ◌∷◌}
 use Rattle.serde_json.specs.Data.{Data, string, Members, no_members, member}
 use Rattle.alt_value.specs.Item.{with_pair}
 use Rattle.alt_value.specs.Tree.{Tree, S_tree, NULL_tree, Pair}

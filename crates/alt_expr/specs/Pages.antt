@@ -1,6 +1,6 @@
 -- The page of a list of items (DynamoDB Developer Guide, "Paginating table query results" and "Filter expressions for the Query
 -- operation"). Where a page ends is said of the list alone; filter and projection come after.
-use Rattle.std.specs.Prelude.{ℕ, Bool, true, false, not, ◌||◌, nat_le, List, [], ◌∷◌, length, map, sum_by, Option, Some, None, is_some, unwrap_or}
+use Rattle.std.specs.Prelude.{ℕ, Bool, true, false, ◌||◌, nat_le, List, [], ◌∷◌, length, map, sum_by, Option, is_some, unwrap_or}
 use Rattle.std.specs.List.{filter, find}
 use Rattle.std.specs.Option.{option_map_or}
 use Rattle.alt_value.specs.Item.{at_name}

@@ -3,7 +3,7 @@
 use Rattle.std.specs.Prelude.{◌≡◌, ◌≢◌, ℕ, zero, suc, Bool, true, false, ◌&&◌, if◌then◌else◌, List, [], ◌∷◌, ◌++◌, length, map, drop, Option, Some, None, Result, Ok, Err}
 use Rattle.std.specs.Str.{bytes_eq}
 use Rattle.alt_value.specs.Tree.{Pair}
-use Rattle.alt_expr.specs.Tokens.{Tok, key, word, hash, index, mark, tok_of, is_mark, is_keyword}
+use Rattle.alt_expr.specs.Tokens.{Tok, word, hash, index, tok_of, is_mark, is_keyword}
 use Rattle.alt_expr.specs.Given.{name_of}
 use Rattle.alt_expr.specs.declared.token.Keyword.{Keyword}
 use Rattle.alt_expr.specs.declared.token.Mark.{Mark}

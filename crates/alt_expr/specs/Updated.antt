@@ -8,7 +8,7 @@ use Rattle.alt_decimal.specs.Number.{fitted_units}
 use Rattle.alt_value.specs.Item.{with_pair}
 use Rattle.alt_value.specs.Members.{text_order, with_members, without_members}
 use Rattle.alt_value.specs.Stands.{tree_of}
-use Rattle.alt_value.specs.Tree.{Tree, S_tree, N_tree, B_tree, SS_tree, NS_tree, BS_tree, L_tree, M_tree, Trees, no_trees, tree_then, Fields, no_fields, field_then, Pair, trees_of, fields_of, elements, pairs}
+use Rattle.alt_value.specs.Tree.{Tree, N_tree, SS_tree, NS_tree, BS_tree, L_tree, M_tree, Trees, no_trees, tree_then, Fields, no_fields, field_then, Pair, trees_of, fields_of, elements, pairs}
 use Rattle.alt_expr.specs.declared.path.PathPart.{PathPart}
 use Rattle.alt_expr.specs.declared.path.PathPart.TheVariants.{Name, Index}
 use Rattle.alt_expr.specs.declared.update.Term.{Term, fold-Term}

@@ -1,6 +1,5 @@
 //! Paths, read from tokens.
 
-ghost use Rattle.std.specs.Prelude.{◌≡◌, ◌∷◌, ◌++◌, []};
 ghost use Rattle.alt_expr.specs.NamesGiven.{given_names};
 ghost use Rattle.alt_expr.specs.Reader as spec;
 ghost use Rattle.alt_expr.specs.Reader.{left, ReadsExpression};

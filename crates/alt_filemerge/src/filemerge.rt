@@ -1,9 +1,9 @@
 //! A merge of row files under way.
 
-ghost use Rattle.std.specs.Prelude.{◌≡◌, ◌<◌, ◌++◌, ◌==◌, ℕ, Bool, false, List, [], None, IsTrue, IsErrOf, IfOk, IfErr, take, drop};
+ghost use Rattle.std.specs.Prelude.{◌≡◌, ◌<◌, ◌++◌, false, List, [], None, IsTrue, IsErrOf, IfOk, IfErr, take, drop};
 ghost use Rattle.std.specs.FinMap.{entries};
 ghost use Rattle.alt_base.specs.Counts.{Rose};
-ghost use Rattle.alt_disk.specs.Disk.{DiskState, IsTrusted, Goes};
+ghost use Rattle.alt_disk.specs.Disk.{IsTrusted, Goes};
 ghost use Rattle.alt_disk.specs.Runs.{Run};
 ghost use Rattle.alt_cells.specs.Compacted.{compacted};
 ghost use Rattle.alt_cells.specs.Walks.{RowMap, RowList, HasCause, IsDamaged, answered_by};

@@ -5,7 +5,7 @@ ghost use Rattle.alt_base.specs.Counts.{Rose};
 ghost use Rattle.alt_disk.specs.Disk.{IsTrusted, Goes};
 ghost use Rattle.alt_disk.specs.Runs.{Spans};
 ghost use Rattle.alt_manifest.specs.Rules.{Reflects};
-ghost use Rattle.alt_manifest.specs.Versions.{IsIn, files_named, row_files};
+ghost use Rattle.alt_manifest.specs.Versions.{IsIn, row_files};
 ghost use Rattle.alt_layout.specs.Files.{IsOf};
 ghost use Rattle.alt_flush.specs.Drafts.{IsLeftOver};
 

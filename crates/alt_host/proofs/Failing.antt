@@ -1,9 +1,8 @@
 -- A call of the shell that failed: outside a talk and in one.
-use Rattle.std.proofs.Common.{◌≡◌, ◌≤◌, ℕ, Bool, true, false, refl, ap, arith}
+use Rattle.std.proofs.Common.{◌≡◌, ◌≤◌, ℕ, Bool, true, false, refl, arith}
 use Rattle.alt_base.specs.Counts.{Rose, next_moment}
 use Rattle.alt_host.specs.Host.{shell_by_counts}
-use Rattle.alt_shell.specs.Calls.{Keeps, ShellCall, StaysIn}
-use Rattle.alt_shell.specs.Log.{talks, talk_faults, takes_missed, says_missed}
+use Rattle.alt_shell.specs.Calls.{Keeps, ShellCall}
 
 keeps : (m n f g : ℕ) (b c : Bool) (x y t u s v : ℕ) → m ≤ n → f ≤ g
     → Keeps (shell_by_counts m f b x t s) (shell_by_counts n g c y u v)

@@ -1,9 +1,8 @@
 //! The header fields of a head, where spans tell them.
 
-ghost use Rattle.std.specs.Prelude.{◌≡◌, length, All, IfSome, IsTrue};
-ghost use Rattle.std.specs.Option.{option_map};
+ghost use Rattle.std.specs.Prelude.{◌≡◌, length, All};
 ghost use Rattle.std.specs.List.{list_any};
-ghost use Rattle.httparse.specs.Spans.{IsHeaderWithin, span_bytes};
+ghost use Rattle.httparse.specs.Spans.{IsHeaderWithin};
 ghost use Rattle.alt_http.specs.Fields.{is_word, values_named, first_field_value};
 ghost use Rattle.alt_http.specs.Asked.{passes_test, found_value};
 ghost use Rattle.alt_http.specs.Spans.{fields_at};

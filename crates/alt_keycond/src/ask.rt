@@ -7,7 +7,7 @@ ghost use Rattle.alt_keycond.specs.KeysAsked.{AsksKeys};
 ghost use Rattle.alt_expr.specs.KeyForm as form;
 ghost use Rattle.alt_expr.specs.Holds.{holds};
 ghost use Rattle.alt_expr.specs.Located.{View};
-ghost use Rattle.alt_keycond.specs.Asked.{key_of, test_of, answer_asks};
+ghost use Rattle.alt_keycond.specs.Asked.{key_of, answer_asks};
 
 use crate::key_test::{hash_value, range_value};
 use alt_base::NoMemory;

@@ -1,6 +1,6 @@
 //! What a key condition asks, as a range of keys in bytes (docs/formats/key-bytes.md).
 
-ghost use Rattle.std.specs.Prelude.{◌≡◌, ◌↔◌, ◌++◌, List, ℕ, Some, None, IfOk, option_map};
+ghost use Rattle.std.specs.Prelude.{◌≡◌, ◌↔◌, ◌++◌, List, ℕ, Some, None, IfOk};
 ghost use Rattle.alt_base.specs.Prefix.{IsPrefix};
 ghost use Rattle.alt_value.specs.Stands.{tree_of};
 ghost use Rattle.alt_keyorder.specs.KeyBytes.{IsKey, key_bytes};

@@ -1,6 +1,6 @@
 -- What rows show after a write of which the first change of a row alone counts.
-use Rattle.std.proofs.Common.{◌≡◌, ◌≤◌, ◌+◌, ℕ, Bool, true, false, cond, List, [], ◌∷◌, Option, Some, None, refl, sym, ap, subst, ◌∙◌}
-use Rattle.std.specs.Prelude.{if◌then◌else◌, ◌==◌, option_and_then, option_map, unwrap_or}
+use Rattle.std.proofs.Common.{◌≡◌, ◌≤◌, ◌+◌, ℕ, Bool, true, false, cond, List, [], ◌∷◌, Option, Some, None, refl, sym, ap, ◌∙◌}
+use Rattle.std.specs.Prelude.{if◌then◌else◌, ◌==◌, option_and_then, option_map}
 use Rattle.std.specs.Ordering.{eq_by_cmp}
 use Rattle.std.specs.FinMap.{empty, insert, get, get-insert, get-empty}
 use Rattle.alt_cells.specs.declared.batch.RowChange.{RowChange}
@@ -13,7 +13,7 @@ use Rattle.alt_cells.specs.Shown.{row_shown}
 use Rattle.alt_cells.proofs.AfterLaws.{bare_below, bare_shown}
 use Rattle.alt_cells.proofs.CellLaws.{key_total}
 use Rattle.alt_cells.proofs.RowLaws.{get-joined_map, join_row-empty}
-use Rattle.alt_cells.proofs.ChangeLaws.{row_shown-written, IsBelow-join}
+use Rattle.alt_cells.proofs.ChangeLaws.{row_shown-written}
 use Rattle.alt_writes.specs.Writes.{Write}
 use Rattle.alt_layout.specs.Layout.{Layout, RowMap, IsPast, change_of, shown, shown_by}
 use Rattle.alt_layout.proofs.PastLaws.{row_later}

@@ -18,7 +18,7 @@ use Rattle.alt_legacy.specs.declared.entry.Entry.{Entry}
 use Rattle.alt_legacy.specs.declared.entry.Test.{Test}
 use Rattle.alt_legacy.specs.declared.entry.Test.TheVariants as t
 use Rattle.alt_legacy.specs.Meets.{is_equal, in_order, satisfies, holds_for}
-use Rattle.alt_legacy.specs.Trees.{attribute_path, attribute_operand, given_operand, contains_value, has_not, tree_for}
+use Rattle.alt_legacy.specs.Trees.{attribute_path, attribute_operand, given_operand, contains_value, tree_for}
 use Rattle.alt_legacy.specs.Trees as tree
 
 -- a path of one part leads to the attribute of its name

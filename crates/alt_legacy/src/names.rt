@@ -1,6 +1,6 @@
 //! The paths of AttributesToGet.
 
-ghost use Rattle.std.specs.Prelude.{◌≡◌, Some, map, option_map, IfOk, IfErr};
+ghost use Rattle.std.specs.Prelude.{◌≡◌, Some, map, IfOk, IfErr};
 ghost use Rattle.serde_json.specs.View.{view, items_view};
 ghost use Rattle.alt_legacy.specs.Answered.{IsBad};
 ghost use Rattle.alt_legacy.specs.Names as spec;

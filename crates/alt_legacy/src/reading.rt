@@ -1,7 +1,6 @@
 //! Entries, read from JSON.
 
 ghost use Rattle.std.specs.Prelude.{◌≡◌, Some, IfOk, IfErr, option_map};
-ghost use Rattle.std.specs.Option.{option_map_or};
 ghost use Rattle.serde_json.specs.View.{view, items_view, members_view};
 ghost use Rattle.alt_legacy.specs.Answered.{IsBad};
 ghost use Rattle.alt_legacy.specs.Operators as operators;

@@ -1,7 +1,7 @@
 -- Items of one table lie by their keys.
 use Rattle.std.proofs.Common.{◌≡◌, refl, sym, subst, List, Option, Some, None, option_map}
 use Rattle.std.proofs.lemmas.Option.{same_Some}
-use Rattle.std.specs.Prelude.{if◌then◌else◌, option_and_then}
+use Rattle.std.specs.Prelude.{option_and_then}
 use Rattle.alt_base.proofs.Options.{some_if}
 use Rattle.alt_keyorder.specs.Kinds.{IsOfKind, IsKeyFor}
 use Rattle.alt_keyorder.specs.Laws.{Lie}

@@ -28,7 +28,7 @@ impl Manifest {
     ghost use Rattle.std.specs.Prelude.{◌≡◌, None, IfErr, IfOk, OnOk, OnErr, IsErrOf, IsTrue, ⊤};
     ghost use Rattle.alt_gatelog.specs.InHand.{HasPlace, IsFramed};
     ghost use Rattle.alt_base.specs.Counts.{Rose};
-    ghost use Rattle.alt_disk.specs.Disk.{DiskState, IsTrusted, Goes};
+    ghost use Rattle.alt_disk.specs.Disk.{IsTrusted, Goes};
     ghost use Rattle.alt_disk.specs.Runs.{Run, Quiet};
     ghost use Rattle.alt_manifest.specs.Recovery.{ExplainsVersions};
     ghost use Rattle.alt_manifest.specs.Versions.{IsVersion, version_bytes};

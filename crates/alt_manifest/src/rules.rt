@@ -1,7 +1,7 @@
 //! Whether numbers that were read are a version (docs/formats/versions.md): what rises, what differs, what is below what.
 
-ghost use Rattle.std.specs.Prelude.{◌≡◌, ◌<◌, ◌≤◌, ◌++◌, true, IfOk, OnOk};
-ghost use Rattle.std.specs.List.{AllByRecursion, flat_map};
+ghost use Rattle.std.specs.Prelude.{◌≡◌, ◌<◌, ◌++◌, true, IfOk, OnOk};
+ghost use Rattle.std.specs.List.{AllByRecursion};
 ghost use Rattle.alt_manifest.specs.Versions.{AreDistinct, IsFamily, IsHeldFamily, IsHeldVersion, IsVersion, RiseFrom, row_files};
 ghost use Rattle.alt_manifest.specs.Rules.{Reflects, AreFamilies};
 

@@ -1,6 +1,6 @@
 //! Rows that were put, joined by key.
 
-ghost use Rattle.std.specs.Prelude.{◌≡◌, ◌+◌, ℕ, [], ◌∷◌, OnOk, OnErr, IfOk, Some, length, option_map};
+ghost use Rattle.std.specs.Prelude.{◌≡◌, ◌+◌, ℕ, [], ◌∷◌, OnOk, OnErr, length, option_map};
 ghost use Rattle.std.specs.BTreeMap.{IsOrdered, IsUnchanged, get as tree_get, insert_entry};
 ghost use Rattle.std.specs.FinMap as map;
 ghost use Rattle.alt_disk.specs.Disk.{DiskState};

@@ -1,12 +1,10 @@
 //! Seeks and reads on, source by source.
 
-ghost use Rattle.std.specs.Prelude.{◌≡◌, ◌≤◌, ◌<◌, ◌+◌, ℕ, Bool, List, IsTrue, IfOk, IfErr, OnOk, length, map, Option};
+ghost use Rattle.std.specs.Prelude.{◌≡◌, ◌≤◌, ◌<◌, ◌+◌, List, IsTrue, IfOk, IfErr, OnOk, length, map, Option};
 ghost use Rattle.std.specs.Option.{option_copied};
-ghost use Rattle.std.specs.List.{All};
-ghost use Rattle.alt_disk.specs.Disk.{DiskState, IsTrusted};
 ghost use Rattle.alt_cells.specs.Walks.{RowMap, RowList, rows_from, KeepsSource, Fails, answered_by};
 ghost use Rattle.alt_merge.specs.Costs.{all_width, cost_if_due, all_due};
-ghost use Rattle.alt_merge.specs.Merges.{Each2, InTurn, with_head, with_heads, any_reads, IsFilled, IsFilledBy, AllFilled, AreFilledBy, HoldsEach, LeftWith};
+ghost use Rattle.alt_merge.specs.Merges.{Each2, InTurn, with_head, any_reads, IsFilled, IsFilledBy, AllFilled, AreFilledBy, HoldsEach, LeftWith};
 ghost use Rattle.alt_merge.specs.declared.head.Head.TheVariants.{Due};
 
 use crate::head::Head;

@@ -1,6 +1,6 @@
 //! Several sources walked as one.
 
-ghost use Rattle.std.specs.Prelude.{◌≡◌, ◌+◌, ℕ, [], length, IfOk, OnOk, vec_len};
+ghost use Rattle.std.specs.Prelude.{◌≡◌, ◌+◌, IfOk, OnOk};
 ghost use Rattle.alt_merge.specs.Whole.{sources_of};
 
 use crate::fill::{fill_all, seek_all};

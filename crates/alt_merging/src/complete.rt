@@ -9,7 +9,6 @@ ghost use Rattle.alt_layout.specs.Layout.{Layout};
 ghost use Rattle.alt_layout.specs.Moments.{Has};
 ghost use Rattle.alt_manifest.specs.Versions.{IsIn};
 ghost use Rattle.alt_hand.specs.Adding.{AddsVersion, LeavesOut};
-ghost use Rattle.alt_hand.specs.Drafting.{EngineFaultIsOutside as IsUnspentWhole};
 ghost use Rattle.alt_hand.specs.Carrying.{AreStill};
 ghost use Rattle.alt_hand.specs.InHand.{HandStandsForLayout, length_of, limits_of, next_file_of, next_of};
 ghost use Rattle.alt_hand.specs.Merging.{files_at, memory_at};

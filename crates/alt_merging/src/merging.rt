@@ -1,6 +1,6 @@
 //! A merge of a family's files under way: its beginning, its steps, its end, or that it is given up.
 
-ghost use Rattle.std.specs.Prelude.{◌≡◌, ◌≢◌, ◌<◌, ◌+◌, ◌-◌, ◌^◌, ⊤, ℕ, List, Err, IfOk, IfErr, OnOk, OnErr, IsErrOf, None, [], drop, length, take};
+ghost use Rattle.std.specs.Prelude.{◌≡◌, ◌≢◌, ◌<◌, ◌+◌, ◌-◌, ◌^◌, ⊤, ℕ, Err, IfOk, IfErr, OnOk, OnErr, IsErrOf, None, [], drop, length, take};
 ghost use Rattle.alt_base.specs.Counts.{Rose};
 ghost use Rattle.alt_cells.specs.Walks.{RowList};
 ghost use Rattle.alt_compact.specs.Jobs.{StepSays};

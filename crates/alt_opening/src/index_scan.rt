@@ -1,6 +1,6 @@
 //! The rows of the indexes of a table that is opened: each item that has a row in an index has it there, and there are no others.
 
-ghost use Rattle.std.specs.Prelude.{◌≡◌, ◌↔◌, ◌<◌, ℕ, List, Some, IfOk, IfErr, IfSome, OnOk, IsErrOf, IsTrue, length, option_map};
+ghost use Rattle.std.specs.Prelude.{◌≡◌, ◌↔◌, ◌<◌, List, Some, IfOk, IfErr, OnOk, IsErrOf, IsTrue, length, option_map};
 ghost use Rattle.alt_base.specs.Counts.{Rose};
 ghost use Rattle.alt_engine.specs.InHand.{ReadsLayout};
 ghost use Rattle.alt_layout.specs.Layout.{Layout};

@@ -1,6 +1,6 @@
 //! The reads that a BatchGetItem asks for, table by table.
 
-ghost use Rattle.std.specs.Prelude.{◌≡◌, All, IfOk, codes, map as each};
+ghost use Rattle.std.specs.Prelude.{◌≡◌, All, IfOk, map as each};
 ghost use Rattle.std.specs.List.{list_any};
 ghost use Rattle.serde_json.specs.View.{view, items_view, members_view};
 ghost use Rattle.alt_machine.specs.Batches as machine;

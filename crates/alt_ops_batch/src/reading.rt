@@ -1,6 +1,6 @@
 //! Reading the keys of a batch, table by table, until the sizes of the items have reached 16 MB.
 
-ghost use Rattle.std.specs.Prelude.{◌≡◌, ◌+◌, ◌<◌, ◌≤◌, ◌∷◌, [], true, false, Some, All, IfOk, IfErr, OnOk, fold, map as each};
+ghost use Rattle.std.specs.Prelude.{◌≡◌, ◌+◌, ◌<◌, ◌≤◌, ◌∷◌, [], true, Some, All, IfOk, IfErr, OnOk, fold, map as each};
 ghost use Rattle.std.specs.FinMap as map;
 ghost use Rattle.alt_base.specs.Counts.{Rose};
 ghost use Rattle.alt_machine.specs.Ops.BatchGetItem as machine;

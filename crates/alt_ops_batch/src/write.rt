@@ -1,6 +1,6 @@
 //! BatchWriteItem.
 
-ghost use Rattle.std.specs.Prelude.{◌≡◌, false, codes, Some, IfOk, IfErr, map as each};
+ghost use Rattle.std.specs.Prelude.{◌≡◌, false, Some, IfOk, IfErr, map as each};
 ghost use Rattle.serde_json.specs.Data.{Members};
 ghost use Rattle.serde_json.specs.View.{members_view};
 ghost use Rattle.serde_json.specs.Written.{has_float};

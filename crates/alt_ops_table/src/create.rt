@@ -1,6 +1,6 @@
 //! CreateTable.
 
-ghost use Rattle.std.specs.Prelude.{◌≡◌, ◌+◌, ◌<◌, ◌≤◌, IfOk};
+ghost use Rattle.std.specs.Prelude.{◌≡◌, ◌+◌, ◌<◌, ◌≤◌};
 ghost use Rattle.serde_json.specs.View.{members_view};
 ghost use Rattle.alt_machine.specs.Ops.CreateTable.{shows, mismatched, of_stream, of_body, create_table};
 ghost use Rattle.alt_ops_table.specs.private.Asked.{IsToBeMadeOrRefused};

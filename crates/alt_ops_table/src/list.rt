@@ -1,6 +1,6 @@
 //! ListTables.
 
-ghost use Rattle.std.specs.Prelude.{◌≡◌, take, length, nat_lt, false, None, option_map, if◌then◌else◌, IfOk, IfErr};
+ghost use Rattle.std.specs.Prelude.{◌≡◌, take, length, nat_lt, false, None, option_map, if◌then◌else◌, IfOk};
 ghost use Rattle.std.specs.List.{last_or};
 ghost use Rattle.serde_json.specs.View.{items_view, members_view};
 ghost use Rattle.serde_json.specs.Written.{has_float};

@@ -1,6 +1,6 @@
 //! The text of a projection: its paths, or its first fault.
 
-ghost use Rattle.std.specs.Prelude.{◌≡◌, ◌∷◌, ◌++◌, [], map};
+ghost use Rattle.std.specs.Prelude.{◌≡◌, map};
 ghost use Rattle.std.specs.List.{list_any};
 ghost use Rattle.alt_expr.specs.Tokens.{tok_of};
 ghost use Rattle.alt_expr.specs.Crowded.{is_long};

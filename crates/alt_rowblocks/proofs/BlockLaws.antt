@@ -11,7 +11,7 @@ use Rattle.alt_base.proofs.Orderings.{less-holds, is_lt-holds}
 use Rattle.alt_cells.specs.Keys.{key_cmp}
 use Rattle.alt_cells.proofs.CellLaws.{key_total}
 use Rattle.alt_cells.proofs.Entries.{below_less}
-use Rattle.alt_rowblocks.specs.Format.{Entry, rows_bytes, first_key, IsBlock, IsHeldEntry, IsHeldBlock}
+use Rattle.alt_rowblocks.specs.Format.{Entry, rows_bytes, first_key, IsBlock, IsHeldBlock}
 use Rattle.alt_filter.specs.declared.filter.Filter.{Filter}
 use Rattle.alt_rowblocks.specs.Decoding.{AreRows, StandBefore}
 use Rattle.alt_rowblocks.specs.Filtering.{FilterHoldsRows}

@@ -9,7 +9,7 @@ use Rattle.alt_cells.specs.Format.{bytes_of_row}
 use Rattle.alt_cells.proofs.OneRow.{row-apart}
 use Rattle.std.specs.List.{AllByRecursion}
 use Rattle.alt_fields.proofs.Apart.{same_fronts, number-apart, field-apart, length-field, same_whole, all_map, IsApart}
-use Rattle.alt_rowblocks.specs.Format.{Entry, row_entry_bytes, rows_bytes, block_bytes, front, rows_of, marks_from, tail_bytes, body, row_file_bytes, IsHeldEntry, IsHeldBlock, IsFileOf, IsRowFile}
+use Rattle.alt_rowblocks.specs.Format.{Entry, row_entry_bytes, rows_bytes, block_bytes, front, rows_of, marks_from, tail_bytes, body, IsHeldEntry, IsHeldBlock, IsFileOf, IsRowFile}
 
 -- how many bytes an entry has
 pub length-entry : (e : Entry)

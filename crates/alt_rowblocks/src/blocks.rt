@@ -1,12 +1,12 @@
 //! The blocks of a row file, read one behind another: what a writer would have made of their rows, and nothing else.
 
-ghost use Rattle.std.specs.Prelude.{◌≡◌, ◌<◌, ◌≤◌, ◌+◌, ◌^◌, ◌++◌, ℕ, List, true, false, Some, Option, length, take, drop, IfOk, IfSome, IfNone, OnErr, IsErrOf, IsTrue, is_ok, ◌↔◌};
+ghost use Rattle.std.specs.Prelude.{◌≡◌, ◌<◌, ◌≤◌, ◌+◌, ◌^◌, ◌++◌, ℕ, List, true, Some, Option, length, take, drop, IfOk, IfSome, IfNone, OnErr, IsErrOf, IsTrue, is_ok, ◌↔◌};
 ghost use Rattle.std.specs.Int.{w64, to_be_bytes};
 ghost use Rattle.alt_base.specs.Counts.{Rose};
 ghost use Rattle.alt_fields.specs.Field.{field};
 ghost use Rattle.alt_disk.specs.Disk.{Goes, contents};
 ghost use Rattle.alt_disk.specs.Runs.{Quiet};
-ghost use Rattle.alt_rowblocks.specs.Format.{Entry, Mark, rows_bytes, block_bytes};
+ghost use Rattle.alt_rowblocks.specs.Format.{Entry};
 ghost use Rattle.alt_rowblocks.specs.Blocks.{BeginsWithNextBlock, IsNextBlock, IsReadBlock, AreBlocksOf, IsFoundAs, IsAbove};
 
 use crate::decode::decode;

@@ -1,10 +1,7 @@
 //! The rows of a block, read from its bytes.
 
-ghost use Rattle.std.specs.Prelude.{◌≡◌, ◌<◌, ◌^◌, ◌∷◌, ◌++◌, [], ℕ, List, ◌↔◌, length, IsTrue, IfOk, IfSome, IfNone, T};
-ghost use Rattle.std.specs.List.{AllByRecursion};
-ghost use Rattle.std.specs.FinMap.Entries.{is_sorted};
+ghost use Rattle.std.specs.Prelude.{◌≡◌, ◌<◌, ◌^◌, ◌++◌, ℕ, List, ◌↔◌, length, IsTrue, IfOk, IfSome, IfNone};
 ghost use Rattle.alt_fields.specs.Field.{field};
-ghost use Rattle.alt_cells.specs.Keys.{key_cmp};
 ghost use Rattle.alt_rowblocks.specs.Format.{Entry, row_entry_bytes, rows_bytes, IsHeldEntry};
 ghost use Rattle.alt_rowblocks.specs.Decoding.{AreRows, IsNextKey, StandBefore, NoRows};
 

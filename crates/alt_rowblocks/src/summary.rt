@@ -1,6 +1,6 @@
 //! What a row file in hand keeps of its rows, so that nobody walks over them to learn it.
 
-ghost use Rattle.std.specs.Prelude.{◌≡◌, ◌∷◌, [], ℕ, List, Option, is_none, IfOk};
+ghost use Rattle.std.specs.Prelude.{◌≡◌, ◌∷◌, [], Option, is_none, IfOk};
 ghost use Rattle.std.specs.List.{list_any};
 ghost use Rattle.alt_rowblocks.specs.Summaries.{any_tombstone, has_tombstone, joined_summary, last_key, joined_last_key, latest_of, row_latest, summary_of};
 

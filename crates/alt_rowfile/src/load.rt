@@ -1,6 +1,6 @@
 //! One block of a row file, read from the disk: in hand for its rows, or for the one of a key.
 
-ghost use Rattle.std.specs.Prelude.{◌≡◌, ◌≤◌, ◌<◌, ◌+◌, ◌==◌, if◌then◌else◌, ℕ, List, [], length, get_or, IfOk, IfErr, IsErrOf, IsTrue};
+ghost use Rattle.std.specs.Prelude.{◌≡◌, ◌≤◌, ◌<◌, ◌+◌, ◌==◌, List, [], get_or, IfOk, IfErr, IsErrOf, IsTrue};
 ghost use Rattle.std.specs.FinMap.Entries.{find};
 ghost use Rattle.std.specs.Option.{option_copied};
 ghost use Rattle.alt_base.specs.Counts.{Rose};

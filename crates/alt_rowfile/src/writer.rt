@@ -28,7 +28,7 @@ pub struct RowFileWriter {
 }
 
 impl RowFileWriter {
-    ghost use Rattle.std.specs.Prelude.{ℕ, List, ◌<◌, None, IfOk, OnErr, IsErrOf, T};
+    ghost use Rattle.std.specs.Prelude.{List, ◌<◌, None, IfOk, IsErrOf, T};
     ghost use Rattle.std.specs.FinMap.Entries.{is_sorted};
     ghost use Rattle.alt_base.specs.Counts.{Rose};
     ghost use Rattle.alt_disk.specs.Disk.{DiskState, IsTrusted, Goes};

@@ -1,6 +1,6 @@
 //! A run of the program, but for what `main` takes off the front.
 
-ghost use Rattle.std.specs.Prelude.{◌≡◌, ◌≢◌, ◌⊎◌, ◌↔◌, ◌<◌, ℕ, List, Option, true, false, Some, None, length, IsTrue, IfOk, IfErr, OnOk, IsErrOf, MatchResult};
+ghost use Rattle.std.specs.Prelude.{◌≡◌, ◌≢◌, ◌⊎◌, ◌↔◌, ◌<◌, ℕ, List, Option, true, false, Some, None, length, IsTrue, IfOk, OnOk, IsErrOf, MatchResult};
 ghost use Rattle.alt_base.specs.Counts.{Rose};
 ghost use Rattle.alt_disk.specs.Disk.{IsTrusted};
 ghost use Rattle.alt_disk.specs.Runs.{Quiet};

@@ -7,7 +7,6 @@ use Rattle.alt_legacy.specs.declared.fault.LegacyFault.TheVariants as fault
 use Rattle.alt_legacy.specs.Trees.{condition_in, update_in, paths_in}
 use Rattle.alt_legacy.specs.declared.reading.Form.TheVariants.{Filter}
 use Rattle.alt_machine.specs.declared.Expressions.{Expressions}
-use Rattle.alt_machine.specs.Refusals.{◌>>=◌}
 use Rattle.alt_said.specs.declared.older.Older.{Older}
 use Rattle.alt_said.specs.declared.stop.Stop.{Stop}
 use Rattle.alt_said.specs.declared.stop.Stop.TheVariants.{Refused, Fault}

@@ -1,7 +1,7 @@
 //! Tests what the body of a CreateTable states: the names, then the key schemas and definitions, then
 //! the indexes.
 
-ghost use Rattle.std.specs.Prelude.{◌≡◌, ◌&&◌, ◌++◌, true, codes, length, nat_lt, nat_le, is_some, IfOk};
+ghost use Rattle.std.specs.Prelude.{◌≡◌, ◌&&◌, ◌++◌, true, length, nat_lt, nat_le, is_some, IfOk};
 ghost use Rattle.std.specs.List.{list_any, list_all};
 ghost use Rattle.std.specs.Str.{bytes_eq};
 ghost use Rattle.alt_schema.specs.Named.{kind_at, AreOf, HasMore};

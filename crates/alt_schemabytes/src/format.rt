@@ -1,6 +1,6 @@
 //! The bytes of a description, as docs/formats/descriptions.md lays them out.
 
-ghost use Rattle.std.specs.Prelude.{◌≡◌, ◌++◌, ◌∷◌, [], OnOk, OnErr};
+ghost use Rattle.std.specs.Prelude.{◌≡◌, ◌++◌, ◌∷◌, OnOk, OnErr};
 ghost use Rattle.alt_base.specs.Prefix.{IsPrefix};
 ghost use Rattle.alt_fields.specs.Field.{field};
 ghost use Rattle.alt_schemabytes.specs.Format.{each, counted_list, view_byte, stream_bytes, kind_byte, definition_bytes, range_bytes, keys_bytes, projection_bytes, index_bytes, head_bytes, description_bytes};

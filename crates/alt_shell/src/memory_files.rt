@@ -8,7 +8,7 @@ use crate::memory_calls::raised;
 use alt_disk::{Disk, DiskFault, Failed};
 
 impl Disk for MemoryShell {
-    ghost use Rattle.std.specs.Prelude.{ℕ, ◌≢◌, ◌+◌, ◌-◌, false, None, IsTrue, OnOk, OnErr, is_ok};
+    ghost use Rattle.std.specs.Prelude.{ℕ, ◌≢◌, ◌+◌, ◌-◌, false, None, OnOk, OnErr, is_ok};
     ghost use Rattle.alt_disk.specs.Acted.{Acted};
     ghost use Rattle.alt_disk.specs.declared.made.Deed.TheVariants.{WriteFailed, RemoveFailed};
     ghost use Rattle.alt_disk.specs.Honest.{reads_as_image_of};

@@ -36,7 +36,7 @@ impl Talks {
     ghost use Rattle.alt_base.specs.Counts.{Rose, next_moment};
     ghost use Rattle.alt_shell.specs.Log.{talk_head, accepted, hung_up};
     ghost use Rattle.alt_shell.specs.Pieces.{bytes_given_by_take, front_of, replaced, with_more, sent_last, sent_here};
-    ghost use Rattle.alt_shell.specs.Streams.{unheard, untouched, said_on, is_none, on_hand, after_take, after_say, after_event};
+    ghost use Rattle.alt_shell.specs.Streams.{untouched, said_on, is_none, on_hand, after_take, after_say, after_event};
     ghost use Rattle.alt_shell.specs.States.{heard_by, streams_by, pieces_at_hand, pieces_aside};
     ghost use Rattle.alt_shell.specs.Waiting.{pieces_of};
     ghost use Rattle.alt_shell.specs.States.{coming_of, added_to, is_to_fail, head_of_talk, missed_by, KeepsHead, KeepsList};

@@ -29,7 +29,7 @@ pub(crate) struct Page {
 }
 
 impl Page {
-    ghost use Rattle.std.specs.Prelude.{◌≡◌, ◌<◌, ◌^◌, ◌++◌, ◌∷◌, [], ℕ, false, not, List, Some, IfErr, IfOk, IfSome, IsErrOf, IsSome, OnOk};
+    ghost use Rattle.std.specs.Prelude.{◌≡◌, ◌<◌, ◌++◌, ◌∷◌, [], ℕ, false, List, Some, IfErr, IsErrOf, IsSome, OnOk};
     ghost use Rattle.alt_changes.specs.ChangeRows.{change_in};
     ghost use Rattle.alt_machine.specs.State as machine;
     ghost use Rattle.alt_schema.specs.declared.schema.TableSchema.{TableSchema};

@@ -1,5 +1,5 @@
 -- What the list of the items that are due next tells of places that are ready, and what it knows once it is told of one.
-use Rattle.std.proofs.Common.{◌≡◌, ◌<◌, ◌≤◌, ◌^◌, refl, sym, ap, subst, ◌∙◌, ℕ, Bool, true, false, List, [], ◌∷◌, ◌++◌, ◌⊎◌, inl, inr, Option, Some, None, append_assoc, is_some, option_map, arith}
+use Rattle.std.proofs.Common.{◌≡◌, ◌<◌, ◌≤◌, ◌^◌, refl, sym, ap, subst, ◌∙◌, ℕ, Bool, true, false, List, [], ◌∷◌, inl, inr, Option, Some, None, is_some, option_map, arith}
 use Rattle.std.specs.Prelude.{◌&&◌, option_and_then}
 use Rattle.std.specs.FinMap as finite
 use Rattle.std.specs.Option.{option_map_or}
@@ -8,8 +8,8 @@ use Rattle.std.proofs.lemmas.Bool.{false≢true, cases_lt, and_from}
 use Rattle.std.specs.Cmp.{second_so}
 use Rattle.alt_base.proofs.Orderings.{nat_cmp-greater}
 use Rattle.alt_cells.proofs.SameKeys.{key_itself, one_key}
-use Rattle.alt_due.specs.Due.{FindsNext, IsReady, IsRipe, KeepsKnown, KeepsOthers, Knows, KnowsFrom, Lists, NoneDue, covers, is_before, is_behind, suffices_at}
-use Rattle.alt_due.specs.Order.{spot_cmp, spot_of}
+use Rattle.alt_due.specs.Due.{FindsNext, IsReady, IsRipe, KeepsKnown, KeepsOthers, Knows, KnowsFrom, Lists, NoneDue, is_before, is_behind, suffices_at}
+use Rattle.alt_due.specs.Order.{spot_of}
 use Rattle.alt_due.specs.declared.due.Due.{Due}
 use Rattle.alt_due.specs.declared.spot.Spot.{Spot}
 use Rattle.alt_machine.specs.Expiry.{all_expired, is_expired, is_over}

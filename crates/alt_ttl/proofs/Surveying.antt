@@ -1,7 +1,7 @@
 -- What a list of the items that are due next knows behind a walk over the items of tables.
-use Rattle.std.proofs.Common.{◌≡◌, ◌<◌, ◌≤◌, refl, sym, ap, subst, ◌∙◌, cond, ℕ, zero, suc, Bool, true, false, T, List, [], ◌∷◌, ◌++◌, ◌⊎◌, inl, inr, map, take, drop, length, Option, Some, None, All, take-append-drop, is_some, arith}
+use Rattle.std.proofs.Common.{◌≡◌, ◌<◌, ◌≤◌, refl, sym, ap, subst, ◌∙◌, cond, ℕ, zero, suc, Bool, true, false, List, [], ◌∷◌, ◌++◌, ◌⊎◌, inl, inr, map, take, drop, length, Option, Some, None, All, take-append-drop, is_some, arith}
 use Rattle.std.specs.Prelude.{◌&&◌, not}
-use Rattle.std.specs.BTreeMap.Range.{entries_between, range_contains}
+use Rattle.std.specs.BTreeMap.Range.{entries_between}
 use Rattle.std.specs.FinMap as finite
 use Rattle.std.specs.FinMap.Entries.{find}
 use Rattle.std.specs.List.{last_or}
@@ -14,15 +14,14 @@ use Rattle.std.proofs.lemmas.Bool.{false≢true}
 use Rattle.std.proofs.lemmas.List.Elements.{All-head, All-tail}
 use Rattle.alt_cells.proofs.CellLaws.{key_total}
 use Rattle.alt_cells.proofs.SameKeys.{one_key}
-use Rattle.alt_due.specs.Due.{KeepsKnown, Knows, covers, is_before, suffices_at}
-use Rattle.alt_due.specs.Order.{spot_cmp, spot_of, spot_total}
+use Rattle.alt_due.specs.Due.{KeepsKnown, is_before, suffices_at}
+use Rattle.alt_due.specs.Order.{spot_of}
 use Rattle.alt_due.specs.declared.due.Due.{Due}
 use Rattle.alt_due.specs.declared.spot.Spot.{Spot}
 use Rattle.alt_machine.specs.Keys.{place_of}
 use Rattle.alt_machine.specs.State.{State, Table}
 use Rattle.alt_machine.specs.Walks.{items_between}
 use Rattle.alt_ops_query.proofs.Beyond.{beyond_after}
-use Rattle.alt_ops_query.proofs.Lists.{each_entry}
 use Rattle.alt_ops_query.proofs.Rests.{contains_so}
 use Rattle.alt_ops_query.proofs.Steps.{IsLast, last_of_step}
 use Rattle.alt_schema.specs.declared.schema.TableSchema.{TableSchema}

@@ -1,7 +1,7 @@
 //! The search for expired items: all tables by their names, and in each all its items by their places, until there are as many as an
 //! ExpireItems deletes.
 
-ghost use Rattle.std.specs.Prelude.{◌≡◌, ◌≤◌, ◌++◌, ◌∷◌, [], is_some, true, List, Some, None, length, map as each, take, IfOk, OnOk};
+ghost use Rattle.std.specs.Prelude.{◌≡◌, ◌≤◌, ◌++◌, ◌∷◌, [], is_some, true, Some, None, length, map as each, take, IfOk, OnOk};
 ghost use Rattle.std.specs.FinMap as map;
 ghost use Rattle.alt_machine.specs.declared.TheConstants.{MOST_EXPIRED};
 ghost use Rattle.alt_machine.specs.Expiry.{expired_in, expiring, gone_at};

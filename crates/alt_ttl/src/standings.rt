@@ -1,9 +1,8 @@
 //! Where expired items stand: those among some items of a table, and whether each stands once.
 
-ghost use Rattle.std.specs.Prelude.{◌≡◌, ◌≤◌, ◌++◌, length, map as each, take, IfOk, OnOk, option_map, IsTrue};
+ghost use Rattle.std.specs.Prelude.{◌≡◌, ◌≤◌, ◌++◌, length, take, OnOk};
 ghost use Rattle.std.specs.List.{list_any};
 ghost use Rattle.alt_machine.specs.declared.TheConstants.{MOST_EXPIRED};
-ghost use Rattle.alt_machine.specs.Expiry.{gone_at};
 ghost use Rattle.alt_ttl.specs.private.Searched.{has_twice, is_same_standing, standing_of, standings_of};
 
 use crate::over::is_expired;

@@ -1,8 +1,7 @@
 //! Terms and sums: what they stand for, over the item before the update.
 
-ghost use Rattle.std.specs.Prelude.{◌≡◌, ◌++◌, Ok};
+ghost use Rattle.std.specs.Prelude.{◌≡◌, Ok};
 ghost use Rattle.alt_value.specs.Stands.{tree_of};
-ghost use Rattle.alt_value.specs.Tree.{L_tree, trees_of};
 ghost use Rattle.alt_expr.specs.Updated as spec;
 ghost use Rattle.alt_updeval.specs.Answers.{AnswersAsDefined};
 ghost use Rattle.alt_updeval.specs.Shown.{made_tree, operand_value, joined_pieces, list_in_tree, number_in_tree};

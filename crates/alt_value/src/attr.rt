@@ -5,7 +5,6 @@
 ghost use Rattle.std.specs.Prelude.{◌≡◌, [], ◌∷◌, ◌++◌, ◌<◌, length, slice_get, option_map, map, slice_set, slice_index_or, vec_len, IfOk, OnOk, OnErr, MatchResult};
 ghost use Rattle.alt_value.specs.Stands.{tree_of, pair_of};
 ghost use Rattle.alt_value.specs.Item.{IsItem, at_name, with_pair, without};
-ghost use Rattle.alt_value.specs.Members.{text_order};
 ghost use Rattle.alt_value.specs.declared.attr.Pair.{Pair as Entry};
 ghost use Rattle.alt_value.specs.Place.{NameStandsAt, GoesTo};
 ghost use Rattle.alt_value.specs.Values.{IsValue, IsListOfValues, IsItemOfValues};

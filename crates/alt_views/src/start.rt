@@ -1,6 +1,6 @@
 //! The place of a key at which no item need be, as a page's start key and the key up to which an index is built.
 
-ghost use Rattle.std.specs.Prelude.{◌≡◌, ◌++◌, true, Some, None, IfOk, IfSome, OnOk, option_map};
+ghost use Rattle.std.specs.Prelude.{◌≡◌, true, Some, None, IfOk, IfSome, option_map};
 ghost use Rattle.alt_keyorder.specs.Place.{place_bytes};
 ghost use Rattle.alt_machine.specs.Indexed.{values_of};
 ghost use Rattle.alt_machine.specs.Lists as machine;

@@ -1,6 +1,6 @@
 //! Reading writes back from the bytes of an entry, as docs/formats/log-entries.md lays them out.
 
-ghost use Rattle.std.specs.Prelude.{◌≡◌, ◌<◌, ◌≤◌, ◌^◌, ◌∷◌, ◌++◌, ℕ, List, Option, Bool, IfOk, IfErr, length};
+ghost use Rattle.std.specs.Prelude.{◌≡◌, ◌<◌, ◌≤◌, ◌^◌, ◌∷◌, ◌++◌, Option, IfOk, IfErr, length};
 ghost use Rattle.std.specs.Int.{w32, w64, to_be_bytes};
 ghost use Rattle.alt_cells.specs.declared.batch.RowChange.{RowChange};
 ghost use Rattle.alt_fields.specs.Bytes.{IsShort};

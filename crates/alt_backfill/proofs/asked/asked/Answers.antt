@@ -2,12 +2,11 @@
 use Rattle.std.proofs.Common.{◌≡◌, refl, sym, ap, subst, ◌∙◌, ℕ, Bool, true, false, not, Ok, Err}
 use Rattle.std.proofs.lemmas.Slice.Eq.{bytes_eq-Decides}
 use Rattle.std.specs.FinMap as map
-use Rattle.serde_json.specs.Data.{Members}
 use Rattle.serde_json.specs.View.{members_view}
 use Rattle.alt_backfill.specs.private.Asked.{IsAlteringOrRefused, IsAskedOf}
 use Rattle.alt_backfill.proofs.Asking.{absent_asked, here_asked, misnamed_asked, unfit_asked}
 use Rattle.alt_request.proofs.Reaching.{err_is}
-use Rattle.alt_request.specs.TablesStands.{catalog_of, next_family_of_tables}
+use Rattle.alt_request.specs.TablesStands.{catalog_of}
 use Rattle.alt_backfill.proofs.asked.asked.Goals as goal
 
 pub returns-in_err-unfit : goal.returns-in_err-unfit

@@ -1,5 +1,5 @@
 -- A name more leaves names.
-use Rattle.std.proofs.Common.{ap, sym, subst, true, ◌≡◌}
+use Rattle.std.proofs.Common.{sym, subst, true, ◌≡◌}
 use Rattle.alt_value.specs.Stands.{tree_of}
 use Rattle.alt_expr.specs.Given.{is_given_name}
 use Rattle.alt_expr.proofs.Words.{names_put}

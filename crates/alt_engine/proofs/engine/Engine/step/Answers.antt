@@ -21,7 +21,6 @@ use Rattle.alt_engine.specs.declared.engine.Engine.{Engine}
 use Rattle.alt_engine.proofs.EngineLaws.{going_carried}
 use Rattle.alt_engine.proofs.Stepping.{at_both, back_both, begins_at, ended_back, furthered_back, outside_need, taken_stands}
 use Rattle.alt_engine.proofs.Taking.{taken_due}
-use Rattle.alt_engine.proofs.Turning.{no_job}
 use Rattle.alt_engine.proofs.engine.Engine.step.Goals as goal
 
 pub flush_due-requires-clause-ready : goal.flush_due-requires-clause-ready

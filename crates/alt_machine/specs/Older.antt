@@ -8,7 +8,7 @@ use Rattle.alt_legacy.specs.Trees.{condition_in, update_in, paths_in}
 use Rattle.alt_legacy.specs.declared.reading.Form.{Form}
 use Rattle.alt_legacy.specs.declared.reading.Form.TheVariants.{Expected, Filter}
 use Rattle.alt_machine.specs.declared.Expressions.{Expressions}
-use Rattle.alt_machine.specs.Refusals.{or_refused, refuse_by, value_refusal}
+use Rattle.alt_machine.specs.Refusals.{◌>>=◌, or_refused, refuse_by, value_refusal}
 use Rattle.alt_machine.specs.Replies.{member_is_word}
 use Rattle.alt_shape.specs.Refusals.{Answer, bad_legacy_parameter}
 use Rattle.alt_shape.specs.Shape.{given}

@@ -1,4 +1,5 @@
 -- The members of the older interface, as the machine has them.
+use Rattle.alt_machine.specs.Refusals.{◌>>=◌}
 use Rattle.std.specs.Prelude.{false, option_map, Some, Result, Ok}
 use Rattle.serde_json.specs.Data.{Members}
 use Rattle.alt_machine.specs.Older as machine

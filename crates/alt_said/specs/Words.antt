@@ -16,7 +16,7 @@ use Rattle.alt_expr.proofs.PathsTexts.{paths_of}
 use Rattle.alt_expr.proofs.UpdateTexts.{update_of}
 use Rattle.alt_machine.specs.declared.Expressions.{Expressions}
 use Rattle.alt_machine.specs.Expressions as machine
-use Rattle.alt_machine.specs.Refusals.{first_answer, unless_answer}
+use Rattle.alt_machine.specs.Refusals.{◌>>=◌, first_answer, unless_answer}
 use Rattle.alt_said.specs.Older.{older_of}
 use Rattle.alt_said.specs.declared.words.Given.{Given}
 use Rattle.alt_said.specs.declared.words.Texts.{Texts}

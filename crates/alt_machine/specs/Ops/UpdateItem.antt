@@ -28,7 +28,7 @@ use Rattle.alt_machine.specs.Expressions.{updating}
 use Rattle.alt_machine.specs.Members.{table_name}
 use Rattle.alt_machine.specs.Ops.PutItem.{of_item}
 use Rattle.alt_machine.specs.Outcomes.{Outcome, writes, with_found, unless_refused}
-use Rattle.alt_machine.specs.Refusals.{refuse_unless, number_refusal}
+use Rattle.alt_machine.specs.Refusals.{◌>>=◌, refuse_unless, number_refusal}
 use Rattle.alt_machine.specs.Replies.{member_is_word, item_answer}
 use Rattle.alt_machine.specs.State.{State, Table}
 use Rattle.alt_machine.specs.Targets.{on_item}

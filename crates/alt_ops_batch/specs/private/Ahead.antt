@@ -8,7 +8,7 @@ use Rattle.alt_machine.specs.declared.Sought.TheVariants.{Item, Key}
 use Rattle.alt_machine.specs.declared.TheConstants.{MOST_WRITES}
 use Rattle.alt_machine.specs.Batches.{each_found, is_sized, placed, has_repeat}
 use Rattle.alt_machine.specs.Ops.BatchWriteItem.{of_members}
-use Rattle.alt_machine.specs.Refusals.{first_answer, refuse_if, refuse_unless, unless_answer}
+use Rattle.alt_machine.specs.Refusals.{◌>>=◌, first_answer, refuse_if, refuse_unless, unless_answer}
 use Rattle.alt_machine.specs.State.{Texts}
 use Rattle.alt_readahead.specs.declared.batch.TableWrites.{TableWrites}
 use Rattle.alt_readahead.specs.declared.batch.Write.{Write}

@@ -11,7 +11,7 @@ use Rattle.alt_machine.specs.Batches.{elements_in}
 use Rattle.alt_machine.specs.Expressions.{projecting, expressions}
 use Rattle.alt_machine.specs.Ops.BatchGetItem.{KeyReads, Shown, keys_in}
 use Rattle.alt_machine.specs.Ops.BatchWriteItem.{writes_asked}
-use Rattle.alt_machine.specs.Refusals.{or_refused}
+use Rattle.alt_machine.specs.Refusals.{◌>>=◌, or_refused}
 use Rattle.alt_machine.specs.State.{Texts}
 use Rattle.alt_ops_batch.specs.declared.members.Inside.{Inside}
 use Rattle.alt_ops_batch.specs.declared.members.Inside.TheVariants.{Writes, Keys}

@@ -1,5 +1,5 @@
 -- The entries change at the one place of the name.
-use Rattle.std.proofs.Common.{◌≡◌, sym, ap, subst, ◌∙◌, map, arith}
+use Rattle.std.proofs.Common.{◌≡◌, refl, sym, ap, subst, ◌∙◌, map, arith}
 use Rattle.std.proofs.lemmas.List.{length-map}
 use Rattle.alt_value.specs.declared.attr.Pair.{Pair}
 use Rattle.alt_value.specs.Stands.{tree_of, pair_of}
@@ -10,9 +10,8 @@ use Rattle.alt_value.specs.Values.{IsItemOfValues}
 use Rattle.alt_value.proofs.Values.{IsItemOfValues-with_pair}
 use Rattle.alt_value.proofs.Entries.{with_pair-stands, with_pair-goes}
 use Rattle.alt_value.proofs.attr.Item.put_owned.Goals as goal
-use Rattle.std.proofs.Common.{refl}
 
-replaced : (c : goal.After-len-count) → map pair_of c.replace.new.entries.items
+replaced : (c : goal.After-drop-name-inside) → map pair_of c.replace.new.entries.items
     ≡ with_pair c.args.name (tree_of c.args.a) c.args.self.now
 replaced c =
     let d : Pair = record { name = c.args.name; value = c.args.a } in

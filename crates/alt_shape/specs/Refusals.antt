@@ -255,7 +255,7 @@ message_of E4 = codes "Requested resource not found"
 message_of E5 = codes "table already exists"
 message_of E6 = codes "The conditional request failed"
 message_of E7 = codes "too many tables"
-message_of E8 = codes "the change records were change_records_trimmed"
+message_of E8 = codes "the change records were trimmed"
 message_of (Invalid number) = unwrap_or (slice_get messages number) []
 
 -- ---- replies

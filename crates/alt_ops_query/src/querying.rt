@@ -115,7 +115,7 @@ fn asked_range(
     forward: bool,
 ) -> Result<KeyRange, Stop>
     requires index { IfSome number (λ n. CanRead schema.now n) }
-    ensures answer_asks { IsRangeAskedOrRefused schema.now (index_at schema.now number) condition.now start.now forward
+    ensures asks { IsRangeAskedOrRefused schema.now (index_at schema.now number) condition.now start.now forward
         result }
 {
     let index = index_of(schema, number);

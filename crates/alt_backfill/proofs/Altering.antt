@@ -1,20 +1,20 @@
 -- The description that a table gets: it may take the place of its own, and it is as a description has to be.
-use Rattle.std.proofs.Common.{◌≡◌, refl, sym, ap, subst, ◌∙◌, ◌+◌, ℕ, true, false, not, List, [], ◌∷◌, map, length, Option, Some, None, is_some, inl, inr}
-use Rattle.std.specs.Prelude.{◌&&◌, ◌⊎◌, codes, if◌then◌else◌}
+use Rattle.std.proofs.Common.{◌≡◌, refl, sym, ap, ◌∙◌, ◌+◌, ℕ, true, false, not, List, [], ◌∷◌, map, length, Option, Some, None, is_some, inl, inr}
+use Rattle.std.specs.Prelude.{◌&&◌, codes, if◌then◌else◌}
 use Rattle.std.specs.List.{filter, list_all, list_any}
 use Rattle.std.proofs.lemmas.Bool.{le-ltb}
 use Rattle.std.specs.Cmp.{first_so, second_so}
 use Rattle.serde_json.specs.Data.{Members}
-use Rattle.alt_backfill.specs.private.Asked.{first_asked, first_of}
+use Rattle.alt_backfill.specs.private.Asked.{first_of}
 use Rattle.alt_backfill.proofs.Shapes.{none_acts}
 use Rattle.alt_backfill.proofs.Tests.{shape_kept}
 use Rattle.alt_base.proofs.Lists.{length-filter}
 use Rattle.alt_machine.specs.Body.{of_shape}
 use Rattle.alt_machine.specs.Building.{building_in}
 use Rattle.alt_machine.specs.Members.{may_name}
-use Rattle.alt_machine.specs.Ops.UpdateTable.{acts, altered, altered_by, are_keys_good, are_single, asked_at, changes, comes_early, coming, family_after, going, names_fit, of_body, of_indexes, wanted_for}
-use Rattle.alt_machine.specs.Outcomes.{Wants, a_family, a_number}
-use Rattle.alt_machine.specs.Refusals.{first_answer, refuse_if, refuse_unless}
+use Rattle.alt_machine.specs.Ops.UpdateTable.{acts, altered, altered_by, are_keys_good, are_single, asked_at, changes, comes_early, coming, family_after, going, changed_index_names_fit, of_body, of_indexes, wanted_for}
+use Rattle.alt_machine.specs.Outcomes.{a_family, a_number}
+use Rattle.alt_machine.specs.Refusals.{first_answer}
 use Rattle.alt_machine.specs.Valid.{IsMade}
 use Rattle.alt_machine.proofs.Added.{made_added}
 use Rattle.alt_machine.proofs.Removed.{made_removed}
@@ -113,7 +113,7 @@ module _ (d : TableSchema) (ms : Members) (family : ℕ) where
         let single = unless_holds (are_single ms) bad_index_update _ shaped.1 in
         first_so (list_all (λ (i : StatedIndex). is_name i.name) (coming ms)) _
         (second_so (may_name ms (codes "TableName")) _
-        (unless_holds (may_name ms (codes "TableName") && names_fit ms) bad_name [] single.1).0)
+        (unless_holds (may_name ms (codes "TableName") && changed_index_names_fit ms) bad_name [] single.1).0)
 
     -- it is made as a description has to be, where the table's is
     pub altered_made : first_answer (of_indexes d ms) ≡ None → IsMade d → IsMade (altered d ms family)

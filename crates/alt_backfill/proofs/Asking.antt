@@ -1,11 +1,11 @@
 -- The refusals of an UpdateTable, step by step, and what it comes to.
-use Rattle.std.proofs.Common.{◌≡◌, refl, sym, ap, subst, ◌∙◌, ℕ, Bool, true, false, List, [], ◌∷◌, Option, Some, None, Result, Ok, Err, is_some, arith}
+use Rattle.std.proofs.Common.{◌≡◌, refl, sym, ap, subst, ◌∙◌, ℕ, Bool, true, false, [], ◌∷◌, Option, Some, None, Result, Ok, Err, arith}
 use Rattle.std.specs.Prelude.{codes, if◌then◌else◌}
 use Rattle.std.specs.FinMap as map
 use Rattle.std.specs.List.{list_any}
 use Rattle.serde_json.specs.Data.{Members}
 use Rattle.alt_backfill.specs.declared.asked.Later.{Later}
-use Rattle.alt_backfill.specs.private.Asked.{IsAsked, IsAskedOf, MayBeAltered, first_asked}
+use Rattle.alt_backfill.specs.private.Asked.{IsAlteringOrRefused, IsAskedOf, MayBeAltered, first_asked}
 use Rattle.alt_backfill.proofs.Shapes.{acts_coming, acts_going}
 use Rattle.alt_backfill.proofs.Tests.{staying_is}
 use Rattle.alt_machine.specs.Members.{table_name}
@@ -26,7 +26,7 @@ use Rattle.alt_request.proofs.Named.{table_found, table_missed}
 use Rattle.alt_disk.specs.Disk.{DiskState}
 use Rattle.alt_schema.specs.declared.schema.TableSchema.{TableSchema}
 use Rattle.alt_shape.specs.Refusals.{Answer, not_found, refused}
-use Rattle.alt_request.specs.TablesStands.{Stands, catalog_of, family_of}
+use Rattle.alt_request.specs.TablesStands.{Stands, catalog_of, next_family_of_tables}
 use Rattle.alt_request.specs.TablesDeclaredTables.{Tables}
 
 module _ (s : State) (ms : Members) where
@@ -63,14 +63,14 @@ module _ (s : State) (ms : Members) where
 module _ (tables : Tables) (ms : Members) where
   -- the body is refused
   pub unfit_asked : (stop : Stop) → Tested {X = Unit {0}} (of_body ms) (Err stop)
-      → IsAsked tables ms (Err stop)
+      → IsAlteringOrRefused tables ms (Err stop)
   unfit_asked (Refused r) h = (h.1, λ s same valid. refused_by s ms (refused r) h.0)
   unfit_asked (Fault f) h = h
 
   module _ (free : first_answer (of_body ms) ≡ None) where
     -- there is no such table
     pub absent_asked : map.get (catalog_of tables) (table_name ms) ≡ None
-        → IsAsked tables ms (Err (Refused not_found))
+        → IsAlteringOrRefused tables ms (Err (Refused not_found))
     absent_asked none = (
       tt,
       λ s same valid. missed_by s ms free (table_missed s (catalog_of tables) same (table_name ms) none),
@@ -86,12 +86,12 @@ module _ (tables : Tables) (ms : Members) where
           ∙ (valid.tables (table_name ms) found.0 found.1).named
 
       -- and so no valid state has one that doesn't
-      pub misnamed_asked : (d.name ≡ table_name ms → ⊥) → IsAsked tables ms (Err (Refused not_found))
+      pub misnamed_asked : (d.name ≡ table_name ms → ⊥) → IsAlteringOrRefused tables ms (Err (Refused not_found))
       misnamed_asked other = (tt, λ s same valid. absurd (other (named_so s same valid)))
 
       -- what is asked of the table that is named is asked
       pub here_asked : d.name ≡ table_name ms → (r : Result Later Stop)
-          → IsAskedOf d ms (family_of tables) r → IsAsked tables ms r
+          → IsAskedOf d ms (next_family_of_tables tables) r → IsAlteringOrRefused tables ms r
       here_asked named (Ok later) h = record {
         body = free;
         description = d;
@@ -139,7 +139,7 @@ module _ (tables : Tables) (ms : Members) where
         ∙ ap (λ (x : TableSchema). says (described x (codes "ACTIVE")))
         (found.2 ∙ staying_is may.description ms
         (unasked (first_asked (codes "Create") ms) refl acts_none)
-        (unasked_gone (first_asked (codes "Delete") ms) refl acts_none) (family_of tables)
+        (unasked_gone (first_asked (codes "Delete") ms) refl acts_none) (next_family_of_tables tables)
         ∙ sym may.is)
       where
         unasked : (o : Option Members) → first_asked (codes "Create") ms ≡ o
@@ -165,7 +165,7 @@ module _ (tables : Tables) (ms : Members) where
 
 -- what is asked stops the request
 pub asked_stops : {file : ℕ} (tables : Tables) (disk : DiskState) (now : State → Type 0)
-    (ms : Members) (stop : Stop) → IsAsked tables ms (Err stop)
+    (ms : Members) (stop : Stop) → IsAlteringOrRefused tables ms (Err stop)
     → ((s : State) → Stands disk tables s → now s)
     → Carries file (λ s. update_table s ms) (Stands disk tables) now (Err stop)
 asked_stops tables disk now ms (Refused r) h stays =
@@ -176,6 +176,6 @@ asked_stops tables disk now ms (Fault f) h stays =
 
 -- no failure of the device is among what stops it
 pub asked_unfailed : (P : Type 0) (tables : Tables) (ms : Members) (stop : Stop)
-    → IsAsked tables ms (Err stop) → IfFailed (Err stop) P
+    → IsAlteringOrRefused tables ms (Err stop) → IfFailed (Err stop) P
 asked_unfailed P tables ms (Refused r) h = tt
 asked_unfailed P tables ms (Fault f) h = unfailed_fault f P h

@@ -1,9 +1,9 @@
 -- What a Build comes to: nothing where no index is being built, and else one write.
-use Rattle.std.proofs.Common.{◌≡◌, refl, sym, ap, subst, ◌∙◌, ℕ, Bool, true, false, List, [], ◌∷◌, Option, Some, None, option_map, IsTrue, is_some}
+use Rattle.std.proofs.Common.{◌≡◌, refl, sym, subst, ◌∙◌, true, false, [], ◌∷◌, Some, None, option_map, IsTrue}
 use Rattle.std.specs.Prelude.{◌↔◌}
 use Rattle.std.specs.FinMap as finite
 use Rattle.std.specs.List.{find}
-use Rattle.alt_backfill.specs.private.Asked.{IsBuilding, builds}
+use Rattle.alt_backfill.specs.private.Asked.{builds}
 use Rattle.alt_backfill.proofs.Naming.{builds_first, builds_nothing, find_none, none_empty}
 use Rattle.alt_disk.specs.Disk.{DiskState}
 use Rattle.alt_machine.specs.Building.{build, building_in, with_built}

@@ -3,14 +3,14 @@ use Rattle.std.proofs.Common.{◌≡◌, ◌<◌, refl, sym, ap, subst, ◌∙�
 use Rattle.std.specs.Bool.{passes as holds}
 use Rattle.std.specs.Prelude.{◌&&◌}
 use Rattle.std.specs.FinMap as finite
-use Rattle.std.specs.FinMap.{entries_sorted, get-entries}
+use Rattle.std.specs.FinMap.{get-entries}
 use Rattle.std.specs.FinMap.Entries.{below_all, find as at_key, is_sorted}
 use Rattle.std.specs.List.{AllByRecursion, filter, find}
 use Rattle.std.specs.Option.{option_map_or}
 use Rattle.std.specs.Ordering.{eq_by_cmp, is_lt}
 use Rattle.std.specs.declared.cmp.Ordering.TheVariants.{Less}
 use Rattle.std.specs.Cmp.{tied_itself}
-use Rattle.alt_backfill.specs.private.Asked.{IsBuilding, builds}
+use Rattle.alt_backfill.specs.private.Asked.{builds}
 use Rattle.alt_base.proofs.Bools.{first_holds as first, holds_true, second_holds}
 use Rattle.alt_base.proofs.Orderings.{less-holds, is_lt-holds, not_lt_either}
 use Rattle.alt_machine.specs.Building.{build, building_in, first_building, with_built}

@@ -1,5 +1,5 @@
 -- What is asked of a body whose shape is good: an index comes or goes exactly where it is asked.
-use Rattle.std.proofs.Common.{◌≡◌, refl, sym, ap, ◌∙◌, ℕ, Bool, true, false, cond, List, [], ◌∷◌, ◌++◌, Option, Some, None, is_some}
+use Rattle.std.proofs.Common.{◌≡◌, refl, ap, ◌∙◌, ℕ, Bool, true, false, List, [], ◌∷◌, ◌++◌, Option, Some, None, is_some}
 use Rattle.std.proofs.lemmas.Bool.{or_left, or_right}
 use Rattle.std.specs.Prelude.{◌||◌, codes, option_and_then, if◌then◌else◌}
 use Rattle.std.specs.List.{flat_map, list_any}
@@ -7,14 +7,13 @@ use Rattle.std.specs.Option.{option_map_or}
 use Rattle.serde_json.specs.Data.{Data, Items, no_items, item, Members}
 use Rattle.serde_json.specs.Find.{as_array, as_object}
 use Rattle.alt_backfill.specs.private.Asked.{first_asked, first_of}
-use Rattle.alt_backfill.proofs.Singles.{none_first}
 use Rattle.alt_machine.specs.Lists.{is_given}
-use Rattle.alt_machine.specs.Ops.UpdateTable.{acts, asked_at, asked_in, change_of, changes}
+use Rattle.alt_machine.specs.Ops.UpdateTable.{acts, asked_in, change_members, changes}
 use Rattle.alt_schema.specs.Stated.{at_most_one, stated_by}
 use Rattle.alt_shape.specs.Bodies as bodies
-use Rattle.alt_shape.specs.Bodies.{in_items, index_update, object_fault}
-use Rattle.alt_shape.specs.Shape.{an_object, fault_of, given, or_next}
-use Rattle.alt_shape.specs.declared.rule.Broken.{Broken}
+use Rattle.alt_shape.specs.Bodies.{index_update}
+use Rattle.alt_shape.specs.BodyParts.{in_items, object_fault}
+use Rattle.alt_shape.specs.Shape.{an_object, fault_of, given}
 use Rattle.alt_shape.specs.declared.rule.Broken.TheVariants.{WrongKind}
 use Rattle.alt_shape.proofs.Places.{or_next_first, or_next_second}
 
@@ -82,9 +81,9 @@ not_acting u e create delete =
 
 -- nor do good changes that ask neither
 none_acting : (ds : Items) → in_items (object_fault index_update) ds ≡ None
-    → first_of (flat_map (asked_in (codes "Create")) (stated_by change_of ds)) ≡ None
-    → first_of (flat_map (asked_in (codes "Delete")) (stated_by change_of ds)) ≡ None
-    → list_any acts (stated_by change_of ds) ≡ false
+    → first_of (flat_map (asked_in (codes "Create")) (stated_by change_members ds)) ≡ None
+    → first_of (flat_map (asked_in (codes "Delete")) (stated_by change_members ds)) ≡ None
+    → list_any acts (stated_by change_members ds) ≡ false
 none_acting no_items e create delete = refl
 none_acting (item d ds) e create delete = by (as_object d)
     (or_next_first (object_fault index_update d) (in_items (object_fault index_update) ds) e)
@@ -93,17 +92,17 @@ none_acting (item d ds) e create delete = by (as_object d)
     (or_next_second (object_fault index_update d) (in_items (object_fault index_update) ds) e))
   where
     by : (o : Option Members) → option_map_or index_update o (Some WrongKind) ≡ None
-        → first_of (flat_map (asked_in (codes "Create")) (at_most_one o ++ stated_by change_of ds)) ≡ None
-        → first_of (flat_map (asked_in (codes "Delete")) (at_most_one o ++ stated_by change_of ds)) ≡ None
-        → (first_of (flat_map (asked_in (codes "Create")) (stated_by change_of ds)) ≡ None
-        → first_of (flat_map (asked_in (codes "Delete")) (stated_by change_of ds)) ≡ None
-        → list_any acts (stated_by change_of ds) ≡ false)
-        → list_any acts (at_most_one o ++ stated_by change_of ds) ≡ false
+        → first_of (flat_map (asked_in (codes "Create")) (at_most_one o ++ stated_by change_members ds)) ≡ None
+        → first_of (flat_map (asked_in (codes "Delete")) (at_most_one o ++ stated_by change_members ds)) ≡ None
+        → (first_of (flat_map (asked_in (codes "Create")) (stated_by change_members ds)) ≡ None
+        → first_of (flat_map (asked_in (codes "Delete")) (stated_by change_members ds)) ≡ None
+        → list_any acts (stated_by change_members ds) ≡ false)
+        → list_any acts (at_most_one o ++ stated_by change_members ds) ≡ false
     by None e create delete rest = absurd (let f : ⊥ = cc in f)
     by (Some u) e create delete rest =
         let c = front_none (asked_in (codes "Create") u) _ create in
         let d = front_none (asked_in (codes "Delete") u) _ delete in
-        ap (λ b. b || list_any acts (stated_by change_of ds)) (not_acting u e c.0 d.0)
+        ap (λ b. b || list_any acts (stated_by change_members ds)) (not_acting u e c.0 d.0)
         ∙ rest c.1 d.1
 
 -- so it is of a body whose shape is good
@@ -116,8 +115,8 @@ none_acts ms e create delete = by
     (or_next_first _ _ (or_next_second _ _ (or_next_second _ _ e))) create delete
   where
     by : (o : Option Items) → option_map_or (in_items (object_fault index_update)) o None ≡ None
-        → first_of (flat_map (asked_in (codes "Create")) (option_map_or (stated_by change_of) o [])) ≡ None
-        → first_of (flat_map (asked_in (codes "Delete")) (option_map_or (stated_by change_of) o [])) ≡ None
-        → list_any acts (option_map_or (stated_by change_of) o []) ≡ false
+        → first_of (flat_map (asked_in (codes "Create")) (option_map_or (stated_by change_members) o [])) ≡ None
+        → first_of (flat_map (asked_in (codes "Delete")) (option_map_or (stated_by change_members) o [])) ≡ None
+        → list_any acts (option_map_or (stated_by change_members) o []) ≡ false
     by None e create delete = refl
     by (Some ds) e create delete = none_acting ds e create delete

@@ -1,7 +1,7 @@
 -- Of single changes at most one asks for an index that comes, or for one that goes.
-use Rattle.std.proofs.Common.{◌≡◌, refl, sym, ap, ◌∙◌, ◌≤◌, ◌+◌, ℕ, Bool, true, false, cond, List, [], ◌∷◌, ◌++◌, map, length, Option, Some, None, is_some, eqb, arith}
-use Rattle.std.specs.Prelude.{◌&&◌, ◌||◌, ◌==◌, nat_le, codes, option_and_then}
-use Rattle.std.specs.List.{filter, flat_map, list_all, list_any}
+use Rattle.std.proofs.Common.{◌≡◌, refl, ap, ◌∙◌, ◌≤◌, ◌+◌, Bool, true, false, cond, List, [], ◌∷◌, map, length, Option, Some, None, is_some, arith}
+use Rattle.std.specs.Prelude.{◌&&◌, ◌||◌, ◌==◌, codes, option_and_then}
+use Rattle.std.specs.List.{filter, flat_map, list_all}
 use Rattle.std.specs.Option.{option_map_or}
 use Rattle.std.proofs.lemmas.List.{length-append}
 use Rattle.std.proofs.lemmas.Bool.{leb-true}
@@ -9,8 +9,7 @@ use Rattle.std.specs.Cmp.{first_so, second_so}
 use Rattle.serde_json.specs.Data.{Data, Members}
 use Rattle.serde_json.specs.Find.{as_object}
 use Rattle.alt_backfill.specs.private.Asked.{first_of, names_index}
-use Rattle.alt_machine.specs.Lists.{is_given}
-use Rattle.alt_machine.specs.Ops.UpdateTable.{acts, are_single, asked_at, asked_in, changes, coming, going, is_one, names_fit}
+use Rattle.alt_machine.specs.Ops.UpdateTable.{acts, are_single, asked_at, asked_in, changes, is_one, changed_index_names_fit}
 use Rattle.alt_schema.specs.Rules.{is_name}
 use Rattle.alt_schema.specs.Stated.{at_most_one, index_in, text_of}
 use Rattle.alt_shape.specs.Shape.{given}
@@ -90,7 +89,7 @@ module _ (ms : Members) (single : are_single ms ≡ true) where
 
   -- the first of them have good names where all have
   pub names_fit_so : (option_map_or names_index (first_of (asked_at (codes "Create") ms)) true
-      && option_map_or names_index (first_of (asked_at (codes "Delete") ms)) true) ≡ names_fit ms
+      && option_map_or names_index (first_of (asked_at (codes "Delete") ms)) true) ≡ changed_index_names_fit ms
   names_fit_so = λ i.
       (of_first names_index (asked_at (codes "Create") ms) (omega (arith, asks_one))
       ∙ each_index (asked_at (codes "Create") ms)) i

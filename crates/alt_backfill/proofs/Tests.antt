@@ -1,16 +1,15 @@
 -- The tests of an UpdateTable: those of its body, and those of a table for an index that comes, for one that goes, and for none.
-use Rattle.std.proofs.Common.{◌≡◌, refl, sym, ap, ◌∙◌, ℕ, Bool, true, false, not, cond, List, [], ◌∷◌, ◌++◌, map, Option, Some, None, Err, is_some, arith}
+use Rattle.std.proofs.Common.{◌≡◌, refl, sym, ap, ◌∙◌, ℕ, Bool, true, false, not, List, [], ◌∷◌, ◌++◌, map, Option, Some, None, Err, is_some, arith}
 use Rattle.std.specs.Prelude.{◌&&◌, ◌||◌, codes, if◌then◌else◌}
 use Rattle.std.specs.List.{list_all, list_any}
 use Rattle.std.proofs.lemmas.List.Folds.{list_any-append}
 use Rattle.serde_json.specs.Data.{Members}
-use Rattle.alt_backfill.specs.private.Asked.{IsAskedOf, first_asked, stop_of}
+use Rattle.alt_backfill.specs.private.Asked.{IsAskedOf, first_asked, stop_of_schema_fault}
 use Rattle.alt_backfill.proofs.Singles.{none_first, only_comes, only_goes}
-use Rattle.alt_backfill.proofs.Shapes.{acts_coming, acts_going, none_acts}
+use Rattle.alt_backfill.proofs.Shapes.{acts_coming, acts_going}
 use Rattle.alt_machine.specs.Body.{of_shape}
 use Rattle.alt_machine.specs.Building.{building_in}
-use Rattle.alt_machine.specs.Members.{may_name}
-use Rattle.alt_machine.specs.Ops.UpdateTable.{acts, altered, altered_by, are_single, asked_at, changes, comes_early, coming, going, names_fit, of_body, of_indexes}
+use Rattle.alt_machine.specs.Ops.UpdateTable.{acts, altered, altered_by, are_single, asked_at, changes, comes_early, of_body, of_indexes}
 use Rattle.alt_machine.specs.Outcomes.{Outcome, refuses, unless_refused}
 use Rattle.alt_machine.specs.Refusals.{first_answer, refuse_if, refuse_unless}
 use Rattle.alt_machine.proofs.Tests.{rest_none, stopped, unless_holds}
@@ -18,7 +17,7 @@ use Rattle.alt_schema.specs.Altered.{IsFaultOf, definitions_fit, differs_in_kind
 use Rattle.alt_schema.specs.Described.{IsKnownFault}
 use Rattle.alt_schema.specs.Indexes.{indexes, is_key, is_used}
 use Rattle.alt_schema.specs.Rules.{all_differ}
-use Rattle.alt_schema.specs.Stated.{at_most_one, definitions_of, index_in, text_of}
+use Rattle.alt_schema.specs.Stated.{definitions_of, index_in, text_of}
 use Rattle.alt_schema.specs.declared.described.SchemaFault.{SchemaFault}
 use Rattle.alt_schema.specs.declared.described.SchemaFault.TheVariants.{Refused, NoMemory}
 use Rattle.alt_schema.specs.declared.schema.IndexSchema.{IndexSchema}
@@ -26,7 +25,7 @@ use Rattle.alt_schema.specs.declared.schema.KeyAttr.{KeyAttr}
 use Rattle.alt_schema.specs.declared.schema.TableSchema.{TableSchema}
 use Rattle.alt_schema.specs.declared.stated.StatedIndex.{StatedIndex}
 use Rattle.alt_shape.specs.Bodies as bodies
-use Rattle.alt_shape.specs.Refusals.{Answer, bad_index, bad_index_update, bad_key_schema, bad_name, no_such_index, refused}
+use Rattle.alt_shape.specs.Refusals.{Answer, bad_index, bad_index_update, bad_key_schema, no_such_index, refused}
 use Rattle.alt_shape.specs.declared.refusal.Refusal.{Refusal}
 use Rattle.alt_shape.specs.declared.rule.Broken.{Broken}
 
@@ -216,7 +215,7 @@ module _ (d : TableSchema) (ms : Members) where
 
     -- its description is refused
     pub coming_refused : (f : SchemaFault) → IsFaultOf (refused_with d more family i) f
-        → IsKnownFault f → IsAskedOf d ms family (Err (stop_of f))
+        → IsKnownFault f → IsAskedOf d ms family (Err (stop_of_schema_fault f))
     coming_refused (Refused r) h known = (
       known,
       refused_then r (comes_tests ∙ comes_refused d more family i r h),
@@ -267,7 +266,7 @@ module _ (d : TableSchema) (ms : Members) where
     -- the description then is refused
     pub going_refused : is_none_of d name ≡ false → (f : SchemaFault)
         → IsFaultOf (refused_without d more name) f → IsKnownFault f → (family : ℕ)
-        → IsAskedOf d ms family (Err (stop_of f))
+        → IsAskedOf d ms family (Err (stop_of_schema_fault f))
     going_refused e (Refused r) h known family = (
       known,
       refused_then r (goes_tests ∙ goes_refused d more name e r h),

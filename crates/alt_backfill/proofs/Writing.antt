@@ -1,5 +1,5 @@
 -- The write of an UpdateTable: its description may be given to the table, and then the request has come to what it is to.
-use Rattle.std.proofs.Common.{◌≡◌, ◌<◌, ◌≤◌, sym, ap, subst, ◌∙◌, ℕ, Bool, true, false, cond, List, [], ◌∷◌, length, nat_le, Option, Some, None, is_some, arith}
+use Rattle.std.proofs.Common.{◌≡◌, ◌<◌, sym, ap, subst, ◌∙◌, ℕ, true, cond, List, [], ◌∷◌, length, nat_le, Option, Some, None, is_some, arith}
 use Rattle.std.proofs.lemmas.Bool.{leb-true}
 use Rattle.std.proofs.lemmas.Option.{same_Some}
 use Rattle.std.specs.Cmp.{first_so}
@@ -17,7 +17,7 @@ use Rattle.alt_backfill.proofs.Tests.{shape_kept}
 use Rattle.alt_disk.specs.Disk.{DiskState}
 use Rattle.alt_machine.specs.Body.{of_shape}
 use Rattle.alt_machine.specs.Members.{may_name, table_name}
-use Rattle.alt_machine.specs.Ops.UpdateTable.{altered, are_single, coming, described, family_after, names_fit, of_body, update_table, wanted_for, with_description}
+use Rattle.alt_machine.specs.Ops.UpdateTable.{altered, are_single, coming, described, family_after, changed_index_names_fit, of_body, update_table, wanted_for, with_description}
 use Rattle.alt_machine.specs.Refusals.{first_answer}
 use Rattle.alt_machine.specs.State.{State, Table}
 use Rattle.alt_machine.specs.Valid.{IsMade}
@@ -30,7 +30,7 @@ use Rattle.alt_shape.specs.Shape.{a_text, fault_of, given}
 use Rattle.alt_shape.specs.declared.rule.Broken.TheVariants.{WrongKind}
 use Rattle.alt_shape.proofs.Places.{or_next_first}
 use Rattle.alt_request.specs.TablesAltering.{MayAlter, alter_wants, family_left}
-use Rattle.alt_request.specs.TablesStands.{Stands, catalog_of, family_of}
+use Rattle.alt_request.specs.TablesStands.{Stands, catalog_of, next_family_of_tables}
 use Rattle.alt_request.specs.TablesDeclaredTables.{Tables}
 
 -- a good name has bytes
@@ -59,8 +59,8 @@ unfolding bodies.update_table
 table_has ms free =
     let shaped = rest_none (of_shape (bodies.update_table ms)) _ free in
     let single = unless_holds (are_single ms) bad_index_update _ shaped.1 in
-    let named = first_so (may_name ms (codes "TableName")) (names_fit ms)
-    (unless_holds (may_name ms (codes "TableName") && names_fit ms) bad_name [] single.1).0 in
+    let named = first_so (may_name ms (codes "TableName")) (changed_index_names_fit ms)
+    (unless_holds (may_name ms (codes "TableName") && changed_index_names_fit ms) bad_name [] single.1).0 in
     text_has (given (codes "TableName") ms)
     (or_next_first _ _ (or_next_first _ _ (shape_kept ms free))) named
 
@@ -69,7 +69,7 @@ module _ (tables : Tables) (ms : Members) (later : Later) (may : MayBeAltered ta
   d = may.description
 
   name_is : later.schema.name ≡ table_name ms
-  name_is = ap (λ (x : TableSchema). x.name) may.is ∙ altered_name d ms (family_of tables) ∙ may.named
+  name_is = ap (λ (x : TableSchema). x.name) may.is ∙ altered_name d ms (next_family_of_tables tables) ∙ may.named
 
   there_is : map.get (catalog_of tables) later.schema.name ≡ Some d
   there_is = ap (map.get (catalog_of tables)) name_is ∙ may.there
@@ -86,18 +86,18 @@ module _ (tables : Tables) (ms : Members) (later : Later) (may : MayBeAltered ta
   pub alter_made : (disk : DiskState) (s : State) → Stands disk tables s → IsMade later.schema
   alter_made disk s stands =
       let (t, at, is, e) = reached tables ms later may s (sym stands.catalog) in
-      subst IsMade (sym may.is) (altered_made d ms (family_of tables) may.body may.free
+      subst IsMade (sym may.is) (altered_made d ms (next_family_of_tables tables) may.body may.free
       (subst IsMade is (stands.valid.tables (table_name ms) t at).made))
 
   module _ (some : later.alters ≡ true) where
     -- it may take the place of the table's
     pub alter_may : (e : TableSchema) → map.get (catalog_of tables) later.schema.name ≡ Some e
-        → MayAlter (family_of tables) e later.schema
+        → MayAlter (next_family_of_tables tables) e later.schema
     alter_may e at =
         let same : d ≡ e = same_Some d e (sym there_is ∙ at) in
-        subst (λ (x : TableSchema). MayAlter (family_of tables) x later.schema) same
-        (subst (MayAlter (family_of tables) d) (sym may.is)
-        (altered_may d ms (family_of tables) may.body (sym may.alters ∙ some)))
+        subst (λ (x : TableSchema). MayAlter (next_family_of_tables tables) x later.schema) same
+        (subst (MayAlter (next_family_of_tables tables) d) (sym may.is)
+        (altered_may d ms (next_family_of_tables tables) may.body (sym may.alters ∙ some)))
 
     -- and then the request has come to what it is to
     pub written : (disk : DiskState) (s : State) → Stands disk tables s

@@ -3,7 +3,7 @@
 ghost use Rattle.std.specs.Prelude.{◌≡◌, ℕ, true, false, None, Some, codes, is_some};
 ghost use Rattle.std.specs.List.{list_any};
 ghost use Rattle.serde_json.specs.View.{members_view};
-ghost use Rattle.alt_backfill.specs.private.Asked.{IsAsked, IsAskedOf, first_asked, stop_of};
+ghost use Rattle.alt_backfill.specs.private.Asked.{IsAlteringOrRefused, IsAskedOf, first_asked, stop_of_schema_fault};
 ghost use Rattle.alt_machine.specs.Building.{building_in, is_building};
 ghost use Rattle.alt_machine.specs.Members.{may_name};
 ghost use Rattle.alt_machine.specs.Ops.UpdateTable.{acts, are_single, changes, of_body};
@@ -35,7 +35,7 @@ pub(crate) fn asked(
     tables: &Tables,
     body: &Map<String, Value>,
 ) -> Result<Later, Stop>
-    ensures asked { IsAsked tables.now (members_view body.now.entries) result }
+    ensures asked { IsAlteringOrRefused tables.now (members_view body.now.entries) result }
 {
     unfit(body)?;
     let Some(schema) = tables.table(table_name(body)) else {
@@ -175,7 +175,7 @@ fn as_it_is(alloc: Global, schema: &TableSchema, body: &Map<String, Value>) -> R
 
 /// What a fault of a description stops a request with.
 fn stop_of(fault: SchemaFault) -> Stop
-    ensures { result ≡ stop_of fault }
+    ensures { result ≡ stop_of_schema_fault fault }
 {
     match fault {
         SchemaFault::NoMemory => Stop::Fault(TableFault::NoMemory),

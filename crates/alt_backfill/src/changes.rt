@@ -4,9 +4,9 @@ ghost use Rattle.std.specs.Prelude.{◌≡◌, true, codes, length, option_map};
 ghost use Rattle.std.specs.List.{filter, list_all, list_any};
 ghost use Rattle.std.specs.Option.{option_map_or};
 ghost use Rattle.serde_json.specs.View.{view, items_view, members_view};
-ghost use Rattle.alt_backfill.specs.private.Asked.{asked_of, first_asked, names_index};
+ghost use Rattle.alt_backfill.specs.private.Asked.{change_asked, first_asked, names_index};
 ghost use Rattle.alt_machine.specs.Lists.{is_given};
-ghost use Rattle.alt_machine.specs.Ops.UpdateTable.{acts, are_single, change_of, changes, is_one, names_fit};
+ghost use Rattle.alt_machine.specs.Ops.UpdateTable.{acts, are_single, change_members, changes, is_one, changed_index_names_fit};
 ghost use Rattle.alt_schema.specs.Stated.{stated_by, text_of};
 
 use alt_schema::is_name;
@@ -15,7 +15,7 @@ use serde_json::{Map, Value};
 
 /// The changes.
 pub(crate) fn changes(body: &Map<String, Value>) -> &[Value]
-    ensures { stated_by change_of (items_view result.now) ≡ changes (members_view body.now.entries) }
+    ensures { stated_by change_members (items_view result.now) ≡ changes (members_view body.now.entries) }
 {
     match array_at(body, "GlobalSecondaryIndexUpdates") {
         Some(list) => list.as_slice(),
@@ -33,7 +33,7 @@ pub(crate) fn are_single(body: &Map<String, Value>) -> bool
 
 /// Whether each is exactly one of the three.
 fn all_one(list: &[Value]) -> bool
-    ensures { result ≡ list_all is_one (stated_by change_of (items_view list.now)) }
+    ensures { result ≡ list_all is_one (stated_by change_members (items_view list.now)) }
 {
     for change in list {
         if !is_one_of(change) {
@@ -45,7 +45,7 @@ fn all_one(list: &[Value]) -> bool
 
 /// Whether a value is no change, or exactly one of the three.
 fn is_one_of(value: &Value) -> bool
-    ensures { result ≡ list_all is_one (change_of (view value.now)) }
+    ensures { result ≡ list_all is_one (change_members (view value.now)) }
 {
     match value.as_object() {
         Some(change) => is_one(change),
@@ -71,7 +71,7 @@ fn is_one(change: &Map<String, Value>) -> bool
 
 /// In how many of them an index comes or goes.
 fn acting(list: &[Value]) -> usize
-    ensures { result ≡ length (filter acts (stated_by change_of (items_view list.now))) }
+    ensures { result ≡ length (filter acts (stated_by change_members (items_view list.now))) }
 {
     let mut count = 0;
     for change in list {
@@ -84,7 +84,7 @@ fn acting(list: &[Value]) -> usize
 
 /// Whether a value is a change in which an index comes or goes.
 fn is_acting(value: &Value) -> bool
-    ensures { result ≡ list_any acts (change_of (view value.now)) }
+    ensures { result ≡ list_any acts (change_members (view value.now)) }
 {
     match value.as_object() {
         Some(change) => acts(change),
@@ -124,7 +124,7 @@ pub(crate) fn first_asked<'v>(
 /// What a value asks at a name, where it is a change.
 fn asked_of<'v>(value: &'v Value, name: &str) -> Option<&'v Map<String, Value>>
     ensures { option_map (λ m. members_view m.now.entries) result
-        ≡ asked_of name.now (view value.now) }
+        ≡ change_asked name.now (view value.now) }
 {
     object_at(value.as_object()?, name)
 }
@@ -132,7 +132,7 @@ fn asked_of<'v>(value: &'v Value, name: &str) -> Option<&'v Map<String, Value>>
 /// Whether the name of an index that comes, or goes, is good.
 pub(crate) fn names_fit(body: &Map<String, Value>) -> bool
     ensures { are_single (members_view body.now.entries) ≡ true
-        → result ≡ names_fit (members_view body.now.entries) }
+        → result ≡ changed_index_names_fit (members_view body.now.entries) }
 {
     is_name_asked(body, "Create") && is_name_asked(body, "Delete")
 }

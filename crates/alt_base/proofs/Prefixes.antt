@@ -1,5 +1,5 @@
 -- What begins with what, where something fails on the way.
-use Rattle.std.proofs.Common.{◌≡◌, ◌++◌, ap, ◌∙◌, append_assoc, List, Result, Ok, Err, OnErr}
+use Rattle.std.proofs.Common.{◌++◌, ap, ◌∙◌, append_assoc, List, Result, Ok, Err, OnErr}
 use Rattle.alt_base.specs.Prefix.{IsPrefix}
 
 -- what begins with a list that begins with another begins with that one

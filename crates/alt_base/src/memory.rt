@@ -1,7 +1,5 @@
 //! Want of memory, the one answer that no clause ties to a cause.
 
-ghost use Rattle.std.specs.Prelude.{◌≡◌};
-
 use std::alloc::{AllocError, AllocFailed};
 
 /// The allocator refused to give memory. What the call's value is then, its contract says.

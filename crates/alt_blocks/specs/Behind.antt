@@ -4,15 +4,15 @@ use Rattle.alt_disk.specs.Disk.{DiskState}
 use Rattle.alt_disk.specs.declared.disk.Disk.{Ghosts}
 use Rattle.alt_blocks.specs.declared.cache.BlockCache.{BlockCache}
 use Rattle.alt_blocks.specs.declared.cached.Cached.{Cached}
-use Rattle.alt_blocks.specs.Places.{has}
+use Rattle.alt_blocks.specs.Places.{cache_has_place}
 
 -- the disk as it is, behind borrows of these names, with the reads that the cache can answer
-abbrev pub behind : ℕ → ℕ → BlockCache → DiskState → DiskState
-behind disk name cache s =
+abbrev pub disk_behind_cache : ℕ → ℕ → BlockCache → DiskState → DiskState
+disk_behind_cache disk name cache s =
     record s {
       anchors = disk ∷ name ∷ s.anchors;
       cached =
-          λ f at n. has cache f at n || s.cached f at n;
+          λ f at n. cache_has_place cache f at n || s.cached f at n;
     }
 
 module _ {D : Type 0} {G : Ghosts D} where
@@ -26,7 +26,7 @@ module _ {D : Type 0} {G : Ghosts D} where
 
   -- the disk as the layers above see it
   abbrev pub state_of : Cached D G → DiskState
-  state_of c = behind c.disk.ghost_name c.cache.ghost_name (cache_of c) (G.state (disk_of c))
+  state_of c = disk_behind_cache c.disk.ghost_name c.cache.ghost_name (cache_of c) (G.state (disk_of c))
 
   -- the names of the borrows of both
   abbrev pub names_of : Cached D G → ℕ × ℕ

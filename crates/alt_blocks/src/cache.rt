@@ -1,6 +1,6 @@
 //! What reads gave, by file, place and length of the buffer; the places used last stay.
 
-ghost use Rattle.std.specs.Prelude.{◌≡◌, ◌<◌, ◌≤◌, true, [], length, take, min, is_some, IfOk, IfSome, IfNone};
+ghost use Rattle.std.specs.Prelude.{◌≡◌, ◌<◌, ◌≤◌, length, take, min, is_some, IfOk, IfSome, IfNone};
 ghost use Rattle.alt_blocks.specs.Short.{AreShort};
 
 use alt_base::NoMemory;
@@ -22,7 +22,7 @@ pub struct BlockCache {
 
 impl BlockCache {
     ghost use Rattle.alt_disk.specs.Disk.{DiskState, Read, contents};
-    ghost use Rattle.alt_blocks.specs.Places.{Agrees, Adds, Within, IsEmpty, has, room_of};
+    ghost use Rattle.alt_blocks.specs.Places.{CacheAgrees, CacheAddsPlace, HasNoNewPlace, IsEmpty, cache_has_place, room_of};
 
     /// An empty cache of `most` places, which is above 0.
     pub fn new(alloc: Global, most: usize) -> Result<BlockCache, NoMemory>
@@ -47,11 +47,11 @@ impl BlockCache {
 
     /// Puts what a read of this file, place and length gave into the buffer's front, where it is here, and answers how many bytes.
     pub(crate) fn recall(&mut self, f: u32, at: u64, buf: &mut [u8]) -> Option<usize>
-        ensures hit { (s : DiskState) → Agrees s self.old → IfSome result
+        ensures hit { (s : DiskState) → CacheAgrees s self.old → IfSome result
             (λ count. Read (contents s f) at buf.old buf.new count) }
-        ensures found { is_some result ≡ has self.old f at (length buf.old) }
+        ensures found { is_some result ≡ cache_has_place self.old f at (length buf.old) }
         ensures miss { IfNone result (buf.new ≡ buf.old) }
-        ensures within { Within self.old self.new }
+        ensures within { HasNoNewPlace self.old self.new }
         ensures bound { IfSome result (λ count. count ≤ length buf.old) }
     {
         let place = (f, at, buf.len());
@@ -68,7 +68,7 @@ impl BlockCache {
     /// Keeps the first `count` bytes of the buffer for such a read, unless it is too long or memory is wanting.
     pub(crate) fn keep(&mut self, f: u32, at: u64, buf: &[u8], count: usize)
         requires { count ≤ length buf.now }
-        ensures adds { Adds self.old self.new (f, at, length buf.now) (take count buf.now) }
+        ensures adds { CacheAddsPlace self.old self.new (f, at, length buf.now) (take count buf.now) }
     {
         if buf.len() > LONGEST_KEPT {
             return;

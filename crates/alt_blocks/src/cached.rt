@@ -1,7 +1,7 @@
 //! A disk over a disk and a cache of its reads.
 
 ghost use Rattle.std.specs.Prelude.{◌≡◌, IsTrue};
-ghost use Rattle.alt_blocks.specs.Places.{Agrees};
+ghost use Rattle.alt_blocks.specs.Places.{CacheAgrees};
 
 use crate::cache::BlockCache;
 use alt_disk::{Disk, DiskFault, Failed};
@@ -11,7 +11,7 @@ use alt_disk::{Disk, DiskFault, Failed};
 pub struct Cached<'a, D: Disk> {
     pub(crate) disk: &'a mut D,
     pub(crate) cache: &'a mut BlockCache,
-    ghost agrees: { IsTrue (D.state disk.now).tells → Agrees (D.state disk.now) cache.now },
+    ghost agrees: { IsTrue (D.state disk.now).tells → CacheAgrees (D.state disk.now) cache.now },
 }
 
 impl<'a, D: Disk> Cached<'a, D> {
@@ -20,7 +20,7 @@ impl<'a, D: Disk> Cached<'a, D> {
 
     /// The disk before the cache, of which each place holds what the disk gives there.
     pub fn new(disk: &'a mut D, cache: &'a mut BlockCache) -> Cached<'a, D>
-        requires { IsTrue (D.state disk.old).tells → Agrees (D.state disk.old) cache.old }
+        requires { IsTrue (D.state disk.old).tells → CacheAgrees (D.state disk.old) cache.old }
         ensures disk { disk_of result ≡ disk.old }
         ensures cache { cache_of result ≡ cache.old }
         ensures names { names_of result ≡ (disk.entry.ghost_name, cache.entry.ghost_name) }
@@ -31,9 +31,9 @@ impl<'a, D: Disk> Cached<'a, D> {
 
 impl<'a, D: Disk> Disk for Cached<'a, D> {
     ghost use Rattle.std.specs.Prelude.{◌≡◌, ◌≢◌, ◌≤◌, ◌+◌, ◌^◌, ℕ, None, [], length, take, IfOk, OnOk, OnErr, is_ok, true};
-    ghost use Rattle.alt_disk.specs.Disk.{IsTrusted, IsNames, contents, answered, Tick, ReadCall, Same, Written, Removed, Read};
+    ghost use Rattle.alt_disk.specs.Disk.{IsTrusted, IsNames, contents, call_answered, Tick, ReadCall, Same, Written, Removed, Read};
     ghost use Rattle.alt_blocks.specs.Behind.{state_of, cache_of, Uncounted};
-    ghost use Rattle.alt_blocks.specs.Places.{IsEmpty, Adds, has};
+    ghost use Rattle.alt_blocks.specs.Places.{IsEmpty, CacheAddsPlace, cache_has_place};
 
     ghost state = { state_of };
 
@@ -45,7 +45,7 @@ impl<'a, D: Disk> Disk for Cached<'a, D> {
         ensures names { IsTrue (state_of self.old).tells
             → OnOk result (IsNames list.new.items (state_of self.old).file) }
         ensures emptied { OnErr result (list.new.items ≡ []) }
-        ensures call { Tick (state_of self.old) (state_of self.new) (answered result) }
+        ensures call { Tick (state_of self.old) (state_of self.new) (call_answered result) }
         ensures same { IsTrue (state_of self.old).tells
             → Same (state_of self.old) (state_of self.new) }
     {
@@ -59,9 +59,9 @@ impl<'a, D: Disk> Disk for Cached<'a, D> {
 
     // What the cache has is no call of the disk, and it learns no other place than this one.
     fn read(&mut self, f: u32, at: u64, buf: &mut [u8]) -> Result<usize, Failed>
-        ensures kept { has (cache_of self.old) f at (length buf.old) ≡ true
+        ensures kept { cache_has_place (cache_of self.old) f at (length buf.old) ≡ true
             → Uncounted (state_of self.old) (state_of self.new) (is_ok result) }
-        ensures adds { IfOk result (λ count. Adds (cache_of self.old) (cache_of self.new)
+        ensures adds { IfOk result (λ count. CacheAddsPlace (cache_of self.old) (cache_of self.new)
             (f, at, length buf.old) (take count buf.new)) }
         ensures bytes { IsTrue (state_of self.old).tells → IfOk result
             (λ count. Read (contents (state_of self.old) f) at buf.old buf.new count) }

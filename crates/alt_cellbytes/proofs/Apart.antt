@@ -4,13 +4,13 @@ use Rattle.std.specs.Prelude.{ℤ, Bool, true, false}
 use Rattle.std.specs.List.{AllByRecursion, flat_map}
 use Rattle.std.specs.Ordering.{int_cmp}
 use Rattle.alt_base.proofs.Lists.{cons_rest, cons_first}
-use Rattle.alt_decimal.specs.Number.{Fits}
+use Rattle.alt_decimal.specs.Number.{FitsDecimal}
 use Rattle.alt_decimal.specs.Spelled.{spelled}
 use Rattle.alt_fields.specs.Field.{field}
 use Rattle.alt_value.specs.CellBytes.{cell_bytes, counted, truth_byte}
 use Rattle.alt_value.specs.Members.{text_order}
 use Rattle.alt_value.specs.Tree.{Tree, S_tree, N_tree, B_tree, BOOL_tree, NULL_tree, SS_tree, NS_tree, BS_tree, L_tree, M_tree, Trees, no_trees, tree_then, Fields, no_fields, field_then, Pair, trees_of, fields_of, elements, pairs}
-use Rattle.alt_cellbytes.specs.Places.{entry_bytes, IsEntry}
+use Rattle.alt_cellbytes.specs.Places.{entry_bytes, IsMapEntry}
 use Rattle.alt_fields.specs.Bytes.{IsShort}
 use Rattle.alt_value.specs.Values.{IsText}
 use Rattle.alt_cellbytes.specs.Values.{IsWholeSet, HasBytes, HaveBytes, FieldsHaveBytes}
@@ -28,7 +28,7 @@ pub binary_apart : (s : List ℕ) → IsShort s → IsApart field IsShort s
 binary_apart s h = λ t x y k e. field-apart s t x y h k e
 
 -- and spelled numbers
-pub number_apart : (z : ℤ) → Fits z → IsApart spelled Fits z
+pub number_apart : (z : ℤ) → FitsDecimal z → IsApart spelled FitsDecimal z
 number_apart z h = λ v x y k e. spelled_apart z v x y h k e
 
 -- behind counts, members and what follows them
@@ -68,7 +68,7 @@ map_front fs x =
 
 -- an entry is apart where its value is
 entry_apart : (name : List ℕ) (t : Tree) → IsText name → IsApart cell_bytes HasBytes t
-    → IsApart entry_bytes IsEntry (name, t)
+    → IsApart entry_bytes IsMapEntry (name, t)
 entry_apart name t h a = λ q x y k e.
     let f = field-apart name q.0 (cell_bytes t ++ x) (cell_bytes q.1 ++ y) h.1 k.0.1
     (sym (append_assoc (field name) (cell_bytes t) x) ∙ e
@@ -111,9 +111,9 @@ mutual
       let d = kind_of u 7 (behind_count spelled zs x) y
       (sym (ap (λ s. s ++ x) (numbers_bytes-set zs)
       ∙ ap (λ s. 7 ∷ s) (append_assoc (counted (length zs)) (flat_map spelled zs) x)) ∙ e) in
-      let w : IsWholeSet Fits int_cmp d.0 = subst HasBytes d.1 k in
-      let f = counted_many spelled Fits zs d.0 x y h.1 w.1
-      (all_map Fits (IsApart spelled Fits) zs number_apart h.2.0) w.2.0 d.2 in
+      let w : IsWholeSet FitsDecimal int_cmp d.0 = subst HasBytes d.1 k in
+      let f = counted_many spelled FitsDecimal zs d.0 x y h.1 w.1
+      (all_map FitsDecimal (IsApart spelled FitsDecimal) zs number_apart h.2.0) w.2.0 d.2 in
       (ap NS_tree f.0 ∙ sym d.1, f.1)
   value_apart (BS_tree bs) h = λ u x y k e.
       let d = kind_of u 8 (behind_count field bs x) y
@@ -134,7 +134,7 @@ mutual
       let d = kind_of u 10 (behind_count entry_bytes (pairs fs) x) y (sym (map_front fs x) ∙ e) in
       let w = subst HasBytes d.1 k in
       let n : length d.0 < 2 ^ 64 = subst (λ qs. length qs < 2 ^ 64) (pairs-fields_of d.0) w.0 in
-      let f = counted_many entry_bytes IsEntry (pairs fs) d.0 x y h.0 n (fields_apart fs h.2)
+      let f = counted_many entry_bytes IsMapEntry (pairs fs) d.0 x y h.0 n (fields_apart fs h.2)
       (all_entries d.0 w.2) d.2 in
       (sym (ap M_tree (fields_of-pairs fs)) ∙ ap (λ qs. M_tree (fields_of qs)) f.0 ∙ sym d.1, f.1)
 
@@ -145,7 +145,7 @@ mutual
   values_apart (tree_then t ts) h = (value_apart t h.0, values_apart ts h.1)
 
   fields_apart : (fs : Fields) → FieldsHaveBytes fs
-      → AllByRecursion (IsApart entry_bytes IsEntry) (pairs fs)
+      → AllByRecursion (IsApart entry_bytes IsMapEntry) (pairs fs)
   fields_apart no_fields h = tt
   fields_apart (field_then name t fs) h = (
     entry_apart name t h.0 (value_apart t h.1),
@@ -153,7 +153,7 @@ mutual
   )
 
 -- so each entry is
-pub pair_apart : (p : Pair) → IsEntry p → IsApart entry_bytes IsEntry p
+pub pair_apart : (p : Pair) → IsMapEntry p → IsApart entry_bytes IsMapEntry p
 pair_apart p h = entry_apart p.0 p.1 h.0 (value_apart p.1 h.1)
 
 -- whatever follows them, cell bytes are those of one value

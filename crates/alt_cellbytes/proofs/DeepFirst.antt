@@ -9,13 +9,14 @@ use Rattle.alt_fields.proofs.Apart.{nothing, IsApart, further, same_many, all_ma
 use Rattle.alt_value.specs.CellBytes.{cell_bytes, counted}
 use Rattle.alt_value.specs.Size.{depth}
 use Rattle.alt_value.specs.Tree.{Tree, Pair}
-use Rattle.alt_cellbytes.specs.Places.{NoField, NoCount, IsNextName, NoElementOf, NoEntryOf, Around, in_list, in_map, IsAround, all_around, Stops, IsNested, TooDeep, IsEntry, AreEntries, entry_bytes, IsStopAt, IsStop}
+use Rattle.alt_cellbytes.specs.Places.{NoFittingField, NoCount, IsNextName, NoElementOf, NoEntryOf, Around, in_list, in_map, IsAround, all_around, ValueStops, IsNested, TooDeep, IsMapEntry, AreMapEntries, entry_bytes, IsStopAt, IsStopByBytes}
 use Rattle.alt_cellbytes.specs.Values.{HasBytes}
 use Rattle.alt_cellbytes.specs.declared.fault.Stop.{Stop}
 use Rattle.alt_cellbytes.specs.declared.fault.Stop.TheVariants.{Left, Deep, NoMemory}
 use Rattle.alt_cellbytes.proofs.Apart.{value_apart, pair_apart}
 use Rattle.alt_cellbytes.proofs.Fields.{field-refuted, length-counted}
-use Rattle.alt_cellbytes.proofs.Stopped.{stops-refuted, deep-refuted, deep-inside, deep-left, next_name_of}
+use Rattle.alt_cellbytes.proofs.Stopped.{stops-refuted, deep-refuted, deep-inside, next_name_of}
+use Rattle.alt_cellbytes.proofs.StopsWithin.{deep-left}
 
 -- ---- where something is nested too deep
 
@@ -152,7 +153,7 @@ map_deeper most count bytes rest left some small is s =
 
 -- a stop where no count stands is none of bytes that tell one
 counted-stop : (bytes more : List ℕ) (count left : ℕ) (s : Stop) → bytes ≡ counted count ++ more
-    → IsStop (NoCount bytes) s → IsStopAt (λ n. ⊥) (λ n. left ≤ n) s
+    → IsStopByBytes (NoCount bytes) s → IsStopAt (λ n. ⊥) (λ n. left ≤ n) s
 counted-stop bytes more count left (Left n) e h =
     omega (arith, h.0, ap length e, length-counted count more)
 counted-stop bytes more count left (Deep n) e h = absurd h
@@ -160,7 +161,7 @@ counted-stop bytes more count left NoMemory e h = tt
 
 -- so bytes that tell no count are no such list
 pub list_uncounted : (most : ℕ) (bytes : List ℕ) (left : ℕ) (s : Stop) → 0 < most
-    → TooDeep most (9 ∷ bytes) left → IsStop (NoCount bytes) s
+    → TooDeep most (9 ∷ bytes) left → IsStopByBytes (NoCount bytes) s
     → IsStopAt (λ n. ⊥) (λ n. left ≤ n) s
 list_uncounted most bytes left s some t h =
     let d = list_open most bytes left t.around t.here t.open_there t.is t.stops.0 t.stops.1
@@ -169,7 +170,7 @@ list_uncounted most bytes left s some t h =
 
 -- nor such a map
 pub map_uncounted : (most : ℕ) (bytes : List ℕ) (left : ℕ) (s : Stop) → 0 < most
-    → TooDeep most (10 ∷ bytes) left → IsStop (NoCount bytes) s
+    → TooDeep most (10 ∷ bytes) left → IsStopByBytes (NoCount bytes) s
     → IsStopAt (λ n. ⊥) (λ n. left ≤ n) s
 map_uncounted most bytes left s some t h =
     let d = map_open most bytes left t.around t.here t.open_there t.is t.stops.0 t.stops.1
@@ -186,7 +187,7 @@ IsAhead most bytes left =
 
 -- a value that stops there is nested too deep, at that place or before it
 pub ahead_stop : (most left : ℕ) (bytes : List ℕ) (s : Stop) → IsAhead most bytes left
-    → IsStopAt (Stops bytes) (TooDeep most bytes) s
+    → IsStopAt (ValueStops bytes) (TooDeep most bytes) s
     → ((n : ℕ) → TooDeep most bytes n → IsStopAt (λ m. ⊥) (λ m. n ≤ m) s)
     → IsStopAt (λ m. ⊥) (λ m. left ≤ m) s
 ahead_stop most left bytes s (inl deep) stop told = told left deep
@@ -247,7 +248,7 @@ IsNameAhead most ps bytes left =
 
 -- behind entries that were read it is ahead, and not all of them were
 pub entries_ahead : (most : ℕ) (ps : List Pair) (count : ℕ) (bytes rest : List ℕ) (left : ℕ)
-    → AreEntries ps → AllByRecursion (λ e. depth e.1 ≤ most) ps
+    → AreMapEntries ps → AllByRecursion (λ e. depth e.1 ≤ most) ps
     → bytes ≡ flat_map entry_bytes ps ++ rest → NoEntryOf (TooDeep most) count bytes left
     → (length ps < count) × IsNameAhead most ps rest left
 entries_ahead most ps count bytes rest left are shallow is non =
@@ -255,7 +256,7 @@ entries_ahead most ps count bytes rest left are shallow is non =
     let more = non.stops.1 in
     elim (cases_order (length ps) (length non.done)) [
       | inl same ↦
-          let s = same_many entry_bytes IsEntry ps non.done rest non.more
+          let s = same_many entry_bytes IsMapEntry ps non.done rest non.more
           (apart ps are.0) non.are.0 same (sym is ∙ non.is) in (
             omega (arith, same, non.few),
             (
@@ -269,9 +270,9 @@ entries_ahead most ps count bytes rest left are shallow is non =
           )
       | inr other ↦ elim other [
         | inl fewer ↦
-            let g = further entry_bytes IsEntry ps non.done rest non.more
+            let g = further entry_bytes IsMapEntry ps non.done rest non.more
             (apart ps are.0) non.are.0 fewer (sym is ∙ non.is) in
-            let e = next_name_of ps g.next g.others (subst AreEntries g.is non.are) in (
+            let e = next_name_of ps g.next g.others (subst AreMapEntries g.is non.are) in (
               omega (arith, fewer, non.few),
               (
                 g.next.0,
@@ -295,10 +296,10 @@ entries_ahead most ps count bytes rest left are shallow is non =
               ),
             )
         | inr further_on ↦
-            let g = further entry_bytes IsEntry non.done ps non.more rest
+            let g = further entry_bytes IsMapEntry non.done ps non.more rest
             (apart non.done non.are.0) are.0 further_on (sym non.is ∙ is) in
-            let e : IsEntry g.next = all_among IsEntry non.done g.next g.others
-            (subst (AllByRecursion IsEntry) g.is are.0) in
+            let e : IsMapEntry g.next = all_among IsMapEntry non.done g.next g.others
+            (subst (AllByRecursion IsMapEntry) g.is are.0) in
             let h = field-apart name g.next.0 more _ non.stops.2 e.0.1
             (sym non.stops.4 ∙ g.there ∙ append_assoc (field g.next.0) (cell_bytes g.next.1) _) in
             absurd (deep-refuted most more left non.stops.5 g.next.1 _ e.1
@@ -307,13 +308,13 @@ entries_ahead most ps count bytes rest left are shallow is non =
       ]
     ]
   where
-    apart : (qs : List Pair) → AllByRecursion IsEntry qs
-        → AllByRecursion (IsApart entry_bytes IsEntry) qs
-    apart qs h = all_map IsEntry (IsApart entry_bytes IsEntry) qs pair_apart h
+    apart : (qs : List Pair) → AllByRecursion IsMapEntry qs
+        → AllByRecursion (IsApart entry_bytes IsMapEntry) qs
+    apart qs h = all_map IsMapEntry (IsApart entry_bytes IsMapEntry) qs pair_apart h
 
 -- where no next name stands, none is
 pub name_stop : (most : ℕ) (ps : List Pair) (bytes : List ℕ) (left : ℕ) (s : Stop)
-    → IsNameAhead most ps bytes left → IsStop (NoField (IsNextName ps) bytes) s
+    → IsNameAhead most ps bytes left → IsStopByBytes (NoFittingField (IsNextName ps) bytes) s
     → IsStopAt (λ n. ⊥) (λ n. left ≤ n) s
 name_stop most ps bytes left (Left n) a h =
     field-refuted (IsNextName ps) bytes n h a.0 a.1 a.2 a.3 a.4

@@ -1,19 +1,19 @@
 -- A stop of a piece is a stop of the value that it is a piece of.
 use Rattle.std.proofs.Common.{◌≡◌, ap, ◌∙◌, ℕ, ◌+◌, List, ◌++◌, length}
 use Rattle.alt_value.specs.CellBytes.{counted}
-use Rattle.alt_cellbytes.specs.Places.{IsStop, IsStopAt}
+use Rattle.alt_cellbytes.specs.Places.{IsStopByBytes, IsStopAt}
 use Rattle.alt_cellbytes.specs.declared.fault.Stop.{Stop}
 use Rattle.alt_cellbytes.specs.declared.fault.Stop.TheVariants.{Left, Deep, NoMemory}
 use Rattle.alt_cellbytes.proofs.Fields.{length-counted}
 
 -- where only bytes can stop, what follows of a stop
-pub stop_map : (P Q : ℕ → Type 0) (s : Stop) → ((n : ℕ) → P n → Q n) → IsStop P s → IsStop Q s
+pub stop_map : (P Q : ℕ → Type 0) (s : Stop) → ((n : ℕ) → P n → Q n) → IsStopByBytes P s → IsStopByBytes Q s
 stop_map P Q (Left n) f h = f n h
 stop_map P Q (Deep n) f h = absurd h
 stop_map P Q NoMemory f h = tt
 
 -- and the same where a value may also be nested too deep
-pub stop_into : (P Q D : ℕ → Type 0) (s : Stop) → ((n : ℕ) → P n → Q n) → IsStop P s
+pub stop_into : (P Q D : ℕ → Type 0) (s : Stop) → ((n : ℕ) → P n → Q n) → IsStopByBytes P s
     → IsStopAt Q D s
 stop_into P Q D (Left n) f h = f n h
 stop_into P Q D (Deep n) f h = absurd h

@@ -8,5 +8,6 @@ pub mod OneMore
 pub mod Rising
 pub mod Shapes
 pub mod Stopped
+pub mod StopsWithin
 pub mod WholeValues
 pub mod Wholes

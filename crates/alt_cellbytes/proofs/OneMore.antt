@@ -12,9 +12,9 @@ use Rattle.alt_value.specs.Item.{with_pair}
 use Rattle.alt_value.specs.Size.{depth}
 use Rattle.alt_value.specs.Members.{IsSet, with_member}
 use Rattle.alt_value.specs.Tree.{Tree, NULL_tree, Pair}
-use Rattle.alt_cellbytes.specs.Places.{IsEntry, AreEntries, IsNextName, entry_bytes}
+use Rattle.alt_cellbytes.specs.Places.{IsMapEntry, AreMapEntries, IsNextName, entry_bytes}
 use Rattle.alt_fields.specs.Bytes.{IsShort}
-use Rattle.alt_cellbytes.specs.Values.{AreRising, HasBytes}
+use Rattle.alt_cellbytes.specs.Values.{AreSetMembers, HasBytes}
 use Rattle.alt_fields.proofs.Apart.{all_append, flat_map_snoc}
 use Rattle.alt_cellbytes.proofs.Rising.{with_member-last, with_pair-last, item_other, name_some}
 
@@ -36,13 +36,13 @@ module _ {K : Type 0} (R : K → K → Ordering) (o : IsTotalOrder R) (spell : K
     (P : K → Type 0) where
   -- a set with a member more that stands above the others
   pub one_more : (set new : List K) (k : K) (n : ℕ) (bytes rest behind : List ℕ) → length set ≡ n
-      → AreRising P R set → bytes ≡ flat_map spell set ++ rest
+      → AreSetMembers P R set → bytes ≡ flat_map spell set ++ rest
       → P k → IsSet R (set ++ k ∷ []) → rest ≡ spell k ++ behind → new ≡ with_member R k set
-      → (length new ≡ n + 1) × (AreRising P R new) × (bytes ≡ flat_map spell new ++ behind)
+      → (length new ≡ n + 1) × (AreSetMembers P R new) × (bytes ≡ flat_map spell new ++ behind)
   one_more set new k n bytes rest behind count are is right rising e added =
       let last : new ≡ set ++ k ∷ [] = added ∙ with_member-last R o set k rising in (
         ap length last ∙ length-snoc set k n count,
-        subst (AreRising P R) (sym last) (all_append P set (k ∷ []) are.0 (right, tt), rising),
+        subst (AreSetMembers P R) (sym last) (all_append P set (k ∷ []) are.0 (right, tt), rising),
         bytes-snoc spell P set k bytes rest behind is e
             ∙ ap (λ ks. flat_map spell ks ++ behind) (sym last),
       )
@@ -99,20 +99,20 @@ wrote_entry a b out one two p q = q ∙ ap (λ s. s ++ b) p ∙ append_assoc out
 
 -- one entry more of a map
 pub entry_more : (ps new : List Pair) (name : List ℕ) (t : Tree) (n : ℕ)
-    (bytes rest within behind : List ℕ) → length ps ≡ n → AreEntries ps
+    (bytes rest within behind : List ℕ) → length ps ≡ n → AreMapEntries ps
     → bytes ≡ flat_map entry_bytes ps ++ rest → IsShort name → IsNextName ps name
     → rest ≡ field name ++ within → HasBytes t → within ≡ cell_bytes t ++ behind
-    → new ≡ with_pair name t ps → (length new ≡ n + 1) × (AreEntries new)
+    → new ≡ with_pair name t ps → (length new ≡ n + 1) × (AreMapEntries new)
     × (bytes ≡ flat_map entry_bytes new ++ behind)
 entry_more ps new name t n bytes rest within behind count are is short next at value there added =
     let last : new ≡ ps ++ (name, t) ∷ [] = added ∙ with_pair-last ps name t NULL_tree next.1 in (
       ap length last ∙ length-snoc ps (name, t) n count,
-      subst AreEntries (sym last) (
-        all_append IsEntry ps ((name, t) ∷ []) are.0
+      subst AreMapEntries (sym last) (
+        all_append IsMapEntry ps ((name, t) ∷ []) are.0
             (((next.0, short), value), tt),
         item_other ps name NULL_tree t next.1,
       ),
-      bytes-snoc entry_bytes IsEntry ps (name, t) bytes rest behind is
+      bytes-snoc entry_bytes IsMapEntry ps (name, t) bytes rest behind is
           (at ∙ ap (λ s. field name ++ s) there
           ∙ sym (append_assoc (field name) (cell_bytes t) behind))
           ∙ ap (λ qs. flat_map entry_bytes qs ++ behind) (sym last),

@@ -8,7 +8,7 @@ use Rattle.alt_fields.specs.Field.{field}
 use Rattle.alt_value.specs.CellBytes.{cell_bytes, counted, truth_byte, fields_bytes, numbers_bytes}
 use Rattle.alt_value.specs.Tree.{Tree, S_tree, N_tree, B_tree, BOOL_tree, NULL_tree, SS_tree, NS_tree, BS_tree, L_tree, M_tree, Pair, trees_of, fields_of, elements, pairs}
 use Rattle.alt_value.proofs.Trees.{elements-trees_of, pairs-fields_of, fields_of-pairs, trees_of-elements}
-use Rattle.alt_cellbytes.specs.Places.{entry_bytes, IsEntry}
+use Rattle.alt_cellbytes.specs.Places.{entry_bytes, IsMapEntry}
 use Rattle.alt_cellbytes.specs.Values.{HasBytes, HaveBytes, FieldsHaveBytes}
 
 -- ---- lists and maps, seen as lists
@@ -24,12 +24,12 @@ values_all [] h = tt
 values_all (t ∷ ts) h = (h.0, values_all ts h.1)
 
 -- the pairs of a map that has bytes are entries
-pub all_entries : (ps : List Pair) → FieldsHaveBytes (fields_of ps) → AllByRecursion IsEntry ps
+pub all_entries : (ps : List Pair) → FieldsHaveBytes (fields_of ps) → AllByRecursion IsMapEntry ps
 all_entries [] h = tt
 all_entries (p ∷ ps) h = ((h.0, h.1), all_entries ps h.2)
 
 -- and a map has bytes where they are
-pub entries_all : (ps : List Pair) → AllByRecursion IsEntry ps → FieldsHaveBytes (fields_of ps)
+pub entries_all : (ps : List Pair) → AllByRecursion IsMapEntry ps → FieldsHaveBytes (fields_of ps)
 entries_all [] h = tt
 entries_all (p ∷ ps) h = (h.0.0, h.0.1, entries_all ps h.1)
 

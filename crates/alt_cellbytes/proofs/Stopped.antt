@@ -1,9 +1,9 @@
--- Where bytes stop, no value stands, and a stop within is a stop of the whole.
-use Rattle.std.proofs.Common.{◌≡◌, refl, sym, ap, subst, ◌∙◌, ℕ, zero, suc, ◌<◌, ◌≤◌, ◌^◌, ◌+◌, ◌-◌, List, [], ◌∷◌, ◌++◌, length, inl, inr, arith, append_assoc, length-append}
+-- Where bytes stop, no value stands.
+use Rattle.std.proofs.Common.{◌≡◌, refl, sym, ap, subst, ◌∙◌, ℕ, zero, suc, ◌<◌, ◌≤◌, ◌^◌, ◌+◌, List, [], ◌∷◌, ◌++◌, length, inl, inr, arith, append_assoc, length-append}
 use Rattle.std.specs.Prelude.{ℤ, Bool, true, false}
 use Rattle.std.specs.List.{AllByRecursion, flat_map}
 use Rattle.std.specs.Ordering.{int_cmp}
-use Rattle.alt_decimal.specs.Number.{Fits}
+use Rattle.alt_decimal.specs.Number.{FitsDecimal}
 use Rattle.alt_decimal.specs.Spelled.{spelled}
 use Rattle.alt_fields.specs.Field.{field}
 use Rattle.alt_value.specs.CellBytes.{cell_bytes, counted, truth_byte}
@@ -14,19 +14,17 @@ use Rattle.alt_value.specs.Tree.{Tree, NULL_tree, L_tree, M_tree, Pair, trees_of
 use Rattle.alt_value.proofs.Texts.{text_total}
 use Rattle.std.proofs.lemmas.Cmp.{int_cmp_total}
 use Rattle.alt_base.proofs.Lists.{cons_first, all_among as here}
-use Rattle.alt_cellbytes.specs.Places.{NoField, NoNumber, NoTruth, NoKind, NoMember, IsNextText, IsNextName, NoName, NoElementOf, NoEntry, NoEntryOf, Within, IsNested, TooDeep, IsEntry, AreEntries, entry_bytes, StopsHere, no_kind, no_text, no_number, no_binary, no_truth, no_count, empty_set, no_text_member, no_number_member, no_binary_member, no_name, Around, in_list, in_map, around_bytes, IsAround, all_around, Stops}
+use Rattle.alt_cellbytes.specs.Places.{NoFittingField, NoFittingNumber, NoTruth, NoKind, NoMember, IsNextText, IsNextName, NoNextName, IsNested, TooDeep, IsMapEntry, AreMapEntries, entry_bytes, StopsHere, no_kind, no_text, no_number, no_binary, no_truth, no_count, empty_set, no_text_member, no_number_member, no_binary_member, no_name, Around, in_list, in_map, around_bytes, IsAround, all_around, ValueStops}
 use Rattle.alt_fields.specs.Bytes.{IsShort}
 use Rattle.alt_value.specs.Values.{IsText}
-use Rattle.alt_cellbytes.specs.Values.{AreRising, IsWholeSet, HasBytes}
+use Rattle.alt_cellbytes.specs.Values.{AreSetMembers, IsWholeSet, HasBytes}
 use Rattle.alt_fields.proofs.Apart.{nothing, IsApart, further, all_map, number-apart, field-apart}
-use Rattle.alt_cellbytes.proofs.Fields.{field-refuted, field-left, number-refuted, number-left, length-counted}
+use Rattle.alt_cellbytes.proofs.Fields.{field-refuted, number-refuted, length-counted}
 use Rattle.alt_cellbytes.proofs.Rising.{rising_front, item_front, item_other}
 use Rattle.alt_value.proofs.Trees.{elements-trees_of, pairs-fields_of}
 use Rattle.alt_cellbytes.proofs.Shapes.{KindIs, kind_of, behind_count, not_nothing, all_values, all_entries}
 use Rattle.alt_cellbytes.proofs.Deep.{element_below, entry_below}
 use Rattle.alt_cellbytes.proofs.Apart.{text_apart, binary_apart, number_apart, value_apart, pair_apart}
-
--- ---- no value stands there
 
 -- Where the members of a whole set, list or map stand, no fewer stop.
 member-refuted : {K : Type 0} (spell : K → List ℕ) (P : K → Type 0) (Are : List K → Type 0)
@@ -49,8 +47,8 @@ snoc_is ks l ms = sym (append_assoc ks (l ∷ []) ms)
 
 -- the next member of a set can be the next
 next_text : (ks : List (List ℕ)) (l : List ℕ) (ms : List (List ℕ)) (more x : List ℕ) (left : ℕ)
-    → AreRising IsText text_order (ks ++ l ∷ ms)
-    → more ≡ field l ++ x → NoField (IsNextText ks) more left → ⊥
+    → AreSetMembers IsText text_order (ks ++ l ∷ ms)
+    → more ≡ field l ++ x → NoFittingField (IsNextText ks) more left → ⊥
 next_text ks l ms more x left are is non =
     let t : IsText l = here IsText ks l ms are.0 in
     let rising : IsSet text_order (ks ++ l ∷ []) =
@@ -59,8 +57,8 @@ next_text ks l ms more x left are is non =
     field-refuted (IsNextText ks) more left non l x t.1 (t.0, rising) is
 
 next_binary : (ks : List (List ℕ)) (l : List ℕ) (ms : List (List ℕ)) (more x : List ℕ) (left : ℕ)
-    → AreRising IsShort text_order (ks ++ l ∷ ms)
-    → more ≡ field l ++ x → NoField (λ b. IsSet text_order (ks ++ b ∷ [])) more left → ⊥
+    → AreSetMembers IsShort text_order (ks ++ l ∷ ms)
+    → more ≡ field l ++ x → NoFittingField (λ b. IsSet text_order (ks ++ b ∷ [])) more left → ⊥
 next_binary ks l ms more x left are is non =
     field-refuted (λ b. IsSet text_order (ks ++ b ∷ [])) more left non l x
     (here IsShort ks l ms are.0)
@@ -68,18 +66,18 @@ next_binary ks l ms more x left are is non =
     (subst (IsSet text_order) (snoc_is ks l ms) are.1)) is
 
 next_number : (ks : List ℤ) (l : ℤ) (ms : List ℤ) (more x : List ℕ) (left : ℕ)
-    → AreRising Fits int_cmp (ks ++ l ∷ ms)
-    → more ≡ spelled l ++ x → NoNumber (λ z. IsSet int_cmp (ks ++ z ∷ [])) more left → ⊥
+    → AreSetMembers FitsDecimal int_cmp (ks ++ l ∷ ms)
+    → more ≡ spelled l ++ x → NoFittingNumber (λ z. IsSet int_cmp (ks ++ z ∷ [])) more left → ⊥
 next_number ks l ms more x left are is non =
-    number-refuted _ more left non l x (here Fits ks l ms are.0)
+    number-refuted _ more left non l x (here FitsDecimal ks l ms are.0)
     (rising_front int_cmp int_cmp_total (ks ++ l ∷ []) ms
     (subst (IsSet int_cmp) (snoc_is ks l ms) are.1)) is
 
 -- and so can the next name of a map
-pub next_name_of : (ks : List Pair) (l : Pair) (ms : List Pair) → AreEntries (ks ++ l ∷ ms)
-    → IsEntry l × IsNextName ks l.0
+pub next_name_of : (ks : List Pair) (l : Pair) (ms : List Pair) → AreMapEntries (ks ++ l ∷ ms)
+    → IsMapEntry l × IsNextName ks l.0
 next_name_of ks l ms are =
-    let e : IsEntry l = here IsEntry ks l ms are.0 in (
+    let e : IsMapEntry l = here IsMapEntry ks l ms are.0 in (
       e,
       (
         e.0.0,
@@ -89,8 +87,8 @@ next_name_of ks l ms are =
     )
 
 next_name : (ks : List Pair) (l : Pair) (ms : List Pair) (more x : List ℕ) (left : ℕ)
-    → AreEntries (ks ++ l ∷ ms)
-    → more ≡ entry_bytes l ++ x → NoField (IsNextName ks) more left → ⊥
+    → AreMapEntries (ks ++ l ∷ ms)
+    → more ≡ entry_bytes l ++ x → NoFittingField (IsNextName ks) more left → ⊥
 next_name ks l ms more x left are is non =
     let e = next_name_of ks l ms are in
     field-refuted (IsNextName ks) more left non l.0 (cell_bytes l.1 ++ x) e.0.0.1 e.1
@@ -176,7 +174,7 @@ told_count spell ks count more x m n e = number-apart count (length ks) more
 
 -- the pairs of a map that is a value
 map_value : (ps : List Pair) → HasBytes (M_tree (fields_of ps))
-    → (length ps < 2 ^ 64) × AreEntries ps
+    → (length ps < 2 ^ 64) × AreMapEntries ps
 map_value ps v = (
   subst (λ qs. length qs < 2 ^ 64) (pairs-fields_of ps) v.0,
   (all_entries ps v.2, subst IsItem (pairs-fields_of ps) v.1),
@@ -215,19 +213,19 @@ here-refuted bytes left (no_text_member count more small is non) t x v e =
     let k = kind_of t 6 (counted count ++ more) x (sym is ∙ e) in
     let w : IsWholeSet IsText text_order k.0 = subst HasBytes k.1 v in
     let c = told_count field k.0 count more x small w.1 k.2 in
-    member-refuted field IsText (AreRising IsText text_order) _ text_apart
+    member-refuted field IsText (AreSetMembers IsText text_order) _ text_apart
     (λ ks h. h.0) next_text k.0 count more x left c.0 w.2 c.1 non
 here-refuted bytes left (no_number_member count more small is non) t x v e =
     let k = kind_of t 7 (counted count ++ more) x (sym is ∙ e) in
-    let w : IsWholeSet Fits int_cmp k.0 = subst HasBytes k.1 v in
+    let w : IsWholeSet FitsDecimal int_cmp k.0 = subst HasBytes k.1 v in
     let c = told_count spelled k.0 count more x small w.1 k.2 in
-    member-refuted spelled Fits (AreRising Fits int_cmp) _ number_apart
+    member-refuted spelled FitsDecimal (AreSetMembers FitsDecimal int_cmp) _ number_apart
     (λ ks h. h.0) next_number k.0 count more x left c.0 w.2 c.1 non
 here-refuted bytes left (no_binary_member count more small is non) t x v e =
     let k = kind_of t 8 (counted count ++ more) x (sym is ∙ e) in
     let w : IsWholeSet IsShort text_order k.0 = subst HasBytes k.1 v in
     let c = told_count field k.0 count more x small w.1 k.2 in
-    member-refuted field IsShort (AreRising IsShort text_order) _ binary_apart
+    member-refuted field IsShort (AreSetMembers IsShort text_order) _ binary_apart
     (λ ks h. h.0) next_binary k.0 count more x left c.0 w.2 c.1 non
 here-refuted bytes left (no_name count more small is non) t x v e =
     let k = kind_of t 10 (counted count ++ more) x (sym is ∙ e) in
@@ -236,9 +234,9 @@ here-refuted bytes left (no_name count more small is non) t x v e =
     name-refuted k.0 count more x left c.0 w.1 c.1 non
   where
     name-refuted : (ls : List Pair) (count : ℕ) (bytes x : List ℕ) (left : ℕ) → count ≡ length ls
-        → AreEntries ls → bytes ≡ flat_map entry_bytes ls ++ x → NoName count bytes left → ⊥
+        → AreMapEntries ls → bytes ≡ flat_map entry_bytes ls ++ x → NoNextName count bytes left → ⊥
     name-refuted ls count bytes x left n are is non =
-        member-refuted entry_bytes IsEntry AreEntries _ pair_apart
+        member-refuted entry_bytes IsMapEntry AreMapEntries _ pair_apart
         (λ ks h. h.0) next_name ls count bytes x left n are is non
 
 -- three pieces in front of a rest
@@ -286,11 +284,11 @@ around-next (in_map count ps name ∷ around) within bytes room least follows op
     let w = map_value k.0 (subst HasBytes k.1 v) in
     let c = told_count entry_bytes k.0 count (flat_map entry_bytes ps ++ (field name ++ rest)) x
     opened.0.0 w.0 k.2 in
-    let g = further entry_bytes IsEntry ps k.0 (field name ++ rest) x
-    (all_map IsEntry (IsApart entry_bytes IsEntry) ps pair_apart opened.0.2.0) w.1.0
+    let g = further entry_bytes IsMapEntry ps k.0 (field name ++ rest) x
+    (all_map IsMapEntry (IsApart entry_bytes IsMapEntry) ps pair_apart opened.0.2.0) w.1.0
     (omega (arith, opened.0.1, c.0)) c.1 in
-    let p : IsEntry g.next = here IsEntry ps g.next g.others
-    (subst (AllByRecursion IsEntry) g.is w.1.0) in
+    let p : IsMapEntry g.next = here IsMapEntry ps g.next g.others
+    (subst (AllByRecursion IsMapEntry) g.is w.1.0) in
     let h = field-apart name g.next.0 rest _ opened.0.3 p.0.1
     (g.there ∙ append_assoc (field g.next.0) (cell_bytes g.next.1) _) in
     around-next around within rest room least follows opened.1 refl g.next.1
@@ -299,7 +297,7 @@ around-next (in_map count ps name ∷ around) within bytes room least follows op
     (omega (arith, b, length-append (flat_map entry_bytes g.others) x)) h.1
 
 -- bytes that stop begin with no value's cell bytes
-pub stops-refuted : (bytes : List ℕ) (left : ℕ) → Stops bytes left
+pub stops-refuted : (bytes : List ℕ) (left : ℕ) → ValueStops bytes left
     → (t : Tree) (x : List ℕ) → HasBytes t → bytes ≡ cell_bytes t ++ x → ⊥
 stops-refuted bytes left s t x v e =
     around-next s.around s.here bytes (depth t) 0
@@ -334,222 +332,3 @@ deep-inside most bytes left s t x v e =
     around-next s.around s.here bytes (depth t) (length x)
     (λ u y w d b f. omega (arith, b, s.stops.2, ap length f, length-append (cell_bytes u) y))
     s.open_there s.is t x v (omega arith) (omega arith) e
-
--- ---- a stop is within the bytes
-
-member-left : {K : Type 0} (spell : K → List ℕ) (Are : List K → Type 0)
-    (NoNext : List K → List ℕ → ℕ → Type 0)
-    → ((ks : List K) (more : List ℕ) (left : ℕ) → NoNext ks more left → left ≤ length more)
-    → (count : ℕ) (bytes : List ℕ) (left : ℕ) → NoMember spell Are NoNext count bytes left
-    → left ≤ length bytes
-member-left spell Are NoNext bound count bytes left non =
-    omega (
-      arith,
-      bound non.done non.more left non.stops,
-      ap length non.is,
-      length-append (flat_map spell non.done) non.more,
-    )
-
-counted-left : (kind count : ℕ) (bytes more : List ℕ) (left : ℕ)
-    → bytes ≡ kind ∷ (counted count ++ more) → left ≤ length more → left ≤ length bytes
-counted-left kind count bytes more left is h =
-    omega (arith, ap length is, length-counted count more, h)
-
--- no more bytes are left than there are
-here-left : (bytes : List ℕ) (left : ℕ) → StopsHere bytes left → left ≤ length bytes
-here-left bytes left (no_kind non l) = omega (arith, l)
-here-left bytes left (no_text more is non) = omega (arith, ap length is, field-left _ more left non)
-here-left bytes left (no_number more is non) =
-    omega (arith, ap length is, number-left _ more left non)
-here-left bytes left (no_binary more is non) =
-    omega (arith, ap length is, field-left _ more left non)
-here-left bytes left (no_truth more is non l) = omega (arith, ap length is, l)
-here-left bytes left (no_count kind more lo hi is non) = omega (arith, non.1)
-here-left bytes left (empty_set kind more lo hi is l) =
-    omega (arith, ap length is, length-counted 0 more, l)
-here-left bytes left (no_text_member count more small is non) =
-    counted-left 6 count bytes more left is (member-left field _ _
-    (λ ks m l h. field-left (IsNextText ks) m l h) count more left non)
-here-left bytes left (no_number_member count more small is non) =
-    counted-left 7 count bytes more left is (member-left spelled _ _
-    (λ ks m l h. number-left _ m l h) count more left non)
-here-left bytes left (no_binary_member count more small is non) =
-    counted-left 8 count bytes more left is (member-left field _ _
-    (λ ks m l h. field-left _ m l h) count more left non)
-here-left bytes left (no_name count more small is non) =
-    counted-left 10 count bytes more left is (member-left entry_bytes _ _
-    (λ ks m l h. field-left (IsNextName ks) m l h) count more left non)
-
--- what is left is within the bytes
-within-left : (H : List Around → List ℕ → ℕ → Type 0) (bytes : List ℕ) (left : ℕ)
-    → ((around : List Around) (here : List ℕ) → H around here left → left ≤ length here)
-    → Within H bytes left
-    → left ≤ length bytes
-within-left H bytes left bound s =
-    omega (
-      arith,
-      bound s.around s.here s.stops,
-      ap length s.is,
-      length-append (all_around s.around) s.here,
-    )
-
--- so it is where bytes stop
-pub stops-left : (bytes : List ℕ) (left : ℕ) → Stops bytes left → left ≤ length bytes
-stops-left bytes left s = within-left (λ around. StopsHere) bytes left
-    (λ around here h. here-left here left h) s
-
--- and where something is nested too deep
-pub deep-left : (most : ℕ) (bytes : List ℕ) (left : ℕ) → TooDeep most bytes left
-    → left ≤ length bytes
-deep-left most bytes left s =
-    within-left (λ around here left. (length around ≡ most) × IsNested here × (left ≡ length here))
-    bytes left
-    (λ around here h. omega (arith, h.2)) s
-
--- ---- stops of a value, of its elements and entries
-
--- at a piece of its own
-pub stops_here : (bytes : List ℕ) (left : ℕ) → StopsHere bytes left → Stops bytes left
-stops_here bytes left h = record {
-  around = [];
-  here = bytes;
-  open_there = tt;
-  is = refl;
-  stops =
-      h;
-}
-
--- where nothing more may be nested
-pub deep_here : (bytes : List ℕ) (most : ℕ) → most ≡ 0 → IsNested bytes
-    → TooDeep most bytes (length bytes)
-deep_here bytes most z n = record {
-  around = [];
-  here = bytes;
-  open_there = tt;
-  is = refl;
-  stops = (sym z, n, refl);
-}
-
--- within a value that is next there
-within_next : (H J : List Around → List ℕ → ℕ → Type 0) (a : Around) (bytes more : List ℕ)
-    (left : ℕ)
-    → ((around : List Around) (here : List ℕ) → H around here left → J (a ∷ around) here left)
-    → IsAround a → bytes ≡ around_bytes a ++ more → Within H more left → Within J bytes left
-within_next H J a bytes more left f opened is s = record {
-  around = a ∷ s.around;
-  here = s.here;
-  open_there = (opened, s.open_there);
-  is = is ∙ ap (λ m. around_bytes a ++ m) s.is
-      ∙ sym (append_assoc (around_bytes a) (all_around s.around) s.here);
-  stops = f s.around s.here s.stops;
-}
-
--- of an element of a list, and of a value of a map
-list_within : (H J : List Around → List ℕ → ℕ → Type 0) (count : ℕ) (bytes more : List ℕ) (left : ℕ)
-    → ((a : Around) (around : List Around) (here : List ℕ) → H around here left
-    → J (a ∷ around) here left)
-    → count < 2 ^ 64 → bytes ≡ 9 ∷ (counted count ++ more) → NoElementOf (Within H) count more left
-    → Within J bytes left
-list_within H J count bytes more left f small is non =
-    within_next H J (in_list count non.done) bytes non.more left (f (in_list count non.done))
-    (small, non.few, non.are)
-    (is ∙ ap (λ m. 9 ∷ (counted count ++ m)) non.is
-    ∙ ap (λ m. 9 ∷ m) (sym (append_assoc (counted count) (flat_map cell_bytes non.done) non.more)))
-    non.stops
-
-map_within : (H J : List Around → List ℕ → ℕ → Type 0) (count : ℕ) (bytes more : List ℕ) (left : ℕ)
-    → ((a : Around) (around : List Around) (here : List ℕ) → H around here left
-    → J (a ∷ around) here left)
-    → count < 2 ^ 64 → bytes ≡ 10 ∷ (counted count ++ more) → NoEntryOf (Within H) count more left
-    → Within J bytes left
-map_within H J count bytes more left f small is non =
-    let name = non.stops.0 in
-    let rest = non.stops.1 in
-    within_next H J (in_map count non.done name) bytes rest left (f (in_map count non.done name))
-    (small, non.few, non.are, non.stops.2, non.stops.3)
-    (is ∙ ap (λ m. 10 ∷ (counted count ++ m))
-    (non.is ∙ ap (λ m. flat_map entry_bytes non.done ++ m) non.stops.4
-    ∙ sym (append_assoc (flat_map entry_bytes non.done) (field name) rest))
-    ∙ ap (λ m. 10 ∷ m) (sym (append_assoc (counted count)
-    (flat_map entry_bytes non.done ++ field name) rest))) non.stops.5
-
--- a list or a map stops where an element or a value does
-pub list_stops : (count : ℕ) (bytes more : List ℕ) (left : ℕ) → count < 2 ^ 64
-    → bytes ≡ 9 ∷ (counted count ++ more)
-    → NoElementOf Stops count more left → Stops bytes left
-list_stops count bytes more left small is non =
-    list_within (λ around. StopsHere) (λ around. StopsHere) count bytes more left
-    (λ a around here h. h) small is non
-
--- and a map where a name or a value does
-pub map_stops : (count : ℕ) (bytes more : List ℕ) (left : ℕ) → count < 2 ^ 64
-    → bytes ≡ 10 ∷ (counted count ++ more)
-    → NoEntry count more left → Stops bytes left
-map_stops count bytes more left small is non = elim non [
-  | inl name ↦ stops_here bytes left (no_name count more small is name)
-  | inr value ↦
-      map_within (λ around. StopsHere) (λ around. StopsHere) count bytes more left
-      (λ a around here h. h) small is value
-]
-
--- one list or map more around what is nested too deep
-one_around : (most : ℕ) → 0 < most → (a : Around) (around : List Around) (here : List ℕ) (left : ℕ)
-    → (length around ≡ most - 1) × IsNested here × (left ≡ length here)
-    → (length (a ∷ around) ≡ most) × IsNested here × (left ≡ length here)
-one_around most some a around here left h = (omega (arith, h.0, some), h.1, h.2)
-
--- and is nested too deep where one is
-pub list_deep : (most count : ℕ) (bytes more : List ℕ) (left : ℕ) → 0 < most → count < 2 ^ 64
-    → bytes ≡ 9 ∷ (counted count ++ more) → NoElementOf (TooDeep (most - 1)) count more left
-    → TooDeep most bytes left
-list_deep most count bytes more left some small is non =
-    list_within (λ around here left. (length around ≡ most - 1) × IsNested here
-    × (left ≡ length here))
-    (λ around here left. (length around ≡ most) × IsNested here × (left ≡ length here)) count bytes
-    more left
-    (λ a around here h. one_around most some a around here left h) small is non
-
--- and a map where a value is
-pub map_deep : (most count : ℕ) (bytes more : List ℕ) (left : ℕ) → 0 < most → count < 2 ^ 64
-    → bytes ≡ 10 ∷ (counted count ++ more) → NoEntryOf (TooDeep (most - 1)) count more left
-    → TooDeep most bytes left
-map_deep most count bytes more left some small is non =
-    map_within (λ around here left. (length around ≡ most - 1) × IsNested here
-    × (left ≡ length here))
-    (λ around here left. (length around ≡ most) × IsNested here × (left ≡ length here)) count bytes
-    more left
-    (λ a around here h. one_around most some a around here left h) small is non
-
--- what is open takes a byte at least
-around-long : (around : List Around) → length around ≤ length (all_around around)
-around-long [] = omega arith
-around-long (in_list count ts ∷ around) =
-    omega (
-      arith,
-      around-long around,
-      length-append (around_bytes (in_list count ts))
-          (all_around around),
-    )
-around-long (in_map count ps name ∷ around) =
-    omega (
-      arith,
-      around-long around,
-      length-append (around_bytes (in_map count ps name))
-          (all_around around),
-    )
-
--- so nothing is nested deeper than there are bytes
-pub never_deep : (bytes : List ℕ) (left : ℕ) → TooDeep (length bytes) bytes left → ⊥
-never_deep bytes left s =
-    omega (
-      arith,
-      s.stops.0,
-      around-long s.around,
-      ap length s.is,
-      length-append (all_around s.around) s.here,
-      nested-long s.here s.stops.1,
-    )
-  where
-    nested-long : (here : List ℕ) → IsNested here → 0 < length here
-    nested-long [] n = absurd n
-    nested-long (b ∷ here) n = omega arith

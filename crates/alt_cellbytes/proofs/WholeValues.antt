@@ -8,17 +8,17 @@ use Rattle.alt_fields.proofs.Apart.{all_map}
 use Rattle.alt_value.specs.CellBytes.{cell_bytes, counted}
 use Rattle.alt_value.specs.Size.{depth, elements_depth, fields_depth}
 use Rattle.alt_value.specs.Tree.{Tree, S_tree, N_tree, B_tree, BOOL_tree, NULL_tree, SS_tree, NS_tree, BS_tree, L_tree, M_tree, Trees, no_trees, tree_then, Fields, no_fields, field_then, elements, pairs}
-use Rattle.alt_value.specs.Values.{IsValue, AreValues, AreFields, is_full, sets_full, elements_full, fields_full, IsWhole}
+use Rattle.alt_value.specs.Values.{IsValue, AreValues, AreFields, is_nonempty_set, sets_full, elements_full, fields_full, IsWhole}
 use Rattle.alt_cellbytes.specs.Places.{entry_bytes}
 use Rattle.alt_cellbytes.specs.Values.{HasBytes, HaveBytes, FieldsHaveBytes}
 use Rattle.alt_cellbytes.proofs.Apart.{list_front, map_front}
 
 -- a set with a member, by its test and by its count
-some_member : {K : Type 0} (ks : List K) → T (is_full ks) → 0 < length ks
+some_member : {K : Type 0} (ks : List K) → T (is_nonempty_set ks) → 0 < length ks
 some_member [] h = absurd h
 some_member (k ∷ ks) h = omega arith
 
-is_some : {K : Type 0} (ks : List K) → 0 < length ks → T (is_full ks)
+is_some : {K : Type 0} (ks : List K) → 0 < length ks → T (is_nonempty_set ks)
 is_some [] h = absurd (omega arith)
 is_some (k ∷ ks) h = tt
 

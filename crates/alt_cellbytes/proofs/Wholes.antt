@@ -6,12 +6,13 @@ use Rattle.std.proofs.lemmas.List.{append-nil}
 use Rattle.alt_value.specs.CellBytes.{cell_bytes, counted}
 use Rattle.alt_value.specs.Item.{IsItem}
 use Rattle.alt_value.specs.Tree.{Tree, L_tree, M_tree, Pair, trees_of, fields_of}
-use Rattle.alt_cellbytes.specs.Places.{AreEntries, entry_bytes, Stops, TooDeep, IsBadAt, IsDeepAt, IsFirstDeepAt}
+use Rattle.alt_cellbytes.specs.Places.{AreMapEntries, entry_bytes, ValueStops, TooDeep, IsBadValueAt, IsDeepAt, IsFirstDeepAt}
 use Rattle.alt_cellbytes.specs.Values.{HasBytes}
 use Rattle.alt_cellbytes.proofs.Apart.{cell_bytes-apart}
 use Rattle.alt_value.proofs.Trees.{elements-trees_of, pairs-fields_of}
 use Rattle.alt_cellbytes.proofs.Shapes.{list_bytes, map_bytes, values_all, entries_all}
-use Rattle.alt_cellbytes.proofs.Stopped.{stops-refuted, stops-left, deep-left}
+use Rattle.alt_cellbytes.proofs.Stopped.{stops-refuted}
+use Rattle.alt_cellbytes.proofs.StopsWithin.{stops-left, deep-left}
 
 -- ---- written
 
@@ -52,7 +53,7 @@ list_whole ts count bytes rest behind small is n are there = (
 -- and a map that was
 pub map_whole : (ps : List Pair) (count : ℕ) (bytes rest behind : List ℕ) → count < 2 ^ 64
     → bytes ≡ counted count ++ rest → length ps ≡ count
-    → AreEntries ps → rest ≡ flat_map entry_bytes ps ++ behind
+    → AreMapEntries ps → rest ≡ flat_map entry_bytes ps ++ behind
     → HasBytes (M_tree (fields_of ps)) × (10 ∷ bytes ≡ cell_bytes (M_tree (fields_of ps)) ++ behind)
 map_whole ps count bytes rest behind small is n are there = (
   (
@@ -73,8 +74,8 @@ abbrev pub NoneHas : List ℕ → Type 0
 NoneHas bytes = (t : Tree) → HasBytes t → bytes ≡ cell_bytes t → ⊥
 
 -- the place of a stop
-pub stop_place : (bytes : List ℕ) (left at : ℕ) → Stops bytes left → at ≡ length bytes - left
-    → IsBadAt bytes at × NoneHas bytes
+pub stop_place : (bytes : List ℕ) (left at : ℕ) → ValueStops bytes left → at ≡ length bytes - left
+    → IsBadValueAt bytes at × NoneHas bytes
 stop_place bytes left at s e = (
   inl (left, s, omega (arith, e, stops-left bytes left s)),
   (λ t v is. stops-refuted bytes left s t [] v (is ∙ sym (append-nil (cell_bytes t)))),
@@ -83,7 +84,7 @@ stop_place bytes left at s e = (
 -- and of what stands behind a whole value
 pub behind_place : (bytes rest : List ℕ) (t : Tree) (at : ℕ) → HasBytes t
     → bytes ≡ cell_bytes t ++ rest → 0 < length rest → at ≡ length bytes - length rest
-    → IsBadAt bytes at × NoneHas bytes
+    → IsBadValueAt bytes at × NoneHas bytes
 behind_place bytes rest t at v is some e = (
   inr (t, v, rest, some, is, omega (arith, e, ap length is, length-append (cell_bytes t) rest)),
   (λ u w here. omega (

@@ -7,7 +7,7 @@ use Rattle.std.specs.Prelude.{◌≡◌, ℕ, ◌+◌, ◌<◌, ◌≤◌, ◌^�
 use Rattle.std.specs.List.{AllByRecursion, flat_map, list_any}
 use Rattle.std.specs.Ordering.{int_cmp}
 use Rattle.std.specs.Str.{IsUtf8}
-use Rattle.alt_decimal.specs.Number.{Fits}
+use Rattle.alt_decimal.specs.Number.{FitsDecimal}
 use Rattle.alt_decimal.specs.Spelled.{spelled}
 use Rattle.alt_fields.specs.Field.{field, told_length}
 use Rattle.alt_fields.specs.declared.bytes.BytesFault.{BytesFault}
@@ -21,7 +21,7 @@ use Rattle.alt_value.specs.Members.{IsSet, text_order}
 use Rattle.alt_value.specs.Tree.{Tree, NULL_tree, Pair}
 use Rattle.alt_fields.specs.Bytes.{IsShort}
 use Rattle.alt_value.specs.Values.{IsText, IsWhole}
-use Rattle.alt_cellbytes.specs.Values.{AreRising, HasBytes}
+use Rattle.alt_cellbytes.specs.Values.{AreSetMembers, HasBytes}
 use Rattle.alt_cellbytes.specs.declared.fault.Stop.{Stop}
 use Rattle.alt_cellbytes.specs.declared.fault.Stop.TheVariants.{Left, Deep, NoMemory}
 
@@ -32,8 +32,8 @@ abbrev pub IsCut : List ℕ → Type 0
 IsCut bytes = length bytes < 8 + told_length bytes 0
 
 -- no field with such a content: it is cut off, or its content is another one
-abbrev pub NoField : (List ℕ → Type 0) → List ℕ → ℕ → Type 0
-NoField P bytes left =
+abbrev pub NoFittingField : (List ℕ → Type 0) → List ℕ → ℕ → Type 0
+NoFittingField P bytes left =
     (IsCut bytes × (left ≡ 0))
     ⊎ ((s behind : List ℕ) × IsShort s × (bytes ≡ field s ++ behind) × (P s → ⊥) × (left ≡ length bytes))
 
@@ -50,13 +50,13 @@ is_cut_number (b ∷ bytes) = if b == 1 then is_unclosed 255 bytes else if b == 
 
 -- no number stands at the front
 abbrev pub NoneSpelled : List ℕ → Type 0
-NoneSpelled bytes = (z : ℤ) (behind : List ℕ) → Fits z → bytes ≡ spelled z ++ behind → ⊥
+NoneSpelled bytes = (z : ℤ) (behind : List ℕ) → FitsDecimal z → bytes ≡ spelled z ++ behind → ⊥
 
 -- no spelled number that is one of these: it is cut off or none, or it is another one
-abbrev pub NoNumber : (ℤ → Type 0) → List ℕ → ℕ → Type 0
-NoNumber P bytes left =
+abbrev pub NoFittingNumber : (ℤ → Type 0) → List ℕ → ℕ → Type 0
+NoFittingNumber P bytes left =
     (NoneSpelled bytes × (left ≡ (if is_cut_number bytes then 0 else length bytes)))
-    ⊎ ((z : ℤ) × (behind : List ℕ) × Fits z × (bytes ≡ spelled z ++ behind) × (P z → ⊥) × (left ≡ length bytes))
+    ⊎ ((z : ℤ) × (behind : List ℕ) × FitsDecimal z × (bytes ≡ spelled z ++ behind) × (P z → ⊥) × (left ≡ length bytes))
 
 -- no count
 abbrev pub NoCount : List ℕ → ℕ → Type 0
@@ -88,53 +88,53 @@ abbrev pub IsNextText : List (List ℕ) → List ℕ → Type 0
 IsNextText ss s = IsUtf8 s × IsSet text_order (ss ++ s ∷ [])
 
 -- fewer texts than were told, and behind them none that could be the next
-abbrev pub NoText : ℕ → List ℕ → ℕ → Type 0
-NoText = NoMember field (AreRising IsText text_order) (λ ss. NoField (IsNextText ss))
+abbrev pub NoTextMember : ℕ → List ℕ → ℕ → Type 0
+NoTextMember = NoMember field (AreSetMembers IsText text_order) (λ ss. NoFittingField (IsNextText ss))
 
 -- the same of numbers
 abbrev pub NoNumberMember : ℕ → List ℕ → ℕ → Type 0
-NoNumberMember = NoMember spelled (AreRising Fits int_cmp) (λ zs. NoNumber (λ z. IsSet int_cmp (zs ++ z ∷ [])))
+NoNumberMember = NoMember spelled (AreSetMembers FitsDecimal int_cmp) (λ zs. NoFittingNumber (λ z. IsSet int_cmp (zs ++ z ∷ [])))
 
 -- and of byte strings
 abbrev pub NoBinary : ℕ → List ℕ → ℕ → Type 0
-NoBinary = NoMember field (AreRising IsShort text_order) (λ bs. NoField (λ b. IsSet text_order (bs ++ b ∷ [])))
+NoBinary = NoMember field (AreSetMembers IsShort text_order) (λ bs. NoFittingField (λ b. IsSet text_order (bs ++ b ∷ [])))
 
 -- the names that a map can go on with
 abbrev pub IsNextName : List Pair → List ℕ → Type 0
 IsNextName ps name = IsUtf8 name × IsItem (ps ++ (name, NULL_tree) ∷ [])
 
 -- the pairs of a map: names in UTF-8 that rise, none of them empty, each with a value
-abbrev pub IsEntry : Pair → Type 0
-IsEntry p = IsText p.0 × HasBytes p.1
+abbrev pub IsMapEntry : Pair → Type 0
+IsMapEntry p = IsText p.0 × HasBytes p.1
 
 -- each is one, and the names are those of an item
-abbrev pub AreEntries : List Pair → Type 0
-AreEntries ps = AllByRecursion IsEntry ps × IsItem ps
+abbrev pub AreMapEntries : List Pair → Type 0
+AreMapEntries ps = AllByRecursion IsMapEntry ps × IsItem ps
 
 -- a name as a field, and then the cell bytes of its value
 abbrev pub entry_bytes : Pair → List ℕ
 entry_bytes p = field p.0 ++ cell_bytes p.1
 
 -- fewer entries than were told, and behind them no name that could be the next
-abbrev pub NoName : ℕ → List ℕ → ℕ → Type 0
-NoName = NoMember entry_bytes AreEntries (λ ps. NoField (IsNextName ps))
+abbrev pub NoNextName : ℕ → List ℕ → ℕ → Type 0
+NoNextName = NoMember entry_bytes AreMapEntries (λ ps. NoFittingField (IsNextName ps))
 
 -- ---- a value
 
 -- The bytes stop at a piece of their own value: not within an element of a list or a value of a map.
 pub data StopsHere (bytes : List ℕ) (left : ℕ) : Type 0 where
   no_kind : NoKind bytes → left ≡ length bytes → StopsHere bytes left
-  no_text : (more : List ℕ) → bytes ≡ 1 ∷ more → NoField IsUtf8 more left → StopsHere bytes left
-  no_number : (more : List ℕ) → bytes ≡ 2 ∷ more → NoNumber (λ z. Unit {0}) more left → StopsHere bytes left
-  no_binary : (more : List ℕ) → bytes ≡ 3 ∷ more → NoField (λ b. Unit {0}) more left → StopsHere bytes left
+  no_text : (more : List ℕ) → bytes ≡ 1 ∷ more → NoFittingField IsUtf8 more left → StopsHere bytes left
+  no_number : (more : List ℕ) → bytes ≡ 2 ∷ more → NoFittingNumber (λ z. Unit {0}) more left → StopsHere bytes left
+  no_binary : (more : List ℕ) → bytes ≡ 3 ∷ more → NoFittingField (λ b. Unit {0}) more left → StopsHere bytes left
   no_truth : (more : List ℕ) → bytes ≡ 4 ∷ more → NoTruth more → left ≡ length more → StopsHere bytes left
   -- of a set, a list or a map
   no_count : (kind : ℕ) (more : List ℕ) → 6 ≤ kind → kind ≤ 10 → bytes ≡ kind ∷ more → NoCount more left → StopsHere bytes left
   empty_set : (kind : ℕ) (more : List ℕ) → 6 ≤ kind → kind ≤ 8 → bytes ≡ kind ∷ (counted 0 ++ more) → left ≡ 8 + length more → StopsHere bytes left
-  no_text_member : (count : ℕ) (more : List ℕ) → count < 2 ^ 64 → bytes ≡ 6 ∷ (counted count ++ more) → NoText count more left → StopsHere bytes left
+  no_text_member : (count : ℕ) (more : List ℕ) → count < 2 ^ 64 → bytes ≡ 6 ∷ (counted count ++ more) → NoTextMember count more left → StopsHere bytes left
   no_number_member : (count : ℕ) (more : List ℕ) → count < 2 ^ 64 → bytes ≡ 7 ∷ (counted count ++ more) → NoNumberMember count more left → StopsHere bytes left
   no_binary_member : (count : ℕ) (more : List ℕ) → count < 2 ^ 64 → bytes ≡ 8 ∷ (counted count ++ more) → NoBinary count more left → StopsHere bytes left
-  no_name : (count : ℕ) (more : List ℕ) → count < 2 ^ 64 → bytes ≡ 10 ∷ (counted count ++ more) → NoName count more left → StopsHere bytes left
+  no_name : (count : ℕ) (more : List ℕ) → count < 2 ^ 64 → bytes ≡ 10 ∷ (counted count ++ more) → NoNextName count more left → StopsHere bytes left
 
 -- What is open around a place: a list with fewer elements than it told, or a map with fewer entries, and then the name of the
 -- value that is next.
@@ -150,7 +150,7 @@ around_bytes (in_map count ps name) = 10 ∷ (counted count ++ (flat_map entry_b
 -- it tells more than stands there, and what stands there is right
 abbrev pub IsAround : Around → Type 0
 IsAround (in_list count ts) = (count < 2 ^ 64) × (length ts < count) × AllByRecursion HasBytes ts
-IsAround (in_map count ps name) = (count < 2 ^ 64) × (length ps < count) × AreEntries ps × IsShort name × IsNextName ps name
+IsAround (in_map count ps name) = (count < 2 ^ 64) × (length ps < count) × AreMapEntries ps × IsShort name × IsNextName ps name
 
 -- one within the other
 abbrev pub all_around : List Around → List ℕ
@@ -166,8 +166,8 @@ pub record Within (Here : List Around → List ℕ → ℕ → Type 0) (bytes : 
   pub stops : Here around here left
 
 -- Within what is open there, a value stops at a piece of its own.
-abbrev pub Stops : List ℕ → ℕ → Type 0
-Stops = Within (λ around. StopsHere)
+abbrev pub ValueStops : List ℕ → ℕ → Type 0
+ValueStops = Within (λ around. StopsHere)
 
 -- a list or a map begins there
 abbrev pub IsNested : List ℕ → Type 0
@@ -189,16 +189,16 @@ NoEntryValue Stop ps bytes left =
 
 -- fewer entries than were told, and behind them a next name and then bytes that stop so
 abbrev pub NoEntryOf : (List ℕ → ℕ → Type 0) → ℕ → List ℕ → ℕ → Type 0
-NoEntryOf Stop = NoMember entry_bytes AreEntries (NoEntryValue Stop)
+NoEntryOf Stop = NoMember entry_bytes AreMapEntries (NoEntryValue Stop)
 
 -- fewer entries than were told, and behind them no next name, or one and then bytes that stop
 abbrev pub NoEntry : ℕ → List ℕ → ℕ → Type 0
-NoEntry count bytes left = NoName count bytes left ⊎ NoEntryOf Stops count bytes left
+NoEntry count bytes left = NoNextName count bytes left ⊎ NoEntryOf ValueStops count bytes left
 
 -- No cell bytes: they stop before a value is whole, or something stands behind it.
-abbrev pub IsBadAt : List ℕ → ℕ → Type 0
-IsBadAt bytes at =
-    ((left : ℕ) × Stops bytes left × (at + left ≡ length bytes))
+abbrev pub IsBadValueAt : List ℕ → ℕ → Type 0
+IsBadValueAt bytes at =
+    ((left : ℕ) × ValueStops bytes left × (at + left ≡ length bytes))
     ⊎ ((t : Tree) × HasBytes t × (behind : List ℕ) × (0 < length behind) × (bytes ≡ cell_bytes t ++ behind) × (at ≡ length (cell_bytes t)))
 
 -- A list or a map within as many as may be.
@@ -218,9 +218,9 @@ abbrev pub NoValueWithin : ℕ → List ℕ → Type 0
 NoValueWithin most bytes = (t : Tree) → IsWhole t → depth t ≤ most → bytes ≡ cell_bytes t → ⊥
 
 -- that value, or else want of memory
-abbrev pub IsReadAs : Tree → Result Attr BytesFault → Type 0
-IsReadAs t (Ok a) = tree_of a ≡ t
-IsReadAs t (Err e) = e ≡ fault.NoMemory
+abbrev pub IsReadAsValue : Tree → Result Attr BytesFault → Type 0
+IsReadAsValue t (Ok a) = tree_of a ≡ t
+IsReadAsValue t (Err e) = e ≡ fault.NoMemory
 
 -- Bad at the first place where a list or a map is within as many as may be, or else want of memory
 abbrev pub IsDeepAnswer : ℕ → List ℕ → Result Attr BytesFault → Type 0
@@ -235,8 +235,8 @@ IsStopAt P D (Deep n) = D n
 IsStopAt P D NoMemory = Unit {0}
 
 -- where it stops by bytes that are left, this holds of them
-abbrev pub IsStop : (ℕ → Type 0) → Stop → Type 0
-IsStop P = IsStopAt P (λ n. ⊥)
+abbrev pub IsStopByBytes : (ℕ → Type 0) → Stop → Type 0
+IsStopByBytes P = IsStopAt P (λ n. ⊥)
 
 -- it stops at what is nested too deep, with so many bytes left at least, or for want of memory
 abbrev pub StopsDeep : {A : Type 0} → ℕ → Result A Stop → Type 0

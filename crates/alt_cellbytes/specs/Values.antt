@@ -4,7 +4,7 @@ use Rattle.std.specs.Prelude.{◌≡◌, ℕ, ◌<◌, List, ◌++◌, length}
 use Rattle.std.specs.List.{AllByRecursion}
 use Rattle.std.specs.Ordering.{int_cmp}
 use Rattle.std.specs.declared.cmp.Ordering.{Ordering}
-use Rattle.alt_decimal.specs.Number.{Fits}
+use Rattle.alt_decimal.specs.Number.{FitsDecimal}
 use Rattle.alt_fields.specs.Bytes.{IsShort}
 use Rattle.alt_value.specs.CellBytes.{cell_bytes}
 use Rattle.alt_value.specs.Item.{IsItem}
@@ -13,24 +13,24 @@ use Rattle.alt_value.specs.Tree.{Tree, S_tree, N_tree, B_tree, BOOL_tree, NULL_t
 use Rattle.alt_value.specs.Values.{IsText, IsWhole}
 
 -- members of a set: each is one of these, and they rise without repeats
-abbrev pub AreRising : {K : Type 0} → (K → Type 0) → (K → K → Ordering) → List K → Type 0
-AreRising P R ks = AllByRecursion P ks × IsSet R ks
+abbrev pub AreSetMembers : {K : Type 0} → (K → Type 0) → (K → K → Ordering) → List K → Type 0
+AreSetMembers P R ks = AllByRecursion P ks × IsSet R ks
 
 -- one member at least, and no more than 8 bytes can tell
 abbrev pub IsWholeSet : {K : Type 0} → (K → Type 0) → (K → K → Ordering) → List K → Type 0
-IsWholeSet P R ks = (0 < length ks) × IsShort ks × AreRising P R ks
+IsWholeSet P R ks = (0 < length ks) × IsShort ks × AreSetMembers P R ks
 
 -- No set is empty; numbers are such as a `Decimal` holds; texts and names are UTF-8; names rise, and none is empty; 8 bytes tell
 -- each length and each count.
 abbrev mutual
   pub HasBytes : Tree → Type 0
   HasBytes (S_tree s) = IsText s
-  HasBytes (N_tree z) = Fits z
+  HasBytes (N_tree z) = FitsDecimal z
   HasBytes (B_tree b) = IsShort b
   HasBytes (BOOL_tree b) = Unit {0}
   HasBytes NULL_tree = Unit {0}
   HasBytes (SS_tree ss) = IsWholeSet IsText text_order ss
-  HasBytes (NS_tree zs) = IsWholeSet Fits int_cmp zs
+  HasBytes (NS_tree zs) = IsWholeSet FitsDecimal int_cmp zs
   HasBytes (BS_tree bs) = IsWholeSet IsShort text_order bs
   HasBytes (L_tree ts) = IsShort (elements ts) × HaveBytes ts
   HasBytes (M_tree fs) = IsShort (pairs fs) × IsItem (pairs fs) × FieldsHaveBytes fs
@@ -47,8 +47,8 @@ abbrev mutual
 
 -- Whatever follows them, cell bytes are of one value, which ends at one place: so each value has one spelling, and none is a
 -- prefix of another.
-abbrev pub AreApart : Type 0
-AreApart =
+abbrev pub CellBytesArePrefixFree : Type 0
+CellBytesArePrefixFree =
     (t u : Tree) (x y : List ℕ) → IsWhole t → IsWhole u → cell_bytes t ++ x ≡ cell_bytes u ++ y → (t ≡ u) × (x ≡ y)
 
 -- these bytes are those of that value, which can be stored and sent, and of no other

@@ -3,14 +3,14 @@
 ghost use Rattle.std.specs.Prelude.{◌≡◌, ◌<◌, ◌∷◌, ◌++◌, [], ◌↔◌, length, IsTrue, IfOk, IfErr};
 ghost use Rattle.std.specs.List.{flat_map};
 ghost use Rattle.std.specs.Ordering.{int_cmp};
-ghost use Rattle.alt_decimal.specs.Number.{Fits};
+ghost use Rattle.alt_decimal.specs.Number.{FitsDecimal};
 ghost use Rattle.alt_decimal.specs.Spelled.{spelled};
 ghost use Rattle.alt_fields.specs.Field.{field};
 ghost use Rattle.alt_value.specs.Members.{IsSet, text_order};
-ghost use Rattle.alt_cellbytes.specs.Places.{IsStop, NoField, NoNumber, IsNextText, NoText, NoNumberMember, NoBinary};
+ghost use Rattle.alt_cellbytes.specs.Places.{IsStopByBytes, NoFittingField, NoFittingNumber, IsNextText, NoTextMember, NoNumberMember, NoBinary};
 ghost use Rattle.alt_fields.specs.Bytes.{IsShort};
 ghost use Rattle.alt_value.specs.Values.{IsText};
-ghost use Rattle.alt_cellbytes.specs.Values.{AreRising};
+ghost use Rattle.alt_cellbytes.specs.Values.{AreSetMembers};
 
 use crate::fault::Stop;
 use crate::pieces::{take_field, take_number, take_text};
@@ -20,9 +20,9 @@ use std::alloc::Global;
 
 /// So many texts, and what follows them.
 pub(crate) fn take_texts(alloc: Global, count: u64, bytes: &[u8]) -> Result<(TextSet, &[u8]), Stop>
-    ensures members { IfOk result (λ p. (length p.0 ≡ count) × AreRising IsText text_order p.0
+    ensures members { IfOk result (λ p. (length p.0 ≡ count) × AreSetMembers IsText text_order p.0
         × (bytes.now ≡ flat_map field p.0 ++ p.1.now)) }
-    ensures stop { IfErr result (IsStop (NoText count bytes.now)) }
+    ensures stop { IfErr result (IsStopByBytes (NoTextMember count bytes.now)) }
 {
     let mut set = TextSet::new(alloc);
     let mut rest = bytes;
@@ -38,7 +38,7 @@ pub(crate) fn take_texts(alloc: Global, count: u64, bytes: &[u8]) -> Result<(Tex
 fn next_text<'a>(set: &TextSet, bytes: &'a [u8]) -> Result<(&'a str, &'a [u8]), Stop>
     ensures text { IfOk result (λ p. IsText p.0.now × IsSet text_order (set.now ++ p.0.now ∷ [])
         × (bytes.now ≡ field p.0.now ++ p.1.now)) }
-    ensures stop { IfErr result (IsStop (NoField (IsNextText set.now) bytes.now)) }
+    ensures stop { IfErr result (IsStopByBytes (NoFittingField (IsNextText set.now) bytes.now)) }
 {
     let (text, rest) = take_text(bytes)?;
     if is_next_text(set, text) {
@@ -67,9 +67,9 @@ pub(crate) fn take_numbers(
     count: u64,
     bytes: &[u8],
 ) -> Result<(NumberSet, &[u8]), Stop>
-    ensures members { IfOk result (λ p. (length p.0 ≡ count) × AreRising Fits int_cmp p.0
+    ensures members { IfOk result (λ p. (length p.0 ≡ count) × AreSetMembers FitsDecimal int_cmp p.0
         × (bytes.now ≡ flat_map spelled p.0 ++ p.1.now)) }
-    ensures stop { IfErr result (IsStop (NoNumberMember count bytes.now)) }
+    ensures stop { IfErr result (IsStopByBytes (NoNumberMember count bytes.now)) }
 {
     let mut set = NumberSet::new(alloc);
     let mut rest = bytes;
@@ -87,10 +87,10 @@ pub(crate) fn take_numbers(
 
 /// A number that stands above the members so far.
 fn next_number<'a>(set: &NumberSet, bytes: &'a [u8]) -> Result<(Decimal, &'a [u8]), Stop>
-    ensures number { IfOk result (λ p. Fits p.0 × IsSet int_cmp (set.now ++ p.0 ∷ [])
+    ensures number { IfOk result (λ p. FitsDecimal p.0 × IsSet int_cmp (set.now ++ p.0 ∷ [])
         × (bytes.now ≡ spelled p.0 ++ p.1.now)) }
     ensures stop { IfErr result
-        (IsStop (NoNumber (λ z. IsSet int_cmp (set.now ++ z ∷ [])) bytes.now)) }
+        (IsStopByBytes (NoFittingNumber (λ z. IsSet int_cmp (set.now ++ z ∷ [])) bytes.now)) }
 {
     match take_number(bytes) {
         Ok((number, rest)) => {
@@ -123,9 +123,9 @@ pub(crate) fn take_binaries(
     count: u64,
     bytes: &[u8],
 ) -> Result<(BytesSet, &[u8]), Stop>
-    ensures members { IfOk result (λ p. (length p.0 ≡ count) × AreRising IsShort text_order p.0
+    ensures members { IfOk result (λ p. (length p.0 ≡ count) × AreSetMembers IsShort text_order p.0
         × (bytes.now ≡ flat_map field p.0 ++ p.1.now)) }
-    ensures stop { IfErr result (IsStop (NoBinary count bytes.now)) }
+    ensures stop { IfErr result (IsStopByBytes (NoBinary count bytes.now)) }
 {
     let mut set = BytesSet::new(alloc);
     let mut rest = bytes;
@@ -142,7 +142,7 @@ fn next_binary<'a>(set: &BytesSet, bytes: &'a [u8]) -> Result<(&'a [u8], &'a [u8
     ensures binary { IfOk result (λ p. IsShort p.0.now × IsSet text_order (set.now ++ p.0.now ∷ [])
         × (bytes.now ≡ field p.0.now ++ p.1.now)) }
     ensures stop { IfErr result
-        (IsStop (NoField (λ b. IsSet text_order (set.now ++ b ∷ [])) bytes.now)) }
+        (IsStopByBytes (NoFittingField (λ b. IsSet text_order (set.now ++ b ∷ [])) bytes.now)) }
 {
     let (binary, rest) = take_field(bytes)?;
     if is_next_binary(set, binary) {

@@ -2,11 +2,11 @@
 
 ghost use Rattle.std.specs.Prelude.{◌≡◌, ◌<◌, ◌^◌, ◌∷◌, ◌++◌, length, if◌then◌else◌, IfOk, IfErr};
 ghost use Rattle.std.specs.Str.{IsUtf8};
-ghost use Rattle.alt_decimal.specs.Number.{Fits};
+ghost use Rattle.alt_decimal.specs.Number.{FitsDecimal};
 ghost use Rattle.alt_decimal.specs.Spelled.{spelled};
 ghost use Rattle.alt_fields.specs.Field.{field};
 ghost use Rattle.alt_value.specs.CellBytes.{counted, truth_byte};
-ghost use Rattle.alt_cellbytes.specs.Places.{IsCut, IsStop, NoCount, NoField, NoNumber, NoTruth, is_cut_number as is_cut, is_unclosed as lacks_end};
+ghost use Rattle.alt_cellbytes.specs.Places.{IsCut, IsStopByBytes, NoCount, NoFittingField, NoFittingNumber, NoTruth, is_cut_number as is_cut, is_unclosed as lacks_end};
 ghost use Rattle.alt_fields.specs.Bytes.{IsShort};
 ghost use Rattle.alt_value.specs.Values.{IsText};
 
@@ -17,7 +17,7 @@ use alt_fields::{take_bytes, take_u64};
 /// A count and what follows it.
 pub(crate) fn take_count(bytes: &[u8]) -> Result<(u64, &[u8]), Stop>
     ensures count { IfOk result (λ p. (p.0 < 2 ^ 64) × (bytes.now ≡ counted p.0 ++ p.1.now)) }
-    ensures stop { IfErr result (IsStop (NoCount bytes.now)) }
+    ensures stop { IfErr result (IsStopByBytes (NoCount bytes.now)) }
 {
     match take_u64(bytes, 0) {
         Ok((count, end)) => {
@@ -31,7 +31,7 @@ pub(crate) fn take_count(bytes: &[u8]) -> Result<(u64, &[u8]), Stop>
 /// The content of a field and what follows it.
 pub(crate) fn take_field(bytes: &[u8]) -> Result<(&[u8], &[u8]), Stop>
     ensures field { IfOk result (λ p. IsShort p.0.now × (bytes.now ≡ field p.0.now ++ p.1.now)) }
-    ensures stop { IfErr result (IsStop (λ left. IsCut bytes.now × (left ≡ 0))) }
+    ensures stop { IfErr result (IsStopByBytes (λ left. IsCut bytes.now × (left ≡ 0))) }
 {
     match take_bytes(bytes, 0) {
         Ok((content, end)) => {
@@ -45,7 +45,7 @@ pub(crate) fn take_field(bytes: &[u8]) -> Result<(&[u8], &[u8]), Stop>
 /// A text and what follows its field.
 pub(crate) fn take_text(bytes: &[u8]) -> Result<(&str, &[u8]), Stop>
     ensures text { IfOk result (λ p. IsText p.0.now × (bytes.now ≡ field p.0.now ++ p.1.now)) }
-    ensures stop { IfErr result (IsStop (NoField IsUtf8 bytes.now)) }
+    ensures stop { IfErr result (IsStopByBytes (NoFittingField IsUtf8 bytes.now)) }
 {
     let (content, rest) = take_field(bytes)?;
     match std::str::from_utf8(content) {
@@ -56,8 +56,8 @@ pub(crate) fn take_text(bytes: &[u8]) -> Result<(&str, &[u8]), Stop>
 
 /// A number and what follows its spelling.
 pub(crate) fn take_number(bytes: &[u8]) -> Result<(Decimal, &[u8]), Stop>
-    ensures number { IfOk result (λ p. Fits p.0 × (bytes.now ≡ spelled p.0 ++ p.1.now)) }
-    ensures stop { IfErr result (IsStop (NoNumber (λ z. Unit {0}) bytes.now)) }
+    ensures number { IfOk result (λ p. FitsDecimal p.0 × (bytes.now ≡ spelled p.0 ++ p.1.now)) }
+    ensures stop { IfErr result (IsStopByBytes (NoFittingNumber (λ z. Unit {0}) bytes.now)) }
 {
     match Decimal::unspell(bytes) {
         Some((number, len)) => {
@@ -104,7 +104,7 @@ fn is_unclosed(bytes: &[u8], close: u8) -> bool
 /// A truth value and what follows its byte.
 pub(crate) fn take_truth(bytes: &[u8]) -> Result<(bool, &[u8]), Stop>
     ensures truth { IfOk result (λ p. bytes.now ≡ truth_byte p.0 ∷ p.1.now) }
-    ensures stop { IfErr result (IsStop (λ left. NoTruth bytes.now × (left ≡ length bytes.now))) }
+    ensures stop { IfErr result (IsStopByBytes (λ left. NoTruth bytes.now × (left ≡ length bytes.now))) }
 {
     match bytes {
         [byte, rest @ ..] => match *byte {

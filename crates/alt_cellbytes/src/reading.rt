@@ -13,8 +13,8 @@ ghost use Rattle.alt_value.specs.Size.{depth};
 ghost use Rattle.alt_value.specs.Stands.{tree_of};
 ghost use Rattle.alt_value.specs.Tree.{NULL_tree, Tree};
 ghost use Rattle.alt_value.specs.Values.{IsWhole};
-ghost use Rattle.alt_cellbytes.specs.Places.{IsBadAt, IsDeepAt, IsDeepAnswer, StopsDeep, IsReadAs, NoValue, NoValueWithin, IsStop, IsStopAt, Stops, TooDeep, StopsHere, NoField, IsNextName, NoElementOf, NoEntry, NoEntryOf, AreEntries, entry_bytes};
-ghost use Rattle.alt_cellbytes.specs.Values.{AreApart, HasBytes};
+ghost use Rattle.alt_cellbytes.specs.Places.{IsBadValueAt, IsDeepAt, IsDeepAnswer, StopsDeep, IsReadAsValue, NoValue, NoValueWithin, IsStopByBytes, IsStopAt, ValueStops, TooDeep, StopsHere, NoFittingField, IsNextName, NoElementOf, NoEntry, NoEntryOf, AreMapEntries, entry_bytes};
+ghost use Rattle.alt_cellbytes.specs.Values.{CellBytesArePrefixFree, HasBytes};
 
 use crate::fault::Stop;
 use crate::members::{take_binaries, take_numbers, take_texts};
@@ -31,11 +31,11 @@ use std::alloc::Global;
 pub fn attr_of(alloc: Global, bytes: &[u8]) -> Result<Attr, BytesFault>
     ensures value { IfOk result (λ a. IsWhole (tree_of a) × (bytes.now ≡ cell_bytes (tree_of a))) }
     // Whatever value's cell bytes they are, it is read, unless memory is wanting.
-    ensures taken { (t : Tree) → IsWhole t → bytes.now ≡ cell_bytes t → IsReadAs t result }
+    ensures taken { (t : Tree) → IsWhole t → bytes.now ≡ cell_bytes t → IsReadAsValue t result }
     ensures place { (at : ℕ) → result ≡ Err (BytesFault.Bad at)
-        → IsBadAt bytes.now at × NoValue bytes.now }
+        → IsBadValueAt bytes.now at × NoValue bytes.now }
     // One spelling a value, and none a prefix of another.
-    ensures apart { AreApart }
+    ensures apart { CellBytesArePrefixFree }
 {
     attr_within(alloc, bytes, bytes.len())
 }
@@ -48,9 +48,9 @@ pub fn attr_within(alloc: Global, bytes: &[u8], most: usize) -> Result<Attr, Byt
     ensures value { IfOk result (λ a. IsWhole (tree_of a) × (depth (tree_of a) ≤ most)
         × (bytes.now ≡ cell_bytes (tree_of a))) }
     ensures taken { (t : Tree) → IsWhole t → depth t ≤ most → bytes.now ≡ cell_bytes t
-        → IsReadAs t result }
+        → IsReadAsValue t result }
     ensures place { (at : ℕ) → result ≡ Err (BytesFault.Bad at)
-        → IsBadAt bytes.now at ⊎ IsDeepAt most bytes.now at }
+        → IsBadValueAt bytes.now at ⊎ IsDeepAt most bytes.now at }
     ensures none { (at : ℕ) → result ≡ Err (BytesFault.Bad at) → NoValueWithin most bytes.now }
     // Where a list or a map is nested too deep, the answer is Bad at the first one, whatever stands behind its first byte.
     ensures deep { (at : ℕ) → IsDeepAt most bytes.now at → IsDeepAnswer most bytes.now result }
@@ -81,7 +81,7 @@ pub fn attr_within(alloc: Global, bytes: &[u8], most: usize) -> Result<Attr, Byt
 fn take_value(alloc: Global, most: usize, bytes: &[u8]) -> Result<(Attr, &[u8]), Stop>
     ensures value { IfOk result (λ p. HasBytes (tree_of p.0) × (depth (tree_of p.0) ≤ most)
         × (bytes.now ≡ cell_bytes (tree_of p.0) ++ p.1.now)) }
-    ensures stop { IfErr result (IsStopAt (Stops bytes.now) (TooDeep most bytes.now)) }
+    ensures stop { IfErr result (IsStopAt (ValueStops bytes.now) (TooDeep most bytes.now)) }
     ensures deep { (left : ℕ) → TooDeep most bytes.now left → StopsDeep left result }
 {
     match bytes {
@@ -110,7 +110,7 @@ fn take_list(alloc: Global, most: usize, bytes: &[u8]) -> Result<(Attr, &[u8]), 
     requires { 0 < most }
     ensures value { IfOk result (λ p. HasBytes (tree_of p.0) × (depth (tree_of p.0) ≤ most)
         × (9 ∷ bytes.now ≡ cell_bytes (tree_of p.0) ++ p.1.now)) }
-    ensures stop { IfErr result (IsStopAt (Stops (9 ∷ bytes.now)) (TooDeep most (9 ∷ bytes.now))) }
+    ensures stop { IfErr result (IsStopAt (ValueStops (9 ∷ bytes.now)) (TooDeep most (9 ∷ bytes.now))) }
     ensures deep { (left : ℕ) → TooDeep most (9 ∷ bytes.now) left → StopsDeep left result }
 {
     let (count, rest) = take_count(bytes)?;
@@ -131,7 +131,7 @@ fn take_elements(
     ensures elements { IfOk result (λ p. (length p.0 ≡ count) × AllByRecursion HasBytes p.0
         × AllByRecursion (λ t. depth t ≤ most) p.0
         × (bytes.now ≡ flat_map cell_bytes p.0 ++ p.1.now)) }
-    ensures stop { IfErr result (IsStopAt (NoElementOf Stops count bytes.now)
+    ensures stop { IfErr result (IsStopAt (NoElementOf ValueStops count bytes.now)
         (NoElementOf (TooDeep most) count bytes.now)) }
     ensures deep { (left : ℕ) → NoElementOf (TooDeep most) count bytes.now left
         → StopsDeep left result }
@@ -157,7 +157,7 @@ fn take_map(alloc: Global, most: usize, bytes: &[u8]) -> Result<(Attr, &[u8]), S
     ensures value { IfOk result (λ p. HasBytes (tree_of p.0) × (depth (tree_of p.0) ≤ most)
         × (10 ∷ bytes.now ≡ cell_bytes (tree_of p.0) ++ p.1.now)) }
     ensures stop { IfErr result
-        (IsStopAt (Stops (10 ∷ bytes.now)) (TooDeep most (10 ∷ bytes.now))) }
+        (IsStopAt (ValueStops (10 ∷ bytes.now)) (TooDeep most (10 ∷ bytes.now))) }
     ensures deep { (left : ℕ) → TooDeep most (10 ∷ bytes.now) left → StopsDeep left result }
 {
     let (count, rest) = take_count(bytes)?;
@@ -170,7 +170,7 @@ fn take_map(alloc: Global, most: usize, bytes: &[u8]) -> Result<(Attr, &[u8]), S
 /// So many entries, and what follows them.
 #[cycle(reading)]
 fn take_entries(alloc: Global, most: usize, count: u64, bytes: &[u8]) -> Result<(Item, &[u8]), Stop>
-    ensures entries { IfOk result (λ p. (length p.0 ≡ count) × AreEntries p.0
+    ensures entries { IfOk result (λ p. (length p.0 ≡ count) × AreMapEntries p.0
         × AllByRecursion (λ e. depth e.1 ≤ most) p.0
         × (bytes.now ≡ flat_map entry_bytes p.0 ++ p.1.now)) }
     ensures stop { IfErr result (IsStopAt (NoEntry count bytes.now)
@@ -197,7 +197,7 @@ fn take_entries(alloc: Global, most: usize, count: u64, bytes: &[u8]) -> Result<
 fn next_name<'a>(map: &Item, bytes: &'a [u8]) -> Result<(&'a str, &'a [u8]), Stop>
     ensures name { IfOk result (λ p. IsShort p.0.now × IsNextName map.now p.0.now
         × (bytes.now ≡ field p.0.now ++ p.1.now)) }
-    ensures stop { IfErr result (IsStop (NoField (IsNextName map.now) bytes.now)) }
+    ensures stop { IfErr result (IsStopByBytes (NoFittingField (IsNextName map.now) bytes.now)) }
 {
     let (name, rest) = take_text(bytes)?;
     if is_next_name(map, name) {
@@ -225,7 +225,7 @@ fn take_flat(alloc: Global, kind: u8, bytes: &[u8]) -> Result<(Attr, &[u8]), Sto
     requires { (kind ≢ 9) × (kind ≢ 10) }
     ensures value { IfOk result (λ p. HasBytes (tree_of p.0) × (depth (tree_of p.0) ≡ 0)
         × (kind ∷ bytes.now ≡ cell_bytes (tree_of p.0) ++ p.1.now)) }
-    ensures stop { IfErr result (IsStop (StopsHere (kind ∷ bytes.now))) }
+    ensures stop { IfErr result (IsStopByBytes (StopsHere (kind ∷ bytes.now))) }
 {
     match kind {
         1 => {
@@ -255,7 +255,7 @@ fn take_set(alloc: Global, kind: u8, bytes: &[u8]) -> Result<(Attr, &[u8]), Stop
     requires { (6 ≤ kind) × (kind ≤ 8) }
     ensures value { IfOk result (λ p. HasBytes (tree_of p.0) × (depth (tree_of p.0) ≡ 0)
         × (kind ∷ bytes.now ≡ cell_bytes (tree_of p.0) ++ p.1.now)) }
-    ensures stop { IfErr result (IsStop (StopsHere (kind ∷ bytes.now))) }
+    ensures stop { IfErr result (IsStopByBytes (StopsHere (kind ∷ bytes.now))) }
 {
     let (count, rest) = take_count(bytes)?;
     if count == 0 {

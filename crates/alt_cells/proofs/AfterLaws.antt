@@ -5,7 +5,7 @@ use Rattle.std.specs.FinMap.{FinMap, empty, entries, get-empty, same_map}
 use Rattle.alt_cells.specs.declared.batch.RowChange.{RowChange}
 use Rattle.alt_cells.specs.declared.cell.Cell.{Cell}
 use Rattle.alt_cells.specs.declared.row.RowCells.{RowCells}
-use Rattle.alt_cells.specs.Changes.{Columns, cells_given, row_of_change, with_columns, with_value, as_shown, columns_of, written, change_between, IsBelow}
+use Rattle.alt_cells.specs.Changes.{Columns, cells_given, row_of_change, with_columns, with_value, as_shown, columns_of, written, change_between, IsRowBelow}
 use Rattle.alt_cells.specs.Keys.{key_cmp}
 use Rattle.alt_cells.specs.Rows.{join_row}
 use Rattle.alt_cells.specs.Shown.{value_shown, columns_shown, row_shown}
@@ -18,7 +18,7 @@ abbrev bare : RowCells
 bare = record { gone = None; cells = empty }
 
 -- which no write made
-pub bare_below : (number : ℕ) → IsBelow number bare
+pub bare_below : (number : ℕ) → IsRowBelow number bare
 bare_below number = record {
   gone = λ g e. let no : None ≡ Some g = e in cc no;
   cells = λ q c e. let no : None ≡ Some c = sym (get-empty key_cmp q) ∙ e in cc no;
@@ -32,8 +32,8 @@ bare_shown = row_shown_as bare ∙ ap as_shown (same_map key_total key_exact
     ∙ sym (get-empty key_cmp q))) ∙ none_shown
 
 -- the cells of the first write are below the next
-pub made_below : (c : RowChange) → IsBelow 1 (row_of_change 0 c)
-made_below c = subst (IsBelow 1) (join_row-empty (row_of_change 0 c))
+pub made_below : (c : RowChange) → IsRowBelow 1 (row_of_change 0 c)
+made_below c = subst (IsRowBelow 1) (join_row-empty (row_of_change 0 c))
     (IsBelow-join 0 bare c (bare_below 0))
 
 -- what they show
@@ -61,7 +61,7 @@ written-cleared c before is =
     (if b then empty else columns_of before))) is)
 
 -- a change of cells that show these columns
-pub written-copy : (row : RowCells) (c : RowChange) (m : Columns) → IsBelow 1 row
+pub written-copy : (row : RowCells) (c : RowChange) (m : Columns) → IsRowBelow 1 row
     → row_shown row ≡ as_shown m → row_shown (join_row row (row_of_change 1 c))
     ≡ written c (Some m)
 written-copy row c m below is = row_shown-written 1 row c below ∙ ap (written c) is

@@ -4,7 +4,7 @@ use Rattle.std.specs.Prelude.{◌==◌, ℕ, if◌then◌else◌, option_and_the
 use Rattle.std.specs.FinMap.{empty, from_sorted, get, get-empty, entries-from_sorted, get-from_sorted, len-entries, same_map}
 use Rattle.std.specs.FinMap.Entries.{find, is_sorted}
 use Rattle.alt_cells.specs.declared.batch.RowChange.{RowChange}
-use Rattle.alt_cells.specs.Changes.{Columns, Given, as_shown, cell_at, given_to, row_of_change, value_given, values_given, with_columns}
+use Rattle.alt_cells.specs.Changes.{Columns, GivenColumns, as_shown, cell_at, given_to, row_of_change, value_given, values_given, with_columns}
 use Rattle.alt_cells.specs.Keys.{key_cmp}
 use Rattle.alt_cells.specs.Shown.{entries_shown, row_shown, value_shown}
 use Rattle.alt_cells.proofs.AfterLaws.{made_shown}
@@ -14,12 +14,12 @@ use Rattle.alt_cells.proofs.OfChange.{entry_given}
 use Rattle.alt_cells.proofs.ShownLaws.{find-entries_shown, is_sorted-entries_shown}
 
 -- the values that are given are those that cells of them show
-values_given-shown : (es : Given) → values_given es ≡ entries_shown None (map (entry_given 0) es)
+values_given-shown : (es : GivenColumns) → values_given es ≡ entries_shown None (map (entry_given 0) es)
 values_given-shown [] = refl
 values_given-shown (e ∷ es) = ap (λ r. value_given e ++ r) (values_given-shown es)
 
 -- so they rise with the names
-pub sorted-values_given : (es : Given) → T (is_sorted key_cmp es)
+pub sorted-values_given : (es : GivenColumns) → T (is_sorted key_cmp es)
     → T (is_sorted key_cmp (values_given es))
 sorted-values_given es h =
     subst (λ vs. T (is_sorted key_cmp vs)) (sym (values_given-shown es))

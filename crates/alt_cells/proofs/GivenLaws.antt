@@ -15,7 +15,7 @@ use Rattle.alt_base.proofs.Orderings.{is_eq-holds}
 use Rattle.alt_cells.specs.Keys.{key_cmp}
 use Rattle.alt_cells.specs.Cells.{cell_cmp, value_cmp, greater}
 use Rattle.alt_cells.specs.Joined.{either}
-use Rattle.alt_cells.specs.Changes.{Columns, Given, cell_at, one_cell, cells_given, tied, given_to, with_column, with_columns, differs, is_changed, with_value, changed_cells, gone_cells}
+use Rattle.alt_cells.specs.Changes.{Columns, GivenColumns, cell_at, one_cell, cells_given, tied, given_to, with_column, with_columns, differs, is_changed, with_value, changed_cells, gone_cells}
 use Rattle.alt_cells.proofs.Entries.{below_tied, find_below}
 use Rattle.alt_cells.proofs.CellLaws.{key_total, key_exact}
 use Rattle.alt_cells.proofs.RowLaws.{get-joined_map}
@@ -39,7 +39,7 @@ greater_tied number v w =
     chosen Greater = refl
 
 -- the cell of a column in a change
-pub get-cells_given : (number : ℕ) (cells : Given) (q : List ℕ)
+pub get-cells_given : (number : ℕ) (cells : GivenColumns) (q : List ℕ)
     → get (cells_given number cells) q ≡ option_map (cell_at number) (given_to q cells)
 get-cells_given number [] q = get-empty key_cmp q
 get-cells_given number (e ∷ es) q =
@@ -66,7 +66,7 @@ get-with_column name None m q = get-remove key_total m name q
 get-with_column name (Some v) m q = get-insert key_total m name v q
 
 -- the value of a column after all that is given
-pub get-with_columns : (cells : Given) (m : Columns) (q : List ℕ)
+pub get-with_columns : (cells : GivenColumns) (m : Columns) (q : List ℕ)
     → get (with_columns cells m) q ≡ unwrap_or (given_to q cells) (get m q)
 get-with_columns [] m q = refl
 get-with_columns (e ∷ es) m q =
@@ -81,7 +81,7 @@ get-with_columns (e ∷ es) m q =
     at_name false t behind = behind
 
 -- of names that rise each stands once
-pub given_to-rising : (q : List ℕ) (es : Given) → T (is_sorted key_cmp es)
+pub given_to-rising : (q : List ℕ) (es : GivenColumns) → T (is_sorted key_cmp es)
     → given_to q es ≡ find key_cmp q es
 given_to-rising q [] h = refl
 given_to-rising q (e ∷ es) h =
@@ -144,14 +144,14 @@ given_by_key p g m q =
     ∙ ap (λ o. cond (p q) o None) (sym (get-entries m q)))
 
 -- what the first of two lists gives to a column to which the second gives nothing
-given_first : (q : List ℕ) (es fs : Given) → given_to q fs ≡ None
+given_first : (q : List ℕ) (es fs : GivenColumns) → given_to q fs ≡ None
     → given_to q (es ++ fs) ≡ given_to q es
 given_first q [] fs h = h
 given_first q (e ∷ es) fs h =
     ap (λ o. cond (eq_by_cmp key_cmp q e.0) (Some (tied e.1 o)) o) (given_first q es fs h)
 
 -- what the second of two lists gives to a column to which the first gives nothing
-given_second : (q : List ℕ) (es fs : Given) → given_to q es ≡ None
+given_second : (q : List ℕ) (es fs : GivenColumns) → given_to q es ≡ None
     → given_to q (es ++ fs) ≡ given_to q fs
 given_second q [] fs h = refl
 given_second q (e ∷ es) fs h = at_name (eq_by_cmp key_cmp q e.0) h (given_second q es fs)
@@ -174,7 +174,7 @@ new_value (Some u) v = by_test (bytes_eq u v) refl
     by_test false e = refl
 
 -- what a column shows, by what it showed and is to show
-turned : (q : List ℕ) (es fs : Given) (o n : Option (List ℕ))
+turned : (q : List ℕ) (es fs : GivenColumns) (o n : Option (List ℕ))
     → given_to q es ≡ option_map (λ v. Some v) (cond (option_map_or (differs o) n false) n None)
     → given_to q fs ≡ option_map (λ v. None) (cond (is_none n) o None)
     → unwrap_or (given_to q (es ++ fs)) o ≡ n

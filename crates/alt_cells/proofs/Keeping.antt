@@ -6,7 +6,7 @@ use Rattle.alt_disk.proofs.Calls.{goes_refl, goes_on}
 use Rattle.alt_disk.proofs.Runs.{quiet_start, quiet_then}
 use Rattle.alt_cells.specs.declared.source.SourceFault.{SourceFault}
 use Rattle.alt_cells.specs.declared.source.SourceFault.TheVariants.{Damaged, Failed, NoMemory}
-use Rattle.alt_cells.specs.Walks.{Keeps, Fails, HasCause}
+use Rattle.alt_cells.specs.Walks.{KeepsSource, Fails, HasCause}
 use Rattle.alt_disk.proofs.Staying.{tells_on}
 
 -- what rose in a later call rose in both
@@ -22,7 +22,7 @@ cause_then reads a b c NoMemory goes cause = tt
 
 module _ {S M : Type 0} (Holds : DiskState → S → M → Type 0) (reads_of : S → ℕ → Bool) where
   -- no call, and two calls one after another, of which the second may fail
-  pub keeps_refl : (s : DiskState) (x : S) → Keeps Holds reads_of s s x x
+  pub keeps_refl : (s : DiskState) (x : S) → KeepsSource Holds reads_of s s x x
   keeps_refl s x = record {
     holds = λ t m h. h;
     reads = refl;
@@ -32,8 +32,8 @@ module _ {S M : Type 0} (Holds : DiskState → S → M → Type 0) (reads_of : S
   }
 
   -- what one call keeps and the next keeps, both together keep
-  pub keeps_then : (a b c : DiskState) (x y z : S) → Keeps Holds reads_of a b x y
-      → Keeps Holds reads_of b c y z → Keeps Holds reads_of a c x z
+  pub keeps_then : (a b c : DiskState) (x y z : S) → KeepsSource Holds reads_of a b x y
+      → KeepsSource Holds reads_of b c y z → KeepsSource Holds reads_of a c x z
   keeps_then a b c x y z first then = record {
     holds = λ t m h. then.holds (tells_on a b first.goes t) m (first.holds t m h);
     reads = then.reads ∙ first.reads;
@@ -43,7 +43,7 @@ module _ {S M : Type 0} (Holds : DiskState → S → M → Type 0) (reads_of : S
 
   -- where a call keeps and the next one fails, both together fail so
   pub fails_then : (a b c : DiskState) (x y : S) (fault : SourceFault)
-      → Keeps Holds reads_of a b x y → Fails Holds reads_of b c y fault
+      → KeepsSource Holds reads_of a b x y → Fails Holds reads_of b c y fault
       → Fails Holds reads_of a c x fault
   fails_then a b c x y fault first fails = record {
     cause = cause_then (reads_of x) a b c fault first.goes

@@ -11,7 +11,7 @@ use Rattle.std.proofs.lemmas.Grind.{reverse_onto}
 use Rattle.alt_base.proofs.Bools.{both_hold, first_holds, second_holds}
 use Rattle.alt_cells.specs.declared.row.RowCells.{RowCells}
 use Rattle.alt_cells.specs.Keys.{key_cmp}
-use Rattle.alt_cells.specs.Joined.{either, joined, joined_map}
+use Rattle.alt_cells.specs.Joined.{either, joined_entries, joined_map}
 use Rattle.alt_cells.specs.Rows.{join_row}
 use Rattle.alt_cells.specs.Walks.{RowMap, walk_cmp, first_bound, last_bound, rows_from}
 use Rattle.alt_cells.proofs.Entries.{find_below, is_sorted-joined, find-joined}
@@ -117,14 +117,14 @@ either_cond f false x y = refl
 -- of joined rows it is the joined
 pub rows_from-joined : (m n : RowMap) (from : Option (List ℕ)) (forward : Bool)
     → rows_from (joined_map join_row m n) from forward
-    ≡ joined (walk_cmp forward) join_row (rows_from m from forward) (rows_from n from forward)
+    ≡ joined_entries (walk_cmp forward) join_row (rows_from m from forward) (rows_from n from forward)
 rows_from-joined m n from forward =
     let R = walk_cmp forward in
     let o = walk_total forward in
     let left = is_sorted-rows_from m from forward in
     let right = is_sorted-rows_from n from forward in
     same_entries R o (walk_exact forward) (rows_from (joined_map join_row m n) from forward)
-    (joined R join_row (rows_from m from forward) (rows_from n from forward))
+    (joined_entries R join_row (rows_from m from forward) (rows_from n from forward))
     (is_sorted-rows_from (joined_map join_row m n) from forward)
     (is_sorted-joined R o join_row (rows_from m from forward)
     (rows_from n from forward) left right)

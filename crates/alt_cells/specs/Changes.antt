@@ -19,8 +19,8 @@ abbrev pub Columns : Type 0
 Columns = FinMap key_cmp (List ℕ)
 
 -- names of columns with the values that a write gives them, or none where it removes them
-abbrev pub Given : Type 0
-Given = List (List ℕ × Option (List ℕ))
+abbrev pub GivenColumns : Type 0
+GivenColumns = List (List ℕ × Option (List ℕ))
 
 -- ---- in cells
 
@@ -33,7 +33,7 @@ abbrev pub one_cell : ℕ → List ℕ × Option (List ℕ) → FinMap key_cmp C
 one_cell number e = from_sorted ((e.0, cell_at number e.1) ∷ [])
 
 -- the cells that a write gives, joined: of several of one name the winner stays
-abbrev pub cells_given : ℕ → Given → FinMap key_cmp Cell
+abbrev pub cells_given : ℕ → GivenColumns → FinMap key_cmp Cell
 cells_given number [] = empty
 cells_given number (e ∷ es) =
     joined_map (greater cell_cmp) (one_cell number e) (cells_given number es)
@@ -51,7 +51,7 @@ tied v None = v
 tied v (Some w) = greater value_cmp v w
 
 -- what is given to a column, if anything is: of several the winner in a tie
-abbrev pub given_to : List ℕ → Given → Option (Option (List ℕ))
+abbrev pub given_to : List ℕ → GivenColumns → Option (Option (List ℕ))
 given_to q [] = None
 given_to q (e ∷ es) =
     if eq_by_cmp key_cmp q e.0 then Some (tied e.1 (given_to q es)) else given_to q es
@@ -61,7 +61,7 @@ abbrev pub value_given : List ℕ × Option (List ℕ) → List (List ℕ × Lis
 value_given e = option_to_list (option_map (λ v. (e.0, v)) e.1)
 
 -- the columns that are given a value, with it
-abbrev pub values_given : Given → List (List ℕ × List ℕ)
+abbrev pub values_given : GivenColumns → List (List ℕ × List ℕ)
 values_given [] = []
 values_given (e ∷ es) = value_given e ++ values_given es
 
@@ -71,7 +71,7 @@ with_column name None m = remove m name
 with_column name (Some value) m = insert m name value
 
 -- with what is given at each column that is named
-abbrev pub with_columns : Given → Columns → Columns
+abbrev pub with_columns : GivenColumns → Columns → Columns
 with_columns [] m = m
 with_columns (e ∷ es) m = with_column e.0 (tied e.1 (given_to e.0 es)) (with_columns es m)
 
@@ -91,7 +91,7 @@ written c before = as_shown (with_columns c.cells (if c.clear then empty else co
 -- ---- the law of both
 
 -- the row tombstone and all cells are of writes before this one
-pub record IsBelow (number : ℕ) (row : RowCells) : Type 0 where
+pub record IsRowBelow (number : ℕ) (row : RowCells) : Type 0 where
   pub gone : (g : ℕ) → row.gone ≡ Some g → g < number
   pub cells : (q : List ℕ) (c : Cell) → get row.cells q ≡ Some c → c.at < number
 
@@ -115,15 +115,15 @@ abbrev pub without_value : List ℕ × List ℕ → List ℕ × Option (List ℕ
 without_value e = (e.0, None)
 
 -- the columns of the new row whose values changed, with their values
-abbrev pub changed_cells : Columns → Columns → Given
+abbrev pub changed_cells : Columns → Columns → GivenColumns
 changed_cells old new = map with_value (where_key key_cmp (is_changed old new) (entries new))
 
 -- the columns of the old row that the new one lacks, to be removed
-abbrev pub gone_cells : Columns → Columns → Given
+abbrev pub gone_cells : Columns → Columns → GivenColumns
 gone_cells old new = map without_value (where_key key_cmp (λ q. is_none (get new q)) (entries old))
 
 -- A row that is made gets all its cells; of one that changes, those that change, and a tombstone for each that is gone.
-abbrev pub cells_between : Option Columns → Option Columns → Given
+abbrev pub cells_between : Option Columns → Option Columns → GivenColumns
 cells_between None None = []
 cells_between None (Some new) = map with_value (entries new)
 cells_between (Some old) None = []
@@ -149,13 +149,13 @@ CanShow o = as_shown (columns_of o) ≡ o
 
 -- after a change of a later write a row shows what the change makes of what it showed
 abbrev pub ShowsChanges : Type 0
-ShowsChanges = (number : ℕ) (row : RowCells) (c : RowChange) → IsBelow number row
+ShowsChanges = (number : ℕ) (row : RowCells) (c : RowChange) → IsRowBelow number row
     → row_shown (join_row row (row_of_change number c)) ≡ written c (row_shown row)
 
 -- a row below a number is below the next one after a change of that number
 abbrev pub StaysBelow : Type 0
-StaysBelow = (number : ℕ) (row : RowCells) (c : RowChange) → IsBelow number row
-    → IsBelow (number + 1) (join_row row (row_of_change number c))
+StaysBelow = (number : ℕ) (row : RowCells) (c : RowChange) → IsRowBelow number row
+    → IsRowBelow (number + 1) (join_row row (row_of_change number c))
 
 -- the change between two rows turns what is shown of the one into the other
 abbrev pub TurnsRows : Type 0

@@ -80,7 +80,7 @@ abbrev pub Anything : ℕ → (ℕ → Option (List ℕ)) → Type 0
 Anything t image = Unit {0}
 
 -- what a call on a source keeps: its rows, the files that it reads, and all files of the disk
-pub record Keeps {S M : Type 0} (Holds : DiskState → S → M → Type 0) (reads_of : S → ℕ → Bool)
+pub record KeepsSource {S M : Type 0} (Holds : DiskState → S → M → Type 0) (reads_of : S → ℕ → Bool)
     (old new : DiskState) (before after : S) : Type 0 where
   pub holds : IsTrue old.tells → (rows : M) → Holds old before rows → Holds new after rows
   pub reads : reads_of after ≡ reads_of before

@@ -4,7 +4,7 @@ ghost use Rattle.std.specs.Prelude.{◌≡◌, ◌++◌, ◌∷◌, [], ◌<◌,
 ghost use Rattle.std.specs.FinMap.{entries, get};
 ghost use Rattle.std.specs.FinMap.Entries.{is_sorted};
 ghost use Rattle.alt_cells.specs.Keys.{key_cmp};
-ghost use Rattle.alt_cells.specs.Changes.{cell_at, cells_given, row_of_change, with_value, differs, changed_cells, gone_cells, cells_between, change_between, ShowsChanges, StaysBelow, TurnsRows, written, as_shown, value_given, values_given, IsBelow};
+ghost use Rattle.alt_cells.specs.Changes.{cell_at, cells_given, row_of_change, with_value, differs, changed_cells, gone_cells, cells_between, change_between, ShowsChanges, StaysBelow, TurnsRows, written, as_shown, value_given, values_given, IsRowBelow};
 ghost use Rattle.alt_cells.specs.Shown.{row_shown};
 
 use crate::{Cell, CellList, CellMap, RowCells, RowChange, ShownRow};
@@ -210,7 +210,7 @@ fn cells_made(alloc: Global, row: ShownRow) -> Result<CellList, NoMemory>
 
 /// What a row shows, as the cells of a write before any other.
 fn cells_of(alloc: Global, row: &ShownRow) -> Result<RowCells, NoMemory>
-    ensures below { IfOk result (IsBelow 1) }
+    ensures below { IfOk result (IsRowBelow 1) }
     ensures shown { IfOk result (λ cells. row_shown cells ≡ as_shown row.now) }
 {
     let cells = column_cells(alloc, row.as_slice())?;

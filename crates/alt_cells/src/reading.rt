@@ -1,13 +1,13 @@
 //! Reading the bytes of a row.
 
-ghost use Rattle.std.specs.Prelude.{◌≡◌, ◌<◌, ◌^◌, ◌∷◌, ◌++◌, [], ℕ, ◌↔◌, length, IsTrue, IfSome, IfOk, IfErr, Err};
+ghost use Rattle.std.specs.Prelude.{◌≡◌, ◌<◌, ◌^◌, ◌++◌, [], ℕ, ◌↔◌, length, IsTrue, IfSome, IfOk, IfErr, Err};
 ghost use Rattle.std.specs.List.{flat_map};
 ghost use Rattle.std.specs.Int.{w64, to_be_bytes};
 ghost use Rattle.alt_fields.specs.Field.{field};
 ghost use Rattle.alt_fields.specs.declared.bytes.BytesFault.{BytesFault};
 ghost use Rattle.alt_cells.specs.declared.row.RowCells.{RowCells};
 ghost use Rattle.alt_cells.specs.Format.{tombstone_bytes, value_bytes, cell_bytes, bytes_of_row, IsHeldCell, IsHeldRow};
-ghost use Rattle.alt_cells.specs.Places.{IsCut, NoField, NoNumber, NoFlagged, IsNextName, NoName, NoCell, AreCells, NoCells, IsHeldNumber, Stops, IsBadAt, NoRow, IsReadAs, IsStop};
+ghost use Rattle.alt_cells.specs.Places.{FieldIsCutOff, NumberIsCutOff, NoFlagged, IsNextColumnName, NoName, NoCell, AreCells, NoCells, IsHeldNumber, Stops, IsBadAt, NoRow, IsReadAsRow, IsStop};
 
 use crate::stop::Stop;
 use crate::{Cell, CellMap, RowCells};
@@ -22,7 +22,7 @@ pub fn row_of(alloc: Global, bytes: &[u8]) -> Result<RowCells, BytesFault>
     ensures row { IfOk result (λ row. IsHeldRow row × (bytes.now ≡ bytes_of_row row)) }
     // Whatever row's bytes they are, it is read, unless memory is wanting.
     ensures taken { (row : RowCells) → IsHeldRow row → bytes.now ≡ bytes_of_row row
-        → IsReadAs row result }
+        → IsReadAsRow row result }
     ensures place { (at : ℕ) → result ≡ Err (BytesFault.Bad at)
         → IsBadAt bytes.now at × NoRow bytes.now }
 {
@@ -92,7 +92,7 @@ fn take_cell<'a>(
     bytes: &'a [u8],
 ) -> Result<(Bytes, Cell, &'a [u8]), Stop>
     requires { AreCells done.now }
-    ensures cell { IfOk result (λ p. IsHeldCell (p.0, p.1) × IsNextName done.now p.0
+    ensures cell { IfOk result (λ p. IsHeldCell (p.0, p.1) × IsNextColumnName done.now p.0
         × (bytes.now ≡ cell_bytes (p.0, p.1) ++ p.2.now)) }
     ensures stop { IfErr result (IsStop (NoCell done.now bytes.now)) }
 {
@@ -107,7 +107,7 @@ fn take_cell<'a>(
 /// A name that stands above those so far, and what follows it.
 fn next_name<'a>(done: &[(Bytes, Cell)], bytes: &'a [u8]) -> Result<(&'a [u8], &'a [u8]), Stop>
     requires { AreCells done.now }
-    ensures name { IfOk result (λ p. (length p.0.now < 2 ^ 64) × IsNextName done.now p.0.now
+    ensures name { IfOk result (λ p. (length p.0.now < 2 ^ 64) × IsNextColumnName done.now p.0.now
         × (bytes.now ≡ field p.0.now ++ p.1.now)) }
     ensures stop { IfErr result (IsStop (NoName done.now bytes.now)) }
 {
@@ -121,7 +121,7 @@ fn next_name<'a>(done: &[(Bytes, Cell)], bytes: &'a [u8]) -> Result<(&'a [u8], &
 
 fn is_next_name(done: &[(Bytes, Cell)], name: &[u8]) -> bool
     requires { AreCells done.now }
-    ensures { IsTrue result ↔ IsNextName done.now name.now }
+    ensures { IsTrue result ↔ IsNextColumnName done.now name.now }
 {
     match done.last() {
         Some(last) => last.0.as_slice().cmp(name).is_lt(),
@@ -133,7 +133,7 @@ fn is_next_name(done: &[(Bytes, Cell)], name: &[u8]) -> bool
 fn take_tombstone(bytes: &[u8]) -> Result<(Option<u64>, &[u8]), Stop>
     ensures tombstone { IfOk result (λ p. IsHeldNumber p.0
         × (bytes.now ≡ tombstone_bytes p.0 ++ p.1.now)) }
-    ensures stop { IfErr result (IsStop (NoFlagged NoNumber bytes.now)) }
+    ensures stop { IfErr result (IsStop (NoFlagged NumberIsCutOff bytes.now)) }
 {
     match bytes {
         [flag, rest @ ..] => match *flag {
@@ -152,7 +152,7 @@ fn take_tombstone(bytes: &[u8]) -> Result<(Option<u64>, &[u8]), Stop>
 fn take_value(alloc: Global, bytes: &[u8]) -> Result<(Option<Bytes>, &[u8]), Stop>
     ensures value { IfOk result (λ p. IfSome p.0 (λ v. length v < 2 ^ 64)
         × (bytes.now ≡ value_bytes p.0 ++ p.1.now)) }
-    ensures stop { IfErr result (IsStop (NoFlagged NoField bytes.now)) }
+    ensures stop { IfErr result (IsStop (NoFlagged FieldIsCutOff bytes.now)) }
 {
     match bytes {
         [flag, rest @ ..] => match *flag {
@@ -171,7 +171,7 @@ fn take_value(alloc: Global, bytes: &[u8]) -> Result<(Option<Bytes>, &[u8]), Sto
 fn take_number(bytes: &[u8]) -> Result<(u64, &[u8]), Stop>
     ensures number { IfOk result (λ p. (p.0 < 2 ^ 64)
         × (bytes.now ≡ to_be_bytes w64 p.0 ++ p.1.now)) }
-    ensures stop { IfErr result (IsStop (NoNumber bytes.now)) }
+    ensures stop { IfErr result (IsStop (NumberIsCutOff bytes.now)) }
 {
     match take_u64(bytes, 0) {
         Ok((number, end)) => {
@@ -186,7 +186,7 @@ fn take_number(bytes: &[u8]) -> Result<(u64, &[u8]), Stop>
 fn take_field(bytes: &[u8]) -> Result<(&[u8], &[u8]), Stop>
     ensures field { IfOk result (λ p. (length p.0.now < 2 ^ 64)
         × (bytes.now ≡ field p.0.now ++ p.1.now)) }
-    ensures stop { IfErr result (IsStop (NoField bytes.now)) }
+    ensures stop { IfErr result (IsStop (FieldIsCutOff bytes.now)) }
 {
     match take_bytes(bytes, 0) {
         Ok((content, end)) => {

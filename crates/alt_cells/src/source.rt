@@ -4,7 +4,7 @@ ghost use Rattle.std.specs.Prelude.{◌≡◌, ◌≤◌, ◌+◌, ℕ, Bool, Li
 ghost use Rattle.std.specs.Option.{option_copied};
 ghost use Rattle.alt_disk.specs.Disk.{DiskState};
 ghost use Rattle.alt_cells.specs.declared.row.RowCells.{RowCells};
-ghost use Rattle.alt_cells.specs.Walks.{RowMap, RowList, rows_from, Gives, Keeps, Fails, SameFiles, answered_by};
+ghost use Rattle.alt_cells.specs.Walks.{RowMap, RowList, rows_from, Gives, KeepsSource, Fails, SameFiles, answered_by};
 
 use crate::RowCells;
 use alt_base::NoMemory;
@@ -73,7 +73,7 @@ pub trait RowSource<D: Disk> {
             (rows_from rows (option_copied from.entry) forward)) }
         ensures given { OnOk result (seeks (D.state disk.old) (D.state disk.new) self.old
             (option_copied from.entry) forward self.new) }
-        ensures keeps { Keeps holds reads (D.state disk.old) (D.state disk.new) self.old self.new }
+        ensures keeps { KeepsSource holds reads (D.state disk.old) (D.state disk.new) self.old self.new }
         ensures reads { (D.state disk.new).reads ≤ (D.state disk.old).reads + width self.old }
         ensures width { width self.new ≡ width self.old }
         ensures well { IsTrue (answered_by result)
@@ -88,7 +88,7 @@ pub trait RowSource<D: Disk> {
             → IfOk result (Gives (left (D.state disk.new) self.new) rows) }
         ensures given { IfOk result (λ row. nexts (D.state disk.old) (D.state disk.new) self.old
             row self.new) }
-        ensures keeps { Keeps holds reads (D.state disk.old) (D.state disk.new) self.old self.new }
+        ensures keeps { KeepsSource holds reads (D.state disk.old) (D.state disk.new) self.old self.new }
         ensures reads { (D.state disk.new).reads ≤ (D.state disk.old).reads + width self.old }
         ensures width { width self.new ≡ width self.old }
         ensures well { IsTrue (answered_by result)

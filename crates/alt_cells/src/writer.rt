@@ -3,7 +3,7 @@
 ghost use Rattle.std.specs.Prelude.{◌≡◌, ◌++◌, ◌∷◌, [], ℕ, Bool, IsTrue, IsErrOf, OnOk, T};
 ghost use Rattle.std.specs.FinMap.Entries.{is_sorted};
 ghost use Rattle.alt_base.specs.Counts.{Rose};
-ghost use Rattle.alt_disk.specs.Disk.{DiskState, IsTrusted, Goes, answered};
+ghost use Rattle.alt_disk.specs.Disk.{DiskState, IsTrusted, Goes, call_answered};
 ghost use Rattle.alt_disk.specs.Runs.{Spans};
 ghost use Rattle.alt_disk.specs.declared.disk.DiskFault.TheVariants as fault;
 ghost use Rattle.alt_cells.specs.Keys.{key_cmp};
@@ -37,7 +37,7 @@ pub trait RowWriter<D: Disk> {
         ensures goes { Goes (D.state disk.old) (D.state disk.new) }
         ensures cause { IsErrOf result fault.Failed
             → Rose (D.state disk.old).faults (D.state disk.new).faults }
-        ensures well { IsTrue (answered result)
+        ensures well { IsTrue (call_answered result)
             → (D.state disk.new).faults ≡ (D.state disk.old).faults };
 
     /// What it has taken lasts while the files that it writes stay as they read.

@@ -96,7 +96,7 @@ no_map bytes other = (
 
 -- nor are those that are no value's, or of one that is too deep
 pub no_item : (bytes : List ℕ) (at : ℕ) → is_map bytes ≡ true
-    → (cell.IsBadAt bytes at ⊎ cell.IsDeepAt (deepest + 1) bytes at)
+    → (cell.IsBadValueAt bytes at ⊎ cell.IsDeepAt (deepest + 1) bytes at)
     → cell.NoValueWithin (deepest + 1) bytes → NoItem bytes at × NoneIs bytes
 no_item bytes at begins place none = (
   inr (begins, place),

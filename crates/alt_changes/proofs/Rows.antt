@@ -10,7 +10,7 @@ use Rattle.alt_base.proofs.Orderings.{is_eq-holds}
 use Rattle.alt_cells.specs.Changes.{Columns}
 use Rattle.alt_cells.specs.Keys.{key_cmp}
 use Rattle.alt_cells.proofs.CellLaws.{key_total, key_exact}
-use Rattle.alt_changes.specs.ChangeRows.{change_columns, columns_of, item_bytes, writer_cell}
+use Rattle.alt_changes.specs.ChangeRows.{change_columns, columns_of_change, item_bytes, writer_cell}
 use Rattle.alt_changes.specs.NoChange.{is_column}
 use Rattle.alt_codec.specs.declared.writer.Writer.{Writer}
 use Rattle.alt_codec.specs.declared.writer.Writer.TheVariants.{User, Expiry}
@@ -21,7 +21,7 @@ use Rattle.alt_value.specs.Tree.{Pair}
 
 -- they rise by their names
 pub columns_rise : (moment : ℕ) (writer : Writer) (old new : Option (List Pair))
-    → T (is_sorted key_cmp (columns_of moment writer old new))
+    → T (is_sorted key_cmp (columns_of_change moment writer old new))
 columns_rise moment User None None = tt
 columns_rise moment User None (Some n) = tt
 columns_rise moment User (Some o) None = tt
@@ -33,13 +33,13 @@ columns_rise moment Expiry (Some o) (Some n) = tt
 
 -- the entries of a change's row are its columns in their order
 pub entries-change : (c : Change)
-    → entries (change_columns c) ≡ columns_of c.moment c.by c.old c.new
-entries-change c = entries-from_sorted key_cmp (columns_of c.moment c.by c.old c.new)
+    → entries (change_columns c) ≡ columns_of_change c.moment c.by c.old c.new
+entries-change c = entries-from_sorted key_cmp (columns_of_change c.moment c.by c.old c.new)
     (columns_rise c.moment c.by c.old c.new)
 
 -- each has the name of a column of a change
 columns_known : (moment : ℕ) (writer : Writer) (old new : Option (List Pair))
-    → list_all (λ e. is_column e.0) (columns_of moment writer old new) ≡ true
+    → list_all (λ e. is_column e.0) (columns_of_change moment writer old new) ≡ true
 columns_known moment User None None = refl
 columns_known moment User None (Some n) = refl
 columns_known moment User (Some o) None = refl
@@ -52,8 +52,8 @@ columns_known moment Expiry (Some o) (Some n) = refl
 -- ---- what stands at them
 
 found : (c : Change) (q : List ℕ)
-    → get (change_columns c) q ≡ find key_cmp q (columns_of c.moment c.by c.old c.new)
-found c q = get-from_sorted key_cmp (columns_of c.moment c.by c.old c.new) q
+    → get (change_columns c) q ≡ find key_cmp q (columns_of_change c.moment c.by c.old c.new)
+found c q = get-from_sorted key_cmp (columns_of_change c.moment c.by c.old c.new) q
     (columns_rise c.moment c.by c.old c.new)
 
 moment_found : (c : Change)
@@ -64,7 +64,7 @@ new_found : (c : Change) → get (change_columns c) (codes "n") ≡ option_map i
 new_found c = found c (codes "n") ∙ by c.by c.old c.new
   where
     by : (writer : Writer) (old new : Option (List Pair))
-        → find key_cmp (codes "n") (columns_of c.moment writer old new) ≡ option_map item_bytes new
+        → find key_cmp (codes "n") (columns_of_change c.moment writer old new) ≡ option_map item_bytes new
     by User None None = refl
     by User None (Some n) = refl
     by User (Some o) None = refl
@@ -78,7 +78,7 @@ old_found : (c : Change) → get (change_columns c) (codes "o") ≡ option_map i
 old_found c = found c (codes "o") ∙ by c.by c.old c.new
   where
     by : (writer : Writer) (old new : Option (List Pair))
-        → find key_cmp (codes "o") (columns_of c.moment writer old new) ≡ option_map item_bytes old
+        → find key_cmp (codes "o") (columns_of_change c.moment writer old new) ≡ option_map item_bytes old
     by User None None = refl
     by User None (Some n) = refl
     by User (Some o) None = refl
@@ -92,7 +92,7 @@ writer_found : (c : Change) → get (change_columns c) (codes "u") ≡ writer_ce
 writer_found c = found c (codes "u") ∙ by c.by c.old c.new
   where
     by : (writer : Writer) (old new : Option (List Pair))
-        → find key_cmp (codes "u") (columns_of c.moment writer old new) ≡ writer_cell writer
+        → find key_cmp (codes "u") (columns_of_change c.moment writer old new) ≡ writer_cell writer
     by User None None = refl
     by User None (Some n) = refl
     by User (Some o) None = refl

@@ -10,7 +10,7 @@ use Rattle.std.specs.Int.{w64, to_be_bytes}
 use Rattle.std.specs.Option.{option_map_or}
 use Rattle.std.specs.Prelude.{◌==◌, ◌&&◌, ◌||◌, AllPairs, if◌then◌else◌, is_none}
 use Rattle.alt_cells.specs.Batches.{has_row}
-use Rattle.alt_cells.specs.Changes.{Columns, Given, change_between, changed_cells, differs, gone_cells, is_changed, with_value, without_value}
+use Rattle.alt_cells.specs.Changes.{Columns, GivenColumns, change_between, changed_cells, differs, gone_cells, is_changed, with_value, without_value}
 use Rattle.alt_cells.specs.Keys.{key_cmp}
 use Rattle.alt_cells.specs.declared.batch.RowChange.{RowChange}
 use Rattle.alt_cells.proofs.CellLaws.{key_total}
@@ -82,7 +82,7 @@ module _ (before after : ℕ) (rise : before < after) (small : after < 2 ^ 64) w
       ∙ ap (λ b. map without_value (cond b ((codes "x", to_be_bytes w64 before) ∷ []) [])) column_stays
 
   -- Where it rises, this is the row's change: it is made where none was there.
-  pub trimmed_made : (family : ℕ) (cells : Given)
+  pub trimmed_made : (family : ℕ) (cells : GivenColumns)
       → cells ≡ (codes "x", Some (to_be_bytes w64 after)) ∷ []
       → (let made : RowChange = record {
         family = family;
@@ -95,7 +95,7 @@ module _ (before after : ℕ) (rise : before < after) (small : after < 2 ^ 64) w
       ∙ ap (change_between family (row_key 0) (trimmed_row before))
       (sym (row_there after (omega (arith, rise))))
     where
-      made : Bool → Given → RowChange
+      made : Bool → GivenColumns → RowChange
       made clear given = record {
         family = family;
         key = row_key 0;

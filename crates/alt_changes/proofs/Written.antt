@@ -8,8 +8,8 @@ use Rattle.std.specs.Prelude.{if◌then◌else◌}
 use Rattle.alt_cellbytes.specs.Places.{entry_bytes}
 use Rattle.alt_cellbytes.proofs.Shapes.{map_bytes}
 use Rattle.alt_cells.specs.declared.batch.RowChange.{RowChange}
-use Rattle.alt_cells.specs.Changes.{Given, with_value}
-use Rattle.alt_changes.specs.ChangeRows.{columns_of, item_bytes, item_column, row_change, row_changes, row_key, writer_column}
+use Rattle.alt_cells.specs.Changes.{GivenColumns, with_value}
+use Rattle.alt_changes.specs.ChangeRows.{columns_of_change, item_bytes, item_column, row_change, row_changes, row_key, writer_column}
 use Rattle.alt_changes.proofs.Rows.{entries-change}
 use Rattle.alt_codec.specs.declared.writer.Writer.{Writer}
 use Rattle.alt_machine.specs.Changes.{change_left}
@@ -28,16 +28,16 @@ item_written item kind count all e f g =
 
 -- the cells of a change, one after another
 pub cells_written : (moment : ℕ) (writer : Writer) (old new : Option (List Pair))
-    (first more both all : Given) → first ≡ (codes "m", Some (to_be_bytes w64 moment)) ∷ []
+    (first more both all : GivenColumns) → first ≡ (codes "m", Some (to_be_bytes w64 moment)) ∷ []
     → more ≡ first ++ map with_value (item_column (codes "n") new)
     → both ≡ more ++ map with_value (item_column (codes "o") old)
     → all ≡ both ++ map with_value (writer_column writer)
-    → all ≡ map with_value (columns_of moment writer old new)
+    → all ≡ map with_value (columns_of_change moment writer old new)
 cells_written moment writer old new first more both all e f g h =
     let here : List ℕ × Option (List ℕ) = (codes "m", Some (to_be_bytes w64 moment)) in
-    let of_new : Given = map with_value (item_column (codes "n") new) in
-    let of_old : Given = map with_value (item_column (codes "o") old) in
-    let of_writer : Given = map with_value (writer_column writer) in
+    let of_new : GivenColumns = map with_value (item_column (codes "n") new) in
+    let of_old : GivenColumns = map with_value (item_column (codes "o") old) in
+    let of_writer : GivenColumns = map with_value (writer_column writer) in
     h ∙ ap (λ s. s ++ of_writer) (g ∙ ap (λ s. s ++ of_old) (f ∙ ap (λ s. s ++ of_new) e))
     ∙ ap (λ s. here ∷ s) (append_assoc of_new of_old of_writer
     ∙ ap (λ s. of_new ++ s)
@@ -46,8 +46,8 @@ cells_written moment writer old new first more both all e f g h =
     (item_column (codes "o") old ++ writer_column writer)))
 
 -- a row change with these cells makes the row of the change
-pub row_made : (family : ℕ) (c : Change) (cells : Given)
-    → cells ≡ map with_value (columns_of c.moment c.by c.old c.new)
+pub row_made : (family : ℕ) (c : Change) (cells : GivenColumns)
+    → cells ≡ map with_value (columns_of_change c.moment c.by c.old c.new)
     → (let made : RowChange = record {
       family = family;
       key = row_key c.number;
@@ -56,7 +56,7 @@ pub row_made : (family : ℕ) (c : Change) (cells : Given)
     } in made ≡ row_change family c)
 row_made family c cells e = ap change_of (e ∙ sym (ap (map with_value) (entries-change c)))
   where
-    change_of : Given → RowChange
+    change_of : GivenColumns → RowChange
     change_of given = record {
       family = family;
       key = row_key c.number;

@@ -52,14 +52,14 @@ writer_column writer =
     option_to_list (option_map (λ bytes. (codes "u", bytes)) (writer_cell writer))
 
 -- the columns of a change of that moment, by their names
-abbrev pub columns_of : ℕ → Writer → Option (List Pair) → Option (List Pair)
+abbrev pub columns_of_change : ℕ → Writer → Option (List Pair) → Option (List Pair)
     → List (List ℕ × List ℕ)
-columns_of moment writer old new = (codes "m", to_be_bytes w64 moment)
+columns_of_change moment writer old new = (codes "m", to_be_bytes w64 moment)
     ∷ (item_column (codes "n") new ++ (item_column (codes "o") old ++ writer_column writer))
 
 -- its row
 abbrev pub change_columns : Change → Columns
-change_columns c = from_sorted (columns_of c.moment c.by c.old c.new)
+change_columns c = from_sorted (columns_of_change c.moment c.by c.old c.new)
 
 -- ---- what a write does to the rows
 

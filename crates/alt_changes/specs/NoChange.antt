@@ -39,7 +39,7 @@ is_map (b ∷ bytes) = b == 10
 abbrev pub NoItem : List ℕ → ℕ → Type 0
 NoItem bytes at = ((is_map bytes ≡ false) × (at ≡ 0))
     ⊎ ((is_map bytes ≡ true)
-    × (cell.IsBadAt bytes at ⊎ cell.IsDeepAt (deepest + 1) bytes at))
+    × (cell.IsBadValueAt bytes at ⊎ cell.IsDeepAt (deepest + 1) bytes at))
 
 -- no item has these bytes
 abbrev pub NoneIs : List ℕ → Type 0
@@ -67,16 +67,16 @@ is_column name = bytes_eq name (codes "m") || (bytes_eq name (codes "n")
     || (bytes_eq name (codes "o") || bytes_eq name (codes "u")))
 
 -- The first cell by name that is bad, is bad there; where no cell is, but one is missing or too many, the place is 0.
-pub data IsBadAt (row : Columns) (at : ℕ) : Type 0 where
+pub data IsBadChangeAt (row : Columns) (at : ℕ) : Type 0 where
   in_moment : (bytes : List ℕ) → get row (codes "m") ≡ Some bytes → NoMoment bytes at
-      → IsBadAt row at
+      → IsBadChangeAt row at
   in_new : IfSome (get row (codes "m")) IsMoment → (bytes : List ℕ)
-      → get row (codes "n") ≡ Some bytes → NoItem bytes at → IsBadAt row at
+      → get row (codes "n") ≡ Some bytes → NoItem bytes at → IsBadChangeAt row at
   in_old : IfSome (get row (codes "m")) IsMoment → IfSome (get row (codes "n")) IsItemCell
-      → (bytes : List ℕ) → get row (codes "o") ≡ Some bytes → NoItem bytes at → IsBadAt row at
+      → (bytes : List ℕ) → get row (codes "o") ≡ Some bytes → NoItem bytes at → IsBadChangeAt row at
   in_writer : IfSome (get row (codes "m")) IsMoment → IfSome (get row (codes "n")) IsItemCell
       → IfSome (get row (codes "o")) IsItemCell → (bytes : List ℕ)
-      → get row (codes "u") ≡ Some bytes → bytes ≢ [] → at ≡ 0 → IsBadAt row at
+      → get row (codes "u") ≡ Some bytes → bytes ≢ [] → at ≡ 0 → IsBadChangeAt row at
   in_none : IfSome (get row (codes "m")) IsMoment → IfSome (get row (codes "n")) IsItemCell
       → IfSome (get row (codes "o")) IsItemCell → IfSome (get row (codes "u")) IsWriterCell
-      → at ≡ 0 → IsBadAt row at
+      → at ≡ 0 → IsBadChangeAt row at

@@ -6,7 +6,7 @@ ghost use Rattle.std.specs.List.{flat_map};
 ghost use Rattle.alt_cellbytes.specs.Places.{entry_bytes};
 ghost use Rattle.alt_cells.specs.Batches.{has_row};
 ghost use Rattle.alt_cells.specs.Changes.{with_value};
-ghost use Rattle.alt_changes.specs.ChangeRows.{columns_of, item_bytes, item_column, row_changes, row_key, writer_column};
+ghost use Rattle.alt_changes.specs.ChangeRows.{columns_of_change, item_bytes, item_column, row_changes, row_key, writer_column};
 ghost use Rattle.alt_machine.specs.Changes.{change_left};
 ghost use Rattle.alt_machine.specs.Same.{is_same};
 
@@ -106,7 +106,7 @@ fn cells_of(
     old: Option<&Item>,
     new: Option<&Item>,
 ) -> Result<CellList, NoMemory>
-    ensures { IfOk result (λ cells. cells ≡ each with_value (columns_of moment by
+    ensures { IfOk result (λ cells. cells ≡ each with_value (columns_of_change moment by
         (option_map (λ i. i.now) old.entry) (option_map (λ i. i.now) new.entry))) }
 {
     let mut cells = CellList::new(alloc);

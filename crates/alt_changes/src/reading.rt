@@ -5,7 +5,7 @@ ghost use Rattle.std.specs.FinMap.{entries, get};
 ghost use Rattle.std.specs.Int.{w64, to_be_bytes};
 ghost use Rattle.std.specs.List.{list_all};
 ghost use Rattle.alt_changes.specs.ChangeRows.{IsReadChange, IsReadItem, change_columns, change_in, item_bytes, writer_cell};
-ghost use Rattle.alt_changes.specs.NoChange.{IsBadAt, IsBadItem, IsBadMoment, IsBadWriter, NoItem, NoMoment, NoneIs, is_column, is_map};
+ghost use Rattle.alt_changes.specs.NoChange.{IsBadChangeAt, IsBadItem, IsBadMoment, IsBadWriter, NoItem, NoMoment, NoneIs, is_column, is_map};
 ghost use Rattle.alt_machine.specs.State as machine;
 
 use crate::changes::{Change, EXPIRED, MAP, MOMENT, NEW, OLD};
@@ -27,7 +27,7 @@ pub fn change_of(alloc: Global, number: u64, row: &ShownRow) -> Result<Change, B
         × (row.now ≡ change_columns (change_in c))) }
     ensures none { (at : ℕ) → result ≡ Err (BytesFault.Bad at)
         → (c : machine.Change) → IsReadChange c → row.now ≡ change_columns c → ⊥ }
-    ensures place { (at : ℕ) → result ≡ Err (BytesFault.Bad at) → IsBadAt row.now at }
+    ensures place { (at : ℕ) → result ≡ Err (BytesFault.Bad at) → IsBadChangeAt row.now at }
 {
     let moment = moment_in(row)?;
     let new = item_in(alloc, row, NEW)?;

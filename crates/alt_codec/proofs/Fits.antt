@@ -11,10 +11,10 @@ use Rattle.alt_base.proofs.Numbers.{told_above_zero}
 use Rattle.serde_json.specs.Data.{Data, null, boolean, number, string, array, object, Items, no_items, item, Members, no_members, member}
 use Rattle.alt_codec.specs.declared.fault.ValueFault.{ValueFault}
 use Rattle.alt_codec.specs.declared.fault.ValueFault.TheVariants as fault
-use Rattle.alt_value.specs.Values.{is_full, sets_full, elements_full, fields_full}
-use Rattle.alt_codec.specs.Reading.{Answer, all_null, flat_in, by_kind, if_room, value_in, only_member, first_member, elements_in, fields_in, item_in}
+use Rattle.alt_value.specs.Values.{is_nonempty_set, sets_full, elements_full, fields_full}
+use Rattle.alt_codec.specs.Reading.{ValueOrFault, all_null, flat_in, by_kind, if_room, value_in, only_member, first_member, elements_in, fields_in, item_in}
 use Rattle.alt_codec.specs.Scalars.{text_in, number_in, binary_in, truth_in, null_in}
-use Rattle.alt_codec.specs.Sets.{members_in, told, sound, first_fault, then_sound, or_later}
+use Rattle.alt_codec.specs.Sets.{members_in, told, sound, first_fault, then_sound, or_later_fault}
 use Rattle.alt_codec.specs.Steps.{and_then, map_ok}
 use Rattle.alt_value.specs.Item.{IsItem, with_pair}
 use Rattle.alt_value.specs.Members.{text_order, set_of, are_apart, gathered, with_member}
@@ -55,40 +55,40 @@ anything (Err e) = tt
 -- ---- sets
 
 module _ {K : Type 0} (R : K → K → Ordering) where
-  some_with_member : (x : K) (ys : List K) → T (is_full (with_member R x ys))
+  some_with_member : (x : K) (ys : List K) → T (is_nonempty_set (with_member R x ys))
   some_with_member x [] = tt
   some_with_member x (y ∷ ys) = elim (R x y) as
-      (λ o. T (is_full (by_order o (x ∷ y ∷ ys) (y ∷ ys) (y ∷ with_member R x ys)))) [
+      (λ o. T (is_nonempty_set (by_order o (x ∷ y ∷ ys) (y ∷ ys) (y ∷ with_member R x ys)))) [
         | Less ↦ tt
         | Equal ↦ tt
         | Greater ↦ tt
       ]
 
   some_told : (k : K) (ks : List K) (f : Option ValueFault)
-      → IfOk (told (set_of R (k ∷ ks)) f) (λ s. T (is_full s))
+      → IfOk (told (set_of R (k ∷ ks)) f) (λ s. T (is_nonempty_set s))
   unfolding set_of
   some_told k ks f = elim (are_apart R (k ∷ ks)) as
-      (λ b. IfOk (told (cond b (Some (gathered R (k ∷ ks))) None) f) (λ s. T (is_full s))) [
+      (λ b. IfOk (told (cond b (Some (gathered R (k ∷ ks))) None) f) (λ s. T (is_nonempty_set s))) [
         | true ↦ told_some f
         | false ↦ tt
       ]
     where
       told_some : (g : Option ValueFault) → IfOk (told (Some (gathered R (k ∷ ks))) g)
-          (λ s. T (is_full s))
+          (λ s. T (is_nonempty_set s))
       told_some None = some_with_member k (gathered R ks)
       told_some (Some e) = tt
 
-  none_told : (o : Option (List K)) (f : ValueFault) → IfOk (told o (Some f)) (λ s. T (is_full s))
+  none_told : (o : Option (List K)) (f : ValueFault) → IfOk (told o (Some f)) (λ s. T (is_nonempty_set s))
   none_told None f = tt
   none_told (Some s) f = tt
 
   module _ (read : Data → Result K ValueFault) where
     first_read : (r : Result K ValueFault) (ks : List K) (later : Option ValueFault)
-        → IfOk (told (set_of R (then_sound r ks)) (or_later r later)) (λ s. T (is_full s))
+        → IfOk (told (set_of R (then_sound r ks)) (or_later_fault r later)) (λ s. T (is_nonempty_set s))
     first_read (Ok k) ks later = some_told k ks later
     first_read (Err f) ks later = none_told (set_of R []) f
 
-    members_full : (d : Data) → IfOk (members_in R read d) (λ s. T (is_full s))
+    members_full : (d : Data) → IfOk (members_in R read d) (λ s. T (is_nonempty_set s))
     members_full (array no_items) = tt
     members_full (array (item d ds)) = first_read (read d) (sound read ds) (first_fault read ds)
     members_full null = tt
@@ -125,7 +125,7 @@ if_either Q false x y p q = q
 -- each of these kinds, by its name
 flat_fits : (room : ℕ) (name : List ℕ) (d : Data) → IfOk (flat_in name d) (Fits room)
 flat_fits room name d =
-    let Q : Answer → Type 0 = λ r. IfOk r (Fits room) in
+    let Q : ValueOrFault → Type 0 = λ r. IfOk r (Fits room) in
     if_either Q (bytes_eq name (codes "S")) _ _
     (of_map_ok (λ _. Unit {0}) (Fits room) S_tree (text_in d) (λ x p. (omega arith, tt))
     (anything (text_in d)))
@@ -138,19 +138,19 @@ flat_fits room name d =
     (if_either Q (bytes_eq name (codes "BOOL")) _ _ (truth_fits room d)
     (if_either Q (bytes_eq name (codes "NULL")) _ _ (null_fits room d)
     (if_either Q (bytes_eq name (codes "SS")) _ _
-    (of_map_ok (λ ks. T (is_full ks)) (Fits room) SS_tree (members_in text_order text_in d)
+    (of_map_ok (λ ks. T (is_nonempty_set ks)) (Fits room) SS_tree (members_in text_order text_in d)
     (λ x p. (omega arith, p)) (members_full text_order text_in d))
     (if_either Q (bytes_eq name (codes "NS")) _ _
-    (of_map_ok (λ ks. T (is_full ks)) (Fits room) NS_tree (members_in int_cmp number_in d)
+    (of_map_ok (λ ks. T (is_nonempty_set ks)) (Fits room) NS_tree (members_in int_cmp number_in d)
     (λ x p. (omega arith, p)) (members_full int_cmp number_in d))
     (if_either Q (bytes_eq name (codes "BS")) _ _
-    (of_map_ok (λ ks. T (is_full ks)) (Fits room) BS_tree (members_in text_order binary_in d)
+    (of_map_ok (λ ks. T (is_nonempty_set ks)) (Fits room) BS_tree (members_in text_order binary_in d)
     (λ x p. (omega arith, p)) (members_full text_order binary_in d)) tt)))))))
 
 -- ---- lists and maps
 
 -- lists, maps, and the others
-kind_fits : (Q : Answer → Type 0) (name : List ℕ) (list map flat : Answer) → Q list → Q map → Q flat
+kind_fits : (Q : ValueOrFault → Type 0) (name : List ℕ) (list map flat : ValueOrFault) → Q list → Q map → Q flat
     → Q (by_kind name list map flat)
 kind_fits Q name list map flat l m f =
     if_either Q (bytes_eq name (codes "L")) list _ l
@@ -225,7 +225,7 @@ mutual
   only_fits room (member name d ms) = first_fits (only_member room ms) (all_null ms) room name d
       (only_fits room ms)
 
-  first_fits : (others : Answer) (alone : Bool) (room : ℕ) (name : List ℕ) (d : Data)
+  first_fits : (others : ValueOrFault) (alone : Bool) (room : ℕ) (name : List ℕ) (d : Data)
       → IfOk others (Fits room) → IfOk (first_member others alone room name d) (Fits room)
   first_fits others alone room name null o = o
   first_fits others alone room name (boolean b) o = scalar_fits room name alone (boolean b)

@@ -6,4 +6,6 @@ pub mod Written
 pub mod ReadBack
 pub mod Fits
 pub mod Relation
+pub mod OneMember
+pub mod ValuesThere
 pub mod Tokens

@@ -7,10 +7,10 @@ use Rattle.serde_json.specs.View.{items_view}
 use Rattle.serde_json.specs.declared.value.Value.{Value}
 use Rattle.alt_codec.specs.Sets.{set_items}
 use Rattle.alt_codec.specs.declared.fault.ValueFault.TheVariants as fault
-use Rattle.alt_codec.specs.Reading.{Answer, value_in, only_member, only_present, all_null, payload_in}
+use Rattle.alt_codec.specs.Reading.{ValueOrFault, value_in, only_member, only_present, all_null, payload_in}
 
 -- the answer of the one member that is there
-unfoldable pub of_present : ℕ → Option (List ℕ × Data) → Answer
+unfoldable pub of_present : ℕ → Option (List ℕ × Data) → ValueOrFault
 of_present room None = Err fault.NotOneMember
 of_present room (Some p) = payload_in room p.0 p.1
 

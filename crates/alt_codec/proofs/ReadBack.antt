@@ -27,10 +27,10 @@ use Rattle.alt_value.proofs.Places.{turned}
 use Rattle.alt_value.proofs.Texts.{text_total, text_apart}
 use Rattle.alt_codec.specs.declared.fault.ValueFault.{ValueFault}
 use Rattle.alt_codec.specs.Reading.{value_in, elements_in, fields_in, if_room}
-use Rattle.alt_value.specs.Values.{is_full, elements_full, fields_full}
+use Rattle.alt_value.specs.Values.{is_nonempty_set, elements_full, fields_full}
 use Rattle.alt_codec.specs.Returning.{NumberReturns, BytesReturn, Returns, ItemReturns, Each}
 use Rattle.alt_codec.specs.Scalars.{text_in, number_in, binary_in, or_bad_number, or_bad_base64}
-use Rattle.alt_codec.specs.Sets.{sound, first_fault, told, members_in, then_sound, or_later}
+use Rattle.alt_codec.specs.Sets.{sound, first_fault, told, members_in, then_sound, or_later_fault}
 use Rattle.alt_codec.specs.Steps.{map_ok}
 use Rattle.alt_codec.specs.Writing.{strings, json_of, json_items, json_members}
 
@@ -70,11 +70,11 @@ module _ {K : Type 0} (read : Data → Result K ValueFault) (write : K → List 
   first_fault-written : (ks : List K) → Each IsRead ks
       → first_fault read (strings (map write ks)) ≡ None
   first_fault-written [] h = refl
-  first_fault-written (k ∷ ks) h = ap (λ r. or_later r (first_fault read (strings (map write ks))))
+  first_fault-written (k ∷ ks) h = ap (λ r. or_later_fault r (first_fault read (strings (map write ks))))
       h.0 ∙ first_fault-written ks h.1
 
   module _ (R : K → K → Ordering) (o : IsTotalOrder R) (apart : IsAntisymmetric R) where
-    members_in-written : (ks : List K) → IsSet R ks → Each IsRead ks → T (is_full ks)
+    members_in-written : (ks : List K) → IsSet R ks → Each IsRead ks → T (is_nonempty_set ks)
         → members_in R read (array (strings (map write ks))) ≡ Ok ks
     members_in-written [] rising h full = absurd full
     members_in-written (k ∷ ks) rising h full =

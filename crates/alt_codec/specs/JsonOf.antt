@@ -7,7 +7,7 @@ use Rattle.base64.specs.Engines.{standard}
 use Rattle.base64.specs.GeneralPurpose.{decode_of}
 use Rattle.serde_json.specs.Data.{Data, null, boolean, number, string, array, object, Items, no_items, item, Members, no_members, member}
 use Rattle.alt_decimal.specs.declared.fault.NumberFault.{NumberFault}
-use Rattle.alt_decimal.specs.NumberText.{ReadsAs}
+use Rattle.alt_decimal.specs.NumberText.{TextReadsAs}
 use Rattle.alt_value.specs.declared.attr.Attr.{Attr}
 use Rattle.alt_value.specs.Item.{with_pair}
 use Rattle.alt_value.specs.Members.{set_of, text_order}
@@ -23,8 +23,8 @@ present no_members = []
 present (member name d ms) = if is_null d then present ms else ((name, d) ∷ present ms)
 
 -- the one member that isn't null has that name and that payload
-abbrev pub IsOnly : Members → List ℕ → Data → Type 0
-IsOnly ms name payload = present ms ≡ (name, payload) ∷ []
+abbrev pub IsOnlyMember : Members → List ℕ → Data → Type 0
+IsOnlyMember ms name payload = present ms ≡ (name, payload) ∷ []
 
 -- a text stands for itself
 abbrev pub IsTextOf : List ℕ → List ℕ → Type 0
@@ -32,7 +32,7 @@ IsTextOf text s = text ≡ s
 
 -- a number text stands for the number that it denotes, by the grammar of number texts
 abbrev pub IsNumberOf : List ℕ → ℤ → Type 0
-IsNumberOf text z = ReadsAs text (Ok z)
+IsNumberOf text z = TextReadsAs text (Ok z)
 
 -- base64 with padding stands for the bytes that it encodes (RFC 4648, section 4)
 abbrev pub IsBinaryOf : List ℕ → List ℕ → Type 0
@@ -61,40 +61,40 @@ IsSetOf {K} R P ds set = (ks : List K) × AreMembersOf P ds ks × (0 < length ks
     × (set_of R ks ≡ Some set)
 
 -- the item with these pairs more, put in one after another
-abbrev pub with_pairs : List Pair → List Pair → List Pair
-with_pairs found [] = found
-with_pairs found (p ∷ ps) = with_pairs (with_pair p.0 p.1 found) ps
+abbrev pub with_more_pairs : List Pair → List Pair → List Pair
+with_more_pairs found [] = found
+with_more_pairs found (p ∷ ps) = with_more_pairs (with_pair p.0 p.1 found) ps
 
 mutual
   -- a value: lists and maps in it nest so many levels at most
   pub data JsonOf : ℕ → Data → Tree → Type 0 where
-    is_text : (room : ℕ) (ms : Members) (s : List ℕ) → IsOnly ms (codes "S") (string s)
+    is_text : (room : ℕ) (ms : Members) (s : List ℕ) → IsOnlyMember ms (codes "S") (string s)
         → JsonOf room (object ms) (S_tree s)
     is_number : (room : ℕ) (ms : Members) (text : List ℕ) (z : ℤ)
-        → IsOnly ms (codes "N") (string text) → IsNumberOf text z
+        → IsOnlyMember ms (codes "N") (string text) → IsNumberOf text z
         → JsonOf room (object ms) (N_tree z)
-    is_binary : (room : ℕ) (ms : Members) (text b : List ℕ) → IsOnly ms (codes "B") (string text)
+    is_binary : (room : ℕ) (ms : Members) (text b : List ℕ) → IsOnlyMember ms (codes "B") (string text)
         → IsBinaryOf text b
         → JsonOf room (object ms) (B_tree b)
-    is_truth : (room : ℕ) (ms : Members) (b : Bool) → IsOnly ms (codes "BOOL") (boolean b)
+    is_truth : (room : ℕ) (ms : Members) (b : Bool) → IsOnlyMember ms (codes "BOOL") (boolean b)
         → JsonOf room (object ms) (BOOL_tree b)
-    is_none : (room : ℕ) (ms : Members) → IsOnly ms (codes "NULL") (boolean true)
+    is_none : (room : ℕ) (ms : Members) → IsOnlyMember ms (codes "NULL") (boolean true)
         → JsonOf room (object ms) NULL_tree
     is_texts : (room : ℕ) (ms : Members) (ds : Items) (ss : List (List ℕ))
-        → IsOnly ms (codes "SS") (array ds)
+        → IsOnlyMember ms (codes "SS") (array ds)
         → IsSetOf text_order IsTextOf ds ss → JsonOf room (object ms) (SS_tree ss)
     is_numbers : (room : ℕ) (ms : Members) (ds : Items) (zs : List ℤ)
-        → IsOnly ms (codes "NS") (array ds)
+        → IsOnlyMember ms (codes "NS") (array ds)
         → IsSetOf int_cmp IsNumberOf ds zs → JsonOf room (object ms) (NS_tree zs)
     is_binaries : (room : ℕ) (ms : Members) (ds : Items) (bs : List (List ℕ))
-        → IsOnly ms (codes "BS") (array ds)
+        → IsOnlyMember ms (codes "BS") (array ds)
         → IsSetOf text_order IsBinaryOf ds bs → JsonOf room (object ms) (BS_tree bs)
     is_list : (room : ℕ) (ms : Members) (ds : Items) (ts : List Tree)
-        → IsOnly ms (codes "L") (array ds) → ElementsOf room ds ts
+        → IsOnlyMember ms (codes "L") (array ds) → ElementsOf room ds ts
         → JsonOf (suc room) (object ms) (L_tree (trees_of ts))
-    is_map : (room : ℕ) (ms os : Members) (ps : List Pair) → IsOnly ms (codes "M") (object os)
+    is_map : (room : ℕ) (ms os : Members) (ps : List Pair) → IsOnlyMember ms (codes "M") (object os)
         → PairsOf room os ps
-        → JsonOf (suc room) (object ms) (M_tree (fields_of (with_pairs [] ps)))
+        → JsonOf (suc room) (object ms) (M_tree (fields_of (with_more_pairs [] ps)))
 
   -- the elements of a list, place by place
   pub data ElementsOf : ℕ → Items → List Tree → Type 0 where
@@ -113,16 +113,16 @@ mutual
 -- an object stands for the item of its pairs
 abbrev pub ItemJsonOf : ℕ → Data → List Pair → Type 0
 ItemJsonOf room d i = (ms : Members) × (ps : List Pair) × (d ≡ object ms) × PairsOf room ms ps
-    × (i ≡ with_pairs [] ps)
+    × (i ≡ with_more_pairs [] ps)
 
 -- ---- numbers, and why a text is none
 
 -- an object sends a number as that text
 abbrev pub SendsNumber : Data → List ℕ → Type 0
-SendsNumber d text = (ms : Members) × (d ≡ object ms) × IsOnly ms (codes "N") (string text)
+SendsNumber d text = (ms : Members) × (d ≡ object ms) × IsOnlyMember ms (codes "N") (string text)
 
 -- The answer to that text, by the grammar of number texts: the number that it denotes, or else why it stands for none.
 abbrev pub AnswersNumber : List ℕ → Result Attr ValueFault → Type 0
-AnswersNumber text (Ok a) = (z : ℤ) × (tree_of a ≡ N_tree z) × ReadsAs text (Ok z)
+AnswersNumber text (Ok a) = (z : ℤ) × (tree_of a ≡ N_tree z) × TextReadsAs text (Ok z)
 AnswersNumber text (Err f) =
-    f ≢ fault.NoMemory → (n : NumberFault) × (f ≡ fault.BadNumber n) × ReadsAs text (Err n)
+    f ≢ fault.NoMemory → (n : NumberFault) × (f ≡ fault.BadNumber n) × TextReadsAs text (Err n)

@@ -8,8 +8,8 @@ use Rattle.alt_codec.specs.JsonOf.{JsonOf, ItemJsonOf}
 use Rattle.alt_codec.specs.Reading.{value_in, item_in}
 
 -- the JSON is read as that value, where no set in it is empty and it nests no deeper than there is room
-abbrev pub ReadsAs : ℕ → Data → Tree → Type 0
-ReadsAs room d t = T (sets_full t) → depth t ≤ room → value_in room d ≡ Ok t
+abbrev pub ReadsAsValue : ℕ → Data → Tree → Type 0
+ReadsAsValue room d t = T (sets_full t) → depth t ≤ room → value_in room d ≡ Ok t
 
 -- the JSON is read as that item
 abbrev pub ReadsAsItem : ℕ → Data → List Pair → Type 0
@@ -17,8 +17,8 @@ ReadsAsItem room d item = T (fields_full (fields_of item)) → fields_depth (fie
     → item_in room d ≡ Ok item
 
 -- so it stands for that value
-abbrev pub StandsFor : ℕ → Data → Tree → Type 0
-StandsFor room d t = T (sets_full t) → depth t ≤ room → JsonOf room d t
+abbrev pub StandsForValue : ℕ → Data → Tree → Type 0
+StandsForValue room d t = T (sets_full t) → depth t ≤ room → JsonOf room d t
 
 -- and for that item
 abbrev pub StandsForItem : ℕ → Data → List Pair → Type 0

@@ -14,8 +14,8 @@ use Rattle.alt_codec.specs.Sets.{members_in}
 use Rattle.alt_codec.specs.Steps.{and_then, map_ok}
 
 -- a value or a fault
-abbrev pub Answer : Type 0
-Answer = Result Tree ValueFault
+abbrev pub ValueOrFault : Type 0
+ValueOrFault = Result Tree ValueFault
 
 -- a JSON tree is null
 abbrev pub is_null : Data → Bool
@@ -32,7 +32,7 @@ all_null no_members = true
 all_null (member name d ms) = is_null d && all_null ms
 
 -- the value of a kind without nested values; no other name is one of a kind
-abbrev pub flat_in : List ℕ → Data → Answer
+abbrev pub flat_in : List ℕ → Data → ValueOrFault
 flat_in name d =
     if bytes_eq name (codes "S") then map_ok S_tree (text_in d)
     else if bytes_eq name (codes "N") then map_ok N_tree (number_in d)
@@ -45,7 +45,7 @@ flat_in name d =
     else Err fault.UnknownKind
 
 -- the answer by the kind's name
-abbrev pub by_kind : List ℕ → Answer → Answer → Answer → Answer
+abbrev pub by_kind : List ℕ → ValueOrFault → ValueOrFault → ValueOrFault → ValueOrFault
 by_kind name list map flat =
     if bytes_eq name (codes "L") then list else if bytes_eq name (codes "M") then map else flat
 
@@ -55,7 +55,7 @@ if_room room answer = if room == 0 then Err fault.TooDeep else answer
 
 -- `room` is how many lists and maps may still be nested
 abbrev mutual
-  pub value_in : ℕ → Data → Answer
+  pub value_in : ℕ → Data → ValueOrFault
   value_in room null = Err fault.WrongJson
   value_in room (boolean b) = Err fault.WrongJson
   value_in room (number n) = Err fault.WrongJson
@@ -64,12 +64,12 @@ abbrev mutual
   value_in room (object ms) = only_member room ms
 
   -- a null member counts as absent; another has to be the only one
-  pub only_member : ℕ → Members → Answer
+  pub only_member : ℕ → Members → ValueOrFault
   only_member room no_members = Err fault.NotOneMember
   only_member room (member name d ms) = first_member (only_member room ms) (all_null ms) room name d
 
   -- the answer by the first member, from that of the others, and whether those are all null
-  pub first_member : Answer → Bool → ℕ → List ℕ → Data → Answer
+  pub first_member : ValueOrFault → Bool → ℕ → List ℕ → Data → ValueOrFault
   first_member others alone room name null = others
   first_member others alone room name (boolean b) =
       if alone then by_kind name (Err fault.WrongJson) (Err fault.WrongJson)
@@ -109,7 +109,7 @@ only_present (member name d ms) = if is_null d then only_present ms
     else (if all_null ms then Some (name, d) else None)
 
 -- what a kind's payload stands for, by the kind's name
-abbrev pub list_in : ℕ → Data → Answer
+abbrev pub list_in : ℕ → Data → ValueOrFault
 list_in room (array ds) = if_room room (map_ok (λ ts. L_tree (trees_of ts))
     (elements_in (room - 1) ds))
 list_in room null = Err fault.WrongJson
@@ -119,7 +119,7 @@ list_in room (string s) = Err fault.WrongJson
 list_in room (object ms) = Err fault.WrongJson
 
 -- a map is an object of values, where there is room for it
-abbrev pub map_in : ℕ → Data → Answer
+abbrev pub map_in : ℕ → Data → ValueOrFault
 map_in room (object ms) = if_room room (map_ok (λ ps. M_tree (fields_of ps))
     (fields_in (room - 1) [] ms))
 map_in room null = Err fault.WrongJson
@@ -129,7 +129,7 @@ map_in room (string s) = Err fault.WrongJson
 map_in room (array ds) = Err fault.WrongJson
 
 -- by the name of the kind
-abbrev pub payload_in : ℕ → List ℕ → Data → Answer
+abbrev pub payload_in : ℕ → List ℕ → Data → ValueOrFault
 payload_in room name d = by_kind name (list_in room d) (map_in room d) (flat_in name d)
 
 -- an item is an object of values

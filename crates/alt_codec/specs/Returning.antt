@@ -5,7 +5,7 @@ use Rattle.base64.specs.GeneralPurpose.{encode_of, decode_of}
 use Rattle.alt_decimal.specs.Printed.{printed}
 use Rattle.alt_value.specs.Tree.{Tree, Pair}
 use Rattle.alt_codec.specs.Numbers.{number_of}
-use Rattle.alt_codec.specs.ReadBack.{ReadsAs, ReadsAsItem}
+use Rattle.alt_codec.specs.ReadBack.{ReadsAsValue, ReadsAsItem}
 use Rattle.alt_codec.specs.Writing.{json_of, json_of_pairs}
 
 -- a number is read back from its text, and bytes from theirs
@@ -18,7 +18,7 @@ BytesReturn b = decode_of standard (encode_of standard b) ≡ Ok b
 
 -- a value, and an item, is read back from its JSON, however much room there is
 abbrev pub Returns : Tree → Type 0
-Returns t = (room : ℕ) → ReadsAs room (json_of t) t
+Returns t = (room : ℕ) → ReadsAsValue room (json_of t) t
 
 -- and so is an item
 abbrev pub ItemReturns : List Pair → Type 0

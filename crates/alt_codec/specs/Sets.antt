@@ -23,9 +23,9 @@ then_sound (Ok k) ks = k ∷ ks
 then_sound (Err f) ks = []
 
 -- its fault, where it has one, else that of those that follow
-abbrev pub or_later : {K : Type 0} → Result K ValueFault → Option ValueFault → Option ValueFault
-or_later (Ok k) later = later
-or_later (Err f) later = Some f
+abbrev pub or_later_fault : {K : Type 0} → Result K ValueFault → Option ValueFault → Option ValueFault
+or_later_fault (Ok k) later = later
+or_later_fault (Err f) later = Some f
 
 -- a set that there is, without a fault
 abbrev pub told : {A : Type 0} → Option A → Option ValueFault → Result A ValueFault
@@ -42,7 +42,7 @@ module _ {K : Type 0} (read : Data → Result K ValueFault) where
   -- the fault of the first that has one
   abbrev pub first_fault : Items → Option ValueFault
   first_fault no_items = None
-  first_fault (item d ds) = or_later (read d) (first_fault ds)
+  first_fault (item d ds) = or_later_fault (read d) (first_fault ds)
 
 module _ {K : Type 0} (R : K → K → Ordering) (read : Data → Result K ValueFault) where
   -- the set of the members, unless two before the first fault are equal, or there is one

@@ -5,10 +5,10 @@ ghost use Rattle.serde_json.specs.View.{view, members_view, items_view};
 ghost use Rattle.alt_value.specs.Stands.{tree_of};
 ghost use Rattle.alt_value.specs.Tree.{Tree, Pair};
 ghost use Rattle.alt_value.specs.Values.{IsWhole, IsWholeItem};
-ghost use Rattle.alt_decimal.specs.NumberText.{ReadsAs};
+ghost use Rattle.alt_decimal.specs.NumberText.{TextReadsAs};
 ghost use Rattle.alt_codec.specs.JsonOf.{JsonOf, ItemJsonOf, SendsNumber, AnswersNumber};
 ghost use Rattle.alt_codec.specs.Numbers.{number_of};
-ghost use Rattle.alt_codec.specs.Reading.{value_in, item_in, only_member, only_present as the_only_present, payload_in, list_in, map_in, elements_in, fields_in};
+ghost use Rattle.alt_codec.specs.Reading.{value_in, item_in, only_present as the_only_present, payload_in, list_in, map_in, elements_in, fields_in};
 
 use crate::ValueFault;
 use crate::flat::flat_of;
@@ -28,7 +28,7 @@ pub fn attr_of_json(alloc: Global, v: &Value) -> Result<Attr, ValueFault>
     ensures none { IfErr result (λ f. f ≢ ValueFault.NoMemory → (t : Tree)
         → JsonOf 32 (view v.now) t → ⊥) }
     // A text reads as a number, or is refused for its fault, as the grammar of number texts says: an N, and each member of a set.
-    ensures numbers { (text : List ℕ) → ReadsAs text (number_of text) }
+    ensures numbers { (text : List ℕ) → TextReadsAs text (number_of text) }
     ensures number { (text : List ℕ) → SendsNumber (view v.now) text
         → AnswersNumber text result }
     // What is read is a value, and no set in it is empty.

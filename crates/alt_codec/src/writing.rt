@@ -3,13 +3,12 @@
 ghost use Rattle.std.specs.Prelude.{◌≡◌, false, map, string_bytes, IfOk};
 ghost use Rattle.base64.specs.Engines.{standard};
 ghost use Rattle.base64.specs.GeneralPurpose.{encode_of};
-ghost use Rattle.serde_json.specs.Data.{object};
 ghost use Rattle.serde_json.specs.View.{view, items_view, members_view};
 ghost use Rattle.serde_json.specs.Written.{has_float};
 ghost use Rattle.alt_decimal.specs.Printed.{printed};
 ghost use Rattle.alt_value.specs.Stands.{tree_of};
 ghost use Rattle.alt_value.specs.Tree.{SS_tree, NS_tree, BS_tree, trees_of, fields_of};
-ghost use Rattle.alt_codec.specs.ReadBack.{ReadsAs, ReadsAsItem, StandsFor, StandsForItem};
+ghost use Rattle.alt_codec.specs.ReadBack.{ReadsAsValue, ReadsAsItem, StandsForValue, StandsForItem};
 ghost use Rattle.alt_codec.specs.Returning.{NumberReturns, Returns, ItemReturns, Each};
 ghost use Rattle.alt_codec.specs.Writing.{of_kind as one_member, strings, json_of, json_items, json_members, json_of_pairs};
 
@@ -25,8 +24,8 @@ use std::alloc::Global;
 pub fn json_of_attr(alloc: Global, a: &Attr) -> Result<Value, NoMemory>
     ensures json { IfOk result (λ v. view v ≡ json_of (tree_of a.now)) }
     // It stands for the value, and reading gives that back, where no set in it is empty and it nests no deeper than may be read.
-    ensures stands { IfOk result (λ v. StandsFor 32 (view v) (tree_of a.now)) }
-    ensures read_back { IfOk result (λ v. ReadsAs 32 (view v) (tree_of a.now)) }
+    ensures stands { IfOk result (λ v. StandsForValue 32 (view v) (tree_of a.now)) }
+    ensures read_back { IfOk result (λ v. ReadsAsValue 32 (view v) (tree_of a.now)) }
     // So its text is the compact one.
     ensures no_float { IfOk result (λ v. has_float (view v) ≡ false) }
 {

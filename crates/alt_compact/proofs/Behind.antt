@@ -19,7 +19,7 @@ use Rattle.alt_cells.specs.Keys.{key_cmp}
 use Rattle.alt_cells.specs.Walks.{RowMap, RowList, rows_from}
 use Rattle.alt_cells.proofs.Entries.{turned_less, turned_greater}
 use Rattle.alt_cells.proofs.CellLaws.{key_total}
-use Rattle.alt_compact.specs.Jobs.{last_of, last_key}
+use Rattle.alt_compact.specs.Jobs.{last_key_from, last_row_key}
 
 -- 0 is below each number, or ties with it
 not_below : (n : ℕ) → nat_cmp 0 n ≡ Greater → ⊥
@@ -83,8 +83,8 @@ all_behind k (e ∷ left) h =
 
 -- and of rows behind others those
 behind : (e : List ℕ × RowCells) (es left : RowList) → T (is_sorted key_cmp ((e ∷ es) ++ left))
-    → (is_le (key_cmp (last_of e es ++ 0 ∷ []) e.0) ≡ false)
-    × (filter (from_behind (last_of e es)) ((e ∷ es) ++ left) ≡ left)
+    → (is_le (key_cmp (last_key_from e es ++ 0 ∷ []) e.0) ≡ false)
+    × (filter (from_behind (last_key_from e es)) ((e ∷ es) ++ left) ≡ left)
 behind e [] left h = (
   at_key e.0,
   ap (λ b. cond (b && true) (e ∷ filter (from_behind e.0) left) (filter (from_behind e.0) left))
@@ -92,7 +92,7 @@ behind e [] left h = (
 )
 behind e (f ∷ es) left h =
     let rest = behind f es left (second_holds _ _ h) in
-    let k = last_of f es in
+    let k = last_key_from f es in
     let here = below_key (k ++ 0 ∷ []) e.0 f.0
     (is_lt-holds _ (first_holds _ _ (first_holds _ _ h))) rest.0 in
     let more = filter (from_behind k) ((f ∷ es) ++ left) in
@@ -109,8 +109,8 @@ next_key (Some k) = Some (k ++ 0 ∷ [])
 
 -- so a walk from there, behind the rows that were taken, gives those that are left
 pub rows_behind : (rows : RowMap) (taken left : RowList) → entries rows ≡ taken ++ left
-    → rows_from rows (next_key (last_key taken)) true ≡ left
+    → rows_from rows (next_key (last_row_key taken)) true ≡ left
 rows_behind rows [] left e = all_of (entries rows) ∙ e
 rows_behind rows (f ∷ taken) left e =
-    ap (filter (from_behind (last_of f taken))) e
+    ap (filter (from_behind (last_key_from f taken))) e
     ∙ (behind f taken left (subst (λ es. T (is_sorted key_cmp es)) e (entries_sorted rows))).1

@@ -8,15 +8,15 @@ use Rattle.alt_cells.specs.declared.row.RowCells.{RowCells}
 use Rattle.alt_cells.specs.Keys.{key_cmp}
 use Rattle.alt_cells.specs.Compacted.{compacted, compacted_row, entry_compacted, is_bare}
 use Rattle.alt_cells.specs.Walks.{RowList}
-use Rattle.alt_compact.specs.Jobs.{last_of, last_key}
+use Rattle.alt_compact.specs.Jobs.{last_key_from, last_row_key}
 
-last_pushed : (d e : List ℕ × RowCells) (es : RowList) → last_of d (es ++ e ∷ []) ≡ e.0
+last_pushed : (d e : List ℕ × RowCells) (es : RowList) → last_key_from d (es ++ e ∷ []) ≡ e.0
 last_pushed d e [] = refl
 last_pushed d e (f ∷ es) = last_pushed f e es
 
 -- the last key of one row more is its own
 pub last_key_pushed : (taken : RowList) (e : List ℕ × RowCells)
-    → last_key (taken ++ e ∷ []) ≡ Some e.0
+    → last_row_key (taken ++ e ∷ []) ≡ Some e.0
 last_key_pushed [] e = refl
 last_key_pushed (f ∷ taken) e = ap (λ k. Some k) (last_pushed f e taken)
 

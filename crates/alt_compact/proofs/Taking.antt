@@ -9,18 +9,18 @@ use Rattle.alt_disk.proofs.Runs.{trusted_on, tells_of, quiet_spans, spans_on}
 use Rattle.alt_cells.specs.declared.row.RowCells.{RowCells}
 use Rattle.alt_cells.specs.Keys.{key_cmp}
 use Rattle.alt_cells.specs.Compacted.{compacted}
-use Rattle.alt_cells.specs.Walks.{RowMap, RowList, Gives, Keeps, SameFiles, Anything}
+use Rattle.alt_cells.specs.Walks.{RowMap, RowList, Gives, KeepsSource, SameFiles, Anything}
 use Rattle.alt_cells.proofs.Rising.{sorted_front}
 use Rattle.alt_cells.proofs.CellLaws.{key_total}
 use Rattle.alt_compact.specs.declared.job.Job.{Job}
-use Rattle.alt_compact.specs.Jobs.{IsUnderWay, Takes, Took, Moves}
+use Rattle.alt_compact.specs.Jobs.{IsUnderWay, TakesRows, Took, MovesOnlyTouched}
 use Rattle.alt_compact.proofs.Lists.{last_key_pushed, taken_all, taken_more}
 
 -- ---- what calls move
 
 -- a call that leaves all files
 pub moves_quiet : (touched : ℕ → Bool) (a b : DiskState) → Goes a b
-    → (IsTrue a.tells → Quiet a b) → Moves touched a b
+    → (IsTrue a.tells → Quiet a b) → MovesOnlyTouched touched a b
 moves_quiet touched a b goes quiet = record {
   goes = goes;
   others = λ t. quiet_spans a b (λ f. IsTrue (touched f)) Anything (quiet (tells_of a t))
@@ -29,9 +29,9 @@ moves_quiet touched a b goes quiet = record {
 
 -- two calls, of which the second touches the same files
 pub moves_on : (touched then_touched : ℕ → Bool) (a b c : DiskState) → then_touched ≡ touched
-    → Moves touched a b → Moves then_touched b c → Moves touched a c
+    → MovesOnlyTouched touched a b → MovesOnlyTouched then_touched b c → MovesOnlyTouched touched a c
 moves_on touched then_touched a b c same first then =
-    let rest = subst (λ w. Moves w b c) same then in
+    let rest = subst (λ w. MovesOnlyTouched w b c) same then in
     record {
       goes = goes_on a b c first.goes rest.goes;
       others = λ t. spans_on a b c (λ f. IsTrue (touched f)) Anything (first.others t)
@@ -64,12 +64,12 @@ module _ {S W : Type 0} (Holds : DiskState → S → RowMap → Type 0) (reads :
   -- the files that the source reads stay where only those that the writer writes change
   same_read : (a b : DiskState) (x : S) (w : W)
       → ((f : ℕ) → IsTrue (reads x f) → IsTrue (writes w f) → ⊥) → IsTrusted a
-      → Moves (writes w) a b → SameFiles (reads x) a b
+      → MovesOnlyTouched (writes w) a b → SameFiles (reads x) a b
   same_read a b x w apart t moves f r = (moves.others t).file f (λ h. apart f r h)
 
   -- a call on the source leaves a merge under way as it is
   pub under_read : (a b : DiskState) (job : Job) (x y : S) (w : W) (taken left : RowList)
-      → IsTrue a.tells → Keeps Holds reads a b x y
+      → IsTrue a.tells → KeepsSource Holds reads a b x y
       → IsUnderWay Holds reads Written writes a job x w taken left
       → IsUnderWay Holds reads Written writes b job y w taken left
   under_read a b job x y w taken left t keeps under = record {
@@ -94,8 +94,8 @@ module _ {S W : Type 0} (Holds : DiskState → S → RowMap → Type 0) (reads :
   -- what a write of the row that was given asks
   pub ready : (a b : DiskState) (job : Job) (x y : S) (w : W) (taken left : RowList)
       (given : List ℕ × RowCells) → IsTrue a.tells
-      → Takes Holds reads Left Written writes a job x w taken left
-      → Keeps Holds reads a b x y → Gives (Left b y) left (Some given)
+      → TakesRows Holds reads Left Written writes a job x w taken left
+      → KeepsSource Holds reads a b x y → Gives (Left b y) left (Some given)
       → Written b w (compacted job.purge taken) × T (is_sorted key_cmp (taken ++ given ∷ []))
   ready a b job x y w taken left given t takes keeps gives =
       let first = given_first (Left b y) left given gives in (
@@ -108,20 +108,20 @@ module _ {S W : Type 0} (Holds : DiskState → S → RowMap → Type 0) (reads :
   -- a row that was given and written is taken
   pub took_some : (a b c : DiskState) (job later : Job) (x y : S) (w v : W) (taken left : RowList)
       (given : List ℕ × RowCells) → IsTrusted a
-      → Takes Holds reads Left Written writes a job x w taken left
-      → Keeps Holds reads a b x y → Gives (Left b y) left (Some given)
-      → Moves (writes w) b c → writes v ≡ writes w → later.last ≡ Some given.0
+      → TakesRows Holds reads Left Written writes a job x w taken left
+      → KeepsSource Holds reads a b x y → Gives (Left b y) left (Some given)
+      → MovesOnlyTouched (writes w) b c → writes v ≡ writes w → later.last ≡ Some given.0
       → later.purge ≡ job.purge
       → (Written b w (compacted job.purge taken) → T (is_sorted key_cmp (taken ++ given ∷ []))
       → Written c v (compacted job.purge (taken ++ given ∷ [])))
-      → Took (Takes Holds reads Left Written writes c later y v) taken left true
+      → Took (TakesRows Holds reads Left Written writes c later y v) taken left true
   took_some a b c job later x y w v taken left given t takes keeps gives moves files at purge wrote =
       let tells = tells_of a t in
       let first = given_first (Left b y) left given gives in
       let under = under_read a b job x y w taken left tells keeps takes.under in
       let same = same_read b c y w under.apart (trusted_on a b keeps.goes t) moves in
       let asked = ready a b job x y w taken left given tells takes keeps gives in
-      subst (λ l. Took (Takes Holds reads Left Written writes c later y v) taken l true)
+      subst (λ l. Took (TakesRows Holds reads Left Written writes c later y v) taken l true)
       (sym first.1)
       (record {
         under = record {
@@ -139,13 +139,13 @@ module _ {S W : Type 0} (Holds : DiskState → S → RowMap → Type 0) (reads :
 
   -- the end is taken
   pub took_none : (a b : DiskState) (job : Job) (x y : S) (w : W) (taken left : RowList)
-      → IsTrusted a → Takes Holds reads Left Written writes a job x w taken left
-      → Keeps Holds reads a b x y → Gives (Left b y) left None
-      → Took (Takes Holds reads Left Written writes b job y w) taken left false
+      → IsTrusted a → TakesRows Holds reads Left Written writes a job x w taken left
+      → KeepsSource Holds reads a b x y → Gives (Left b y) left None
+      → Took (TakesRows Holds reads Left Written writes b job y w) taken left false
   took_none a b job x y w taken left t takes keeps gives =
       let none = given_none (Left b y) left gives in
       let under = under_read a b job x y w taken left (tells_of a t) keeps takes.under in
-      subst (λ l. Took (Takes Holds reads Left Written writes b job y w) taken l false)
+      subst (λ l. Took (TakesRows Holds reads Left Written writes b job y w) taken l false)
       (sym none.0)
       (record {
         under = subst (λ l. IsUnderWay Holds reads Written writes b job y w taken l) none.0 under;
@@ -156,34 +156,34 @@ module _ {S W : Type 0} (Holds : DiskState → S → RowMap → Type 0) (reads :
 
   -- one more
   pub step_more : (c : DiskState) (job : Job) (y : S) (v : W) (taken left : RowList) (i : ℕ)
-      → Took (Takes Holds reads Left Written writes c job y v) (taken ++ take i left) (drop i left)
+      → Took (TakesRows Holds reads Left Written writes c job y v) (taken ++ take i left) (drop i left)
       true
-      → Takes Holds reads Left Written writes c job y v (taken ++ take (suc i) left)
+      → TakesRows Holds reads Left Written writes c job y v (taken ++ take (suc i) left)
       (drop (suc i) left)
   step_more c job y v taken left i took = at (drop i left) refl took
     where
       at : (l : RowList) → drop i left ≡ l
-          → Took (Takes Holds reads Left Written writes c job y v) (taken ++ take i left) l true
-          → Takes Holds reads Left Written writes c job y v (taken ++ take (suc i) left)
+          → Took (TakesRows Holds reads Left Written writes c job y v) (taken ++ take i left) l true
+          → TakesRows Holds reads Left Written writes c job y v (taken ++ take (suc i) left)
           (drop (suc i) left)
       at [] is took = absurd took
       at (e ∷ rest) is took =
           let more = taken_more i taken left e rest is in
-          subst (λ l. Takes Holds reads Left Written writes c job y v l (drop (suc i) left)) more.0
-          (subst (λ l. Takes Holds reads Left Written writes c job y v
+          subst (λ l. TakesRows Holds reads Left Written writes c job y v l (drop (suc i) left)) more.0
+          (subst (λ l. TakesRows Holds reads Left Written writes c job y v
           ((taken ++ take i left) ++ e ∷ []) l) more.1 took)
 
   -- no more
   pub step_end : (c : DiskState) (job : Job) (y : S) (v : W) (taken left : RowList) (i n : ℕ)
       → i ≤ n
-      → Took (Takes Holds reads Left Written writes c job y v) (taken ++ take i left) (drop i left)
+      → Took (TakesRows Holds reads Left Written writes c job y v) (taken ++ take i left) (drop i left)
       false
       → IsUnderWay Holds reads Written writes c job y v (taken ++ take n left) (drop n left)
       × (drop n left ≡ [])
   step_end c job y v taken left i n le took = at (drop i left) refl took
     where
       at : (l : RowList) → drop i left ≡ l
-          → Took (Takes Holds reads Left Written writes c job y v) (taken ++ take i left) l false
+          → Took (TakesRows Holds reads Left Written writes c job y v) (taken ++ take i left) l false
           → IsUnderWay Holds reads Written writes c job y v (taken ++ take n left) (drop n left)
           × (drop n left ≡ [])
       at (e ∷ rest) is took = absurd took

@@ -11,14 +11,14 @@ use Rattle.alt_compact.specs.declared.job.Stepped.{Stepped}
 use Rattle.alt_compact.specs.declared.job.Stepped.TheVariants.{More, Done}
 
 -- the key of the last row, the first of which is this one
-abbrev pub last_of : List ℕ × RowCells → RowList → List ℕ
-last_of e [] = e.0
-last_of e (f ∷ es) = last_of f es
+abbrev pub last_key_from : List ℕ × RowCells → RowList → List ℕ
+last_key_from e [] = e.0
+last_key_from e (f ∷ es) = last_key_from f es
 
 -- the key of the last of these rows, none where there are none
-abbrev pub last_key : RowList → Option (List ℕ)
-last_key [] = None
-last_key (e ∷ es) = Some (last_of e es)
+abbrev pub last_row_key : RowList → Option (List ℕ)
+last_row_key [] = None
+last_row_key (e ∷ es) = Some (last_key_from e es)
 
 -- it drops tombstones
 abbrev pub purges : Job → Bool
@@ -26,7 +26,7 @@ purges job = job.purge
 
 -- it goes on behind these rows
 abbrev pub HasTaken : Job → RowList → Type 0
-HasTaken job taken = job.last ≡ last_key taken
+HasTaken job taken = job.last ≡ last_row_key taken
 
 -- A merge of a source into a writer: these of the source's rows were taken and these are left, and the writer has exactly the
 -- compaction of those that were taken. It writes no file that the source reads.
@@ -41,7 +41,7 @@ pub record IsUnderWay {S W : Type 0} (Holds : DiskState → S → RowMap → Typ
   pub apart : (f : ℕ) → IsTrue (reads source f) → IsTrue (writes into f) → ⊥
 
 -- the same, and the source gives the rows that are left
-pub record Takes {S W : Type 0} (Holds : DiskState → S → RowMap → Type 0)
+pub record TakesRows {S W : Type 0} (Holds : DiskState → S → RowMap → Type 0)
     (reads : S → ℕ → Bool) (Left : DiskState → S → RowList → Type 0)
     (Written : DiskState → W → RowList → Type 0) (writes : W → ℕ → Bool)
     (s : DiskState) (job : Job) (source : S) (into : W) (taken left : RowList) : Type 0 where
@@ -49,9 +49,9 @@ pub record Takes {S W : Type 0} (Holds : DiskState → S → RowMap → Type 0)
   pub next : Left s source left
 
 -- what a step says of the rows that are left
-abbrev pub Says : Stepped → RowList → Type 0
-Says Done left = left ≡ []
-Says More left = left ≡ [] → ⊥
+abbrev pub StepSays : Stepped → RowList → Type 0
+StepSays Done left = left ≡ []
+StepSays More left = left ≡ [] → ⊥
 
 -- one row was taken, or none was left
 abbrev pub Took : (RowList → RowList → Type 0) → RowList → RowList → Bool → Type 0
@@ -61,6 +61,6 @@ Took After taken (e ∷ left) false = ⊥
 Took After taken (e ∷ left) true = After (taken ++ e ∷ []) left
 
 -- what every such call keeps: all files but those that the writer writes, in reads and in what a stop leaves at each moment
-pub record Moves (touched : ℕ → Bool) (old new : DiskState) : Type 0 where
+pub record MovesOnlyTouched (touched : ℕ → Bool) (old new : DiskState) : Type 0 where
   pub goes : Goes old new
   pub others : IsTrusted old → Spans old new (λ f. IsTrue (touched f)) Anything

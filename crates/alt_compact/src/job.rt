@@ -1,10 +1,10 @@
 //! How far a merge has come, and how it goes on.
 
-ghost use Rattle.std.specs.Prelude.{◌≡◌, ◌<◌, ◌++◌, ℕ, Bool, IsTrue, IfOk, IfErr, OnOk, take, drop, []};
-ghost use Rattle.alt_disk.specs.Disk.{DiskState, IsTrusted};
+ghost use Rattle.std.specs.Prelude.{◌≡◌, ◌<◌, ◌++◌, IsTrue, IfOk, IfErr, OnOk, take, drop, []};
+ghost use Rattle.alt_disk.specs.Disk.{IsTrusted};
 ghost use Rattle.std.specs.FinMap.{entries};
-ghost use Rattle.alt_cells.specs.Walks.{RowMap, RowList, Keeps, Fails, HasCause, IsDamaged, answered_by};
-ghost use Rattle.alt_compact.specs.Jobs.{purges, HasTaken, IsUnderWay, Says, Moves, Takes, Took};
+ghost use Rattle.alt_cells.specs.Walks.{RowMap, RowList, KeepsSource, Fails, HasCause, IsDamaged, answered_by};
+ghost use Rattle.alt_compact.specs.Jobs.{purges, HasTaken, IsUnderWay, StepSays, MovesOnlyTouched, TakesRows, Took};
 
 use crate::write::{next_key, write};
 use alt_cells::{RowSource, RowWriter, SourceFault};
@@ -58,10 +58,10 @@ impl Job {
             into.old taken left
             → IfOk result (λ stepped. IsUnderWay S.holds S.reads W.written W.writes
             (D.state disk.new) self.new source.new into.new (taken ++ take rows left)
-            (drop rows left) × Says stepped (drop rows left)) }
+            (drop rows left) × StepSays stepped (drop rows left)) }
         ensures purge { purges self.new ≡ purges self.old }
         ensures files { W.writes into.new ≡ W.writes into.old }
-        ensures moves { Moves (W.writes into.old) (D.state disk.old) (D.state disk.new) }
+        ensures moves { MovesOnlyTouched (W.writes into.old) (D.state disk.old) (D.state disk.new) }
         ensures cause { IfErr result (HasCause (S.reads source.old) (D.state disk.old)
             (D.state disk.new)) }
         ensures sound { IsTrusted (D.state disk.old) → (taken left : RowList)
@@ -90,7 +90,7 @@ impl Job {
             → S.holds (D.state disk.old) source.old rows → entries rows ≡ taken ++ left
             → HasTaken self.now taken
             → OnOk result (S.left (D.state disk.new) source.new left) }
-        ensures keeps { Keeps S.holds S.reads (D.state disk.old) (D.state disk.new) source.old
+        ensures keeps { KeepsSource S.holds S.reads (D.state disk.old) (D.state disk.new) source.old
             source.new }
         ensures well { IsTrue (answered_by result)
             → (D.state disk.new).faults ≡ (D.state disk.old).faults }
@@ -114,17 +114,17 @@ impl Job {
         into: &mut W,
     ) -> Result<bool, SourceFault>
         requires { IsTrusted (D.state disk.old) → (taken : RowList) × (left : RowList)
-            × Takes S.holds S.reads S.left W.written W.writes (D.state disk.old) self.old source.old
+            × TakesRows S.holds S.reads S.left W.written W.writes (D.state disk.old) self.old source.old
             into.old taken left }
         ensures took { IsTrusted (D.state disk.old) → (taken left : RowList)
-            → Takes S.holds S.reads S.left W.written W.writes (D.state disk.old) self.old source.old
+            → TakesRows S.holds S.reads S.left W.written W.writes (D.state disk.old) self.old source.old
             into.old taken left
-            → IfOk result (Took (Takes S.holds S.reads S.left W.written W.writes (D.state disk.new)
+            → IfOk result (Took (TakesRows S.holds S.reads S.left W.written W.writes (D.state disk.new)
             self.new source.new into.new) taken left) }
         ensures purge { purges self.new ≡ purges self.old }
         ensures reads { S.reads source.new ≡ S.reads source.old }
         ensures files { W.writes into.new ≡ W.writes into.old }
-        ensures moves { Moves (W.writes into.old) (D.state disk.old) (D.state disk.new) }
+        ensures moves { MovesOnlyTouched (W.writes into.old) (D.state disk.old) (D.state disk.new) }
         ensures cause { IfErr result (HasCause (S.reads source.old) (D.state disk.old)
             (D.state disk.new)) }
         ensures sound { IsTrue (D.state disk.old).tells → (rows : RowMap)
@@ -147,8 +147,8 @@ impl Job {
 // Whether a row is left.
 fn rest<D: Disk, S: RowSource<D>>(disk: &mut D, source: &mut S) -> Result<Stepped, SourceFault>
     ensures says { IsTrue (D.state disk.old).tells → (left : RowList)
-        → S.left (D.state disk.old) source.old left → IfOk result (λ stepped. Says stepped left) }
-    ensures keeps { Keeps S.holds S.reads (D.state disk.old) (D.state disk.new) source.old
+        → S.left (D.state disk.old) source.old left → IfOk result (λ stepped. StepSays stepped left) }
+    ensures keeps { KeepsSource S.holds S.reads (D.state disk.old) (D.state disk.new) source.old
         source.new }
     ensures well { IsTrue (answered_by result)
         → (D.state disk.new).faults ≡ (D.state disk.old).faults }

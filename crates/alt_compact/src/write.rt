@@ -2,11 +2,11 @@
 
 ghost use Rattle.std.specs.Prelude.{◌≡◌, ◌++◌, ◌∷◌, [], ℕ, Bool, IsTrue, IfOk, IfErr, OnOk, T, if◌then◌else◌};
 ghost use Rattle.std.specs.FinMap.Entries.{is_sorted};
-ghost use Rattle.alt_disk.specs.Disk.{DiskState, IsTrusted};
+ghost use Rattle.alt_disk.specs.Disk.{IsTrusted};
 ghost use Rattle.alt_cells.specs.Compacted.{compacted, is_bare};
 ghost use Rattle.alt_cells.specs.Keys.{key_cmp};
 ghost use Rattle.alt_cells.specs.Walks.{RowList, HasCause, IsDamaged, answered_by};
-ghost use Rattle.alt_compact.specs.Jobs.{Moves};
+ghost use Rattle.alt_compact.specs.Jobs.{MovesOnlyTouched};
 
 use alt_base::NoMemory;
 use alt_cells::{RowCells, RowWriter, SourceFault};
@@ -40,7 +40,7 @@ pub(crate) fn write<D: Disk, W: RowWriter<D>>(
         → W.written (D.state disk.new) into.new
         (compacted purge (taken ++ (key.now, row) ∷ []))) }
     ensures files { W.writes into.new ≡ W.writes into.old }
-    ensures moves { Moves (W.writes into.old) (D.state disk.old) (D.state disk.new) }
+    ensures moves { MovesOnlyTouched (W.writes into.old) (D.state disk.old) (D.state disk.new) }
     ensures cause { (reads : ℕ → Bool)
         → IfErr result (HasCause reads (D.state disk.old) (D.state disk.new)) }
     ensures sound { IfErr result (λ fault. IsDamaged fault → ⊥) }
@@ -68,7 +68,7 @@ fn put<D: Disk, W: RowWriter<D>>(
         → W.written (D.state disk.new) into.new
         (rows ++ (if is_bare row.now then [] else ((key.now, row.now) ∷ [])))) }
     ensures files { W.writes into.new ≡ W.writes into.old }
-    ensures moves { Moves (W.writes into.old) (D.state disk.old) (D.state disk.new) }
+    ensures moves { MovesOnlyTouched (W.writes into.old) (D.state disk.old) (D.state disk.new) }
     ensures cause { (reads : ℕ → Bool)
         → IfErr result (HasCause reads (D.state disk.old) (D.state disk.new)) }
     ensures sound { IfErr result (λ fault. IsDamaged fault → ⊥) }

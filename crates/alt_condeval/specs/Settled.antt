@@ -15,8 +15,8 @@ abbrev pub EachAs : List Cond → List Cond → Type 0
 EachAs old new = (item : View) → map (holds item) new ≡ map (holds item) old
 
 -- the condition holds where a question about the item is answered with yes
-abbrev pub Tells : (View → Bool) → Cond → Type 0
-Tells told c = (item : View) → holds item c ≡ told item
+abbrev pub HoldsAsTold : (View → Bool) → Cond → Type 0
+HoldsAsTold told c = (item : View) → holds item c ≡ told item
 
 -- whatever the item, the operand denotes that value
 abbrev pub IsGiven : Operand → Tree → Type 0

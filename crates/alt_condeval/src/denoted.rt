@@ -74,7 +74,7 @@ fn size<'a>(value: &Attr) -> Denoted<'a>
 
 /// Bytes or elements, None exactly where the value has no size.
 fn count(value: &Attr) -> Option<usize>
-    ensures { result ≡ spec.count_of (tree_of value.now) }
+    ensures { result ≡ spec.counted_size (tree_of value.now) }
 {
     match value {
         Attr::S(text) => Some(text.as_str().len()),

@@ -7,7 +7,7 @@ ghost use Rattle.alt_expr.specs.declared.cond.Cond.TheVariants as cond;
 ghost use Rattle.alt_expr.specs.declared.cond.Comparison.{Comparison};
 ghost use Rattle.alt_expr.specs.Holds as spec;
 ghost use Rattle.alt_expr.specs.Located.{View};
-ghost use Rattle.alt_condeval.specs.Settled.{HoldsAs, EachAs, Tells, IsGiven};
+ghost use Rattle.alt_condeval.specs.Settled.{HoldsAs, EachAs, HoldsAsTold, IsGiven};
 
 use crate::compared::compares;
 use crate::contained::{begins, contains};
@@ -72,7 +72,7 @@ fn negated(alloc: Global, inner: Cond) -> Result<Cond, NoMemory>
 
 /// A condition that holds of every item, or of none: that all of no conditions hold, or one of none.
 fn answer(alloc: Global, truth: bool) -> Cond
-    ensures { Tells (λ _. truth) result }
+    ensures { HoldsAsTold (λ _. truth) result }
 {
     if truth {
         Cond::All(Items::new(alloc))
@@ -92,7 +92,7 @@ fn given(operand: &Operand) -> Option<&Attr>
 }
 
 fn compare(alloc: Global, by: Comparison, a: &Operand, b: &Operand) -> Result<Cond, NoMemory>
-    ensures { IfOk result (Tells (λ item.
+    ensures { IfOk result (HoldsAsTold (λ item.
         spec.compares by (spec.denoted item a.now) (spec.denoted item b.now))) }
 {
     match (given(a), given(b)) {
@@ -110,7 +110,7 @@ fn compare(alloc: Global, by: Comparison, a: &Operand, b: &Operand) -> Result<Co
 
 /// A given value is compared with each bound by itself.
 fn between(alloc: Global, a: &Operand, low: &Operand, high: &Operand) -> Result<Cond, NoMemory>
-    ensures { IfOk result (Tells (λ item.
+    ensures { IfOk result (HoldsAsTold (λ item.
         spec.compares Comparison.GreaterEqual (spec.denoted item a.now) (spec.denoted item low.now)
         && spec.compares Comparison.LessEqual (spec.denoted item a.now)
         (spec.denoted item high.now))) }
@@ -129,7 +129,7 @@ fn between(alloc: Global, a: &Operand, low: &Operand, high: &Operand) -> Result<
 
 /// A given value is compared with each operand by itself.
 fn among(alloc: Global, a: &Operand, operands: &OperandList) -> Result<Cond, NoMemory>
-    ensures { IfOk result (Tells (λ item. list_any
+    ensures { IfOk result (HoldsAsTold (λ item. list_any
         (λ y. spec.equal (spec.denoted item a.now) (spec.denoted item y)) operands.now)) }
 {
     let list = operands.as_slice();
@@ -182,7 +182,7 @@ fn has_kind(alloc: Global, path: &[PathPart], name: &Operand) -> Result<Cond, No
 }
 
 fn begins_with(alloc: Global, a: &Operand, front: &Operand) -> Result<Cond, NoMemory>
-    ensures { IfOk result (Tells (λ item.
+    ensures { IfOk result (HoldsAsTold (λ item.
         spec.begins (spec.denoted item a.now) (spec.denoted item front.now))) }
 {
     match (given(a), given(front)) {
@@ -199,7 +199,7 @@ fn begins_with(alloc: Global, a: &Operand, front: &Operand) -> Result<Cond, NoMe
 }
 
 fn containing(alloc: Global, a: &Operand, b: &Operand) -> Result<Cond, NoMemory>
-    ensures { IfOk result (Tells (λ item.
+    ensures { IfOk result (HoldsAsTold (λ item.
         spec.contains (spec.denoted item a.now) (spec.denoted item b.now))) }
 {
     match (given(a), given(b)) {

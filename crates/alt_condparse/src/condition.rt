@@ -1,9 +1,8 @@
 //! Conditions by precedence: NOT, then AND, then OR.
 
-ghost use Rattle.std.specs.Prelude.{◌≡◌, ◌∷◌, ◌++◌, []};
-ghost use Rattle.alt_expr.specs.Reader.{left, Reads};
+ghost use Rattle.alt_expr.specs.Reader.{left, ReadsExpression};
 ghost use Rattle.alt_expr.specs.CondReader as spec;
-ghost use Rattle.alt_expr.specs.Lookups.{given_to};
+ghost use Rattle.alt_expr.specs.Lookups.{given_by_lookups};
 
 use crate::test::test;
 use alt_expr::{Boxed, Cond, Cursor, ExprFault, Items, Keyword, Lookups, Mark};
@@ -15,7 +14,7 @@ pub(crate) fn any(
     tokens: &mut Cursor<'_>,
     depth: usize,
 ) -> Result<Cond, ExprFault>
-    ensures { Reads (spec.any (spec.one (given_to given.now) depth) (left tokens.old)) result
+    ensures { ReadsExpression (spec.any (spec.one (given_by_lookups given.now) depth) (left tokens.old)) result
         (left tokens.new) }
 {
     let turns = tokens.len();
@@ -36,7 +35,7 @@ pub(crate) fn any(
 
 #[cycle(condition)]
 fn all(given: &Lookups<'_>, tokens: &mut Cursor<'_>, depth: usize) -> Result<Cond, ExprFault>
-    ensures { Reads (spec.all (spec.one (given_to given.now) depth) (left tokens.old)) result
+    ensures { ReadsExpression (spec.all (spec.one (given_by_lookups given.now) depth) (left tokens.old)) result
         (left tokens.new) }
 {
     let turns = tokens.len();
@@ -57,7 +56,7 @@ fn all(given: &Lookups<'_>, tokens: &mut Cursor<'_>, depth: usize) -> Result<Con
 
 #[cycle(condition)]
 fn one(given: &Lookups<'_>, tokens: &mut Cursor<'_>, depth: usize) -> Result<Cond, ExprFault>
-    ensures { Reads (spec.one (given_to given.now) depth (left tokens.old)) result
+    ensures { ReadsExpression (spec.one (given_by_lookups given.now) depth (left tokens.old)) result
         (left tokens.new) }
 {
     if depth == 0 {
@@ -72,8 +71,8 @@ fn one(given: &Lookups<'_>, tokens: &mut Cursor<'_>, depth: usize) -> Result<Con
 
 #[cycle(condition)]
 fn prim(given: &Lookups<'_>, tokens: &mut Cursor<'_>, depth: usize) -> Result<Cond, ExprFault>
-    ensures { Reads
-        (spec.prim (given_to given.now) (spec.one (given_to given.now) depth) (left tokens.old))
+    ensures { ReadsExpression
+        (spec.prim (given_by_lookups given.now) (spec.one (given_by_lookups given.now) depth) (left tokens.old))
         result (left tokens.new) }
 {
     if !tokens.eat(Mark::LeftRound) {

@@ -1,9 +1,8 @@
 //! Operands, read from tokens.
 
-ghost use Rattle.std.specs.Prelude.{◌≡◌, ◌∷◌, ◌++◌, []};
-ghost use Rattle.alt_expr.specs.Reader.{left, Reads};
+ghost use Rattle.alt_expr.specs.Reader.{left, ReadsExpression};
 ghost use Rattle.alt_expr.specs.CondReader as spec;
-ghost use Rattle.alt_expr.specs.Lookups.{given_to};
+ghost use Rattle.alt_expr.specs.Lookups.{given_by_lookups};
 
 use alt_expr::{
     Cursor, ExprFault, Items, Lookups, Mark, Operand, OperandList, Token, read_path,
@@ -13,7 +12,7 @@ use alt_expr::{
 /// A path, a `:` word or a size.
 #[tactic(auto, unfolding(alt_expr::specs::CondReader::operand))]
 pub(crate) fn operand(given: &Lookups<'_>, tokens: &mut Cursor<'_>) -> Result<Operand, ExprFault>
-    ensures { Reads (spec.operand (given_to given.now) (left tokens.old)) result (left tokens.new) }
+    ensures { ReadsExpression (spec.operand (given_by_lookups given.now) (left tokens.old)) result (left tokens.new) }
 {
     match tokens.peek() {
         Some(Token::ColonWord(word)) => {
@@ -26,7 +25,7 @@ pub(crate) fn operand(given: &Lookups<'_>, tokens: &mut Cursor<'_>) -> Result<Op
 
 #[tactic(auto, unfolding(alt_expr::specs::CondReader::named))]
 fn named(given: &Lookups<'_>, tokens: &mut Cursor<'_>) -> Result<Operand, ExprFault>
-    ensures { Reads (spec.named (given_to given.now) (left tokens.old)) result (left tokens.new) }
+    ensures { ReadsExpression (spec.named (given_by_lookups given.now) (left tokens.old)) result (left tokens.new) }
 {
     if tokens.calls("size") {
         tokens.skip(2);
@@ -43,7 +42,7 @@ pub(crate) fn operands(
     given: &Lookups<'_>,
     tokens: &mut Cursor<'_>,
 ) -> Result<OperandList, ExprFault>
-    ensures { Reads (spec.operands (given_to given.now) (left tokens.old)) result
+    ensures { ReadsExpression (spec.operands (given_by_lookups given.now) (left tokens.old)) result
         (left tokens.new) }
 {
     let turns = tokens.len();

@@ -1,9 +1,9 @@
 //! Comparisons and functions, read from tokens.
 
 ghost use Rattle.std.specs.Prelude.{◌≡◌};
-ghost use Rattle.alt_expr.specs.Reader.{left, Reads};
+ghost use Rattle.alt_expr.specs.Reader.{left, ReadsExpression};
 ghost use Rattle.alt_expr.specs.CondReader as spec;
-ghost use Rattle.alt_expr.specs.Lookups.{given_to};
+ghost use Rattle.alt_expr.specs.Lookups.{given_by_lookups};
 ghost use Rattle.alt_expr.specs.declared.cond.Cond.TheVariants as cond;
 
 use crate::operand::{operand, operands};
@@ -15,7 +15,7 @@ use alt_expr::{
 /// A condition without NOT, AND, OR and brackets of its own.
 #[tactic(auto, unfolding(alt_expr::specs::CondReader::whole_test))]
 pub(crate) fn test(given: &Lookups<'_>, tokens: &mut Cursor<'_>) -> Result<Cond, ExprFault>
-    ensures { Reads (spec.whole_test (given_to given.now) (left tokens.old)) result
+    ensures { ReadsExpression (spec.whole_test (given_by_lookups given.now) (left tokens.old)) result
         (left tokens.new) }
 {
     if tokens.calls("attribute_exists") {
@@ -32,7 +32,7 @@ pub(crate) fn test(given: &Lookups<'_>, tokens: &mut Cursor<'_>) -> Result<Cond,
 /// A test that has an operand.
 #[tactic(auto, unfolding(alt_expr::specs::CondReader::operand_test))]
 fn operand_test(given: &Lookups<'_>, tokens: &mut Cursor<'_>) -> Result<Cond, ExprFault>
-    ensures { Reads (spec.operand_test (given_to given.now) (left tokens.old)) result
+    ensures { ReadsExpression (spec.operand_test (given_by_lookups given.now) (left tokens.old)) result
         (left tokens.new) }
 {
     if tokens.calls("attribute_type") {
@@ -53,7 +53,7 @@ fn operand_test(given: &Lookups<'_>, tokens: &mut Cursor<'_>) -> Result<Cond, Ex
 
 #[tactic(auto, unfolding(alt_expr::specs::CondReader::kind))]
 fn kind(given: &Lookups<'_>, tokens: &mut Cursor<'_>) -> Result<Cond, ExprFault>
-    ensures { Reads (spec.kind (given_to given.now) (left tokens.old)) result (left tokens.new) }
+    ensures { ReadsExpression (spec.kind (given_by_lookups given.now) (left tokens.old)) result (left tokens.new) }
 {
     let path = read_path(given.alloc, given.names, tokens)?;
     tokens.expect(Mark::Comma)?;
@@ -64,7 +64,7 @@ fn kind(given: &Lookups<'_>, tokens: &mut Cursor<'_>) -> Result<Cond, ExprFault>
 
 #[tactic(auto, unfolding(alt_expr::specs::CondReader::pair))]
 fn begins(given: &Lookups<'_>, tokens: &mut Cursor<'_>) -> Result<Cond, ExprFault>
-    ensures { Reads (spec.pair (given_to given.now) cond.BeginsWith (left tokens.old)) result
+    ensures { ReadsExpression (spec.pair (given_by_lookups given.now) cond.BeginsWith (left tokens.old)) result
         (left tokens.new) }
 {
     let whole = operand(given, tokens)?;
@@ -76,7 +76,7 @@ fn begins(given: &Lookups<'_>, tokens: &mut Cursor<'_>) -> Result<Cond, ExprFaul
 
 #[tactic(auto, unfolding(alt_expr::specs::CondReader::pair))]
 fn contains(given: &Lookups<'_>, tokens: &mut Cursor<'_>) -> Result<Cond, ExprFault>
-    ensures { Reads (spec.pair (given_to given.now) cond.Contains (left tokens.old)) result
+    ensures { ReadsExpression (spec.pair (given_by_lookups given.now) cond.Contains (left tokens.old)) result
         (left tokens.new) }
 {
     let whole = operand(given, tokens)?;
@@ -89,7 +89,7 @@ fn contains(given: &Lookups<'_>, tokens: &mut Cursor<'_>) -> Result<Cond, ExprFa
 /// What stands behind the first operand.
 #[tactic(auto, unfolding(alt_expr::specs::CondReader::tail))]
 fn tail(given: &Lookups<'_>, tokens: &mut Cursor<'_>, first: Operand) -> Result<Cond, ExprFault>
-    ensures { Reads (spec.tail (given_to given.now) first (left tokens.old)) result
+    ensures { ReadsExpression (spec.tail (given_by_lookups given.now) first (left tokens.old)) result
         (left tokens.new) }
 {
     if let Some(by) = comparison(tokens) {
@@ -107,7 +107,7 @@ fn tail(given: &Lookups<'_>, tokens: &mut Cursor<'_>, first: Operand) -> Result<
 
 #[tactic(auto, unfolding(alt_expr::specs::CondReader::between))]
 fn between(given: &Lookups<'_>, tokens: &mut Cursor<'_>, first: Operand) -> Result<Cond, ExprFault>
-    ensures { Reads (spec.between (given_to given.now) first (left tokens.old)) result
+    ensures { ReadsExpression (spec.between (given_by_lookups given.now) first (left tokens.old)) result
         (left tokens.new) }
 {
     let low = operand(given, tokens)?;
@@ -118,7 +118,7 @@ fn between(given: &Lookups<'_>, tokens: &mut Cursor<'_>, first: Operand) -> Resu
 
 #[tactic(auto, unfolding(alt_expr::specs::CondReader::among, alt_expr::specs::Reader::in_brackets))]
 fn among(given: &Lookups<'_>, tokens: &mut Cursor<'_>, first: Operand) -> Result<Cond, ExprFault>
-    ensures { Reads (spec.among (given_to given.now) first (left tokens.old)) result
+    ensures { ReadsExpression (spec.among (given_by_lookups given.now) first (left tokens.old)) result
         (left tokens.new) }
 {
     tokens.expect(Mark::LeftRound)?;

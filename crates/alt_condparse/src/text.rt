@@ -5,7 +5,7 @@ ghost use Rattle.alt_expr.specs.Tokens.{tok_of};
 ghost use Rattle.alt_expr.specs.Faults.{Parsed, NotesHashes, NotesColons, KeepsNames};
 ghost use Rattle.alt_expr.specs.Told.{IsOnly};
 ghost use Rattle.alt_expr.specs.Languages.{conditions};
-ghost use Rattle.alt_expr.specs.Lookups.{given_by, given_to};
+ghost use Rattle.alt_expr.specs.Lookups.{given_by, given_by_lookups};
 ghost use Rattle.alt_expr.specs.Given.{with_hashes, with_colons};
 ghost use Rattle.alt_expr.specs.NamesGiven.{given_values, used_names, used_values};
 ghost use Rattle.alt_expr.specs.Read.{ReadsWhole, ReadTokens};
@@ -108,7 +108,7 @@ fn read(
 /// The condition that the tokens are, whether its words are given or not. NOT and brackets stand no deeper in one another than
 /// there are tokens.
 fn read_whole(given: &Lookups<'_>, tokens: &[Token<'_>]) -> Result<Cond, ExprFault>
-    ensures { ReadsWhole conditions (given_to given.now) (map tok_of tokens.now) result }
+    ensures { ReadsWhole conditions (given_by_lookups given.now) (map tok_of tokens.now) result }
 {
     let mut cursor = Cursor::new(tokens);
     match any(given, &mut cursor, tokens.len()) {

@@ -12,7 +12,7 @@ use Rattle.alt_base.proofs.Orderings.{nat_cmp-equal}
 use Rattle.alt_decimal.specs.Digits.{width}
 use Rattle.alt_decimal.specs.declared.Decimal.TheInside.{Inside}
 use Rattle.alt_decimal.specs.Form.{units_of, IsNormal}
-use Rattle.alt_decimal.specs.Spelled.{pairs, complement, magnitude_bytes, spelled}
+use Rattle.alt_decimal.specs.Spelled.{digit_pairs, complement, magnitude_bytes, spelled}
 use Rattle.alt_decimal.proofs.Unspelling.{IsPairs}
 use Rattle.alt_decimal.proofs.Spelling.{magnitude_bytes-mul}
 use Rattle.alt_decimal.proofs.SpellingOrder.{Fitting, all_coefficient, Look, at_zero, over, under, look, spelled_cmp}
@@ -50,21 +50,21 @@ flipped_without (p ∷ ps) h = (λ z. omega (arith, h.0, z), flipped_without ps 
 
 -- bytes of a magnitude, and what follows them
 plain_shape : (t z : ℕ) → Fitting t z → (r : List ℕ)
-    → magnitude_bytes (t * 10 ^ z) ++ r ≡ (width t + z - 38) ∷ (pairs (digits_of 10 t) ++ 0 ∷ r)
+    → magnitude_bytes (t * 10 ^ z) ++ r ≡ (width t + z - 38) ∷ (digit_pairs (digits_of 10 t) ++ 0 ∷ r)
 plain_shape t z f r =
     ap (λ ts. ts ++ r) (magnitude_bytes-mul t z f.last)
-    ∙ ap (λ ts. (width t + z - 38) ∷ ts) (append_assoc (pairs (digits_of 10 t)) (0 ∷ []) r)
+    ∙ ap (λ ts. (width t + z - 38) ∷ ts) (append_assoc (digit_pairs (digits_of 10 t)) (0 ∷ []) r)
 
 -- bytes of a magnitude below zero, and what follows them
 flipped_shape : (t z : ℕ) → Fitting t z → (r : List ℕ)
     → complement (magnitude_bytes (t * 10 ^ z)) ++ r
-    ≡ (255 - (width t + z - 38)) ∷ (complement (pairs (digits_of 10 t)) ++ 255 ∷ r)
+    ≡ (255 - (width t + z - 38)) ∷ (complement (digit_pairs (digits_of 10 t)) ++ 255 ∷ r)
 flipped_shape t z f r =
     ap (λ ts. complement ts ++ r) (magnitude_bytes-mul t z f.last)
     ∙ ap (λ ts. (255 - (width t + z - 38)) ∷ (ts ++ r))
-    (map-append (λ b. 255 - b) (pairs (digits_of 10 t)) (0 ∷ []))
+    (map-append (λ b. 255 - b) (digit_pairs (digits_of 10 t)) (0 ∷ []))
     ∙ ap (λ ts. (255 - (width t + z - 38)) ∷ ts)
-    (append_assoc (complement (pairs (digits_of 10 t))) (255 ∷ []) r)
+    (append_assoc (complement (digit_pairs (digits_of 10 t))) (255 ∷ []) r)
 
 -- spellings that begin differently, kind by kind
 apart : (u v : ℤ) (x y : ℕ) (xs ys r s : List ℕ) → spelled u ≡ x ∷ xs → spelled v ≡ y ∷ ys
@@ -91,11 +91,11 @@ looks_apart u v r s (over t y g e a) (over t' z h f b) is =
     let behind = cons_rest 3 3 _ _ (apart u v 3 3 _ _ r s a b is) in
     let shapes = sym (plain_shape t y g r) ∙ behind ∙ plain_shape t' z h s in
     let first = cons_first _ _ _ _ shapes in
-    let w = ends_same 0 (pairs (digits_of 10 t)) (pairs (digits_of 10 t')) r s
+    let w = ends_same 0 (digit_pairs (digits_of 10 t)) (digit_pairs (digits_of 10 t')) r s
     (pairs_without _ (all_coefficient t y g)) (pairs_without _ (all_coefficient t' z h))
     (cons_rest _ _ _ _ shapes) in
     let same : magnitude_bytes (t * 10 ^ y) ≡ magnitude_bytes (t' * 10 ^ z) =
-    magnitude_bytes-mul t y g.last ∙ ap (λ p. p ∷ (pairs (digits_of 10 t) ++ 0 ∷ [])) first
+    magnitude_bytes-mul t y g.last ∙ ap (λ p. p ∷ (digit_pairs (digits_of 10 t) ++ 0 ∷ [])) first
     ∙ ap (λ ps. (width t' + z - 38) ∷ (ps ++ 0 ∷ [])) w.lists
     ∙ sym (magnitude_bytes-mul t' z h.last) in
     record { lists = a ∙ ap (λ ts. 3 ∷ ts) same ∙ sym b; rests = w.rests }
@@ -103,13 +103,13 @@ looks_apart u v r s (under t y g e a) (under t' z h f b) is =
     let behind = cons_rest 1 1 _ _ (apart u v 1 1 _ _ r s a b is) in
     let shapes = sym (flipped_shape t y g r) ∙ behind ∙ flipped_shape t' z h s in
     let first = cons_first _ _ _ _ shapes in
-    let w = ends_same 255 (complement (pairs (digits_of 10 t)))
-    (complement (pairs (digits_of 10 t'))) r s
+    let w = ends_same 255 (complement (digit_pairs (digits_of 10 t)))
+    (complement (digit_pairs (digits_of 10 t'))) r s
     (flipped_without _ (all_coefficient t y g)) (flipped_without _ (all_coefficient t' z h))
     (cons_rest _ _ _ _ shapes) in
     let plain : complement (magnitude_bytes (t * 10 ^ y)) ++ []
     ≡ complement (magnitude_bytes (t' * 10 ^ z)) ++ [] =
-    flipped_shape t y g [] ∙ ap (λ p. p ∷ (complement (pairs (digits_of 10 t)) ++ 255 ∷ [])) first
+    flipped_shape t y g [] ∙ ap (λ p. p ∷ (complement (digit_pairs (digits_of 10 t)) ++ 255 ∷ [])) first
     ∙ ap (λ ps. (255 - (width t' + z - 38)) ∷ (ps ++ 255 ∷ [])) w.lists
     ∙ sym (flipped_shape t' z h []) in
     let same : complement (magnitude_bytes (t * 10 ^ y))

@@ -12,7 +12,7 @@ use Rattle.std.proofs.Math.Nat.{pow-suc}
 use Rattle.alt_base.proofs.Numbers.{digits_value-zeros}
 use Rattle.alt_decimal.specs.Digits.{width, padded, glyphs}
 use Rattle.alt_decimal.specs.Number.{with_sign, fitted}
-use Rattle.alt_decimal.specs.NumberText.{Sign, minus, unsigned, ReadsAs, sign_text, fraction_text, fraction_digits}
+use Rattle.alt_decimal.specs.NumberText.{Sign, minus, unsigned, TextReadsAs, sign_text, fraction_text, fraction_digits}
 use Rattle.alt_decimal.specs.declared.fault.NumberFault.{NumberFault}
 use Rattle.alt_decimal.specs.declared.Decimal.TheInside.{Inside}
 use Rattle.alt_decimal.specs.Form.{units_of, IsNormal}
@@ -88,7 +88,7 @@ reads_parts : (negative : Bool) (whole : List ℕ) (fraction : Option (List ℕ)
     → AllDigits 10 whole → AllDigits 10 (fraction_digits fraction) → 0 < length whole
     → answer ≡ fitted (number negative (digits_value 10 (whole ++ fraction_digits fraction)) 0
     (0 + length (fraction_digits fraction)))
-    → ReadsAs (minus_if negative ++ (whole ++ fraction_text fraction)) answer
+    → TextReadsAs (minus_if negative ++ (whole ++ fraction_text fraction)) answer
 reads_parts true whole fraction answer all_whole all_fraction some gives =
     ReadsAs-some _ (record { sign = minus; whole = whole; fraction = fraction; exponent = None })
     answer
@@ -136,7 +136,7 @@ module _ (d : Inside) (n : IsNormal d) (above : 0 < d.coefficient) where
   some : 0 < length (digits_text c)
   some = omega (arith, length-digits_text c, width-pos c above)
 
-  reads_whole : 167 ≤ z → ReadsAs (minus_if d.negative ++ magnitude_text (digits_text c) z)
+  reads_whole : 167 ≤ z → TextReadsAs (minus_if d.negative ++ magnitude_text (digits_text c) z)
       (Ok (units_of d))
   reads_whole h =
       let k = z - 167 in
@@ -148,14 +148,14 @@ module _ (d : Inside) (n : IsNormal d) (above : 0 < d.coefficient) where
       (0 + 0)) =
       gives (k + 0) 0 (omega arith) (omega arith) ∙ sym (fitted-shift d.negative c k 0 0 last)
       ∙ ap (λ m. fitted (number d.negative m 0 0)) (sym value) in
-      subst (λ (ts : List ℕ). ReadsAs (minus_if d.negative ++ ts) (Ok (units_of d)))
+      subst (λ (ts : List ℕ). TextReadsAs (minus_if d.negative ++ ts) (Ok (units_of d)))
       (append-nil whole ∙ sym (text_whole (digits_text c) z h))
       (reads_parts d.negative whole None (Ok (units_of d))
       (AllDigits-append (digits_text c) (replicate k 48) all (AllDigits-zeros k)) tt
       (omega (arith, length-append (digits_text c) (replicate k 48), some)) answer)
 
   reads_split : z < 167 → 167 < length (digits_text c) + z
-      → ReadsAs (minus_if d.negative ++ magnitude_text (digits_text c) z) (Ok (units_of d))
+      → TextReadsAs (minus_if d.negative ++ magnitude_text (digits_text c) z) (Ok (units_of d))
   reads_split h k =
       let ds = digits_text c in
       let i = length ds + z - 167 in
@@ -170,14 +170,14 @@ module _ (d : Inside) (n : IsNormal d) (above : 0 < d.coefficient) where
       ∙ ap (λ m. fitted (number d.negative m 0 (167 - z))) (sym value)
       ∙ ap (λ m. fitted (number d.negative (digits_value 10 (take i ds ++ drop i ds)) 0 m))
       (sym len) in
-      subst (λ (ts : List ℕ). ReadsAs (minus_if d.negative ++ ts) (Ok (units_of d)))
+      subst (λ (ts : List ℕ). TextReadsAs (minus_if d.negative ++ ts) (Ok (units_of d)))
       (sym (text_split ds z h k))
       (reads_parts d.negative (take i ds) (Some (drop i ds)) (Ok (units_of d))
       (AllDigits-front (take i ds) (drop i ds) both)
       (AllDigits-back (take i ds) (drop i ds) both) (omega (arith, length-take i ds, k)) answer)
 
   reads_fraction : z < 167 → length (digits_text c) + z ≤ 167
-      → ReadsAs (minus_if d.negative ++ magnitude_text (digits_text c) z) (Ok (units_of d))
+      → TextReadsAs (minus_if d.negative ++ magnitude_text (digits_text c) z) (Ok (units_of d))
   reads_fraction h k =
       let ds = digits_text c in
       let j = 167 - (length ds + z) in
@@ -192,14 +192,14 @@ module _ (d : Inside) (n : IsNormal d) (above : 0 < d.coefficient) where
       ∙ ap (λ m. fitted (number d.negative m 0 (167 - z))) (sym value)
       ∙ ap (λ m. fitted (number d.negative (digits_value 10 ((48 ∷ []) ++ fraction)) 0 m))
       (sym len) in
-      subst (λ (ts : List ℕ). ReadsAs (minus_if d.negative ++ ts) (Ok (units_of d)))
+      subst (λ (ts : List ℕ). TextReadsAs (minus_if d.negative ++ ts) (Ok (units_of d)))
       (sym (text_fraction ds z h k))
       (reads_parts d.negative (48 ∷ []) (Some fraction) (Ok (units_of d)) (omega arith, tt)
       (AllDigits-append (replicate j 48) ds (AllDigits-zeros j) all) (omega arith) answer)
 
 -- a printed number reads as itself
 pub reads_units : (d : Inside) (n : IsNormal d) → 0 < d.coefficient
-    → ReadsAs (printed (units_of d)) (Ok (units_of d))
+    → TextReadsAs (printed (units_of d)) (Ok (units_of d))
 reads_units d n above = rw (printed-units_of d n above) (elim (cases_lt d.zeros 167) [
   | inl short ↦ elim (cases_lt 167 (length (digits_text d.coefficient) + d.zeros)) [
     | inl amid ↦ reads_split d n above short amid
@@ -209,6 +209,6 @@ reads_units d n above = rw (printed-units_of d n above) (elim (cases_lt d.zeros 
 ])
 
 -- and so does zero
-pub reads_zero : ReadsAs (printed (pos 0)) (Ok (pos 0))
+pub reads_zero : TextReadsAs (printed (pos 0)) (Ok (pos 0))
 reads_zero = rw printed-zero (reads_parts false (48 ∷ []) None (Ok (pos 0)) (omega arith, tt) tt
     (omega arith) (sym (fitted-zero false 0 0 0 refl)))

@@ -7,7 +7,7 @@ use Rattle.std.proofs.Math.Nat.{mul-pos, mul-div_cancel, mul_assoc}
 use Rattle.std.proofs.lemmas.Nat.{pow-add}
 use Rattle.alt_decimal.specs.declared.fault.NumberFault.TheVariants.{TooManyDigits, TooLarge, TooSmall}
 use Rattle.alt_decimal.specs.Digits.{width, digit_count}
-use Rattle.alt_decimal.specs.Number.{Number, with_sign, fitted, fitted_units, Fits, IsMagnitude}
+use Rattle.alt_decimal.specs.Number.{Number, with_sign, fitted, fitted_units, FitsDecimal, IsMagnitude}
 use Rattle.alt_decimal.specs.Normal.{ten_pow_pos, nat_abs-with_sign, is_negative-with_sign, not_below_zero}
 use Rattle.alt_decimal.proofs.Magnitudes.{digit_count-mul, digit_count-trimmed}
 use Rattle.alt_decimal.proofs.Widths.{width-mul, width-le, width-gt}
@@ -131,7 +131,7 @@ fitted_units-magnitude z h =
     ∙ ap (λ n. Ok (with_sign (is_negative z) n)) units ∙ ap Ok (with_sign-nat_abs z)
 
 -- a number that fits is its own answer
-pub fitted_units-Fits : (z : ℤ) → Fits z → fitted_units z ≡ Ok z
+pub fitted_units-Fits : (z : ℤ) → FitsDecimal z → fitted_units z ≡ Ok z
 fitted_units-Fits z h = elim h [
   | inl none ↦ rw none (fitted-zero false 0 0 167 refl)
   | inr size ↦ fitted_units-magnitude z size

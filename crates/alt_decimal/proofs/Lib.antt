@@ -1,4 +1,5 @@
 pub mod Apart
+pub mod CoefficientPairs
 pub mod Coefficients
 pub mod Decodings
 pub mod Denoting
@@ -6,6 +7,7 @@ pub mod Exponents
 pub mod Fitting
 pub mod Halves
 pub mod Layouts
+pub mod MagnitudeReads
 pub mod Magnitudes
 pub mod Normals
 pub mod Orders
@@ -17,6 +19,7 @@ pub mod Reading
 pub mod Signs
 pub mod Spelling
 pub mod SpellingOrder
+pub mod TextParts
 pub mod Totals
 pub mod Trimmed
 pub mod Trimming

@@ -4,7 +4,7 @@ use Rattle.std.specs.Prelude.{pos, nat_abs}
 use Rattle.std.proofs.Math.Nat.{mul-pos}
 use Rattle.std.proofs.lemmas.Bool.{cases_lt}
 use Rattle.alt_decimal.specs.Digits.{width, trimmed, digit_count}
-use Rattle.alt_decimal.specs.Number.{IsMagnitude, Fits}
+use Rattle.alt_decimal.specs.Number.{IsMagnitude, FitsDecimal}
 use Rattle.alt_decimal.specs.declared.Decimal.TheInside.{Inside}
 use Rattle.alt_decimal.specs.Form.{units_of, IsNormal}
 use Rattle.alt_decimal.specs.Normal.{ten_pow_pos, trimmed-mul, nat_abs-with_sign}
@@ -45,7 +45,7 @@ IsMagnitude-units_of d n h = record {
 }
 
 -- each `Decimal` is a number that fits
-pub Fits-units_of : (d : Inside) → IsNormal d → Fits (units_of d)
+pub Fits-units_of : (d : Inside) → IsNormal d → FitsDecimal (units_of d)
 Fits-units_of d n = elim (cases_lt 0 d.coefficient) [
   | inl h ↦ inr (IsMagnitude-units_of d n h)
   | inr h ↦ inl (units_of-zero d n (omega arith))

@@ -7,7 +7,7 @@ use Rattle.std.specs.Cmp.Lexicographic.{slice_cmp}
 use Rattle.std.proofs.lemmas.List.{append_cancel_left}
 use Rattle.alt_decimal.specs.Digits.{width, digit_count}
 use Rattle.alt_decimal.specs.Form.{units_of, IsNormal}
-use Rattle.alt_decimal.specs.Number.{Fits, IsMagnitude, with_sign}
+use Rattle.alt_decimal.specs.Number.{FitsDecimal, IsMagnitude, with_sign}
 use Rattle.alt_decimal.specs.Spelled.{spelled}
 use Rattle.alt_decimal.specs.declared.Decimal.TheInside.{Inside}
 use Rattle.alt_decimal.proofs.Apart.{spelled-apart}
@@ -56,11 +56,11 @@ magnitude_normal z m =
       is = ap (with_sign (is_negative z)) (sym t.is) ∙ with_sign-nat_abs z;
     }
 
-normal_of : (z : ℤ) → Fits z → Normal z
+normal_of : (z : ℤ) → FitsDecimal z → Normal z
 normal_of z h = elim h [ inl e ↦ rw e zero_normal | inr m ↦ magnitude_normal z m ]
 
 -- whatever follows it, a spelling is that of one number
-pub spelled_apart : (u v : ℤ) (x y : List ℕ) → Fits u → Fits v → spelled u ++ x ≡ spelled v ++ y
+pub spelled_apart : (u v : ℤ) (x y : List ℕ) → FitsDecimal u → FitsDecimal v → spelled u ++ x ≡ spelled v ++ y
     → (u ≡ v) × (x ≡ y)
 spelled_apart u v x y fu fv e =
     let a = normal_of u fu in
@@ -70,7 +70,7 @@ spelled_apart u v x y fu fv e =
     (same, append_cancel_left (spelled u) x y (e ∙ ap (λ z. spelled z ++ y) (sym same)))
 
 -- numbers lie as their spellings do
-pub spelled_order : (u v : ℤ) → Fits u → Fits v
+pub spelled_order : (u v : ℤ) → FitsDecimal u → FitsDecimal v
     → int_cmp u v ≡ slice_cmp nat_cmp (spelled u) (spelled v)
 spelled_order u v fu fv =
     let a = normal_of u fu in

@@ -5,11 +5,11 @@ use Rattle.std.proofs.Math.Seq.{take-suc-set}
 use Rattle.std.proofs.lemmas.List.{take_more}
 use Rattle.std.proofs.lemmas.Slice.{take-put_mid}
 use borrow.Rule.Slice.PartMut.{put_mid}
-use Rattle.alt_decimal.specs.Spelled.{pairs, complement}
+use Rattle.alt_decimal.specs.Spelled.{digit_pairs, complement}
 
 -- digits behind whole pairs
 pub pairs-append : (n : ℕ) (xs ys : List ℕ) → length xs ≡ 2 * n
-    → pairs (xs ++ ys) ≡ pairs xs ++ pairs ys
+    → digit_pairs (xs ++ ys) ≡ digit_pairs xs ++ digit_pairs ys
 pairs-append zero [] ys e = refl
 pairs-append zero (a ∷ xs) ys e = absurd (omega arith)
 pairs-append (suc n) [] ys e = absurd (omega arith)
@@ -18,7 +18,7 @@ pairs-append (suc n) (a ∷ b ∷ xs) ys e = ap (λ ps. (10 * a + b + 1) ∷ ps)
     (pairs-append n xs ys (omega arith))
 
 -- a last single digit is filled with 0
-pub pairs-filled : (n : ℕ) (xs : List ℕ) → length xs ≡ 2 * n + 1 → pairs (xs ++ 0 ∷ []) ≡ pairs xs
+pub pairs-filled : (n : ℕ) (xs : List ℕ) → length xs ≡ 2 * n + 1 → digit_pairs (xs ++ 0 ∷ []) ≡ digit_pairs xs
 pairs-filled n [] e = absurd (omega arith)
 pairs-filled n (a ∷ []) e = ap (λ p. p ∷ []) (omega arith)
 pairs-filled zero (a ∷ b ∷ xs) e = absurd (omega arith)
@@ -26,7 +26,7 @@ pairs-filled (suc n) (a ∷ b ∷ xs) e = ap (λ ps. (10 * a + b + 1) ∷ ps)
     (pairs-filled n xs (omega arith))
 
 -- so many pairs as half the digits
-pub length-pairs : (n : ℕ) (xs : List ℕ) → length xs ≡ 2 * n → length (pairs xs) ≡ n
+pub length-pairs : (n : ℕ) (xs : List ℕ) → length xs ≡ 2 * n → length (digit_pairs xs) ≡ n
 length-pairs zero [] e = refl
 length-pairs zero (a ∷ xs) e = absurd (omega arith)
 length-pairs (suc n) [] e = absurd (omega arith)
@@ -34,10 +34,10 @@ length-pairs (suc n) (a ∷ []) e = absurd (omega arith)
 length-pairs (suc n) (a ∷ b ∷ xs) e = ap suc (length-pairs n xs (omega arith))
 
 -- one more pair
-pub pairs_step : (out ds : List ℕ) (i v : ℕ) → take i out ≡ pairs (take (2 * i) ds) → i < length out
+pub pairs_step : (out ds : List ℕ) (i v : ℕ) → take i out ≡ digit_pairs (take (2 * i) ds) → i < length out
     → length ds ≡ 2 * length out
     → v ≡ 10 * get_or ds (2 * i) 0 + get_or ds (2 * i + 1) 0 + 1
-    → take (i + 1) (set out i v) ≡ pairs (take (2 * (i + 1)) ds)
+    → take (i + 1) (set out i v) ≡ digit_pairs (take (2 * (i + 1)) ds)
 pairs_step out ds i v written within even is =
     let two : 2 * (i + 1) ≡ 2 * i + 1 + 1 = omega arith in
     let a = get_or ds (2 * i) 0 in
@@ -49,8 +49,8 @@ pairs_step out ds i v written within even is =
     let len : length (take (2 * i) ds) ≡ 2 * i = omega (arith, length-take (2 * i) ds) in
     let next : i + 1 ≡ suc i = omega arith in
     ap (λ n. take n (set out i v)) next ∙ take-suc-set out i v within
-    ∙ ap (λ ts. ts ++ v ∷ []) written ∙ ap (λ x. pairs (take (2 * i) ds) ++ x ∷ []) is
-    ∙ sym (pairs-append i (take (2 * i) ds) (a ∷ b ∷ []) len) ∙ ap pairs (sym digits)
+    ∙ ap (λ ts. ts ++ v ∷ []) written ∙ ap (λ x. digit_pairs (take (2 * i) ds) ++ x ∷ []) is
+    ∙ sym (pairs-append i (take (2 * i) ds) (a ∷ b ∷ []) len) ∙ ap digit_pairs (sym digits)
 
 -- one more byte is flipped
 pub flip_step : (init : List ℕ) (i : ℕ) → i < length init

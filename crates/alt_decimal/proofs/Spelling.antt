@@ -12,7 +12,7 @@ use Rattle.std.specs.Int.Digits.{digits_of}
 use Rattle.alt_decimal.specs.declared.Decimal.TheInside.{Inside}
 use Rattle.alt_decimal.specs.Form.{units_of, IsNormal}
 use Rattle.alt_decimal.specs.Digits.{width, padded, glyphs}
-use Rattle.alt_decimal.specs.Spelled.{pairs, complement, magnitude_bytes, spelled}
+use Rattle.alt_decimal.specs.Spelled.{digit_pairs, complement, magnitude_bytes, spelled}
 use Rattle.alt_decimal.specs.Normal.{ten_pow_pos, trimmed-mul, nat_abs-with_sign, is_negative-with_sign}
 use Rattle.alt_decimal.proofs.Widths.{width-mul, width-le, case_pos}
 use Rattle.alt_decimal.proofs.Padded.{padded-append, padded-mul, padded-first, padded-none, length-padded, digits_of-padded, glyphs-cons, glyphs-none}
@@ -52,17 +52,17 @@ front_odd c w count e few =
 
 -- the pairs of a coefficient stand at the front of 38 digits
 pub pairs_front : (c w count : ℕ) → w ≡ width c → w ≤ 38 → count ≡ (w + 1) / 2
-    → pairs (take (2 * count) (padded 38 (c * 10 ^ (38 - w)))) ≡ pairs (digits_of 10 c)
+    → digit_pairs (take (2 * count) (padded 38 (c * 10 ^ (38 - w)))) ≡ digit_pairs (digits_of 10 c)
 pairs_front c w count e few half =
-    let spec : pairs (padded w c) ≡ pairs (digits_of 10 c) =
-    ap pairs (ap (λ i. padded i c) e ∙ sym (digits_of-padded c)) in
-    ap (λ ds. pairs (take (2 * count) ds)) (filled_digits c w e few)
+    let spec : digit_pairs (padded w c) ≡ digit_pairs (digits_of 10 c) =
+    ap digit_pairs (ap (λ i. padded i c) e ∙ sym (digits_of-padded c)) in
+    ap (λ ds. digit_pairs (take (2 * count) ds)) (filled_digits c w e few)
     ∙ elim (cases_lt w (2 * count)) [
       | inl odd ↦
           let n : 2 * count ≡ w + 1 = omega arith in
-          ap pairs (front_odd c w count n (omega arith))
+          ap digit_pairs (front_odd c w count n (omega arith))
           ∙ pairs-filled (count - 1) (padded w c) (omega (arith, length-padded w c)) ∙ spec
-      | inr even ↦ ap pairs (front_even c w count (omega arith)) ∙ spec
+      | inr even ↦ ap digit_pairs (front_even c w count (omega arith)) ∙ spec
     ]
 
 -- each digit is below ten
@@ -87,7 +87,7 @@ small_front n f ds e = rw (e, glyphs-raw (padded 38 f))
 
 -- the bytes of a magnitude, by coefficient and zeros
 pub magnitude_bytes-mul : (c z : ℕ) → 0 < c % 10
-    → magnitude_bytes (c * 10 ^ z) ≡ (width c + z - 38) ∷ (pairs (digits_of 10 c) ++ 0 ∷ [])
+    → magnitude_bytes (c * 10 ^ z) ≡ (width c + z - 38) ∷ (digit_pairs (digits_of 10 c) ++ 0 ∷ [])
 unfolding magnitude_bytes
 magnitude_bytes-mul c z last = rw (trimmed-mul c z last, width-mul c z (omega arith)) refl
 
@@ -96,15 +96,15 @@ module _ (sign c z : ℕ) (last : 0 < c % 10) (few : c < 10 ^ 38) where
   pub spelled_bytes : (w count first : ℕ) (ds bytes : List ℕ) → w ≡ width c → count ≡ (w + 1) / 2
       → first ≡ w + z - 38
       → ds ≡ take (2 * count) (glyphs 0 (padded 38 (c * 10 ^ (38 - w))))
-      → bytes ≡ sign ∷ first ∷ (pairs ds ++ 0 ∷ [])
+      → bytes ≡ sign ∷ first ∷ (digit_pairs ds ++ 0 ∷ [])
       → bytes ≡ sign ∷ magnitude_bytes (c * 10 ^ z)
   spelled_bytes w count first ds bytes e half place digits is =
       let short : w ≤ 38 = omega (arith, e, width-le 38 c few) in
-      let ps : pairs ds ≡ pairs (digits_of 10 c) =
-      ap pairs digits ∙ ap (λ xs. pairs (take (2 * count) xs))
+      let ps : digit_pairs ds ≡ digit_pairs (digits_of 10 c) =
+      ap digit_pairs digits ∙ ap (λ xs. digit_pairs (take (2 * count) xs))
       (glyphs-raw (padded 38 (c * 10 ^ (38 - w)))) ∙ pairs_front c w count e short half in
       is ∙ ap (λ xs. sign ∷ first ∷ (xs ++ 0 ∷ [])) ps
-      ∙ ap (λ p. sign ∷ p ∷ (pairs (digits_of 10 c) ++ 0 ∷ [])) (place ∙ ap (λ i. i + z - 38) e)
+      ∙ ap (λ p. sign ∷ p ∷ (digit_pairs (digits_of 10 c) ++ 0 ∷ [])) (place ∙ ap (λ i. i + z - 38) e)
       ∙ ap (λ xs. sign ∷ xs) (sym (magnitude_bytes-mul c z last))
 
 -- ---- the spelling of a `Decimal`

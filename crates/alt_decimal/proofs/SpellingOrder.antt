@@ -14,14 +14,14 @@ use Rattle.alt_decimal.specs.Digits.{width}
 use Rattle.alt_decimal.specs.Number.{with_sign}
 use Rattle.alt_decimal.specs.declared.Decimal.TheInside.{Inside}
 use Rattle.alt_decimal.specs.Form.{units_of, IsNormal}
-use Rattle.alt_decimal.specs.Spelled.{pairs, complement, magnitude_bytes, spelled}
-use Rattle.alt_decimal.specs.Unspelled.{pairs_value_after, IsWhole}
+use Rattle.alt_decimal.specs.Spelled.{digit_pairs, complement, magnitude_bytes, spelled}
+use Rattle.alt_decimal.specs.Unspelled.{pairs_value_after, PairsAreWhole}
 use Rattle.alt_decimal.specs.Normal.{ten_pow_pos}
 use Rattle.alt_decimal.proofs.Widths.{width-le, mul-width_gt, mul-width_le, mul-zeros}
 use Rattle.alt_decimal.proofs.Orders.{nat_cmp-mul, int_cmp-pos, int_cmp-neg, int_cmp-neg_pos, int_cmp-pos_neg, lt-by_place}
 use Rattle.alt_decimal.proofs.Unspelling.{IsPairs, hundred, pairs_after, pairs_below, AreOf}
 use Rattle.alt_decimal.proofs.Spelling.{magnitude_bytes-mul, spelled-zero, spelled-above, spelled-below}
-use Rattle.alt_decimal.proofs.ReadBack.{Filling, filling, filled_pairs, filled_whole, filled_few}
+use Rattle.alt_decimal.proofs.MagnitudeReads.{Filling, filling, filled_pairs, filled_whole, filled_few}
 
 -- a first byte decides
 cmp_less : (x y : ℕ) (xs ys : List ℕ) → x < y → slice_cmp nat_cmp (x ∷ xs) (y ∷ ys) ≡ Less
@@ -149,13 +149,13 @@ pub record Fitting (t z : ℕ) : Type 0 where
   pub most : width t + z ≤ 293
 
 -- its pairs write it, filled up to 38 digits
-filled_coefficient : (t z : ℕ) → Fitting t z → filled_to 19 (pairs (digits_of 10 t))
+filled_coefficient : (t z : ℕ) → Fitting t z → filled_to 19 (digit_pairs (digits_of 10 t))
     ≡ t * 10 ^ (38 - width t)
 filled_coefficient t z f =
     let h : Filling t = filling t in
-    let a : AreOf h.n h.c (pairs (digits_of 10 t)) = filled_pairs t f.last f.few h in
+    let a : AreOf h.n h.c (digit_pairs (digits_of 10 t)) = filled_pairs t f.last f.few h in
     let le : h.n ≤ 19 = filled_few t f.last f.few h in
-    ap (λ v. v * 10 ^ (2 * (19 - length (pairs (digits_of 10 t))))) a.value
+    ap (λ v. v * 10 ^ (2 * (19 - length (digit_pairs (digits_of 10 t))))) a.value
     ∙ ap (λ i. h.c * 10 ^ (2 * (19 - i))) a.count
     ∙ elim h.digits [
       | inl e ↦
@@ -168,19 +168,19 @@ filled_coefficient t z f =
     ]
 
 -- the pairs of a coefficient end with no empty one
-solid_coefficient : (t z : ℕ) → Fitting t z → Solid (pairs (digits_of 10 t))
+solid_coefficient : (t z : ℕ) → Fitting t z → Solid (digit_pairs (digits_of 10 t))
 solid_coefficient t z f = λ some z.
     let h : Filling t = filling t in
-    let a : AreOf h.n h.c (pairs (digits_of 10 t)) = filled_pairs t f.last f.few h in
-    let w : IsWhole h.c h.n = filled_whole t f.last f.few h in
+    let a : AreOf h.n h.c (digit_pairs (digits_of 10 t)) = filled_pairs t f.last f.few h in
+    let w : PairsAreWhole h.c h.n = filled_whole t f.last f.few h in
     w.last (sym (ap (λ v. v % 100) a.value) ∙ z)
 
 -- they are pairs
-pub all_coefficient : (t z : ℕ) → Fitting t z → IsPairs (pairs (digits_of 10 t))
+pub all_coefficient : (t z : ℕ) → Fitting t z → IsPairs (digit_pairs (digits_of 10 t))
 all_coefficient t z f = let a = filled_pairs t f.last f.few (filling t) in a.all
 
 -- and few
-few_coefficient : (t z : ℕ) → Fitting t z → length (pairs (digits_of 10 t)) ≤ 19
+few_coefficient : (t z : ℕ) → Fitting t z → length (digit_pairs (digits_of 10 t)) ≤ 19
 few_coefficient t z f =
     let a = filled_pairs t f.last f.few (filling t) in
     omega (arith, a.count, filled_few t f.last f.few (filling t))
@@ -200,8 +200,8 @@ magnitude_cmp : (t y u z : ℕ) → Fitting t y → Fitting u z
 magnitude_cmp t y u z f g =
     let bf = magnitude_bytes-mul t y f.last in
     let bg = magnitude_bytes-mul u z g.last in
-    let ps = pairs (digits_of 10 t) in
-    let qs = pairs (digits_of 10 u) in
+    let ps = digit_pairs (digits_of 10 t) in
+    let qs = digit_pairs (digits_of 10 u) in
     ap (λ m. slice_cmp nat_cmp m (magnitude_bytes (u * 10 ^ z))) bf
     ∙ ap (slice_cmp nat_cmp ((width t + y - 38) ∷ (ps ++ 0 ∷ []))) bg
     ∙ elim (cases_order (width t + y) (width u + z)) [
@@ -269,7 +269,7 @@ flip_magnitude t y u z f g =
     rw (magnitude_bytes-mul t y f.last, magnitude_bytes-mul u z g.last)
     (rw (
       first,
-      flip_pairs (pairs (digits_of 10 t)) (pairs (digits_of 10 u)) (all_coefficient t y f)
+      flip_pairs (digit_pairs (digits_of 10 t)) (digit_pairs (digits_of 10 u)) (all_coefficient t y f)
           (all_coefficient u z g),
     ) refl)
 

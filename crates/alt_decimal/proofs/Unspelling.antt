@@ -5,7 +5,7 @@ use Rattle.std.proofs.lemmas.Nat.{pow-add, div-mul-add, div-add-mod', mod_below,
 use Rattle.std.proofs.lemmas.List.{take_more, get_or-map}
 use Rattle.std.proofs.lemmas.Bool.{cases_order}
 use Rattle.alt_decimal.specs.Digits.{padded}
-use Rattle.alt_decimal.specs.Spelled.{pairs}
+use Rattle.alt_decimal.specs.Spelled.{digit_pairs}
 use Rattle.alt_decimal.specs.Unspelled.{raw, raws, pairs_value_after, IsPair, Ends}
 use Rattle.alt_decimal.specs.Normal.{ten_pow_pos}
 use Rattle.alt_decimal.proofs.Widths.{ten_pow-le}
@@ -58,8 +58,8 @@ cut_two n v =
 
 -- the digits of what pairs write are these pairs
 pub pairs_padded : (bs : List ℕ) → IsPairs bs
-    → pairs (padded (2 * length bs) (pairs_value_after 0 bs)) ≡ bs
-pairs_padded [] h = ap pairs (padded-none 0)
+    → digit_pairs (padded (2 * length bs) (pairs_value_after 0 bs)) ≡ bs
+pairs_padded [] h = ap digit_pairs (padded-none 0)
 pairs_padded (b ∷ bs) h =
     let n = length bs in
     let low = pairs_value_after 0 bs in
@@ -68,11 +68,11 @@ pairs_padded (b ∷ bs) h =
     let high : ((b - 1) * 10 ^ (2 * n) + low) / 10 ^ (2 * n) ≡ b - 1 =
     div-mul-add (b - 1) (10 ^ (2 * n)) low (pairs_below bs h.1) in
     let pair : 10 * ((b - 1) / 10 % 10) + (b - 1) % 10 + 1 ≡ b = omega (arith, h.0) in
-    ap (λ m. pairs (padded (2 * suc n) m)) v ∙ ap pairs (cut_two n ((b - 1) * 10 ^ (2 * n) + low))
-    ∙ ap (λ q. (10 * (q / 10 % 10) + q % 10 + 1) ∷ pairs
+    ap (λ m. digit_pairs (padded (2 * suc n) m)) v ∙ ap digit_pairs (cut_two n ((b - 1) * 10 ^ (2 * n) + low))
+    ∙ ap (λ q. (10 * (q / 10 % 10) + q % 10 + 1) ∷ digit_pairs
     (padded (2 * n) ((b - 1) * 10 ^ (2 * n) + low))) high
-    ∙ ap (λ p. p ∷ pairs (padded (2 * n) ((b - 1) * 10 ^ (2 * n) + low))) pair
-    ∙ ap (λ ds. b ∷ pairs ds) (padded-low (2 * n) (b - 1) low)
+    ∙ ap (λ p. p ∷ digit_pairs (padded (2 * n) ((b - 1) * 10 ^ (2 * n) + low))) pair
+    ∙ ap (λ ds. b ∷ digit_pairs ds) (padded-low (2 * n) (b - 1) low)
     ∙ ap (λ ps. b ∷ ps) (pairs_padded bs h.1)
 
 -- and the pairs of digits write their number
@@ -82,7 +82,7 @@ pub record AreOf (n v : ℕ) (bs : List ℕ) : Type 0 where
   pub value : pairs_value_after 0 bs ≡ v
 
 -- the pairs of a number have that number
-pub pairs_of : (n v : ℕ) → v < 10 ^ (2 * n) → AreOf n v (pairs (padded (2 * n) v))
+pub pairs_of : (n v : ℕ) → v < 10 ^ (2 * n) → AreOf n v (digit_pairs (padded (2 * n) v))
 pairs_of zero v h =
     let none : padded (2 * 0) v ≡ [] = padded-none v in
     rw none (record { all = tt; count = refl; value = omega (arith, h) })
@@ -90,23 +90,23 @@ pairs_of (suc n) v h =
     let k = 10 ^ (2 * n) in
     let q = v / k in
     let r = v % k in
-    let rest : pairs (padded (2 * n) v) ≡ pairs (padded (2 * n) r) =
-    ap pairs (sym (padded-mod (2 * n) v)) in
-    let ih : AreOf n r (pairs (padded (2 * n) r)) =
+    let rest : digit_pairs (padded (2 * n) v) ≡ digit_pairs (padded (2 * n) r) =
+    ap digit_pairs (sym (padded-mod (2 * n) v)) in
+    let ih : AreOf n r (digit_pairs (padded (2 * n) r)) =
     pairs_of n r (mod_below v k (ten_pow_pos (2 * n))) in
     let small : q < 100 = div_below v k 100 (ten_pow_pos (2 * n)) (omega (arith, h, hundred n)) in
     let b = 10 * (q / 10 % 10) + q % 10 + 1 in
     let b_is : b ≡ q + 1 = omega (arith, small) in
-    let shape : pairs (padded (2 * suc n) v) ≡ b ∷ pairs (padded (2 * n) r) =
-    ap pairs (cut_two n v) ∙ ap (λ ps. b ∷ ps) rest in
+    let shape : digit_pairs (padded (2 * suc n) v) ≡ b ∷ digit_pairs (padded (2 * n) r) =
+    ap digit_pairs (cut_two n v) ∙ ap (λ ps. b ∷ ps) rest in
     let parts : q * k + r ≡ v = div-add-mod' v k in
     let first : 0 * 100 + (b - 1) ≡ q = omega (arith, b_is) in
-    let shifted : 10 ^ (2 * length (pairs (padded (2 * n) r))) ≡ k =
+    let shifted : 10 ^ (2 * length (digit_pairs (padded (2 * n) r))) ≡ k =
     ap (λ i. 10 ^ (2 * i)) ih.count in
     rw shape (record {
       all = ((omega arith, omega (arith, b_is, small)), ih.all);
       count = omega (arith, ih.count);
-      value = pairs_after (0 * 100 + (b - 1)) (pairs (padded (2 * n) r))
+      value = pairs_after (0 * 100 + (b - 1)) (digit_pairs (padded (2 * n) r))
           ∙ rw (first, shifted, ih.value) parts;
     })
 

@@ -21,8 +21,8 @@ pub record IsNormal (d : Inside) : Type 0 where
   pub below : d.coefficient * 10 ^ d.zeros < 10 ^ 293
 
 -- the fields of a number of units
-unfoldable pub fields_of : ℤ → Inside
-fields_of z = record {
+unfoldable pub decimal_fields : ℤ → Inside
+decimal_fields z = record {
   negative = is_negative z;
   coefficient = trimmed (nat_abs z);
   zeros = trailing_zeros (nat_abs z);

@@ -7,7 +7,7 @@ use Rattle.std.proofs.lemmas.Bool.{cases_lt}
 use Rattle.alt_decimal.specs.Digits.{zeros_within, trailing_zeros, trimmed}
 use Rattle.alt_decimal.specs.Number.{with_sign}
 use Rattle.alt_decimal.specs.declared.Decimal.TheInside.{Inside}
-use Rattle.alt_decimal.specs.Form.{units_of, IsNormal, fields_of}
+use Rattle.alt_decimal.specs.Form.{units_of, IsNormal, decimal_fields}
 
 -- one more zero stands last
 pub mul-ten_pow : (a k : ℕ) → a * 10 ^ suc k ≡ a * 10 ^ k * 10
@@ -76,17 +76,17 @@ same_fields : (d : Inside) (negative : Bool) (coefficient behind : ℕ) → nega
 same_fields d negative coefficient behind p q r = rw (p, q, r) refl
 
 -- the fields are told by the units: of zero, and of the others
-fields_of-zero : (d : Inside) → IsNormal d → d.coefficient ≡ 0 → fields_of (units_of d) ≡ d
-unfolding fields_of trimmed trailing_zeros
+fields_of-zero : (d : Inside) → IsNormal d → d.coefficient ≡ 0 → decimal_fields (units_of d) ≡ d
+unfolding decimal_fields trimmed trailing_zeros
 fields_of-zero d n h =
     let z : units_of d ≡ pos 0 = rw (h, n.zero_sign h) (ap pos (omega arith)) in
-    let e : fields_of (units_of d) ≡ record { negative = false; coefficient = 0; zeros = 0 } =
+    let e : decimal_fields (units_of d) ≡ record { negative = false; coefficient = 0; zeros = 0 } =
     rw z refl in
     e ∙ same_fields d false 0 0 (sym (n.zero_sign h)) (sym h) (sym (n.zero_zeros h))
 
 -- nor is there another for a number that isn't zero
-fields_of-above : (d : Inside) → IsNormal d → 0 < d.coefficient → fields_of (units_of d) ≡ d
-unfolding fields_of
+fields_of-above : (d : Inside) → IsNormal d → 0 < d.coefficient → decimal_fields (units_of d) ≡ d
+unfolding decimal_fields
 fields_of-above d n h =
     let size : nat_abs (units_of d) ≡ d.coefficient * 10 ^ d.zeros =
     nat_abs-with_sign d.negative (d.coefficient * 10 ^ d.zeros) in
@@ -96,7 +96,7 @@ fields_of-above d n h =
     (ap trailing_zeros size ∙ trailing_zeros-mul d.coefficient d.zeros (n.no_zero_behind h))
 
 -- so one representation a number
-pub fields_of-units_of : (d : Inside) → IsNormal d → fields_of (units_of d) ≡ d
+pub fields_of-units_of : (d : Inside) → IsNormal d → decimal_fields (units_of d) ≡ d
 fields_of-units_of d n =
     elim (cases_lt 0 d.coefficient) [
       | inl h ↦ fields_of-above d n h

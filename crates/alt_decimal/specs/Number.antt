@@ -49,5 +49,5 @@ pub record IsMagnitude (m : ℕ) : Type 0 where
   pub below : m < 10 ^ 293
 
 -- the numbers that a `Decimal` can be
-abbrev pub Fits : ℤ → Type 0
-Fits z = (z ≡ pos 0) ⊎ IsMagnitude (nat_abs z)
+abbrev pub FitsDecimal : ℤ → Type 0
+FitsDecimal z = (z ≡ pos 0) ⊎ IsMagnitude (nat_abs z)

@@ -44,8 +44,8 @@ exponent_text None = []
 exponent_text (Some e) = (if e.upper then 69 else 101) ∷ (sign_text e.sign ++ e.digits)
 
 -- the text of the parts
-abbrev pub text_of : NumberText → List ℕ
-text_of t = sign_text t.sign ++ (t.whole ++ (fraction_text t.fraction ++ exponent_text t.exponent))
+abbrev pub decimal_text : NumberText → List ℕ
+decimal_text t = sign_text t.sign ++ (t.whole ++ (fraction_text t.fraction ++ exponent_text t.exponent))
 
 -- the digits behind the point, if there is one
 abbrev pub fraction_digits : Option (List ℕ) → List ℕ
@@ -81,8 +81,8 @@ tens_down None = 0
 tens_down (Some e) = if is_minus e.sign then digits_value 10 e.digits else 0
 
 -- the number that a number text denotes: its digits as one whole number, moved by the exponent and by the digits of the fraction
-abbrev pub denoted : NumberText → Number
-denoted t = record {
+abbrev pub denoted_number : NumberText → Number
+denoted_number t = record {
   negative = is_minus t.sign;
   c = digits_value 10 (t.whole ++ fraction_digits t.fraction);
   up = tens_up t.exponent;
@@ -91,7 +91,7 @@ denoted t = record {
 
 -- What a text reads as: a number text as the number that it denotes where that fits, and else as that number's fault; any other
 -- text is not a number. The answer to a number text is never NotANumber, so the two cases exclude each other.
-pub record ReadsAs (text : List ℕ) (answer : Result ℤ NumberFault) : Type 0 where
-  pub number : (t : NumberText) → IsNumberText t → text ≡ text_of t → answer ≡ fitted (denoted t)
+pub record TextReadsAs (text : List ℕ) (answer : Result ℤ NumberFault) : Type 0 where
+  pub number : (t : NumberText) → IsNumberText t → text ≡ decimal_text t → answer ≡ fitted (denoted_number t)
   pub no_number : (answer ≡ Err NotANumber) ⊎ ((t : NumberText) × IsNumberText t
-      × (text ≡ text_of t))
+      × (text ≡ decimal_text t))

@@ -17,15 +17,15 @@ abbrev pub above_zero : ℕ
 above_zero = 3
 
 -- Digits in pairs from the first on, each pair as its value plus 1; a last single digit is filled with 0.
-abbrev pub pairs : List ℕ → List ℕ
-pairs [] = []
-pairs (a ∷ []) = (10 * a + 1) ∷ []
-pairs (a ∷ b ∷ digits) = (10 * a + b + 1) ∷ pairs digits
+abbrev pub digit_pairs : List ℕ → List ℕ
+digit_pairs [] = []
+digit_pairs (a ∷ []) = (10 * a + 1) ∷ []
+digit_pairs (a ∷ b ∷ digits) = (10 * a + b + 1) ∷ digit_pairs digits
 
 -- Of m units: the exponent of the first digit plus 130, the pairs of its digits without trailing zeros, and 0. The first of
 -- `width m` digits stands at 10^(width m - 168).
 unfoldable pub magnitude_bytes : ℕ → List ℕ
-magnitude_bytes m = (width m - 38) ∷ (pairs (digits_of 10 (trimmed m)) ++ 0 ∷ [])
+magnitude_bytes m = (width m - 38) ∷ (digit_pairs (digits_of 10 (trimmed m)) ++ 0 ∷ [])
 
 -- each byte subtracted from 255
 abbrev pub complement : List ℕ → List ℕ

@@ -1,7 +1,7 @@
 -- How the bytes of a spelling are read back, for private contracts.
 use Rattle.std.specs.Prelude.{◌≡◌, ◌≢◌, ℕ, ◌+◌, ◌-◌, ◌*◌, ◌%◌, ◌^◌, ◌<◌, ◌≤◌, ◌⊎◌, if◌then◌else◌, Bool, List, [], ◌∷◌, length, take, map, slice_index, ℤ}
 use Rattle.alt_decimal.specs.Digits.{width}
-use Rattle.alt_decimal.specs.Number.{with_sign, Fits}
+use Rattle.alt_decimal.specs.Number.{with_sign, FitsDecimal}
 use Rattle.alt_decimal.specs.Spelled.{spelled}
 
 -- a byte as it was before those of a negative number were flipped
@@ -29,7 +29,7 @@ pub record Ends (bytes : List ℕ) (n : ℕ) : Type 0 where
   pub pairs : (k : ℕ) → k < n → IsPair (slice_index bytes k)
 
 -- the pairs of a spelling: the first digit is not 0, nor the last pair
-pub record IsWhole (c count : ℕ) : Type 0 where
+pub record PairsAreWhole (c count : ℕ) : Type 0 where
   pub some : 0 < count
   pub first : 10 ^ (2 * count - 1) ≤ c
   pub last : c % 100 ≢ 0
@@ -49,5 +49,5 @@ pub record Decodes (negative : Bool) (first c count : ℕ) (z : ℤ) : Type 0 wh
 -- behind the first byte stand the bytes of a spelling of z, which has `len` bytes with the first
 pub record IsSpelledAt (negative : Bool) (bytes : List ℕ) (z : ℤ) (len : ℕ) : Type 0 where
   pub spelling : spelled z ≡ (if negative then 1 else 3) ∷ take (len - 1) bytes
-  pub fits : Fits z
+  pub fits : FitsDecimal z
   pub some : 0 < len

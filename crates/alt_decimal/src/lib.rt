@@ -11,7 +11,7 @@ mod sum;
 mod whole;
 
 ghost use Rattle.std.specs.Prelude.{◌≡◌, nat_abs, ◌≤◌};
-ghost use Rattle.alt_decimal.specs.Number.{Fits};
+ghost use Rattle.alt_decimal.specs.Number.{FitsDecimal};
 ghost use Rattle.alt_decimal.specs.Digits.{digit_count};
 
 pub use fault::NumberFault;
@@ -36,14 +36,14 @@ impl Model for Decimal {
 
     ghost coded = { coded_ℤ };
 
-    ghost use Rattle.alt_decimal.specs.Form.{units_of, IsNormal, fields_of};
+    ghost use Rattle.alt_decimal.specs.Form.{units_of, IsNormal, decimal_fields};
     ghost use Rattle.alt_decimal.specs.Normal.{fields_of-units_of};
 
     ghost view = { units_of };
 
     ghost invariant = { IsNormal };
 
-    ghost inverse = { fields_of };
+    ghost inverse = { decimal_fields };
 
     ghost inverse_ok = { fields_of-units_of };
 }
@@ -54,7 +54,7 @@ impl Decimal {
         ensures count { result ≡ digit_count (nat_abs self.now) }
         ensures few { result ≤ 38 }
         // What is true of each `Decimal`.
-        ensures fits { Fits self.now }
+        ensures fits { FitsDecimal self.now }
     {
         if self.coefficient == 0 {
             1
@@ -65,7 +65,7 @@ impl Decimal {
 
     /// What is true of each `Decimal`. The call does nothing: a caller makes it where a proof needs the fact.
     pub fn held(&self)
-        ensures fits { Fits self.now }
+        ensures fits { FitsDecimal self.now }
     {
         let _coefficient = self.coefficient;
     }

@@ -1,10 +1,10 @@
 //! Numbers are printed in plain decimal notation.
 
-ghost use Rattle.std.specs.Prelude.{◌≡◌, ◌+◌, ◌*◌, ◌^◌, ◌<◌, ◌≤◌, take, replicate, Ok, length, List, ◌++◌};
+ghost use Rattle.std.specs.Prelude.{◌≡◌, ◌+◌, ◌<◌, ◌≤◌, take, replicate, Ok, length, ◌++◌};
 ghost use Rattle.std.specs.Fmt.{sign_text as minus_if};
 ghost use Rattle.alt_decimal.specs.Printed.{printed};
 ghost use Rattle.alt_decimal.specs.Layout.{magnitude_text};
-ghost use Rattle.alt_decimal.specs.NumberText.{ReadsAs};
+ghost use Rattle.alt_decimal.specs.NumberText.{TextReadsAs};
 
 use crate::{Decimal, digits};
 
@@ -19,7 +19,7 @@ impl Decimal {
         ensures within { result ≤ 176 }
         ensures text { take result buf.new ≡ printed self.now }
         // The text reads as the number.
-        ensures denotes { ReadsAs (printed self.now) (Ok self.now) }
+        ensures denotes { TextReadsAs (printed self.now) (Ok self.now) }
     {
         if self.coefficient == 0 {
             return put(buf, 0, b"0");

@@ -1,12 +1,12 @@
 //! Number texts are read.
 
-ghost use Rattle.std.specs.Prelude.{◌≡◌, ◌≢◌, ℕ, ◌-◌, replicate, slice_index, ◌+◌, ◌*◌, ◌^◌, ◌<◌, ◌≤◌, length, MatchOption, None, Some, Ok, Err, if◌then◌else◌, ◌++◌, Bool};
+ghost use Rattle.std.specs.Prelude.{◌≡◌, ◌≢◌, ◌-◌, replicate, slice_index, ◌+◌, ◌<◌, ◌≤◌, length, MatchOption, None, Some, Ok, Err, if◌then◌else◌, ◌++◌, Bool};
 ghost use Rattle.std.specs.Str.Parse.{AllDigits, digits_value};
 ghost use Rattle.std.specs.Float.Numeral.{digits_len};
 ghost use Rattle.alt_decimal.specs.Number.{fitted};
 ghost use Rattle.alt_decimal.specs.Digits.{digit_count};
 ghost use Rattle.alt_decimal.specs.Coefficient.{IsCoefficient, Trims};
-ghost use Rattle.alt_decimal.specs.NumberText.{ReadsAs, is_minus, fraction_digits};
+ghost use Rattle.alt_decimal.specs.NumberText.{TextReadsAs, is_minus, fraction_digits};
 ghost use Rattle.alt_decimal.specs.Reading.{sign_of, behind_sign, front_digits, behind_digits, fraction_of, behind_fraction, ExponentIs, exponent_of, exponent_from, capped};
 
 use crate::sum::fit;
@@ -20,7 +20,7 @@ impl Decimal {
     /// length. The faults are tested in the order of `NumberFault`.
     /// DynamoDB API Reference, "AttributeValue", N.
     pub fn parse(text: &[u8]) -> Result<Decimal, NumberFault>
-        ensures reads { ReadsAs text.now result }
+        ensures reads { TextReadsAs text.now result }
     {
         let (negative, rest) = split_sign(text);
         let (whole, rest) = split_digits(rest);

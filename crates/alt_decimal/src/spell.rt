@@ -3,9 +3,9 @@
 ghost use Rattle.std.specs.Prelude.{MatchOption, IfNone, pos, ◌-◌, All, [], ◌∷◌, ◌+◌, ◌*◌, ◌%◌, ◌^◌, ◌<◌, ◌≡◌, ◌≤◌, ℤ, List, ℕ, Some, IfSome, ◌++◌, take, length};
 ghost use Rattle.std.specs.Ordering.{int_cmp, nat_cmp};
 ghost use Rattle.std.specs.Cmp.Lexicographic.{slice_cmp};
-ghost use Rattle.alt_decimal.specs.Number.{Fits, IsMagnitude, with_sign};
-ghost use Rattle.alt_decimal.specs.Spelled.{spelled, pairs, complement, magnitude_bytes};
-ghost use Rattle.alt_decimal.specs.Unspelled.{raw as raw_of, raws, pairs_value_after, Ends, IsWhole, Decodes, IsSpelledAt};
+ghost use Rattle.alt_decimal.specs.Number.{FitsDecimal, IsMagnitude, with_sign};
+ghost use Rattle.alt_decimal.specs.Spelled.{spelled, digit_pairs, complement, magnitude_bytes};
+ghost use Rattle.alt_decimal.specs.Unspelled.{raw as raw_of, raws, pairs_value_after, Ends, PairsAreWhole, Decodes, IsSpelledAt};
 
 use crate::print::put;
 use crate::{Decimal, digits};
@@ -41,9 +41,9 @@ impl Decimal {
     /// Reads the spelling at the front of the bytes: the number, and the length of its spelling. None where no spelling stands
     /// there.
     pub fn unspell(bytes: &[u8]) -> Option<(Decimal, usize)>
-        ensures spelling { IfSome result (λ r. (take r.1 bytes.now ≡ spelled r.0) × Fits r.0) }
+        ensures spelling { IfSome result (λ r. (take r.1 bytes.now ≡ spelled r.0) × FitsDecimal r.0) }
         // Whatever follows a spelling, it is read; so None comes exactly where no spelling stands at the front.
-        ensures every { (z : ℤ) (rest : List ℕ) → Fits z → bytes.now ≡ spelled z ++ rest
+        ensures every { (z : ℤ) (rest : List ℕ) → FitsDecimal z → bytes.now ≡ spelled z ++ rest
             → result ≡ Some (z, length (spelled z)) }
     {
         match bytes {
@@ -141,7 +141,7 @@ fn decode(negative: bool, first: u8, c: u128, count: usize) -> Option<Decimal>
     requires few { count ≤ 19 }
     requires below { c < 10 ^ (2 * count) }
     ensures some { IfSome result (Decodes negative first c count) }
-    ensures none { IfNone result (IsWhole c count → ⊥) }
+    ensures none { IfNone result (PairsAreWhole c count → ⊥) }
 {
     let width = 2 * count as u32;
     if count == 0 {
@@ -189,7 +189,7 @@ fn put_spelling(buf: &mut [u8], sign: u8, first: u8, digits: &[u8], count: usize
     requires even { length digits.now ≡ 2 * count }
     requires below { All (λ d. d < 10) digits.now }
     requires room { count + 3 ≤ length buf.old }
-    ensures bytes { take result buf.new ≡ sign ∷ first ∷ (pairs digits.now ++ 0 ∷ []) }
+    ensures bytes { take result buf.new ≡ sign ∷ first ∷ (digit_pairs digits.now ++ 0 ∷ []) }
     ensures end { result ≡ count + 3 }
 {
     let at = put(buf, 0, &[sign, first]);
@@ -202,7 +202,7 @@ fn put_spelling(buf: &mut [u8], sign: u8, first: u8, digits: &[u8], count: usize
 fn put_pairs(out: &mut [u8], digits: &[u8])
     requires even { length digits.now ≡ 2 * length out.old }
     requires below { All (λ d. d < 10) digits.now }
-    ensures { out.new ≡ pairs digits.now }
+    ensures { out.new ≡ digit_pairs digits.now }
 {
     let mut i = 0;
     while i < out.len() {

@@ -30,8 +30,8 @@ abbrev pub is_read_as : List ℕ → IndexSchema → Bool
 is_read_as name index = is_named name index && is_whole index.built
 
 -- whether a name is one of those
-abbrev pub stands_in : List (List ℕ) → List ℕ → Bool
-stands_in names name = list_any (λ other. bytes_eq other name) names
+abbrev pub stands_among_names : List (List ℕ) → List ℕ → Bool
+stands_among_names names name = list_any (λ other. bytes_eq other name) names
 
 -- whether a test holds of the RANGE attribute, where there is one
 abbrev pub of_range : (KeyAttr → Bool) → Bool → Option KeyAttr → Bool
@@ -87,7 +87,7 @@ is_used d name = is_key d.hash d.range name
 abbrev pub is_included : Projection → List ℕ → Bool
 is_included All name = true
 is_included KeysOnly name = false
-is_included (Include names) name = stands_in names name
+is_included (Include names) name = stands_among_names names name
 
 -- whether an attribute is projected; the keys of the table and of the index always are
 abbrev pub is_projected : TableSchema → IndexSchema → List ℕ → Bool

@@ -153,9 +153,9 @@ description_json s status = object
 -- ---- how the program builds it
 
 -- a member, where it applies, put among others
-abbrev pub put_if : List ℕ → Option Data → Members → Members
-put_if name None ms = ms
-put_if name (Some d) ms = put name d ms
+abbrev pub put_member_if : List ℕ → Option Data → Members → Members
+put_member_if name None ms = ms
+put_member_if name (Some d) ms = put name d ms
 
 -- what each table has
 abbrev pub lasting_members : TableSchema → List ℕ → Members

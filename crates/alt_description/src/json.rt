@@ -1,10 +1,10 @@
 //! A description as the client is shown it.
 
-ghost use Rattle.std.specs.Prelude.{◌≡◌, false, option_map, string_bytes, IfOk, OnOk, codes};
+ghost use Rattle.std.specs.Prelude.{◌≡◌, false, option_map, string_bytes, IfOk, OnOk};
 ghost use Rattle.serde_json.specs.Data.{array, string};
 ghost use Rattle.serde_json.specs.View.{view, items_view, members_view};
 ghost use Rattle.serde_json.specs.Written.{has_float};
-ghost use Rattle.alt_description.specs.Json.{label, table_arn, index_arn, stream_arn, items_by, array_if_any, kind_word, definition_json, key_json, key_schema_json, projection_json, index_members, local_json, backfilling, status_word, global_json, view_word, specification_json, put_if, lasting_members, with_stream, with_stream_members, description_json};
+ghost use Rattle.alt_description.specs.Json.{label, table_arn, index_arn, stream_arn, items_by, array_if_any, kind_word, definition_json, key_json, key_schema_json, projection_json, index_members, local_json, backfilling, status_word, global_json, view_word, specification_json, put_member_if, lasting_members, with_stream, with_stream_members, description_json};
 
 use crate::{Built, IndexSchema, KeyAttr, Projection, TableSchema, View};
 use alt_base::NoMemory;
@@ -67,7 +67,7 @@ fn put_if(
     value: Option<Value>,
 ) -> Result<(), NoMemory>
     ensures { OnOk result (members_view members.new.entries
-        ≡ put_if name.now (option_map view value) (members_view members.old.entries)) }
+        ≡ put_member_if name.now (option_map view value) (members_view members.old.entries)) }
 {
     if let Some(value) = value {
         serde_json::put(members, alloc, name, value)?;

@@ -4,7 +4,7 @@ use Rattle.std.specs.List.{All}
 use Rattle.alt_base.specs.Counts.{Rose, next_moment}
 use Rattle.alt_disk.specs.Fates.{Fates, Fits}
 use Rattle.alt_disk.specs.Disk.{DiskState, Tick, Silent, ReadCall, Synced, Same, now}
-use Rattle.alt_disk.specs.Memory.{Track, nothing, after, replay, at_moment, Timed, fates_after}
+use Rattle.alt_disk.specs.Memory.{Track, nothing, track_after, replay, at_moment, Timed, fates_after}
 use Rattle.alt_disk.specs.MemoryState.{memory_state}
 use Rattle.alt_disk.specs.Acted.{Acted, ActedSome, CountsAs, PushedSome, KeptSome}
 use Rattle.alt_disk.specs.Honest.{until-all}
@@ -111,7 +111,7 @@ module _ (calls : List Made) (m fa fb ra rb : ℕ) (made : Made) (timed : All (T
       (omega (arith, at_end))
 
   -- the call's file
-  own : replay made.file nothing pushed ≡ after made.deed (replay made.file nothing calls)
+  own : replay made.file nothing pushed ≡ track_after made.deed (replay made.file nothing calls)
   own = replay-push made.file nothing calls made ∙ call-own made _
 
   -- the others

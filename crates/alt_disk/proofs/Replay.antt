@@ -5,7 +5,7 @@ use Rattle.std.proofs.lemmas.Bool.{cases_eq}
 use Rattle.std.proofs.lemmas.List.{append-nil}
 use Rattle.std.proofs.lemmas.List.Elements.{All-append, filter-append}
 use Rattle.std.specs.List.{All}
-use Rattle.alt_disk.specs.Memory.{Track, nothing, bytes_after, after, after_call, replay, until, Timed, LeavesReads}
+use Rattle.alt_disk.specs.Memory.{Track, nothing, bytes_after, track_after, after_call, replay, calls_until, Timed, LeavesReads}
 use Rattle.alt_disk.specs.declared.made.Made.{Made}
 
 -- one call more is done last
@@ -15,7 +15,7 @@ replay-push f s [] made = refl
 replay-push f s (m ∷ calls) made = replay-push f (after_call f m s) calls made
 
 -- a call acts on its own file
-pub call-own : (made : Made) (s : Track) → after_call made.file made s ≡ after made.deed s
+pub call-own : (made : Made) (s : Track) → after_call made.file made s ≡ track_after made.deed s
 call-own made s = grind (arith, nat_tests)
 
 -- and on no other
@@ -46,16 +46,16 @@ kept-push calls made old new kept changed f = ⊎_elim
     (cases_eq made.file f)
 
 -- a call of later doesn't show yet
-later_hides : (t : ℕ) (made : Made) → t < made.time → until t (made ∷ []) ≡ []
+later_hides : (t : ℕ) (made : Made) → t < made.time → calls_until t (made ∷ []) ≡ []
 later_hides t made late = grind (arith, nat_tests)
 
 -- what shows by a moment stays when a call of later is added
 pub until-push : (t : ℕ) (calls : List Made) (made : Made) → t < made.time
-    → until t (calls ++ made ∷ []) ≡ until t calls
+    → calls_until t (calls ++ made ∷ []) ≡ calls_until t calls
 until-push t calls made late =
     filter-append (λ (m : Made). nat_le m.time t) calls (made ∷ [])
-    ∙ ap (λ (l : List Made). until t calls ++ l) (later_hides t made late)
-    ∙ append-nil (until t calls)
+    ∙ ap (λ (l : List Made). calls_until t calls ++ l) (later_hides t made late)
+    ∙ append-nil (calls_until t calls)
 
 -- calls that show by a moment show by each later one
 pub timed_later : (t u : ℕ) (calls : List Made) → All (Timed t) calls → t ≤ u → All (Timed u) calls

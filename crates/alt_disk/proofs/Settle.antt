@@ -4,7 +4,7 @@ use Rattle.std.proofs.lemmas.Bool.{cases_eq}
 use Rattle.std.proofs.lemmas.List.{append-nil}
 use Rattle.std.specs.declared.alloc.Global.{Global}
 use Rattle.alt_disk.specs.Disk.{overwritten}
-use Rattle.alt_disk.specs.Memory.{Track, nothing, after, replay}
+use Rattle.alt_disk.specs.Memory.{Track, nothing, track_after, replay}
 use Rattle.alt_disk.specs.Stopped.{settled}
 use Rattle.alt_disk.specs.declared.made.Deed.TheVariants.{Write, Sync}
 use Rattle.alt_disk.specs.declared.made.Made.{Made}
@@ -29,7 +29,7 @@ module _ (f : ℕ) (bytes : Vec ℕ Global) where
   synced_call = record { time = 0; file = f; deed = Sync }
 
   -- a write of all bytes and a sync behind it leave these bytes, whatever stood before
-  settles : after Sync (after (Write 0 bytes) nothing) ≡ settled (Some bytes.items)
+  settles : track_after Sync (track_after (Write 0 bytes) nothing) ≡ settled (Some bytes.items)
   settles = ap (λ (l : List ℕ). settled (Some l)) (overwritten-nil bytes.items)
 
   -- settle the file, and leave the others
@@ -50,9 +50,9 @@ module _ (f : ℕ) (bytes : Vec ℕ Global) where
       own = ap (λ (l : List Made). replay f nothing l) whole
           ∙ replay-push f nothing (old ++ written_call ∷ []) synced_call
           ∙ call-own synced_call (replay f nothing (old ++ written_call ∷ []))
-          ∙ ap (λ (s : Track). after Sync s) (replay-push f nothing old written_call
+          ∙ ap (λ (s : Track). track_after Sync s) (replay-push f nothing old written_call
           ∙ call-own written_call (replay f nothing old)
-          ∙ ap (λ (s : Track). after (Write 0 bytes) s) none)
+          ∙ ap (λ (s : Track). track_after (Write 0 bytes) s) none)
           ∙ settles
 
       others : g ≢ f → replay g nothing new ≡ replay g nothing old

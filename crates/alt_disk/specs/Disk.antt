@@ -116,10 +116,10 @@ pub record IsNames (list : List ℕ) (file : ℕ → Option (List ℕ)) : Type 0
   pub exact : (f : ℕ) → list_any (λ g. f == g) list ≡ is_some (file f)
 
 -- an answer other than Failed
-abbrev pub answered : Result Unit DiskFault → Bool
-answered (Ok done) = true
-answered (Err Failed) = false
-answered (Err NoMemory) = true
+abbrev pub call_answered : Result Unit DiskFault → Bool
+call_answered (Ok done) = true
+call_answered (Err Failed) = false
+call_answered (Err NoMemory) = true
 
 -- what a read gives: as many bytes as stand from the place on, up to the buffer, and in its front exactly those
 pub record Read (bytes : List ℕ) (at : ℕ) (old new : List ℕ) (count : ℕ) : Type 0 where

@@ -7,7 +7,7 @@ use Rattle.std.proofs.lemmas.List.Elements.{recursion_from_All}
 use Rattle.std.proofs.lemmas.Bool.Decides.{nat_tests}
 use Rattle.alt_disk.specs.Fates.{Fates, Fits, FitsAny, FitsShape, FitsBytes, FitsBehind, AreBytes, Shape, wrote_shape, opened}
 use Rattle.alt_disk.specs.Disk.{overwritten, now}
-use Rattle.alt_disk.specs.Memory.{Track, nothing, after, after_call, replay, until, at_moment, Timed, WritesBytes, HasBytes}
+use Rattle.alt_disk.specs.Memory.{Track, nothing, track_after, after_call, replay, calls_until, at_moment, Timed, WritesBytes, HasBytes}
 use Rattle.alt_disk.specs.MemoryState.{state_of}
 use Rattle.alt_disk.specs.declared.memory.MemoryDisk.{MemoryDisk}
 use Rattle.alt_disk.specs.declared.made.Deed.{Deed}
@@ -140,8 +140,8 @@ all_known (b ∷ bytes) = (refl, all_known bytes)
 -- each call that wrote bytes, if anything, keeps it
 agrees_after : (deed : Deed) (bytes : Option (List ℕ)) (fates : Fates) (lengths : List ℕ)
     → WritesBytes deed → Agrees bytes fates
-    → Agrees (after deed (record { bytes = bytes; fates = fates; lengths = lengths })).bytes
-    (after deed (record { bytes = bytes; fates = fates; lengths = lengths })).fates
+    → Agrees (track_after deed (record { bytes = bytes; fates = fates; lengths = lengths })).bytes
+    (track_after deed (record { bytes = bytes; fates = fates; lengths = lengths })).fates
 agrees_after (Write at new) None fates lengths wrote agrees =
     let are : AreBytes new.items = recursion_from_All (λ (b : ℕ). b < 256) new.items wrote in
     let none : List ℕ = [] in
@@ -173,7 +173,7 @@ agrees_call : (f : ℕ) (made : Made) (s : Track) → HasBytes made → Agrees s
 agrees_call f made s are agrees = if_agrees (made.file == f)
   where
     if_agrees : (b : Bool)
-        → Agrees (cond b (after made.deed s) s).bytes (cond b (after made.deed s) s).fates
+        → Agrees (cond b (track_after made.deed s) s).bytes (cond b (track_after made.deed s) s).fates
     if_agrees true = agrees_after made.deed s.bytes s.fates s.lengths are agrees
     if_agrees false = agrees
 
@@ -205,13 +205,13 @@ one_shows : (t : ℕ) (made : Made) (rest : List Made) → Timed t made
 one_shows t made rest timed = grind (arith, nat_tests)
 
 -- where each does, all are
-all_show : (t : ℕ) (calls : List Made) → AllByRecursion (Timed t) calls → until t calls ≡ calls
+all_show : (t : ℕ) (calls : List Made) → AllByRecursion (Timed t) calls → calls_until t calls ≡ calls
 all_show t [] timed = refl
-all_show t (made ∷ calls) timed = one_shows t made (until t calls) timed.0
+all_show t (made ∷ calls) timed = one_shows t made (calls_until t calls) timed.0
     ∙ ap (λ (l : List Made). made ∷ l) (all_show t calls timed.1)
 
 -- where all calls show, the moment is the last
-pub until-all : (t : ℕ) (calls : List Made) → All (Timed t) calls → until t calls ≡ calls
+pub until-all : (t : ℕ) (calls : List Made) → All (Timed t) calls → calls_until t calls ≡ calls
 until-all t calls timed = all_show t calls (recursion_from_All (Timed t) calls timed)
 
 -- so reads give what a stop now may leave

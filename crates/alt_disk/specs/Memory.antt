@@ -47,8 +47,8 @@ abbrev pub nothing : Track
 nothing = record { bytes = None; fates = missing; lengths = [] }
 
 -- a file after a call on it
-abbrev pub after : Deed → Track → Track
-after deed s = record {
+abbrev pub track_after : Deed → Track → Track
+track_after deed s = record {
   bytes = bytes_after deed s.bytes;
   fates =
       fates_after deed s.bytes s.fates;
@@ -57,7 +57,7 @@ after deed s = record {
 
 -- a call is of one file
 abbrev pub after_call : ℕ → Made → Track → Track
-after_call f made s = cond (made.file == f) (after made.deed s) s
+after_call f made s = cond (made.file == f) (track_after made.deed s) s
 
 -- a file after calls in a row
 abbrev pub replay : ℕ → Track → List Made → Track
@@ -65,12 +65,12 @@ replay f s [] = s
 replay f s (made ∷ calls) = replay f (after_call f made s) calls
 
 -- the calls that show by a moment
-abbrev pub until : ℕ → List Made → List Made
-until t calls = filter (λ made. nat_le made.time t) calls
+abbrev pub calls_until : ℕ → List Made → List Made
+calls_until t calls = filter (λ made. nat_le made.time t) calls
 
 -- a file at a moment
 abbrev pub at_moment : ℕ → ℕ → List Made → Track
-at_moment t f calls = replay f nothing (until t calls)
+at_moment t f calls = replay f nothing (calls_until t calls)
 
 -- a call that shows by a moment
 abbrev pub Timed : ℕ → Made → Type 0

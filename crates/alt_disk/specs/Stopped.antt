@@ -129,8 +129,8 @@ abbrev pub picked_image : (ℕ → Track) → List ℕ → ℕ → Option (List 
 picked_image files choice f = picked (files f) (choice_at files f choice)
 
 -- the files of a disk as a stop at a moment may leave them
-abbrev pub files_at : MemoryDisk → ℕ → ℕ → Track
-files_at d moment f = at_moment moment f d.history.calls.items
+abbrev pub files_at_stop : MemoryDisk → ℕ → ℕ → Track
+files_at_stop d moment f = at_moment moment f d.history.calls.items
 
 -- what a stop may leave of a file that was synced, or is missing for good
 abbrev pub settled_fates : Option (List ℕ) → Fates

@@ -3,7 +3,7 @@
 ghost use Rattle.std.specs.Prelude.{◌≡◌, ◌≤◌, ◌+◌, ◌^◌, ◌≢◌, [], None, ℕ, length, IfOk, OnOk, OnErr, IsTrue, is_ok};
 ghost use Rattle.alt_disk.specs.declared.disk.DiskFault.TheVariants.{Failed, NoMemory};
 ghost use Rattle.alt_disk.specs.Fates.{Fits};
-ghost use Rattle.alt_disk.specs.Disk.{DiskState, IsTrusted, IsNames, contents, now, answered, Tick, ReadCall, Same, Written, Synced, Removed, Read};
+ghost use Rattle.alt_disk.specs.Disk.{DiskState, IsTrusted, IsNames, contents, now, call_answered, Tick, ReadCall, Same, Written, Synced, Removed, Read};
 
 use std::alloc::{AllocError, AllocFailed};
 
@@ -54,7 +54,7 @@ pub trait Disk {
         ensures names { IsTrue (state self.old).tells
             → OnOk result (IsNames list.new.items (state self.old).file) }
         ensures emptied { OnErr result (list.new.items ≡ []) }
-        ensures call { Tick (state self.old) (state self.new) (answered result) }
+        ensures call { Tick (state self.old) (state self.new) (call_answered result) }
         ensures same { IsTrue (state self.old).tells → Same (state self.old) (state self.new) };
 
     /// The size of a file in bytes, 0 where it is missing.

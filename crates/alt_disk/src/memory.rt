@@ -31,10 +31,10 @@ pub struct MemoryDisk {
 }
 
 impl MemoryDisk {
-    ghost use Rattle.std.specs.Prelude.{ℕ, ◌≢◌, ◌⊎◌, ◌-◌, ◌^◌, ◌<◌, true, false, None, IsTrue, IfOk, IfSome, OnOk, OnErr, is_ok};
+    ghost use Rattle.std.specs.Prelude.{ℕ, ◌≢◌, ◌⊎◌, ◌-◌, ◌^◌, ◌<◌, true, false, None, IfOk, IfSome, OnOk, OnErr, is_ok};
     ghost use Rattle.alt_disk.specs.Fates.{missing};
     ghost use Rattle.alt_disk.specs.Disk.{Tick, Silent, Faulted, Same, now, IsImage};
-    ghost use Rattle.alt_disk.specs.Stopped.{files_at, picked_image, settled_fates};
+    ghost use Rattle.alt_disk.specs.Stopped.{files_at_stop, picked_image, settled_fates};
     ghost use Rattle.alt_disk.specs.Memory.{WritesBytes, LeavesReads};
     ghost use Rattle.alt_disk.specs.MemoryState.{state_of, fails_at};
     ghost use Rattle.alt_disk.specs.Acted.{ActedSome, CountsAs, PushedSome, KeptSome};
@@ -88,7 +88,7 @@ impl MemoryDisk {
     pub fn stopped(&self, moment: u64, choice: &[u8]) -> Result<MemoryDisk, NoMemory>
         requires { moment ≤ (state_of self.now).moment }
         ensures picked { IfOk result (λ d. (f : ℕ)
-            → (state_of d).file f ≡ picked_image (files_at self.now moment) choice.now f) }
+            → (state_of d).file f ≡ picked_image (files_at_stop self.now moment) choice.now f) }
         ensures image { IfOk result (λ d. IsImage (state_of self.now) moment (state_of d).file) }
         ensures synced { IfOk result (λ d. (f : ℕ)
             → now (state_of d) f ≡ settled_fates ((state_of d).file f)) }
@@ -257,7 +257,7 @@ impl MemoryDisk {
 
 impl Disk for MemoryDisk {
     ghost use Rattle.std.specs.Prelude.{ℕ, ◌≢◌, ◌+◌, ◌-◌, ◌<◌, ◌^◌, [], true, false, None, length, IfOk, OnOk, OnErr, is_ok};
-    ghost use Rattle.alt_disk.specs.Disk.{IsNames, contents, answered, Tick, ReadCall, Same, Written, Synced, Removed, Read};
+    ghost use Rattle.alt_disk.specs.Disk.{IsNames, contents, call_answered, Tick, ReadCall, Same, Written, Synced, Removed, Read};
     ghost use Rattle.alt_disk.specs.Acted.{Acted};
     ghost use Rattle.alt_disk.specs.declared.made.Deed.TheVariants.{WriteFailed, RemoveFailed};
     ghost use Rattle.alt_disk.specs.MemoryState.{state_of, fails_at};
@@ -271,10 +271,10 @@ impl Disk for MemoryDisk {
     fn names(&mut self, list: &mut Vec<u32>) -> Result<(), DiskFault>
         ensures names { OnOk result (IsNames list.new.items (state_of self.old).file) }
         ensures emptied { OnErr result (list.new.items ≡ []) }
-        ensures call { Tick (state_of self.old) (state_of self.new) (answered result) }
+        ensures call { Tick (state_of self.old) (state_of self.new) (call_answered result) }
         ensures same { Same (state_of self.old) (state_of self.new) }
         ensures to_fail { fails_at self.old (state_of self.old).moment ≡ true
-            → answered result ≡ false }
+            → call_answered result ≡ false }
         ensures fails { (t : ℕ) → fails_at self.new t ≡ fails_at self.old t }
     {
         list.clear();

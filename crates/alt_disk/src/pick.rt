@@ -1,10 +1,10 @@
 //! The file that a choice picks of what a stop may leave.
 
-ghost use Rattle.std.specs.Prelude.{◌≡◌, ◌<◌, ◌++◌, [], ℕ, Some, None, IfOk, IfSome, map, drop, List, is_none};
+ghost use Rattle.std.specs.Prelude.{◌≡◌, ◌<◌, ◌++◌, [], Some, None, IfOk, IfSome, map, drop, is_none};
 ghost use Rattle.std.specs.List.{All, list_any};
 ghost use Rattle.alt_disk.specs.Files.{option_items};
 ghost use Rattle.alt_disk.specs.Trace.{track_of, option_shape, generation_of, option_generation};
-ghost use Rattle.alt_disk.specs.Stopped.{next, generations, removed_ones, may_miss, any_missing, chosen, behind_chosen, past_end, behind_length, filled, behind_filled, open_bytes, left_file, behind_left, picked, behind_picked};
+ghost use Rattle.alt_disk.specs.Stopped.{next, generations, removed_ones, may_miss, chosen, behind_chosen, past_end, behind_length, filled, behind_filled, open_bytes, left_file, behind_left, picked, behind_picked};
 
 use crate::trace::{Outline, Trace};
 use std::alloc::{AllocError, Global};

@@ -5,7 +5,7 @@ ghost use Rattle.alt_disk.specs.declared.made.Deed.TheVariants.{Sync, Remove, Re
 ghost use Rattle.alt_disk.specs.Disk.{bytes_or_none, overwritten};
 ghost use Rattle.alt_disk.specs.Fates.{opened, wrote};
 ghost use Rattle.alt_disk.specs.Files.{option_items};
-ghost use Rattle.alt_disk.specs.Memory.{after, at_moment};
+ghost use Rattle.alt_disk.specs.Memory.{track_after, at_moment};
 ghost use Rattle.alt_disk.specs.Trace.{track_of};
 
 use crate::files::overwrite;
@@ -54,7 +54,7 @@ pub(crate) fn retrace(
 
 // One call more.
 fn after_deed(alloc: Global, deed: &Deed, trace: Trace) -> Result<Trace, AllocError>
-    ensures { IfOk result (λ t. track_of t ≡ after deed.now (track_of trace)) }
+    ensures { IfOk result (λ t. track_of t ≡ track_after deed.now (track_of trace)) }
 {
     match deed {
         Deed::Write { at, bytes } => { after_write(alloc, trace, *at, bytes.as_slice()) }
@@ -141,7 +141,7 @@ fn open_range(outline: Outline, at: u64, count: u64) -> Outline
 
 // A sync. It does nothing to a missing file.
 fn after_sync(alloc: Global, trace: Trace) -> Result<Trace, AllocError>
-    ensures { IfOk result (λ t. track_of t ≡ after Sync (track_of trace)) }
+    ensures { IfOk result (λ t. track_of t ≡ track_after Sync (track_of trace)) }
 {
     let Trace {
         bytes,
@@ -178,7 +178,7 @@ fn all_known(alloc: Global, bytes: &[u8]) -> Result<Vec<Option<u8>>, AllocError>
 
 // A removal. It does nothing to a missing file.
 fn after_remove(trace: Trace) -> Result<Trace, AllocError>
-    ensures { IfOk result (λ t. track_of t ≡ after Remove (track_of trace)) }
+    ensures { IfOk result (λ t. track_of t ≡ track_after Remove (track_of trace)) }
 {
     let Trace {
         bytes,
@@ -206,7 +206,7 @@ fn after_remove(trace: Trace) -> Result<Trace, AllocError>
 
 // A removal that failed. It does nothing to a missing file.
 fn after_failed_remove(trace: Trace) -> Result<Trace, AllocError>
-    ensures { IfOk result (λ t. track_of t ≡ after RemoveFailed (track_of trace)) }
+    ensures { IfOk result (λ t. track_of t ≡ track_after RemoveFailed (track_of trace)) }
 {
     let mut others = trace.others;
     if trace.bytes.is_some() {

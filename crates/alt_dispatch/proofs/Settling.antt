@@ -5,8 +5,8 @@ use Rattle.alt_disk.specs.Disk.{DiskState}
 use Rattle.alt_machine.specs.Outcomes.{Outcome, last_state}
 use Rattle.alt_machine.specs.State.{State}
 use Rattle.alt_machine.specs.Valid.{IsValid}
-use Rattle.alt_dispatch.specs.Settled.{Settles, Tells}
-use Rattle.alt_request.specs.Carried.{IsAnswered, IsRefused, Does, IfFailed, IfRefused, Moves, WhereFailed, WhereWanting}
+use Rattle.alt_dispatch.specs.Settled.{Settles, TellsReply}
+use Rattle.alt_request.specs.Carried.{IsAnswered, OutcomeRefuses, FollowsOutcome, IfFailed, IfRefused, Moves, WhereFailed, WhereWanting}
 use Rattle.alt_request.specs.declared.stop.Stop.{Stop}
 use Rattle.alt_request.specs.declared.stop.Stop.TheVariants.{Refused, Fault}
 use Rattle.alt_shape.specs.declared.refusal.Refusal.{Refusal}
@@ -21,12 +21,12 @@ use Rattle.alt_request.specs.TablesDeclaredTableFault.TheVariants.{Failed, NoMem
 
 module _ (file : ℕ) (now : State → Type 0) (s : State) (outcome : Outcome) where
   -- where the refusal isn't told for want of memory, nothing was written
-  untold : (r : Refusal) → IsRefused now s outcome r → Settles file now s outcome (Err NoMemory)
+  untold : (r : Refusal) → OutcomeRefuses now s outcome r → Settles file now s outcome (Err NoMemory)
   untold r h = tt
 
   -- what was carried out settles the request: its answer as it is, its refusal as it is told
   pub settled : (carried : Result Reply Stop) (told : Result Reply TableFault)
-      → Does file now s outcome carried → Tells carried told → Settles file now s outcome told
+      → FollowsOutcome file now s outcome carried → TellsReply carried told → Settles file now s outcome told
   settled (Ok reply) told h is = subst (Settles file now s outcome) (sym is) h
   settled (Err (Refused r)) (Ok reply) h is = subst (IsAnswered now s outcome) (sym is) h.answered
   settled (Err (Refused r)) (Err fault) h is =
@@ -42,7 +42,7 @@ settled_valid file now s outcome (Err fault) valid h = tt
 
 -- what holds of a refusal holds where it is told by a reply with the status 400
 pub told_refused : (P : Type 0) (carried : Result Reply Stop) (told : Result Reply TableFault)
-    → IfRefused carried P → Tells carried told → IfOk told (λ reply. reply.status ≡ 400 → P)
+    → IfRefused carried P → TellsReply carried told → IfOk told (λ reply. reply.status ≡ 400 → P)
 told_refused P (Ok reply) told h is =
     subst (λ r. IfOk r (λ reply. reply.status ≡ 400 → P)) (sym is) h
 told_refused P (Err (Refused r)) (Ok reply) h is = λ status. h
@@ -52,7 +52,7 @@ told_refused P (Err (Fault f)) told h is =
 
 -- an answer tells that the device failed only where it did for the operation
 pub told_failed : (P : Type 0) (carried : Result Reply Stop) (told : Result Reply TableFault)
-    → IfFailed carried P → Tells carried told → IsErrOf told Failed → P
+    → IfFailed carried P → TellsReply carried told → IsErrOf told Failed → P
 told_failed P (Ok reply) told h is e =
     absurd (let none : Ok reply ≡ Err Failed = sym is ∙ e in let g : ⊥ = cc in g)
 told_failed P (Err (Refused r)) (Ok reply) h is e = absurd (let g : ⊥ = cc in g)
@@ -65,7 +65,7 @@ told_failed P (Err (Fault f)) told h is e =
 -- told for want of it
 pub told_wants : (before after : DiskState) (tables : Tables) (s : State) (outcome : State → Outcome)
     → Stands before tables s → (carried : Result Reply Stop) (told : Result Reply TableFault)
-    → Moves outcome (Stands before tables) before after carried → Tells carried told
+    → Moves outcome (Stands before tables) before after carried → TellsReply carried told
     → IsErrOf told NoMemory → WantsMemory after (outcome s).wants s (outcome s).atoms
 told_wants before after tables s outcome stands (Ok reply) told moves is e =
     absurd (let none : Ok reply ≡ Err NoMemory = sym is ∙ e in let g : ⊥ = cc in g)

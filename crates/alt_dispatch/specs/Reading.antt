@@ -27,6 +27,6 @@ is_read ExpireItems = false
 is_read UpdateTable = false
 
 -- So it is of a request that names no operation that is built.
-abbrev pub OnlyReads : Option Operation → Type 0
-OnlyReads None = Unit {0}
-OnlyReads (Some operation) = IsTrue (is_read operation)
+abbrev pub OperationOnlyReads : Option Operation → Type 0
+OperationOnlyReads None = Unit {0}
+OperationOnlyReads (Some operation) = IsTrue (is_read operation)

@@ -17,8 +17,8 @@ Settles file now s outcome (Ok reply) = IsAnswered now s outcome (answer_of repl
 Settles file now s outcome (Err fault) = BreakOff file now outcome.wants s outcome.atoms fault
 
 -- A reply is told as it is, a refusal by the reply that tells it, where there is memory for one, and a fault is passed on.
-abbrev pub Tells : Result Reply Stop → Result Reply TableFault → Type 0
-Tells (Ok reply) told = told ≡ Ok reply
-Tells (Err (Refused r)) (Ok reply) = answer_of reply ≡ refused r
-Tells (Err (Refused r)) (Err fault) = fault ≡ NoMemory
-Tells (Err (Fault f)) told = told ≡ Err f
+abbrev pub TellsReply : Result Reply Stop → Result Reply TableFault → Type 0
+TellsReply (Ok reply) told = told ≡ Ok reply
+TellsReply (Err (Refused r)) (Ok reply) = answer_of reply ≡ refused r
+TellsReply (Err (Refused r)) (Err fault) = fault ≡ NoMemory
+TellsReply (Err (Fault f)) told = told ≡ Err f

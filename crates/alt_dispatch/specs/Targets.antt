@@ -30,20 +30,20 @@ abbrev pub on_streams : Operation → Option Operation
 on_streams operation = if is_on_streams operation then Some operation else None
 
 -- the built operation whose name stands behind this version, where it passes
-abbrev pub behind : List ℕ → (Operation → Option Operation) → List ℕ → Option Operation
-behind version passes target =
+abbrev pub operation_behind : List ℕ → (Operation → Option Operation) → List ℕ → Option Operation
+operation_behind version passes target =
     option_and_then passes (operation_named (drop (length version) target))
 
 -- a text begins with this version
-abbrev pub begins : List ℕ → List ℕ → Bool
-begins version target = bytes_eq (take (length version) target) version
+abbrev pub begins_with_version : List ℕ → List ℕ → Bool
+begins_with_version version target = bytes_eq (take (length version) target) version
 
 -- the operation on streams of a target
 abbrev pub stream_operation_at : List ℕ → Option Operation
-stream_operation_at target = if begins streams_version target
-    then behind streams_version on_streams target else None
+stream_operation_at target = if begins_with_version streams_version target
+    then operation_behind streams_version on_streams target else None
 
 -- the operation of a target: one on tables and items behind the first version, and one on streams behind the second
 abbrev pub operation_at : List ℕ → Option Operation
-operation_at target = if begins tables_version target
-    then behind tables_version on_tables target else stream_operation_at target
+operation_at target = if begins_with_version tables_version target
+    then operation_behind tables_version on_tables target else stream_operation_at target

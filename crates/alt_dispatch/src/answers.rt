@@ -14,9 +14,9 @@ ghost use Rattle.alt_machine.specs.Outcomes.{last_state};
 ghost use Rattle.alt_machine.specs.State.{State};
 ghost use Rattle.alt_machine.specs.Step.{step, operates, with_body};
 ghost use Rattle.alt_machine.specs.Valid.{IsValid};
-ghost use Rattle.alt_dispatch.specs.Reading.{OnlyReads, is_read};
-ghost use Rattle.alt_dispatch.specs.Settled.{Settles, Tells};
-ghost use Rattle.alt_request.specs.Carried.{Carries, IsPlain, Moves};
+ghost use Rattle.alt_dispatch.specs.Reading.{OperationOnlyReads, is_read};
+ghost use Rattle.alt_dispatch.specs.Settled.{Settles, TellsReply};
+ghost use Rattle.alt_request.specs.Carried.{Carries, IsPlainResult, Moves};
 ghost use Rattle.alt_request.specs.TablesFaults.{WantsMemory};
 ghost use Rattle.alt_request.specs.TablesImages.{Leaves};
 ghost use Rattle.alt_request.specs.TablesStands.{AreReady, Reads, Stands, bounds_of};
@@ -118,7 +118,7 @@ pub fn answer<D: Disk>(
     // A reply with the status 400 leaves every file, on any disk that tells them, and so does whatever comes of an operation that only reads.
     ensures refused { IfOk result (λ reply. reply.status ≡ 400 → IsTrue (D.state disk.old).tells
         → Quiet (D.state disk.old) (D.state disk.new)) }
-    ensures reads { OnlyReads operation → Reads (D.state disk.old) (D.state disk.new) }
+    ensures reads { OperationOnlyReads operation → Reads (D.state disk.old) (D.state disk.new) }
     ensures limits { bounds_of tables.new ≡ bounds_of tables.old }
     ensures goes { Goes (D.state disk.old) (D.state disk.new) }
     ensures cause { IsErrOf result TableFault.Failed
@@ -130,8 +130,8 @@ pub fn answer<D: Disk>(
 
 /// A refusal as the reply that tells it.
 fn told(alloc: Global, carried: Result<Reply, Stop>) -> Result<Reply, TableFault>
-    requires { IsPlain carried }
-    ensures told { Tells carried result }
+    requires { IsPlainResult carried }
+    ensures told { TellsReply carried result }
     ensures plain { IfOk result (λ reply. has_float (body_json reply.body) ≡ false) }
 {
     match carried {
@@ -159,7 +159,7 @@ fn respond<D: Disk>(
     ensures limits { bounds_of tables.new ≡ bounds_of tables.old }
     ensures moves { Moves (λ s. step s operation body.now moment)
         (Stands (D.state disk.old) tables.old) (D.state disk.old) (D.state disk.new) result }
-    ensures reads { OnlyReads operation → Reads (D.state disk.old) (D.state disk.new) }
+    ensures reads { OperationOnlyReads operation → Reads (D.state disk.old) (D.state disk.new) }
 {
     let Some(operation) = operation else {
         return Err(Stop::Refused(Refusal::UNKNOWN_OPERATION));

@@ -9,7 +9,7 @@ use Rattle.std.specs.Ordering.{nat_cmp}
 use Rattle.alt_disk.specs.Disk.{DiskState}
 use Rattle.alt_disk.specs.Runs.{Run}
 use Rattle.alt_fields.proofs.Apart.{all_append, all_front}
-use Rattle.alt_flush.specs.Drafts.{kept_before, over_new_log, with_files, with_flush, without}
+use Rattle.alt_flush.specs.Drafts.{kept_before, over_new_log, with_files, with_flush, without_family}
 use Rattle.alt_flush.proofs.DraftLaws.{old_file}
 use Rattle.alt_flush.proofs.DropLaws.{named_without, none-other}
 use Rattle.alt_flush.proofs.NewLogLaws.{named_new_log}
@@ -18,19 +18,19 @@ use Rattle.alt_layout.specs.Files.{all_of}
 use Rattle.alt_layout.specs.Layout.{Layout}
 use Rattle.alt_layout.specs.Merges.{IsMapFrom}
 use Rattle.alt_layout.proofs.FileLaws.{in_either}
-use Rattle.alt_layout.proofs.FlushLaws.{IsPut, flushed_of-own, of-other, put_file}
+use Rattle.alt_layout.proofs.FlushedFiles.{IsPut, flushed_of-own, of-other, put_file}
 use Rattle.alt_layout.proofs.MergeLaws.{none_from, with_later-behind}
 use Rattle.alt_layout.proofs.MomentLaws.{same_or_not}
 use Rattle.alt_manifest.specs.Versions.{IsFamily, IsIn, files_named, row_files}
 use Rattle.alt_manifest.specs.declared.version.FamilyVersion.{FamilyVersion}
 use Rattle.alt_manifest.specs.declared.version.Version.{Version}
-use Rattle.alt_rowfile.specs.InHand.{file_of as row_file, Stands as RowFileStands}
+use Rattle.alt_rowfile.specs.InHand.{file_of as row_file, StandsForRows as RowFileStands}
 use Rattle.alt_rowfile.specs.declared.rowfile.RowFile.{RowFile}
 use Rattle.alt_writes.specs.Writes.{Write}
 use Rattle.alt_families.specs.Families.{Families, files_in, rows_in}
 use Rattle.alt_families.specs.declared.family.Family.{Family}
 use Rattle.alt_drafts.specs.Carrying.{AreStill, CarriesDraft}
-use Rattle.alt_drafts.specs.Drafting.{AreDead, Makes, without_all}
+use Rattle.alt_drafts.specs.Drafting.{AreDead, Makes, without_families}
 use Rattle.alt_drafts.specs.Merging.{IsLater, IsOlder, MayEnd}
 use Rattle.alt_drafts.proofs.StillLaws.{each_on, may_end_on}
 use Rattle.alt_drafts.proofs.MakesLaws.{named_of}
@@ -74,7 +74,7 @@ carries_then a b c u v w o p q family first later = record {
 
 -- one left out changes nothing of another
 carries_without : (s : DiskState) (u : Version) (o : Option Family) (dead family : ℕ)
-    → family ≢ dead → CarriesDraft s s u (without u dead) o o family
+    → family ≢ dead → CarriesDraft s s u (without_family u dead) o o family
 carries_without s u o dead family apart = record {
   more = [];
   files = sym (append-nil (files_in o));
@@ -94,17 +94,17 @@ carries_without s u o dead family apart = record {
 }
 
 pub carries_without_all : (s : DiskState) (u : Version) (o : Option Family) (dead : List ℕ)
-    (family : ℕ) → (IsIn dead family → ⊥) → CarriesDraft s s u (without_all u dead) o o family
+    (family : ℕ) → (IsIn dead family → ⊥) → CarriesDraft s s u (without_families u dead) o o family
 carries_without_all s u o [] family out = carries_same s u o family
 carries_without_all s u o (d ∷ dead) family out =
-    carries_then s s s u (without u d) (without_all (without u d) dead) o o o family
+    carries_then s s s u (without_family u d) (without_families (without_family u d) dead) o o o family
     (carries_without s u o d family (λ e. out (inl e)))
-    (carries_without_all s (without u d) o dead family (λ there. out (inr there)))
+    (carries_without_all s (without_family u d) o dead family (λ there. out (inr there)))
 
 -- So a call that leaves out all that aren't live carries merges of those that are.
 pub carries_left_out : {E : Type 0} → (r : Result Version E) (draft : Version)
     (old new : Families) (live dead : List ℕ) → AreDead live dead
-    → IfOk r (λ u. u ≡ without_all draft dead)
+    → IfOk r (λ u. u ≡ without_families draft dead)
     → OnOk r ((family : ℕ) → (IsIn dead family → ⊥)
     → get nat_cmp new family ≡ get nat_cmp old family)
     → IfOk r (λ u. (s : DiskState) (family : ℕ) → IsIn live family
@@ -113,7 +113,7 @@ carries_left_out (Ok u) draft old new live dead are is stay = λ s family there.
     let out : IsIn dead family → ⊥ = λ gone. are family gone there in
     subst (λ (v : Version). CarriesDraft s s draft v (get nat_cmp old family)
     (get nat_cmp new family) family) (sym is)
-    (subst (λ o. CarriesDraft s s draft (without_all draft dead) (get nat_cmp old family) o family)
+    (subst (λ o. CarriesDraft s s draft (without_families draft dead) (get nat_cmp old family) o family)
     (sym (stay family out))
     (carries_without_all s draft (get nat_cmp old family) dead family out))
 carries_left_out (Err fault) draft old new live dead are is stay = tt

@@ -1,5 +1,5 @@
 -- Families that aren't live, gathered and left out.
-use Rattle.std.proofs.Common.{◌≡◌, ◌<◌, ◌+◌, ◌^◌, ◌++◌, ⊎_elim, inl, inr, cond, ℕ, Bool, true, false, List, [], ◌∷◌, length, take, drop, get_or, map, Option, refl, sym, ap, subst, ◌∙◌, arith, eqb-true, zero, suc}
+use Rattle.std.proofs.Common.{◌≡◌, ◌<◌, ◌+◌, ◌^◌, ◌++◌, ⊎_elim, inl, inr, cond, ℕ, Bool, true, false, List, [], ◌∷◌, length, take, drop, get_or, Option, refl, sym, ap, subst, ◌∙◌, arith, eqb-true, zero, suc}
 use Rattle.std.proofs.lemmas.List.{drop_more, take_more}
 use Rattle.std.specs.Prelude.{◌⊎◌, ◌==◌, ◌||◌, is_some, None}
 use Rattle.std.specs.BTreeMap.{get}
@@ -8,7 +8,7 @@ use Rattle.std.specs.Ordering.{eq_by_cmp, is_eq, nat_cmp}
 use Rattle.std.specs.Set.{is_member}
 use Rattle.alt_base.proofs.Orderings.{is_eq-nat_cmp}
 use Rattle.alt_disk.specs.Disk.{DiskState}
-use Rattle.alt_flush.specs.Drafts.{without}
+use Rattle.alt_flush.specs.Drafts.{without_family}
 use Rattle.alt_layout.specs.Layout.{Layout, RowMap}
 use Rattle.alt_layout.proofs.FileLaws.{in_either}
 use Rattle.alt_manifest.specs.Versions.{IsIn, numbers_of, row_files}
@@ -18,7 +18,7 @@ use Rattle.alt_families.specs.Families.{Families, rows_in}
 use Rattle.alt_writes.specs.Writes.{Write}
 use Rattle.alt_layout.specs.Families.{layout_of}
 use Rattle.alt_layout.specs.Files.{all_of}
-use Rattle.alt_drafts.specs.Drafting.{AreDead, Empties, Makes, is_some_row, without_all}
+use Rattle.alt_drafts.specs.Drafting.{AreDead, Empties, Makes, is_some_row, without_families}
 use Rattle.alt_drafts.proofs.MakesLaws.{empties_none, empties_then, makes_none}
 use Rattle.alt_manifest.proofs.Among.{in_at, in_back, in_front}
 
@@ -120,8 +120,8 @@ others_stay old new family at other apart =
 
 -- the draft without those from one on is the draft without that one, without those behind it
 pub without_more : (u : Version) (dead : List ℕ) (i : ℕ) → i < length dead
-    → without_all (without u (get_or dead i 0)) (drop (i + 1) dead) ≡ without_all u (drop i dead)
-without_more u dead i within = ap (without_all u) (sym (drop_more dead i 0 within))
+    → without_families (without_family u (get_or dead i 0)) (drop (i + 1) dead) ≡ without_families u (drop i dead)
+without_more u dead i within = ap (without_families u) (sym (drop_more dead i 0 within))
 
 -- a family that isn't among those so far with one more isn't among those so far, and isn't that one
 pub others_more : (old new first : Families) (dead : List ℕ) (i other : ℕ) → i < length dead
@@ -138,7 +138,7 @@ others_more old new first dead i other within stay before not_in =
 -- One more is left out of a draft and its layout.
 pub dropped_more : (s : DiskState) (u w : Version) (old new : Families)
     (parts : List (List Write)) (l : Layout) (live dead : List ℕ) (i : ℕ) → i < length dead
-    → get_or dead i 0 < 2 ^ 32 → w ≡ without u (get_or dead i 0)
+    → get_or dead i 0 < 2 ^ 32 → w ≡ without_family u (get_or dead i 0)
     → get nat_cmp new (get_or dead i 0) ≡ None
     → ((o : ℕ) → (o ≡ get_or dead i 0 → ⊥) → get nat_cmp new o ≡ get nat_cmp old o)
     → AreDead live dead → (m : Layout) × Makes s u old parts m × Empties live l m
@@ -146,7 +146,7 @@ pub dropped_more : (s : DiskState) (u w : Version) (old new : Families)
 dropped_more s u w old new parts l live dead i within fits is none stay are so_far =
     let family = get_or dead i 0 in
     let m = so_far.0 in
-    let n = layout_of (without u family) so_far.1.held (all_of parts) in (
+    let n = layout_of (without_family u family) so_far.1.held (all_of parts) in (
       n,
       subst (λ (v : Version). Makes s v new parts n) (sym is)
           (makes_none s u old parts m so_far.1 family fits new none stay),
@@ -157,11 +157,11 @@ dropped_more s u w old new parts l live dead i within fits is none stay are so_f
 
 -- what is left out changes no number and no segment
 pub without_all-file : (u : Version) (dead : List ℕ)
-    → (without_all u dead).next_file ≡ u.next_file
+    → (without_families u dead).next_file ≡ u.next_file
 without_all-file u [] = refl
-without_all-file u (family ∷ dead) = without_all-file (without u family) dead
+without_all-file u (family ∷ dead) = without_all-file (without_family u family) dead
 
 pub without_all-segments : (u : Version) (dead : List ℕ)
-    → (without_all u dead).segments ≡ u.segments
+    → (without_families u dead).segments ≡ u.segments
 without_all-segments u [] = refl
-without_all-segments u (family ∷ dead) = without_all-segments (without u family) dead
+without_all-segments u (family ∷ dead) = without_all-segments (without_family u family) dead

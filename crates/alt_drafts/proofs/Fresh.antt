@@ -14,7 +14,7 @@ use Rattle.alt_gatelog.specs.Log.{IsLog, header, log_bytes}
 use Rattle.alt_gatelog.specs.declared.form.Form.{Form}
 use Rattle.alt_gatelog.specs.declared.form.Form.TheVariants.{One, Two}
 use Rattle.alt_layout.specs.Layout.{no_rows}
-use Rattle.alt_layout.specs.Fresh.{IsFresh, IsMade, versions_file, entries_file}
+use Rattle.alt_layout.specs.Fresh.{IsFresh, IsFreshStoreFile, versions_file, entries_file}
 use Rattle.alt_layout.specs.Files.{IsLayout}
 use Rattle.alt_manifest.specs.Versions.{HasVersion, version_bytes}
 use Rattle.alt_manifest.specs.declared.version.Version.{Version}
@@ -43,28 +43,28 @@ no_version file missing v version =
     version.log.gate version.log.rest) = sym missing ∙ version.log.is in let f : ⊥ = cc in f
 
 -- where nothing is made no stop leaves one
-pub segment_quiet : (a b : DiskState) → LeavesNoVersions a → Quiet a b → Spans a b IsMade HasSegment
-segment_quiet a b none quiet = quiet_spans a b IsMade HasSegment quiet
+pub segment_quiet : (a b : DiskState) → LeavesNoVersions a → Quiet a b → Spans a b IsFreshStoreFile HasSegment
+segment_quiet a b none quiet = quiet_spans a b IsFreshStoreFile HasSegment quiet
     (λ t image fits v version. absurd (no_version (image versions_file)
     (none (image versions_file) (fits versions_file)) v version))
 
 -- nor before the versions are made
 pub segment_first : (a b c : DiskState) → LeavesNoVersions a → Quiet a b → Run b c 2 (λ _ _. ⊤)
-    → Spans a c IsMade HasSegment
-segment_first a b c none quiet run = spans_on a b c IsMade HasSegment
+    → Spans a c IsFreshStoreFile HasSegment
+segment_first a b c none quiet run = spans_on a b c IsFreshStoreFile HasSegment
     (segment_quiet a b none quiet)
-    (run_spans b c 2 (λ _ _. ⊤) IsMade HasSegment run (inr refl)
+    (run_spans b c 2 (λ _ _. ⊤) IsFreshStoreFile HasSegment run (inr refl)
     (λ t image here others v version. absurd (no_version (image versions_file)
     (none (image versions_file) (subst (λ (x : Fates). Fits x (image versions_file))
     (quiet.fates b.moment versions_file quiet.later (omega arith))
     (others versions_file (omega arith)))) v version)))
 
 -- Behind the segment, which lasts, the versions may be made.
-pub segment_then : (a c d : DiskState) (f : ℕ) → f ≡ 1 → Spans a c IsMade HasSegment
+pub segment_then : (a c d : DiskState) (f : ℕ) → f ≡ 1 → Spans a c IsFreshStoreFile HasSegment
     → IsSettled c 2 → c.file 2 ≡ Some (log_bytes Two [] 0 []) → Run c d f (λ _ _. ⊤)
-    → Spans a d IsMade HasSegment
-segment_then a c d f is_first so_far settled empty run = spans_on a c d IsMade HasSegment so_far
-    (run_spans c d f (λ _ _. ⊤) IsMade HasSegment run (inl is_first)
+    → Spans a d IsFreshStoreFile HasSegment
+segment_then a c d f is_first so_far settled empty run = spans_on a c d IsFreshStoreFile HasSegment so_far
+    (run_spans c d f (λ _ _. ⊤) IsFreshStoreFile HasSegment run (inl is_first)
     (λ t image here others v version. has_none (image entries_file)
     (settled (image entries_file) (others entries_file (λ same. omega (arith, same, is_first)))
     ∙ empty)))

@@ -11,7 +11,7 @@ use Rattle.alt_families.specs.Families.{Families}
 use Rattle.alt_families.specs.Memory.{AreChanged, IsChanged}
 use Rattle.alt_families.specs.declared.family.Family.{Family}
 use Rattle.alt_layout.proofs.MomentLaws.{same_or_not}
-use Rattle.alt_drafts.specs.InHand.{AreBelow, bytes_in}
+use Rattle.alt_drafts.specs.InHand.{AreBelow, bytes_in_memory}
 
 -- A write changes rows of the family, or not.
 changed_or_not : (cs : List RowChange) (family : ℕ)
@@ -70,22 +70,22 @@ pub still_below : (old new : Families) (flush : ℕ) (before : Bool)
     (batches : List (List RowChange)) (after : Bool) → (before ≡ false → AreBelow flush old)
     → ((f : ℕ) → (AreChanged batches f → ⊥) → get nat_cmp new f ≡ get nat_cmp old f)
     → (after ≡ false → before ≡ false)
-    → (after ≡ false → (f : ℕ) → AreChanged batches f → bytes_in (get nat_cmp new f) < flush)
+    → (after ≡ false → (f : ℕ) → AreChanged batches f → bytes_in_memory (get nat_cmp new f) < flush)
     → after ≡ false → AreBelow flush new
 still_below old new flush before batches after calm others back changed none family = ⊎_elim
     (λ (there : AreChanged batches family). changed none family there)
-    (λ (out : AreChanged batches family → ⊥). subst (λ o. bytes_in o < flush)
+    (λ (out : AreChanged batches family → ⊥). subst (λ o. bytes_in_memory o < flush)
     (sym (others family out)) (calm (back none) family)) (any_changed_or_not batches family)
 
 -- Each value that a map finds is below where all are.
 pub found_below : (test : ℕ → Bool) (es : List (ℕ × Family)) (flush : ℕ) → 0 < flush
     → AllByRecursion (λ (f : Family). f.table.1 < flush) (values_of es)
-    → bytes_in (lookup test es) < flush
+    → bytes_in_memory (lookup test es) < flush
 found_below test [] flush some all = some
 found_below test (e ∷ es) flush some all =
     here (test e.0) (found_below test es flush some all.1)
   where
-    here : (t : Bool) → bytes_in (lookup test es) < flush
-        → bytes_in (cond t (Some e.1) (lookup test es)) < flush
+    here : (t : Bool) → bytes_in_memory (lookup test es) < flush
+        → bytes_in_memory (cond t (Some e.1) (lookup test es)) < flush
     here true rest = all.0
     here false rest = rest

@@ -5,19 +5,19 @@ use Rattle.std.specs.Prelude.{◌⊎◌, ◌==◌, Option, drop, if◌then◌els
 use Rattle.std.specs.FinMap.{empty}
 use Rattle.alt_families.specs.Families.{rows_in}
 use Rattle.alt_families.specs.declared.family.Family.{Family}
-use Rattle.alt_flush.specs.Drafts.{with_none, without}
+use Rattle.alt_flush.specs.Drafts.{with_none, without_family}
 use Rattle.alt_flush.specs.Laws.{DropsOnly}
 use Rattle.alt_flush.proofs.DropLaws.{flushed_of-none, none-other}
 use Rattle.alt_flush.proofs.NamedLaws.{without_drops}
 use Rattle.alt_layout.specs.Families.{files_of, flushed_of}
 use Rattle.alt_layout.specs.Flushes.{with_file}
 use Rattle.alt_layout.specs.Merged.{with_made}
-use Rattle.alt_layout.proofs.FlushLaws.{differs}
+use Rattle.alt_layout.proofs.FlushedFiles.{differs}
 use Rattle.alt_layout.proofs.MomentLaws.{same_or_not}
 use Rattle.alt_manifest.specs.Versions.{IsIn, files_named, numbers_of}
 use Rattle.alt_manifest.specs.declared.version.FamilyVersion.{FamilyVersion}
 use Rattle.alt_manifest.specs.declared.version.Version.{Version}
-use Rattle.alt_drafts.specs.Drafting.{IsLeftOut, IsThere, AreDead, without_all}
+use Rattle.alt_drafts.specs.Drafting.{IsLeftOut, IsThere, AreDead, without_families}
 use Rattle.alt_manifest.proofs.Among.{in_back, in_front, in_or_not}
 
 -- ---- files of families
@@ -100,44 +100,44 @@ files_of-left family flushed (f ∷ fs) =
 
 -- another has those that it had
 files_beside : (u : Version) (d family : ℕ) → family ≢ d
-    → files_of (without u d).families family ≡ files_of u.families family
+    → files_of (without_family u d).families family ≡ files_of u.families family
 files_beside u d family apart = none-other (λ (f : FamilyVersion). f.files) d (u.next_number - 1) family
     [] (λ fs. files_of fs family) refl (λ f fs. refl) apart u.families
 
 pub files_others : (u : Version) (dead : List ℕ) (family : ℕ) → (IsIn dead family → ⊥)
-    → files_of (without_all u dead).families family ≡ files_of u.families family
+    → files_of (without_families u dead).families family ≡ files_of u.families family
 files_others u [] family out = refl
 files_others u (d ∷ dead) family out =
-    files_others (without u d) dead family (λ there. out (inr there))
+    files_others (without_family u d) dead family (λ there. out (inr there))
     ∙ files_beside u d family (λ same. out (inl same))
 
 pub flushed_others : (u : Version) (dead : List ℕ) (family : ℕ) → (IsIn dead family → ⊥)
-    → flushed_of (without_all u dead).families family ≡ flushed_of u.families family
+    → flushed_of (without_families u dead).families family ≡ flushed_of u.families family
 flushed_others u [] family out = refl
 flushed_others u (d ∷ dead) family out =
-    flushed_others (without u d) dead family (λ there. out (inr there))
+    flushed_others (without_family u d) dead family (λ there. out (inr there))
     ∙ none-other (λ (f : FamilyVersion). f.flushed) d (u.next_number - 1) family 0
     (λ fs. flushed_of fs family) refl (λ f fs. refl) (λ same. out (inl same)) u.families
 
 -- none of several has files
 left_files : (u : Version) (dead : List ℕ) (family : ℕ) → IsIn dead family
-    → files_of (without_all u dead).families family ≡ []
+    → files_of (without_families u dead).families family ≡ []
 left_files u [] family there = absurd there
 left_files u (d ∷ dead) family there = ⊎_elim
-    (λ (later : IsIn dead family). left_files (without u d) dead family later)
-    (λ (out : IsIn dead family → ⊥). files_others (without u d) dead family out
-    ∙ ⊎_elim (λ (e : family ≡ d). subst (λ k. files_of (without u d).families k ≡ []) (sym e)
+    (λ (later : IsIn dead family). left_files (without_family u d) dead family later)
+    (λ (out : IsIn dead family → ⊥). files_others (without_family u d) dead family out
+    ∙ ⊎_elim (λ (e : family ≡ d). subst (λ k. files_of (without_family u d).families k ≡ []) (sym e)
     (files_of-left d (u.next_number - 1) u.families))
     (λ (later : IsIn dead family). absurd (out later)) there) (in_or_not dead family)
 
 -- and each was flushed up to the last write
 left_flushed : (u : Version) (dead : List ℕ) (family : ℕ) → IsIn dead family
-    → flushed_of (without_all u dead).families family ≡ u.next_number - 1
+    → flushed_of (without_families u dead).families family ≡ u.next_number - 1
 left_flushed u [] family there = absurd there
 left_flushed u (d ∷ dead) family there = ⊎_elim
-    (λ (later : IsIn dead family). left_flushed (without u d) dead family later)
-    (λ (out : IsIn dead family → ⊥). flushed_others (without u d) dead family out
-    ∙ ⊎_elim (λ (e : family ≡ d). subst (λ k. flushed_of (without u d).families k ≡ u.next_number - 1)
+    (λ (later : IsIn dead family). left_flushed (without_family u d) dead family later)
+    (λ (out : IsIn dead family → ⊥). flushed_others (without_family u d) dead family out
+    ∙ ⊎_elim (λ (e : family ≡ d). subst (λ k. flushed_of (without_family u d).families k ≡ u.next_number - 1)
     (sym e) (flushed_of-none d (u.next_number - 1) u.families))
     (λ (later : IsIn dead family). absurd (out later)) there) (in_or_not dead family)
 
@@ -215,19 +215,19 @@ named_made family taken other made (f ∷ fs) there =
 
 -- each of several is named
 names_others : (u : Version) (dead : List ℕ) (family : ℕ) → IsIn (numbers_of u.families) family
-    → IsIn (numbers_of (without_all u dead).families) family
+    → IsIn (numbers_of (without_families u dead).families) family
 names_others u [] family there = there
-names_others u (d ∷ dead) family there = names_others (without u d) dead family
+names_others u (d ∷ dead) family there = names_others (without_family u d) dead family
     (named_on d (u.next_number - 1) family u.families there)
 
 left_named : (u : Version) (dead : List ℕ) (family : ℕ) → IsIn dead family
-    → IsIn (numbers_of (without_all u dead).families) family
+    → IsIn (numbers_of (without_families u dead).families) family
 left_named u [] family there = absurd there
 left_named u (d ∷ dead) family there = ⊎_elim
-    (λ (e : family ≡ d). names_others (without u d) dead family
-    (subst (λ k. IsIn (numbers_of (without u d).families) k) (sym e)
+    (λ (e : family ≡ d). names_others (without_family u d) dead family
+    (subst (λ k. IsIn (numbers_of (without_family u d).families) k) (sym e)
     (named_left d (u.next_number - 1) u.families)))
-    (λ (later : IsIn dead family). left_named (without u d) dead family later) there
+    (λ (later : IsIn dead family). left_named (without_family u d) dead family later) there
 
 -- the file was one of a family that was left out
 pub record IsLost (u : Version) (dead : List ℕ) (f : ℕ) : Type 0 where
@@ -235,14 +235,14 @@ pub record IsLost (u : Version) (dead : List ℕ) (f : ℕ) : Type 0 where
   pub there : IsIn dead family
   pub own : IsIn (files_of u.families family) f
 
-lost_back : (u : Version) (d : ℕ) (dead : List ℕ) (f : ℕ) → IsLost (without u d) dead f
+lost_back : (u : Version) (d : ℕ) (dead : List ℕ) (f : ℕ) → IsLost (without_family u d) dead f
     → IsLost u (d ∷ dead) f
 lost_back u d dead f lost = record {
   family = lost.family;
   there = inr lost.there;
   own = ⊎_elim
       (λ (e : lost.family ≡ d). absurd (subst (λ xs. IsIn xs f)
-      (ap (λ k. files_of (without u d).families k) e ∙ files_of-left d (u.next_number - 1) u.families)
+      (ap (λ k. files_of (without_family u d).families k) e ∙ files_of-left d (u.next_number - 1) u.families)
       lost.own))
       (λ (apart : lost.family ≢ d). subst (λ xs. IsIn xs f) (files_beside u d lost.family apart) lost.own)
       (same_or_not lost.family d);
@@ -250,13 +250,13 @@ lost_back u d dead f lost = record {
 
 -- What the draft without several names no more are files of theirs.
 pub left_drops : (u : Version) (dead : List ℕ) (f : ℕ) → IsIn (files_named u) f
-    → IsIn (files_named (without_all u dead)) f ⊎ IsLost u dead f
+    → IsIn (files_named (without_families u dead)) f ⊎ IsLost u dead f
 left_drops u [] f there = inl there
 left_drops u (d ∷ dead) f there = ⊎_elim
-    (λ (on : IsIn (files_named (without u d)) f). ⊎_elim
-    (λ (still : IsIn (files_named (without_all (without u d) dead)) f). inl still)
-    (λ (lost : IsLost (without u d) dead f). inr (lost_back u d dead f lost))
-    (left_drops (without u d) dead f on))
+    (λ (on : IsIn (files_named (without_family u d)) f). ⊎_elim
+    (λ (still : IsIn (files_named (without_families (without_family u d) dead)) f). inl still)
+    (λ (lost : IsLost (without_family u d) dead f). inr (lost_back u d dead f lost))
+    (left_drops (without_family u d) dead f on))
     (λ (own : IsIn (files_of u.families d) f).
     inr (record { family = d; there = inl refl; own = own })) (without_drops u d f there)
 
@@ -274,12 +274,12 @@ drops_then u v w left more first later among f there = ⊎_elim
 -- ---- all that aren't live
 
 module _ (u w : Version) (live dead : List ℕ) (are : AreDead live dead)
-    (is : w ≡ without_all u dead) where
+    (is : w ≡ without_families u dead) where
   pub drops_dead : (left : List ℕ)
       → ((family : ℕ) → (IsIn live family → ⊥) → (f : ℕ) → IsIn (files_of u.families family) f
       → IsIn left f) → DropsOnly u w left
   drops_dead left put f there = ⊎_elim
-      (λ (on : IsIn (files_named (without_all u dead)) f).
+      (λ (on : IsIn (files_named (without_families u dead)) f).
       inl (subst (λ (v : Version). IsIn (files_named v) f) (sym is) on))
       (λ (lost : IsLost u dead f). inr (put lost.family (are lost.family lost.there) f lost.own))
       (left_drops u dead f there)

@@ -6,23 +6,24 @@ use Rattle.std.specs.FinMap.{empty, entries}
 use Rattle.std.specs.Ordering.{nat_cmp}
 use Rattle.alt_disk.specs.Disk.{DiskState}
 use Rattle.alt_disk.specs.Runs.{Run}
-use Rattle.alt_flush.specs.Drafts.{over_new_log, with_flush, without}
+use Rattle.alt_flush.specs.Drafts.{over_new_log, with_flush, without_family}
 use Rattle.alt_flush.proofs.DraftLaws.{flush_drafted, flush_layout, new_log_drafted, old_file, without_drafted}
 use Rattle.alt_flush.proofs.DropLaws.{files_of-none, flushed_of-none, none-other, without_others, without_rows}
 use Rattle.alt_flush.proofs.NewLogLaws.{files_of-with_files, new_log_same}
-use Rattle.alt_gatelog.specs.InHand.{file_of as log_file, Stands as LogStands}
+use Rattle.alt_gatelog.specs.InHand.{file_of_gate_log as log_file, StandsForEntries as LogStands}
 use Rattle.alt_gatelog.specs.declared.gatelog.GateLog.{GateLog}
 use Rattle.alt_layout.specs.Families.{Held, files_of, flushed_of, layout_of, with_later}
 use Rattle.alt_layout.specs.Files.{all_of}
 use Rattle.alt_layout.specs.Flushes.{with_rows}
 use Rattle.alt_layout.specs.Layout.{Layout, RowMap}
-use Rattle.alt_layout.proofs.FlushLaws.{files_of-own, flushed_of-own, of-other, other_rows, own_rows}
+use Rattle.alt_layout.proofs.FlushLaws.{other_rows, own_rows}
+use Rattle.alt_layout.proofs.FlushedFiles.{files_of-own, flushed_of-own, of-other}
 use Rattle.alt_layout.proofs.MomentLaws.{same_or_not}
 use Rattle.alt_layout.proofs.RowLaws.{with_later-none}
 use Rattle.alt_manifest.specs.Versions.{IsIn, files_named, row_files}
 use Rattle.alt_manifest.specs.declared.version.FamilyVersion.{FamilyVersion}
 use Rattle.alt_manifest.specs.declared.version.Version.{Version}
-use Rattle.alt_rowfile.specs.InHand.{file_of as row_file, Reads as RowReads, Stands as RowFileStands}
+use Rattle.alt_rowfile.specs.InHand.{file_of as row_file, ReadsRows as RowReads, StandsForRows as RowFileStands}
 use Rattle.alt_rowfile.specs.declared.rowfile.RowFile.{RowFile}
 use Rattle.alt_writes.specs.Writes.{Write}
 use Rattle.alt_families.specs.Families.{Families, files_in, rows_in}
@@ -160,13 +161,13 @@ module _ (a : DiskState) (u : Version) (families : Families) (parts : List (List
     (others : (other : ℕ) → other ≢ family → get nat_cmp after other ≡ get nat_cmp families other)
   where
     abbrev emptied : Layout
-    emptied = layout_of (without u family) makes.held (all_of parts)
+    emptied = layout_of (without_family u family) makes.held (all_of parts)
 
-    opened_none : (other : ℕ) → AreOpen a makes.held (files_of (without u family).families other)
+    opened_none : (other : ℕ) → AreOpen a makes.held (files_of (without_family u family).families other)
         (files_in (get nat_cmp after other))
     opened_none other = ⊎_elim
         (λ (same : other ≡ family). subst (λ k. AreOpen a makes.held
-        (files_of (without u family).families k) (files_in (get nat_cmp after k))) (sym same)
+        (files_of (without_family u family).families k) (files_in (get nat_cmp after k))) (sym same)
         (subst (λ gs. AreOpen a makes.held gs (files_in (get nat_cmp after family)))
         (sym (files_of-none family (u.next_number - 1) u.families makes.drafted.is.rising))
         (subst (λ o. AreOpen a makes.held [] (files_in o)) (sym none) tt)))
@@ -178,11 +179,11 @@ module _ (a : DiskState) (u : Version) (families : Families) (parts : List (List
         (sym (others other apart)) (makes.opened other))) (same_or_not other family)
 
     memory_none : (other : ℕ) → rows_in (get nat_cmp after other)
-        ≡ with_later (flushed_of (without u family).families other) other empty (all_of parts)
+        ≡ with_later (flushed_of (without_family u family).families other) other empty (all_of parts)
     memory_none other = ⊎_elim
         (λ (same : other ≡ family). subst (λ k. rows_in (get nat_cmp after k)
-        ≡ with_later (flushed_of (without u family).families k) k empty (all_of parts)) (sym same)
-        (ap rows_in none ∙ sym (with_later-none (flushed_of (without u family).families family) family
+        ≡ with_later (flushed_of (without_family u family).families k) k empty (all_of parts)) (sym same)
+        (ap rows_in none ∙ sym (with_later-none (flushed_of (without_family u family).families family) family
         u.next_number empty (all_of parts)
         (let own = flushed_of-none family (u.next_number - 1) u.families in
         let top = makes.drafted.next in let first = makes.drafted.is.next_number.0 in
@@ -194,7 +195,7 @@ module _ (a : DiskState) (u : Version) (families : Families) (parts : List (List
         (same_or_not other family)
 
     -- The draft without it has the layout without its rows.
-    pub makes_none : Makes a (without u family) after parts emptied
+    pub makes_none : Makes a (without_family u family) after parts emptied
     makes_none = record {
       held = makes.held;
       drafted = without_drafted a u family makes.held parts makes.drafted fits;

@@ -28,7 +28,7 @@ use Rattle.alt_manifest.specs.declared.version.FamilyVersion.{FamilyVersion}
 use Rattle.alt_manifest.specs.declared.version.Version.{Version}
 use Rattle.alt_merge.specs.Merges.{Each2, all_rows}
 use Rattle.alt_rowfile.specs.Format.{IsRowFile}
-use Rattle.alt_rowfile.specs.InHand.{file_of as row_file, Reads as RowReads, Stands as RowFileStands}
+use Rattle.alt_rowfile.specs.InHand.{file_of as row_file, ReadsRows as RowReads, StandsForRows as RowFileStands}
 use Rattle.alt_rowfile.specs.declared.rowfile.RowFile.{RowFile}
 use Rattle.alt_rowfile.proofs.OneFile.{one_list}
 use Rattle.alt_writes.specs.Writes.{Write}

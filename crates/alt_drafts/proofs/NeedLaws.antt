@@ -10,7 +10,7 @@ use Rattle.alt_manifest.specs.Versions.{IsIn, RiseFrom}
 use Rattle.alt_families.specs.Families.{Families, files_in, rows_in}
 use Rattle.alt_families.specs.declared.family.Family.{Family}
 use Rattle.alt_rowfile.specs.declared.rowfile.RowFile.{RowFile}
-use Rattle.alt_drafts.specs.Drafting.{IsFlushed, IsSpentFor, files_for, files_needed, is_some_row}
+use Rattle.alt_drafts.specs.Drafting.{MemoryIsFlushed, IsSpentFor, files_for, files_needed, is_some_row}
 use Rattle.alt_drafts.specs.declared.fault.EngineFault.{EngineFault}
 use Rattle.alt_drafts.specs.declared.fault.EngineFault.TheVariants.{Spent, Damaged, Failed, NoMemory}
 use Rattle.alt_manifest.proofs.Among.{in_at, risen}
@@ -92,7 +92,7 @@ in_before xs i f rise within there low = below_in 0 xs i f rise within there low
         (let w = within in omega (arith, w)) later low)) there
 
 -- A family of which nothing changed was flushed, where it has no rows in memory.
-pub none_flushed : (o : Option Family) → rows_in o ≡ empty → IsFlushed o o
+pub none_flushed : (o : Option Family) → rows_in o ≡ empty → MemoryIsFlushed o o
 none_flushed o none = record {
   rows = none;
   made = [];
@@ -103,7 +103,7 @@ none_flushed o none = record {
 -- And one with rows, that has one file more and none.
 pub one_flushed : (old new : Option Family) (made : RowFile) → rows_in new ≡ empty
     → files_in new ≡ files_in old ++ made ∷ [] → is_some_row (entries (rows_in old)) ≡ true
-    → IsFlushed old new
+    → MemoryIsFlushed old new
 one_flushed old new made none files some = record {
   rows = none;
   made = made ∷ [];

@@ -9,7 +9,7 @@ use Rattle.alt_layout.specs.Families.{Held}
 use Rattle.alt_layout.specs.Layout.{RowMap}
 use Rattle.alt_manifest.specs.Versions.{IsIn}
 use Rattle.alt_manifest.specs.declared.version.Version.{Version}
-use Rattle.alt_rowfile.specs.InHand.{file_of as row_file, Reads as RowReads}
+use Rattle.alt_rowfile.specs.InHand.{file_of as row_file, ReadsRows as RowReads}
 use Rattle.alt_rowfile.specs.declared.rowfile.RowFile.{RowFile}
 use Rattle.alt_drafts.specs.InHand.{AreOpen}
 use Rattle.alt_drafts.specs.Merging.{IsLater, IsOlder, MayEnd}

@@ -4,7 +4,7 @@ use Rattle.std.specs.BTreeMap.{get}
 use Rattle.std.specs.FinMap.{empty, entries}
 use Rattle.std.specs.Ordering.{nat_cmp}
 use Rattle.alt_disk.specs.Disk.{DiskState}
-use Rattle.alt_flush.specs.Drafts.{Drafted, without}
+use Rattle.alt_flush.specs.Drafts.{Drafted, without_family}
 use Rattle.alt_manifest.specs.Versions.{IsIn, numbers_of}
 use Rattle.alt_manifest.specs.declared.version.Version.{Version}
 use Rattle.alt_writes.specs.Writes.{Write}
@@ -43,9 +43,9 @@ abbrev pub AreDead : List ℕ → List ℕ → Type 0
 AreDead live dead = (family : ℕ) → IsIn dead family → IsIn live family → ⊥
 
 -- The draft in which none of these families has files, and no write so far counts for them.
-abbrev pub without_all : Version → List ℕ → Version
-without_all u [] = u
-without_all u (family ∷ families) = without_all (without u family) families
+abbrev pub without_families : Version → List ℕ → Version
+without_families u [] = u
+without_families u (family ∷ families) = without_families (without_family u family) families
 
 -- The version names the family, or it has rows in memory.
 abbrev pub IsThere : Version → Option Family → ℕ → Type 0
@@ -70,7 +70,7 @@ files_for [] = 0
 files_for (x ∷ xs) = 1
 
 -- A family's rows in memory have become one file more behind its files, or it had none and got none.
-pub record IsFlushed (old new : Option Family) : Type 0 where
+pub record MemoryIsFlushed (old new : Option Family) : Type 0 where
   pub rows : rows_in new ≡ empty
   pub made : List RowFile
   pub files : files_in new ≡ files_in old ++ made

@@ -10,7 +10,7 @@ use Rattle.alt_layout.specs.Merges.{IsMapFrom}
 use Rattle.alt_manifest.specs.Versions.{IsIn, files_named}
 use Rattle.alt_manifest.specs.declared.version.Version.{Version}
 use Rattle.alt_merge.specs.Merges.{Each2, all_rows}
-use Rattle.alt_rowfile.specs.InHand.{file_of as row_file, Reads as RowReads, Stands as RowFileStands}
+use Rattle.alt_rowfile.specs.InHand.{file_of as row_file, ReadsRows as RowReads, StandsForRows as RowFileStands}
 use Rattle.alt_rowfile.specs.declared.rowfile.RowFile.{RowFile}
 
 -- The row file lies in an earlier file, and each timestamp in it is below the number.

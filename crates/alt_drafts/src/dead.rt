@@ -13,7 +13,7 @@ ghost use Rattle.alt_manifest.specs.Versions.{IsIn, numbers_of, row_files};
 ghost use Rattle.alt_writes.specs.Writes.{Write};
 ghost use Rattle.alt_families.specs.Families.{rows_in};
 ghost use Rattle.alt_drafts.specs.Carrying.{CarriesDraft};
-ghost use Rattle.alt_drafts.specs.Drafting.{AreDead, Empties, IsLeftOut, IsThere, Makes, is_some_row, without_all};
+ghost use Rattle.alt_drafts.specs.Drafting.{AreDead, Empties, IsLeftOut, IsThere, Makes, is_some_row, without_families};
 
 use alt_base::NoMemory;
 use alt_families::Family;
@@ -36,7 +36,7 @@ pub fn leave_dead(
         → Makes s draft families.old parts l
         → (m : Layout) × Makes s u families.new parts m × Empties live.now l m) }
     ensures version { IfOk result (λ u. (dead : List ℕ) × AreDead live.now dead
-        × (u ≡ without_all draft dead)) }
+        × (u ≡ without_families draft dead)) }
     ensures file { IfOk result (λ u. u.next_file ≡ draft.next_file) }
     ensures segments { IfOk result (λ u. u.segments ≡ draft.segments) }
     ensures lives { OnOk result ((family : ℕ) → IsIn live.now family
@@ -218,7 +218,7 @@ fn drop_all(
     ensures makes { IfOk result (λ u. (s : DiskState) (parts : List (List Write)) (l : Layout)
         (live : List ℕ) → AreDead live dead.now → Makes s draft families.old parts l
         → (m : Layout) × Makes s u families.new parts m × Empties live l m) }
-    ensures version { IfOk result (λ u. u ≡ without_all draft dead.now) }
+    ensures version { IfOk result (λ u. u ≡ without_families draft dead.now) }
     ensures gone { OnOk result ((family : ℕ) → IsIn dead.now family
         → get nat_cmp families.new family ≡ None) }
     ensures others { OnOk result ((family : ℕ) → (IsIn dead.now family → ⊥)

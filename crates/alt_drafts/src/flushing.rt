@@ -15,7 +15,7 @@ ghost use Rattle.alt_layout.specs.Layout.{Layout};
 ghost use Rattle.alt_manifest.specs.Versions.{IsIn, RiseFrom};
 ghost use Rattle.alt_writes.specs.Writes.{Write};
 ghost use Rattle.alt_families.specs.Families.{rows_in, files_in};
-ghost use Rattle.alt_drafts.specs.Drafting.{IsLeftOut, IsFlushed, IsSpentFor, Makes, files_for, files_needed};
+ghost use Rattle.alt_drafts.specs.Drafting.{IsLeftOut, MemoryIsFlushed, IsSpentFor, Makes, files_for, files_needed};
 ghost use Rattle.alt_drafts.specs.Carrying.{CarriesDraft};
 
 use crate::dead::has_rows;
@@ -48,7 +48,7 @@ pub fn flush_each<D: Disk>(
         ≡ draft.next_file + files_needed families.old live.now) }
     ensures segments { IfOk result (λ u. u.segments ≡ draft.segments) }
     ensures flushed { OnOk result ((family : ℕ) → IsIn live.now family
-        → IsFlushed (get nat_cmp families.old family) (get nat_cmp families.new family)) }
+        → MemoryIsFlushed (get nat_cmp families.old family) (get nat_cmp families.new family)) }
     ensures others { OnOk result ((family : ℕ) → (IsIn live.now family → ⊥)
         → get nat_cmp families.new family ≡ get nat_cmp families.old family) }
     ensures drops { IfOk result (λ u. DropsOnly draft u []) }
@@ -92,7 +92,7 @@ pub fn flush_rows<D: Disk>(
         + files_for (entries (rows_in (get nat_cmp families.old family)))) }
     ensures segments { IfOk result (λ u. u.segments ≡ draft.segments) }
     ensures flushed { OnOk result
-        (IsFlushed (get nat_cmp families.old family) (get nat_cmp families.new family)) }
+        (MemoryIsFlushed (get nat_cmp families.old family) (get nat_cmp families.new family)) }
     ensures others { OnOk result ((other : ℕ) → other ≢ family
         → get nat_cmp families.new other ≡ get nat_cmp families.old other) }
     ensures drops { IfOk result (λ u. DropsOnly draft u []) }

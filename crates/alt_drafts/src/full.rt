@@ -5,7 +5,7 @@ ghost use Rattle.std.specs.BTreeMap.{get};
 ghost use Rattle.std.specs.Ordering.{nat_cmp};
 ghost use Rattle.alt_manifest.specs.Versions.{IsIn, RiseFrom};
 ghost use Rattle.alt_families.specs.Memory.{AreChanged, IsChanged};
-ghost use Rattle.alt_drafts.specs.InHand.{AreBelow, bytes_in};
+ghost use Rattle.alt_drafts.specs.InHand.{AreBelow, bytes_in_memory};
 
 use alt_cells::{Batch, RowChange};
 use alt_families::Family;
@@ -16,11 +16,11 @@ pub fn first_full(families: &BTreeMap<u32, Family>, live: &[u32], flush: u64) ->
     requires { RiseFrom 0 live.now }
     ensures lives { IfSome result (IsIn live.now) }
     ensures full { IfSome result (λ family.
-        flush ≤ bytes_in (get nat_cmp families.now family)) }
+        flush ≤ bytes_in_memory (get nat_cmp families.now family)) }
     ensures first { IfSome result (λ family. (other : ℕ) → IsIn live.now other → other < family
-        → flush ≤ bytes_in (get nat_cmp families.now other) → ⊥) }
+        → flush ≤ bytes_in_memory (get nat_cmp families.now other) → ⊥) }
     ensures none { result ≡ None → (other : ℕ) → IsIn live.now other
-        → flush ≤ bytes_in (get nat_cmp families.now other) → ⊥ }
+        → flush ≤ bytes_in_memory (get nat_cmp families.now other) → ⊥ }
 {
     for family in live {
         if bytes_of(families, *family) >= flush {
@@ -32,7 +32,7 @@ pub fn first_full(families: &BTreeMap<u32, Family>, live: &[u32], flush: u64) ->
 
 /// How many bytes were put into the rows that a family has in memory.
 fn bytes_of(families: &BTreeMap<u32, Family>, family: u32) -> u64
-    ensures { result ≡ bytes_in (get nat_cmp families.now family) }
+    ensures { result ≡ bytes_in_memory (get nat_cmp families.now family) }
 {
     match families.get(&family) {
         Some(found) => found.table.bytes(),
@@ -64,7 +64,7 @@ pub fn full_after(
 ) -> bool
     ensures before { result ≡ false → before ≡ false }
     ensures changed { result ≡ false → (family : ℕ) → AreChanged batches.now family
-        → bytes_in (get nat_cmp families.now family) < flush }
+        → bytes_in_memory (get nat_cmp families.now family) < flush }
 {
     if before {
         return true;
@@ -80,7 +80,7 @@ pub fn full_after(
 /// Whether a family that these changes are of has that many bytes in memory.
 fn fills(families: &BTreeMap<u32, Family>, changes: &[RowChange], flush: u64) -> bool
     ensures { result ≡ false → (family : ℕ) → IsChanged changes.now family
-        → bytes_in (get nat_cmp families.now family) < flush }
+        → bytes_in_memory (get nat_cmp families.now family) < flush }
 {
     for change in changes {
         if bytes_of(families, change.family) >= flush {

@@ -5,7 +5,7 @@ ghost use Rattle.alt_base.specs.Counts.{Rose};
 ghost use Rattle.alt_disk.specs.Disk.{IsTrusted, Goes, IsImage, IsNames};
 ghost use Rattle.alt_disk.specs.Runs.{Spans, Quiet};
 ghost use Rattle.alt_layout.specs.Layout.{no_rows};
-ghost use Rattle.alt_layout.specs.Fresh.{IsFresh, IsMade};
+ghost use Rattle.alt_layout.specs.Fresh.{IsFresh, IsFreshStoreFile};
 ghost use Rattle.alt_layout.specs.Files.{IsLayout};
 ghost use Rattle.alt_drafts.specs.Making.{HasSegment, LeavesNoVersions, NamesFirst};
 
@@ -60,10 +60,10 @@ pub fn make_store<D: Disk>(alloc: Global, disk: &mut D) -> Result<(), MakeFault>
     ensures untouched { IsTrue (D.state disk.old).tells → (f : ℕ)
         → (D.state disk.old).file f ≢ None → Quiet (D.state disk.old) (D.state disk.new) }
     ensures others { IsTrusted (D.state disk.old)
-        → Spans (D.state disk.old) (D.state disk.new) IsMade (λ _ _. ⊤) }
+        → Spans (D.state disk.old) (D.state disk.new) IsFreshStoreFile (λ _ _. ⊤) }
     // A stop at any moment leaves no version without the segment that it names, unless one was left before.
     ensures segment { IsTrusted (D.state disk.old) → LeavesNoVersions (D.state disk.old)
-        → Spans (D.state disk.old) (D.state disk.new) IsMade HasSegment }
+        → Spans (D.state disk.old) (D.state disk.new) IsFreshStoreFile HasSegment }
     ensures goes { Goes (D.state disk.old) (D.state disk.new) }
     ensures cause { IsErrOf result MakeFault.Failed
         → Rose (D.state disk.old).faults (D.state disk.new).faults }

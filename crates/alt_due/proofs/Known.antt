@@ -13,7 +13,7 @@ use Rattle.alt_base.proofs.Orderings.{is_lt-true}
 use Rattle.alt_due.specs.declared.due.Due.{Due}
 use Rattle.alt_due.specs.declared.spot.Spot.{Spot}
 use Rattle.alt_due.specs.declared.spot.Term.{Term}
-use Rattle.alt_due.specs.Due.{is_before, is_within, Lists, Knows, IsReady, IsRipe, CoversNothing}
+use Rattle.alt_due.specs.Due.{is_before, suffices_at, Lists, Knows, IsReady, IsRipe, CoversNothing}
 use Rattle.alt_due.specs.Order.{spot_cmp, spot_total, term_of, term_cmp}
 use Rattle.alt_due.proofs.Orders.{not_before, spots_apart, places_apart}
 
@@ -55,13 +55,13 @@ end_apart end x y p q e = true≢false (sym q ∙ sym (ap (is_before end) e) ∙
 
 -- where nothing is covered all is known
 pub all_known : (d : Due) (moment : ℕ) (spot : Spot) → CoversNothing d → Knows d moment spot
-all_known d moment spot none covered = absurd (true≢false (sym (first_so (is_within d moment)
+all_known d moment spot none covered = absurd (true≢false (sym (first_so (suffices_at d moment)
     (is_before d.end spot) covered) ∙ none moment))
 
 -- what stands at the end or behind it is known
 pub known_behind : (d : Due) (moment : ℕ) (spot : Spot) → is_before d.end spot ≡ false
     → Knows d moment spot
-known_behind d moment spot behind covered = absurd (true≢false (sym (second_so (is_within d moment)
+known_behind d moment spot behind covered = absurd (true≢false (sym (second_so (suffices_at d moment)
     (is_before d.end spot) covered) ∙ behind))
 
 -- a later moment that is covered from there on is covered
@@ -82,10 +82,10 @@ later_within since moment later p q = up (nat_cmp since later) (upto nat_cmp_tot
 
 -- what is known at a moment that is covered, before the end, is ready, where nothing that waits is due
 pub ripe_ready : (d : Due) (moment : ℕ) (spot : Spot) → IsRipe moment d
-    → IsTrue (is_within d moment) → Knows d moment spot → IsTrue (is_before d.end spot)
+    → IsTrue (suffices_at d moment) → Knows d moment spot → IsTrue (is_before d.end spot)
     → IsReady d spot
 ripe_ready d moment spot ripe within known before =
-    shown (known (and_from (is_within d moment) (is_before d.end spot) within before))
+    shown (known (and_from (suffices_at d moment) (is_before d.end spot) within before))
   where
     shown : Lists d moment spot → IsReady d spot
     shown (inl r) = and_from (contains spot_cmp d.ready spot) (is_before d.end spot) r before

@@ -12,17 +12,17 @@ use Rattle.std.specs.Ordering.{is_lt, is_gt, ordering_reverse}
 use Rattle.alt_base.proofs.Orderings.{is_lt-true}
 use Rattle.alt_due.specs.declared.due.Due.{Due}
 use Rattle.alt_due.specs.declared.spot.Spot.{Spot}
-use Rattle.alt_due.specs.Due.{behind, is_before, is_behind, FindsNext, IsReady}
+use Rattle.alt_due.specs.Due.{bound_behind, is_before, is_behind, FindsNext, IsReady}
 use Rattle.alt_due.specs.Order.{spot_cmp, spot_total}
 
 -- what is behind a place is in the range behind it
 from_start : (after : Option Spot) (spot : Spot) → is_behind after spot ≡ true
-    → IsInRange spot_cmp (behind after) Unbounded spot
+    → IsInRange spot_cmp (bound_behind after) Unbounded spot
 from_start None spot p = (tt, tt)
 from_start (Some after) spot p = (is_lt-true (spot_cmp after spot) p, tt)
 
 -- and the other way round
-is_from : (after : Option Spot) (spot : Spot) → IsInRange spot_cmp (behind after) Unbounded spot
+is_from : (after : Option Spot) (spot : Spot) → IsInRange spot_cmp (bound_behind after) Unbounded spot
     → is_behind after spot ≡ true
 is_from None spot p = refl
 is_from (Some after) spot p = ap is_lt p.0
@@ -49,33 +49,33 @@ before_by (Some end) x y p q = elim (spot_cmp x y) as
     ] refl p
 
 module _ (d : Due) (after : Option Spot) (range : List Spot)
-    (is : IsKeyRangeOf spot_cmp (behind after) Unbounded d.ready range) where
+    (is : IsKeyRangeOf spot_cmp (bound_behind after) Unbounded d.ready range) where
   -- the first of the range is no later than what is ready behind the place
   no_later : (first : Spot) (rest : List Spot) → range ≡ first ∷ rest → (spot : Spot)
       → IsReady d spot → IsTrue (is_behind after spot) → is_gt (spot_cmp first spot) ≡ false
-  no_later first rest e spot ready behind = subst (λ r. IfSome (slice_get r 0)
-      (λ k. IsLeBy spot_cmp k spot)) e (is.2 spot (from_start after spot behind)
+  no_later first rest e spot ready bound_behind = subst (λ r. IfSome (slice_get r 0)
+      (λ k. IsLeBy spot_cmp k spot)) e (is.2 spot (from_start after spot bound_behind)
       (first_so (contains spot_cmp d.ready spot) (is_before d.end spot) ready))
 
   pub found : (first : Spot) (rest : List Spot) → range ≡ first ∷ rest
       → is_before d.end first ≡ true → FindsNext d after (Some first)
   found first rest e before =
       let there = subst (λ r. IfSome (slice_get r 0)
-      (λ k. IsInRange spot_cmp (behind after) Unbounded k × IsTrue (contains spot_cmp d.ready k)))
+      (λ k. IsInRange spot_cmp (bound_behind after) Unbounded k × IsTrue (contains spot_cmp d.ready k)))
       e is.1 in (
         and_from (contains spot_cmp d.ready first) (is_before d.end first) there.1 before,
         is_from after first there.0,
-        λ spot ready behind. not_less first spot (no_later first rest e spot ready behind),
+        λ spot ready bound_behind. not_less first spot (no_later first rest e spot ready bound_behind),
       )
 
   pub past : (first : Spot) (rest : List Spot) → range ≡ first ∷ rest
       → is_before d.end first ≡ false → FindsNext d after None
   past first rest e outside spot ready =
-      false_from_ne_true (is_behind after spot) (λ behind. true≢false
-      (sym (before_by d.end first spot (no_later first rest e spot ready behind)
+      false_from_ne_true (is_behind after spot) (λ bound_behind. true≢false
+      (sym (before_by d.end first spot (no_later first rest e spot ready bound_behind)
       (second_so (contains spot_cmp d.ready spot) (is_before d.end spot) ready)) ∙ outside))
 
   pub none : range ≡ [] → FindsNext d after None
-  none e spot ready = false_from_ne_true (is_behind after spot) (λ behind. true≢false
+  none e spot ready = false_from_ne_true (is_behind after spot) (λ bound_behind. true≢false
       (sym (first_so (contains spot_cmp d.ready spot) (is_before d.end spot) ready)
-      ∙ is.5 e spot (from_start after spot behind)))
+      ∙ is.5 e spot (from_start after spot bound_behind)))

@@ -9,7 +9,7 @@ use Rattle.std.specs.Cmp.{second_so, tied_itself}
 use Rattle.std.specs.Ordering.{is_eq}
 use Rattle.alt_due.specs.declared.due.Due.{Due}
 use Rattle.alt_due.specs.declared.spot.Spot.{Spot}
-use Rattle.alt_due.specs.Due.{is_before, is_within, covers, IsRipe, CoversAll, ListsNone, NoneDue}
+use Rattle.alt_due.specs.Due.{is_before, suffices_at, covers, IsRipe, CoversAll, ListsNone, NoneDue}
 use Rattle.alt_due.specs.Order.{spot_cmp, spot_total}
 use Rattle.alt_due.proofs.Orders.{not_before}
 
@@ -36,10 +36,10 @@ no_end None e spot = refl
 no_end (Some end) e spot = absurd (true≢false e)
 
 -- a list without an end covers each place at a moment that is within it
-pub covered_all : (d : Due) (moment : ℕ) → is_some d.end ≡ false → is_within d moment ≡ true
+pub covered_all : (d : Due) (moment : ℕ) → is_some d.end ≡ false → suffices_at d moment ≡ true
     → CoversAll d moment
 covered_all d moment e within spot =
-    and_from (is_within d moment) (is_before d.end spot) within (no_end d.end e spot)
+    and_from (suffices_at d moment) (is_before d.end spot) within (no_end d.end e spot)
 
 -- where each place is before it, there is no end
 endless : (end : Option Spot) → ((spot : Spot) → is_before end spot ≡ true) → is_some end ≡ false
@@ -49,7 +49,7 @@ endless (Some end) h = absurd (true≢false (sym (h end) ∙ not_before end))
 -- so a list that covers all has no end
 pub covered_endless : (d : Due) (moment : ℕ) → CoversAll d moment → is_some d.end ≡ false
 covered_endless d moment all =
-    endless d.end (λ spot. second_so (is_within d moment) (is_before d.end spot) (all spot))
+    endless d.end (λ spot. second_so (suffices_at d moment) (is_before d.end spot) (all spot))
 
 -- where none is ready and none waits for that moment, none is listed, and only then
 none_in : {X : Type 0} (test : X → Bool) (xs : List X) → length xs ≡ 0 → list_any test xs ≡ false

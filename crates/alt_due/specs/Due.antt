@@ -10,8 +10,8 @@ use Rattle.alt_due.specs.declared.spot.Spot.{Spot}
 use Rattle.alt_due.specs.Order.{spot_cmp, term_of, term_cmp}
 
 -- how many entries it has
-abbrev pub listed : Due → ℕ
-listed d = btree_set_len d.waiting + btree_set_len d.ready
+abbrev pub entry_count : Due → ℕ
+entry_count d = btree_set_len d.waiting + btree_set_len d.ready
 
 -- a place is before the end; with no end each is
 abbrev pub is_before : Option Spot → Spot → Bool
@@ -19,12 +19,12 @@ is_before None spot = true
 is_before (Some end) spot = is_lt (spot_cmp spot end)
 
 -- a moment is one of those for which it suffices
-abbrev pub is_within : Due → ℕ → Bool
-is_within d moment = is_le (nat_cmp d.since moment) && is_lt (nat_cmp moment d.until)
+abbrev pub suffices_at : Due → ℕ → Bool
+suffices_at d moment = is_le (nat_cmp d.since moment) && is_lt (nat_cmp moment d.until)
 
 -- it suffices for a moment and a place
 abbrev pub covers : Due → ℕ → Spot → Bool
-covers d moment spot = is_within d moment && is_before d.end spot
+covers d moment spot = suffices_at d moment && is_before d.end spot
 
 -- a place waits from a moment on
 abbrev pub Waits : Due → ℕ → Spot → Type 0
@@ -54,7 +54,7 @@ KeepsOthers dropped old new = (moment : ℕ) (spot : Spot) → (spot ≡ dropped
 
 -- it covers no moment, and so knows of each place
 abbrev pub CoversNothing : Due → Type 0
-CoversNothing d = (moment : ℕ) → is_within d moment ≡ false
+CoversNothing d = (moment : ℕ) → suffices_at d moment ≡ false
 
 -- a place is ready, before the end
 abbrev pub IsReady : Due → Spot → Type 0
@@ -77,13 +77,13 @@ abbrev pub NoneDue : Due → ℕ → Type 0
 NoneDue d moment = (spot : Spot) → Knows d moment spot → ⊥
 
 -- behind a place, where there is one
-abbrev pub behind : Option Spot → Bound Spot
-behind None = Unbounded
-behind (Some after) = Excluded after
+abbrev pub bound_behind : Option Spot → Bound Spot
+bound_behind None = Unbounded
+bound_behind (Some after) = Excluded after
 
 -- a place is behind another one
 abbrev pub is_behind : Option Spot → Spot → Bool
-is_behind after spot = is_from_start spot_cmp (behind after) spot
+is_behind after spot = is_from_start spot_cmp (bound_behind after) spot
 
 -- the first place that is ready behind a place, or that there is none
 abbrev pub FindsNext : Due → Option Spot → Option Spot → Type 0

@@ -2,7 +2,7 @@
 
 ghost use Rattle.std.specs.Prelude.{◌≡◌, ◌<◌, ◌-◌, ◌^◌, ℕ, false, None, OnOk};
 ghost use Rattle.alt_due.specs.declared.due.TheConstants.{BOUND};
-ghost use Rattle.alt_due.specs.Due.{listed, KnowsFrom, KeepsKnown, CoversNothing, IsRipe};
+ghost use Rattle.alt_due.specs.Due.{entry_count, KnowsFrom, KeepsKnown, CoversNothing, IsRipe};
 ghost use Rattle.alt_due.specs.Order.{spot_of};
 
 use crate::due::{BOUND, Due};
@@ -17,7 +17,7 @@ impl Due {
     /// A list that covers nothing.
     pub fn new(alloc: Global) -> Due
         ensures none { CoversNothing result }
-        ensures empty { listed result ≡ 0 }
+        ensures empty { entry_count result ≡ 0 }
     {
         Due {
             alloc,
@@ -34,7 +34,7 @@ impl Due {
         ensures since { result.since ≡ moment }
         ensures until { result.until ≡ 2 ^ 64 - 1 }
         ensures end { result.end ≡ None }
-        ensures empty { listed result ≡ 0 }
+        ensures empty { entry_count result ≡ 0 }
     {
         Due {
             alloc,
@@ -49,7 +49,7 @@ impl Due {
     /// Drops all that is listed, and covers nothing.
     pub fn forget(&mut self)
         ensures none { CoversNothing self.new }
-        ensures empty { listed self.new ≡ 0 }
+        ensures empty { entry_count self.new ≡ 0 }
         ensures since { self.new.since ≡ self.old.since }
     {
         self.until = 0;
@@ -79,8 +79,8 @@ impl Due {
 
     /// Drops the last entry where there is no room for one more, and covers only what comes before that one.
     fn make_room(&mut self)
-        ensures room { listed self.new < BOUND }
-        ensures stays { listed self.old < BOUND → self.new ≡ self.old }
+        ensures room { entry_count self.new < BOUND }
+        ensures stays { entry_count self.old < BOUND → self.new ≡ self.old }
         ensures keeps { KeepsKnown self.old self.new }
         ensures ripe { (moment : ℕ) → IsRipe moment self.old → IsRipe moment self.new }
         ensures since { self.new.since ≡ self.old.since }
@@ -101,7 +101,7 @@ impl Due {
 
     /// Adds an entry.
     fn add(&mut self, table: &str, place: &[u8], first: u64) -> Result<(), NoMemory>
-        requires room { listed self.old < BOUND }
+        requires room { entry_count self.old < BOUND }
         ensures known { OnOk result (KnowsFrom first (spot_of table.now place.now) self.new) }
         ensures keeps { OnOk result (KeepsKnown self.old self.new) }
         ensures ripe { OnOk result ((moment : ℕ) → moment < first → IsRipe moment self.old

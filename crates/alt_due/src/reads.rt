@@ -3,7 +3,7 @@
 ghost use Rattle.std.specs.Prelude.{◌≡◌, ◌≤◌, ◌↔◌, IsTrue};
 ghost use Rattle.std.specs.Option.{option_copied};
 ghost use Rattle.alt_due.specs.declared.due.TheConstants.{BOUND};
-ghost use Rattle.alt_due.specs.Due.{listed, is_before, is_within, CoversAll, ListsNone, IsRipe, NoneDue};
+ghost use Rattle.alt_due.specs.Due.{entry_count, is_before, suffices_at, CoversAll, ListsNone, IsRipe, NoneDue};
 ghost use Rattle.alt_due.specs.Order.{spot_of};
 
 use crate::due::Due;
@@ -19,7 +19,7 @@ impl Due {
 
     /// Whether it covers a moment, at the places before the end.
     pub fn covers(&self, moment: u64) -> bool
-        ensures { result ≡ is_within self.now moment }
+        ensures { result ≡ suffices_at self.now moment }
     {
         self.since <= moment && moment < self.until
     }
@@ -33,7 +33,7 @@ impl Due {
 
     /// How many entries it has.
     pub fn count(&self) -> usize
-        ensures count { result ≡ listed self.now }
+        ensures count { result ≡ entry_count self.now }
         ensures few { result ≤ BOUND }
     {
         self.waiting.len() + self.ready.len()

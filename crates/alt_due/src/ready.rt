@@ -4,7 +4,7 @@ ghost use Rattle.std.specs.Prelude.{◌≡◌, ◌<◌, ℕ, false, OnOk, IfOk, 
 ghost use Rattle.std.specs.BTreeSet.{btree_set_len, contains};
 ghost use Rattle.std.specs.Option.{option_copied};
 ghost use Rattle.std.specs.Range.Bound.{bound_map};
-ghost use Rattle.alt_due.specs.Due.{is_within, behind, KeepsKnown, KeepsOthers, FindsNext, IsRipe};
+ghost use Rattle.alt_due.specs.Due.{suffices_at, bound_behind, KeepsKnown, KeepsOthers, FindsNext, IsRipe};
 ghost use Rattle.alt_due.specs.Order.{spot_cmp};
 
 use crate::due::Due;
@@ -15,7 +15,7 @@ use std::ops::Bound;
 impl Due {
     /// Makes ready what is due by a moment. False where it doesn't cover that moment, or doesn't any more for want of memory.
     pub fn advance(&mut self, moment: u64) -> bool
-        ensures within { result ≡ is_within self.new moment }
+        ensures within { result ≡ suffices_at self.new moment }
         ensures ripe { IsTrue result → IsRipe moment self.new }
         ensures keeps { KeepsKnown self.old self.new }
     {
@@ -93,7 +93,7 @@ impl Due {
 
 /// Where a walk goes on behind a place.
 fn start(after: Option<&Spot>) -> Bound<&Spot>
-    ensures { bound_map (λ s. s.now) result ≡ behind (option_copied after.entry) }
+    ensures { bound_map (λ s. s.now) result ≡ bound_behind (option_copied after.entry) }
 {
     match after {
         Some(spot) => Bound::Excluded(spot),

@@ -9,13 +9,13 @@ use Rattle.alt_cells.specs.Shown.{row_shown}
 use Rattle.alt_cells.specs.declared.batch.RowChange.{RowChange}
 use Rattle.alt_layout.specs.Layout.{Layout, IsPast, RowMap, shown}
 use Rattle.alt_layout.specs.Writes.{with_write, with_writes}
-use Rattle.alt_layout.proofs.MergeLaws.{same_after_all}
+use Rattle.alt_layout.proofs.LaterWrites.{same_after_all}
 use Rattle.alt_layout.proofs.PastLaws.{is_past_after}
 use Rattle.alt_layout.proofs.RowLaws.{next_number-numbered, none_behind}
 use Rattle.alt_writes.specs.Writes.{AreRising, Write, numbered}
 use Rattle.alt_writes.proofs.PushLaws.{rising-numbered}
 use Rattle.alt_merging.specs.HandInHand.{batch_writes}
-use Rattle.alt_engine.specs.Histories.{Call, HaveNone, IsNamed, IsNamedSince, Lead, applied, opened, with_batches, worked}
+use Rattle.alt_engine.specs.Histories.{EngineCall, HaveNone, IsNamedByCalls, IsNamedSince, Lead, applied, opened, with_batches_alone, worked}
 
 -- a family without rows shows none
 none_shown : (l : Layout) (family : ℕ) → l.rows family ≡ empty → (key : List ℕ)
@@ -67,10 +67,10 @@ module _ (l n k : Layout) (family : ℕ) (batches : List (List RowChange)) (past
       ∙ ap (λ (ws : List Write). shown (with_writes n ws) family key) (sym same_writes)
 
 -- Where each call of work names the family it goes on as the batches alone do.
-shows_named : (cs : List Call) (l n m : Layout) (family : ℕ) → IsPast l → IsPast n
+shows_named : (cs : List EngineCall) (l n m : Layout) (family : ℕ) → IsPast l → IsPast n
     → n.next_number ≡ l.next_number
     → ((key : List ℕ) → shown l family key ≡ shown n family key) → Lead cs l m
-    → IsNamed family cs → (key : List ℕ) → shown m family key ≡ shown (with_batches cs n) family key
+    → IsNamedByCalls family cs → (key : List ℕ) → shown m family key ≡ shown (with_batches_alone cs n) family key
 shows_named [] l n m family past_l past_n next same lead named key =
     ap (λ (k : Layout). shown k family key) lead ∙ same key
 shows_named (applied batches ∷ cs) l n m family past_l past_n next same lead named key =
@@ -87,11 +87,11 @@ shows_named (opened ∷ cs) l n m family past_l past_n next same lead named key 
     (λ k. ap (λ (o : Layout). shown o family k) lead.1 ∙ same k) lead.3 named key
 
 -- And so it does where they name it since its first row: before that it shows none.
-pub shows_since : (cs : List Call) (l n m : Layout) (family : ℕ) → IsPast l → IsPast n
+pub shows_since : (cs : List EngineCall) (l n m : Layout) (family : ℕ) → IsPast l → IsPast n
     → n.next_number ≡ l.next_number
     → ((key : List ℕ) → shown l family key ≡ shown n family key) → n.rows family ≡ empty
     → Lead cs l m → IsNamedSince family cs → (key : List ℕ)
-    → shown m family key ≡ shown (with_batches cs n) family key
+    → shown m family key ≡ shown (with_batches_alone cs n) family key
 shows_since [] l n m family past_l past_n next same none lead named key =
     ap (λ (k : Layout). shown k family key) lead ∙ same key
 shows_since (applied batches ∷ cs) l n m family past_l past_n next same none lead named key = ⊎_elim
@@ -101,7 +101,7 @@ shows_since (applied batches ∷ cs) l n m family past_l past_n next same none l
     (next_more l n lead.0 family batches past_l past_n next lead.1)
     (shows_more l n lead.0 family batches past_l past_n next lead.1 same)
     (rows_left n n.next_number family batches before.0 ∙ none) lead.3 before.1 key)
-    (λ (since : IsNamed family cs).
+    (λ (since : IsNamedByCalls family cs).
     shows_named cs lead.0 (with_writes n (batch_writes n batches)) m family lead.2
     (past_more l n lead.0 family batches past_l past_n next lead.1)
     (next_more l n lead.0 family batches past_l past_n next lead.1)

@@ -5,18 +5,18 @@ use Rattle.std.specs.Prelude.{Result, Ok, Err, IfErr}
 use Rattle.alt_disk.specs.Disk.{DiskState}
 use Rattle.alt_faults.proofs.Telling.{outside-neither}
 use Rattle.alt_manifest.specs.Versions.{IsIn}
-use Rattle.alt_merging.specs.HandDrafting.{IsUnspent as IsOutsideFault}
+use Rattle.alt_merging.specs.HandDrafting.{EngineFaultIsOutside as IsOutsideFault}
 use Rattle.alt_merging.specs.HandFaults.{told_by_engine}
 use Rattle.alt_merging.specs.HandMerging.{HasMany, IsFirstMany, files_at}
-use Rattle.alt_merging.specs.HandWorking.{IsDueFor, IsFileSpent, IsNoDamage}
-use Rattle.alt_merging.specs.HandOpened.{IsUnspent}
+use Rattle.alt_merging.specs.HandWorking.{IsDueFor, IsFileSpent, TellsNoDamage}
+use Rattle.alt_merging.specs.HandOpened.{EngineFaultIsUnspent}
 use Rattle.alt_merging.specs.HandDeclaredEngineFault.{EngineFault}
 use Rattle.alt_merging.specs.HandDeclaredHand.{Hand}
-use Rattle.alt_merging.specs.Mergings.{GivesWay, MergingStands, family_of, taken_of}
+use Rattle.alt_merging.specs.Mergings.{GivesWay, MergingStands, family_of_merging, taken_of}
 use Rattle.alt_merging.specs.declared.merging.Merging.{Merging}
 use Rattle.alt_merging.proofs.EachLaws.{file_for, whole_for}
 use Rattle.alt_engine.specs.InHand.{IsGoing, hand_of, merge_of}
-use Rattle.alt_engine.specs.Working.{Begins, Ended, Furthered}
+use Rattle.alt_engine.specs.Working.{BeginsMerge, MergeEnded, Furthered}
 use Rattle.alt_engine.specs.declared.engine.Engine.{Engine}
 use Rattle.alt_engine.specs.declared.work.Worked.{Worked}
 use Rattle.alt_engine.proofs.Turning.{free_none}
@@ -42,17 +42,17 @@ furthered_back a b d e x new job p q h = record {
 }
 
 pub ended_back : (a b d : DiskState) (e x new : Engine) (job : Merging) → b ≡ a
-    → hand_of x ≡ hand_of e → Ended b d x new job → Ended a d e new job
+    → hand_of x ≡ hand_of e → MergeEnded b d x new job → MergeEnded a d e new job
 ended_back a b d e x new job p q h = record {
   none = h.none;
   last = λ left stands. h.last left (at_both (λ s k. MergingStands s k job left) a b (hand_of e)
       (hand_of x) p q stands);
-  gives = subst (λ (k : Hand). GivesWay d k (hand_of new) (family_of job) (taken_of job)) q h.gives;
+  gives = subst (λ (k : Hand). GivesWay d k (hand_of new) (family_of_merging job) (taken_of job)) q h.gives;
   next_file = h.next_file ∙ ap (λ (k : Hand). k.next_file) q;
 }
 
 pub begins_at : (live : List ℕ) (e x new : Engine) → hand_of x ≡ hand_of e → merge_of e ≡ None
-    → Begins live x new → Begins live e new
+    → BeginsMerge live x new → BeginsMerge live e new
 begins_at live e x new q none h = record {
   free = free_none live e none;
   family = h.family;
@@ -74,12 +74,12 @@ taken_stands s e j is going = subst (IsGoing s (hand_of e)) is going
 pub due_file : (live : List ℕ) (e : Hand) (f : EngineFault) → IsDueFor live e f → IsFileSpent f
 due_file live e f due = ⊎_elim (λ all. file_for _ f all.1) (λ one. file_for _ f one.1.2) due
 
-pub due_whole : (live : List ℕ) (e : Hand) (f : EngineFault) → IsDueFor live e f → IsNoDamage f
+pub due_whole : (live : List ℕ) (e : Hand) (f : EngineFault) → IsDueFor live e f → TellsNoDamage f
 due_whole live e f due = ⊎_elim (λ all. whole_for _ f all.1) (λ one. whole_for _ f one.1.2) due
 
 -- What tells neither a number nor damage needs no file.
-pub outside_need : {P : EngineFault → Type 0} (r : Result Worked EngineFault) → IfErr r IsUnspent
-    → IfErr r IsNoDamage → ((f : EngineFault) → IsOutsideFault f → P f) → IfErr r P
+pub outside_need : {P : EngineFault → Type 0} (r : Result Worked EngineFault) → IfErr r EngineFaultIsUnspent
+    → IfErr r TellsNoDamage → ((f : EngineFault) → IsOutsideFault f → P f) → IfErr r P
 outside_need (Ok w) unspent whole all = tt
 outside_need (Err f) unspent whole all =
     all f (outside-neither (told_by_engine f) unspent whole)

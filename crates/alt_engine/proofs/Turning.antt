@@ -14,19 +14,19 @@ use Rattle.alt_rowfile.specs.Summaries.{any_tombstone}
 use Rattle.alt_rowfile.specs.declared.rowfile.RowFile.{RowFile}
 use Rattle.alt_rowfile.proofs.OneFile.{one_list}
 use Rattle.alt_merging.specs.HandCarrying.{AreStill}
-use Rattle.alt_merging.specs.HandInHand.{AreOpen, Stands as HandStands, length_of, next_file_of}
+use Rattle.alt_merging.specs.HandInHand.{AreOpen, HandStandsForLayout as HandStands, length_of, next_file_of}
 use Rattle.alt_merging.specs.HandMerging.{IsFirstMany, files_at, version_in}
-use Rattle.alt_merging.specs.HandWorking.{AreAllFlushed, IsCalm, IsFirstFull, IsFlushDone, IsLong, IsOneFlushed, IsShort}
+use Rattle.alt_merging.specs.HandWorking.{AreAllFlushed, IsCalm, IsFirstFull, IsFlushDone, IsLong, IsOneFlushed, LogIsShort}
 use Rattle.alt_merging.specs.HandDeclaredEngineFault.{EngineFault}
 use Rattle.alt_merging.specs.HandDeclaredHand.{Hand}
 use Rattle.alt_merging.proofs.HandHandLaws.{lies_of}
 use Rattle.alt_merging.proofs.HandWorkLaws.{entries_length, has_entries, long_entries, no_entries, none_in_memory, short_entries}
 use Rattle.alt_merging.specs.Merged.{AreMerged}
-use Rattle.alt_merging.specs.Mergings.{family_of as merged_family, file_of}
+use Rattle.alt_merging.specs.Mergings.{family_of_merging as merged_family, file_of_merging}
 use Rattle.alt_merging.specs.declared.merging.Merging.{Merging}
 use Rattle.alt_merging.proofs.EachLaws.{merged_on, still_back}
-use Rattle.alt_engine.specs.InHand.{IsGoing, Stands, hand_of, merge_of}
-use Rattle.alt_engine.specs.Working.{AllMerged, Begins, DidStep, Ended, Ends, Furthered, GoesOn, IsFlushed, IsFree, IsIdle, IsMerged, IsMergedFile, IsUnderWay, KeepsMerge, MakesNoOther, WasGivenUp, WasKept}
+use Rattle.alt_engine.specs.InHand.{IsGoing, StandsForLayout, hand_of, merge_of}
+use Rattle.alt_engine.specs.Working.{AllMerged, BeginsMerge, DidStep, MergeEnded, EndsMerge, Furthered, FurthersMerge, NeedsNoFlush, IsFree, IsIdle, LiveFamiliesAreMerged, IsMergedFile, MergingIsUnderWay, KeepsMerge, MakesNoOther, WasGivenUp, WasKept}
 use Rattle.alt_engine.specs.declared.engine.Engine.{Engine}
 use Rattle.alt_engine.specs.declared.work.Task.TheVariants.{FlushAll}
 use Rattle.alt_engine.specs.declared.work.Worked.{Worked}
@@ -60,7 +60,7 @@ none_free live e keeps free = by (merge_of e) refl
 module _ (a b : DiskState) (live : List ℕ) (e f : Engine)
     (turned : WasKept a b live e f ⊎ WasGivenUp live e f) (same : hand_of f ≡ hand_of e) where
   -- One that is under way behind was under way before, and nothing was done.
-  pub way_back : (j : Merging) → IsUnderWay live f j → IsUnderWay live e j × ((b ≡ a) × (f ≡ e))
+  pub way_back : (j : Merging) → MergingIsUnderWay live f j → MergingIsUnderWay live e j × ((b ≡ a) × (f ≡ e))
   way_back j way = ⊎_elim
       (λ (kept : WasKept a b live e f). (
         (subst (λ (x : Engine). merge_of x ≡ Some j) kept.engine way.0, way.1),
@@ -93,7 +93,7 @@ module _ (a b : DiskState) (live : List ℕ) (e f : Engine)
 
   -- ---- what a step did
 
-  pub begins_back : (new : Engine) → Begins live f new → Begins live e new
+  pub begins_back : (new : Engine) → BeginsMerge live f new → BeginsMerge live e new
   begins_back new begins = record {
     free = free_back begins.free;
     family = begins.family;
@@ -105,7 +105,7 @@ module _ (a b : DiskState) (live : List ℕ) (e f : Engine)
     next_file = begins.next_file ∙ ap (λ (h : Hand). h.next_file + 1) same;
   }
 
-  pub goes_back : (d : DiskState) (new : Engine) → GoesOn b d live f new → GoesOn a d live e new
+  pub goes_back : (d : DiskState) (new : Engine) → FurthersMerge b d live f new → FurthersMerge a d live e new
   goes_back d new goes =
       let way = way_back goes.0 goes.1 in (
         goes.0,
@@ -114,13 +114,13 @@ module _ (a b : DiskState) (live : List ℕ) (e f : Engine)
             (subst (λ (x : Engine). Furthered b d x new goes.0) way.1.1 goes.2),
       )
 
-  pub ends_back : (d : DiskState) (new : Engine) → Ends b d live f new → Ends a d live e new
+  pub ends_back : (d : DiskState) (new : Engine) → EndsMerge b d live f new → EndsMerge a d live e new
   ends_back d new ends =
       let way = way_back ends.0 ends.1 in (
         ends.0,
         way.0,
-        subst (λ (s : DiskState). Ended s d e new ends.0) way.1.0
-            (subst (λ (x : Engine). Ended b d x new ends.0) way.1.1 ends.2),
+        subst (λ (s : DiskState). MergeEnded s d e new ends.0) way.1.0
+            (subst (λ (x : Engine). MergeEnded b d x new ends.0) way.1.1 ends.2),
       )
 
   -- ---- the files that it made
@@ -142,8 +142,8 @@ none_after a b live e f turned j is dead = ⊎_elim
     (λ (gone : WasGivenUp live e f). gone.none) turned
 
 -- The file of one is below the next.
-pub job_below : (s : DiskState) (e : Engine) (j : Merging) (l : Layout) → Stands s e l
-    → merge_of e ≡ Some j → file_of j < next_file_of (hand_of e)
+pub job_below : (s : DiskState) (e : Engine) (j : Merging) (l : Layout) → StandsForLayout s e l
+    → merge_of e ≡ Some j → file_of_merging j < next_file_of (hand_of e)
 job_below s e j l stands is =
     let going = subst (IsGoing s (hand_of e)) is stands.merging in going.1.merging.below
 
@@ -159,19 +159,19 @@ busy_by (Err fault) p q went done = tt
 
 -- ---- steps
 
-module _ (s : DiskState) (live : List ℕ) (e : Engine) (l : Layout) (stands : Stands s e l) where
+module _ (s : DiskState) (live : List ℕ) (e : Engine) (l : Layout) (stands : StandsForLayout s e l) where
   -- No flush applied, by the entries of the log.
-  pub flushed : IsShort (hand_of e) × IsCalm live (hand_of e) → IsFlushed s.file live e
+  pub flushed : LogIsShort (hand_of e) × IsCalm live (hand_of e) → NeedsNoFlush s.file live e
   flushed calm = (short_entries s (hand_of e) l stands.hand calm.0, calm.1)
 
   -- Where a step flushed, one applied.
-  pub flush_busy : (new : Hand) → IsFlushDone live (hand_of e) new → IsFlushed s.file live e → ⊥
+  pub flush_busy : (new : Hand) → IsFlushDone live (hand_of e) new → NeedsNoFlush s.file live e → ⊥
   flush_busy new done idle = ⊎_elim
       (λ (all : IsLong (hand_of e) × AreAllFlushed live (hand_of e) new).
       let has = has_entries s (hand_of e) l stands.hand in
       let low = idle.0 has.0 has.1 in
       let high = long_entries s (hand_of e) l stands.hand all.0 has.0 has.1 in omega (arith, low, high))
-      (λ (one : IsShort (hand_of e)
+      (λ (one : LogIsShort (hand_of e)
       × ((family : ℕ) × IsFirstFull live (hand_of e) family
       × IsOneFlushed live (hand_of e) new family)).
       idle.1 one.1.0 one.1.1.lives one.1.1.full) done
@@ -182,7 +182,7 @@ module _ (s : DiskState) (live : List ℕ) (e : Engine) (l : Layout) (stands : S
   did_flush d new done = ⊎_elim
       (λ (all : IsLong (hand_of e) × AreAllFlushed live (hand_of e) (hand_of new)).
       inl (long_entries s (hand_of e) l stands.hand all.0, all.1))
-      (λ (one : IsShort (hand_of e)
+      (λ (one : LogIsShort (hand_of e)
       × ((family : ℕ) × IsFirstFull live (hand_of e) family
       × IsOneFlushed live (hand_of e) (hand_of new) family)).
       inr (inl (short_entries s (hand_of e) l stands.hand one.0, one.1))) done
@@ -234,7 +234,7 @@ merged_file s held (g ∷ k ∷ gs) (f ∷ h ∷ fs) are merged = absurd merged
 
 -- Each live family has one file at most, without tombstones.
 pub all_merged : (s : DiskState) (live : List ℕ) (e : Hand) (l : Layout) → HandStands s e l
-    → AllMerged s live e → IsMerged live s.file
+    → AllMerged s live e → LiveFamiliesAreMerged live s.file
 all_merged s live e l stands merged v has family there =
     let same : version_in e ≡ v = same_version (s.file versions_file) (version_in e) v
     (lies_of s e l stands).last has in

@@ -13,11 +13,11 @@ use Rattle.alt_manifest.specs.declared.version.Version.{Version}
 use Rattle.alt_manifest.proofs.OneVersion.{same_version}
 use Rattle.alt_rowfile.specs.InHand.{file_of as row_file}
 use Rattle.alt_rowfile.specs.declared.rowfile.RowFile.{RowFile}
-use Rattle.alt_merging.specs.HandAdding.{Adds, HasLast, HasOneOf, IsLeftOut, IsOverNewLog, IsThere, LeavesOut}
-use Rattle.alt_merging.specs.HandDrafting.{IsFlushed}
-use Rattle.alt_merging.specs.HandInHand.{AreOpen, Stands, family_of, length_of, next_file_of}
+use Rattle.alt_merging.specs.HandAdding.{AddsVersion, HasLast, HasOneOf, IsLeftOut, IsOverNewLog, IsThere, LeavesOut}
+use Rattle.alt_merging.specs.HandDrafting.{MemoryIsFlushed}
+use Rattle.alt_merging.specs.HandInHand.{AreOpen, HandStandsForLayout, family_of, length_of, next_file_of}
 use Rattle.alt_merging.specs.HandMerging.{files_at, version_in}
-use Rattle.alt_merging.specs.HandWorking.{AreAllFlushed, IsLong, IsShort}
+use Rattle.alt_merging.specs.HandWorking.{AreAllFlushed, IsLong, LogIsShort}
 use Rattle.alt_merging.specs.HandDeclaredEngineFault.{EngineFault}
 use Rattle.alt_merging.specs.HandDeclaredHand.{Hand}
 use Rattle.alt_merging.proofs.HandAddingLaws.{last_or}
@@ -70,18 +70,18 @@ numbers_count [] = refl
 numbers_count (f ∷ fs) = let rest = numbers_count fs in omega (arith, rest)
 
 -- the version that the disk reads is the one in hand
-pub version_read : (s : DiskState) (e : Hand) (l : Layout) → Stands s e l → (v : Version)
+pub version_read : (s : DiskState) (e : Hand) (l : Layout) → HandStandsForLayout s e l → (v : Version)
     → HasVersion v (s.file versions_file) → version_in e ≡ v
 version_read s e l stands v has =
     same_version (s.file versions_file) (version_in e) v (lies_of s e l stands).last has
 
 -- its next file is the engine's
-pub next_read : (s : DiskState) (e f : Hand) (l : Layout) → Stands s f l → Adds s e f → (w : Version)
+pub next_read : (s : DiskState) (e f : Hand) (l : Layout) → HandStandsForLayout s f l → AddsVersion s e f → (w : Version)
     → HasVersion w (s.file versions_file) → w.next_file ≡ next_file_of f
 next_read s e f l stands adds w has =
     ap (λ (v : Version). v.next_file) (sym (version_read s f l stands w has)) ∙ adds.next_file
 
-module _ (a d : DiskState) (e f : Hand) (l m : Layout) (old : Stands a e l) (new : Stands d f m)
+module _ (a d : DiskState) (e f : Hand) (l m : Layout) (old : HandStandsForLayout a e l) (new : HandStandsForLayout d f m)
     (v w : Version) (has_v : HasVersion v (a.file versions_file))
     (has_w : HasVersion w (d.file versions_file)) where
   is_v : version_in e ≡ v
@@ -91,12 +91,12 @@ module _ (a d : DiskState) (e f : Hand) (l m : Layout) (old : Stands a e l) (new
   is_w = version_read d f m new w has_w
 
   -- files that it doesn't name any more are gone
-  pub removed_read : Adds d e f → (k : ℕ) → IsOf v k → (IsOf w k → ⊥) → d.file k ≡ None
+  pub removed_read : AddsVersion d e f → (k : ℕ) → IsOf v k → (IsOf w k → ⊥) → d.file k ≡ None
   removed_read adds k of out = adds.removed k (subst (λ (u : Version). IsOf u k) (sym is_v) of)
       (λ after. out (subst (λ (u : Version). IsOf u k) is_w after))
 
   -- a family that was flushed has its old files and the new one
-  gets_file : (family : ℕ) → IsFlushed (family_of e family) (family_of f family)
+  gets_file : (family : ℕ) → MemoryIsFlushed (family_of e family) (family_of f family)
       → GetsFile e v w family
   gets_file family flushed =
       let before : files_of (version_in e).families family ≡ map row_file (files_at e family) =
@@ -115,7 +115,7 @@ module _ (a d : DiskState) (e f : Hand) (l m : Layout) (old : Stands a e l) (new
       }
 
   -- the version of a flush of all
-  pub new_log_read : (live : List ℕ) → AreAllFlushed live e f → IsOverNewLog live e f → Adds d e f
+  pub new_log_read : (live : List ℕ) → AreAllFlushed live e f → IsOverNewLog live e f → AddsVersion d e f
       → length_of f ≡ 0 → HasNewLog a.file d.file live e v w
   new_log_read live all log adds bytes = record {
     segment = log.segment;
@@ -145,10 +145,10 @@ module _ (a d : DiskState) (e f : Hand) (l m : Layout) (old : Stands a e l) (new
 
 -- The version of a step that was done.
 pub after_step : (a d : DiskState) (live : List ℕ) (e : Engine) (f : Hand) (l m : Layout)
-    → Stands a (hand_of e) l → Stands d f m
-    → (length_of f ≡ 0) ⊎ (IsShort (hand_of e) × (length_of f ≡ length_of (hand_of e)))
+    → HandStandsForLayout a (hand_of e) l → HandStandsForLayout d f m
+    → (length_of f ≡ 0) ⊎ (LogIsShort (hand_of e) × (length_of f ≡ length_of (hand_of e)))
     → (IsLong (hand_of e) × AreAllFlushed live (hand_of e) f × IsOverNewLog live (hand_of e) f)
-    ⊎ (IsShort (hand_of e) × LeavesOut live (hand_of e) f) → Adds d (hand_of e) f
+    ⊎ (LogIsShort (hand_of e) × LeavesOut live (hand_of e) f) → AddsVersion d (hand_of e) f
     → IsAfter Step a d live e
 after_step a d live e f l m old new bytes version adds = ⊎_elim
     (λ (all : IsLong (hand_of e) × AreAllFlushed live (hand_of e) f
@@ -156,10 +156,10 @@ after_step a d live e f l m old new bytes version adds = ⊎_elim
       long_entries a (hand_of e) l old all.0,
       λ v w has_v has_w. new_log_read a d (hand_of e) f l m old new v w has_v has_w live all.1 all.2 adds
           (⊎_elim (λ (none : length_of f ≡ 0). none)
-          (λ (short : IsShort (hand_of e) × (length_of f ≡ length_of (hand_of e))).
+          (λ (short : LogIsShort (hand_of e) × (length_of f ≡ length_of (hand_of e))).
           absurd (let long = all.0 in let low = short.0 in omega (arith, long, low))) bytes),
     ))
-    (λ (one : IsShort (hand_of e) × LeavesOut live (hand_of e) f). inr (
+    (λ (one : LogIsShort (hand_of e) × LeavesOut live (hand_of e) f). inr (
       short_entries a (hand_of e) l old one.0,
       λ v w has_v has_w. without_read a d (hand_of e) f l m old new v w has_v has_w live one.1,
     )) version

@@ -13,7 +13,7 @@ use Rattle.alt_merging.specs.HandInHand.{family_of, next_of}
 use Rattle.alt_merging.specs.HandMerging.{memory_at}
 use Rattle.alt_merging.specs.HandWorking.{HasEntries, most_entries}
 use Rattle.alt_merging.specs.HandDeclaredHand.{Hand}
-use Rattle.alt_engine.specs.InHand.{hand_of, limits_of}
+use Rattle.alt_engine.specs.InHand.{hand_of, limits_of_engine}
 use Rattle.alt_engine.specs.declared.engine.Engine.{Engine}
 use Rattle.alt_engine.specs.declared.work.Task.{Task}
 use Rattle.alt_engine.specs.declared.work.Task.TheVariants.{Step, FlushAll, MergeAll}
@@ -54,9 +54,9 @@ IsWithoutDead a b live old = (v w : Version) → HasVersion v (a.file versions_f
 -- Which it is, once a task is done: of a step the first where the log was long.
 abbrev pub IsAfter : Task → DiskState → DiskState → List ℕ → Engine → Type 0
 IsAfter Step a b live old =
-    (((n : ℕ) → HasEntries a.file n → most_entries (limits_of old).flush ≤ n)
+    (((n : ℕ) → HasEntries a.file n → most_entries (limits_of_engine old).flush ≤ n)
     × IsNewLog a b live old)
-    ⊎ (((n : ℕ) → HasEntries a.file n → n < most_entries (limits_of old).flush)
+    ⊎ (((n : ℕ) → HasEntries a.file n → n < most_entries (limits_of_engine old).flush)
     × IsWithoutDead a b live old)
 IsAfter FlushAll a b live old = IsNewLog a b live old
 IsAfter MergeAll a b live old = IsWithoutDead a b live old

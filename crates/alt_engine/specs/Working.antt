@@ -11,16 +11,16 @@ use Rattle.alt_manifest.specs.declared.version.Version.{Version}
 use Rattle.alt_families.specs.Families.{rows_in}
 use Rattle.alt_rowfile.specs.Format.{IsRowFile}
 use Rattle.alt_rowfile.specs.Summaries.{any_tombstone}
-use Rattle.alt_merging.specs.HandDrafting.{IsSpentFor, IsUnspent}
+use Rattle.alt_merging.specs.HandDrafting.{IsSpentFor, EngineFaultIsOutside}
 use Rattle.alt_merging.specs.HandInHand.{family_of}
 use Rattle.alt_merging.specs.HandMerging.{HasMany, IsFirstMany, files_at}
 use Rattle.alt_merging.specs.HandWorking.{AreAllFlushed, HasEntries, IsAllFor, IsCalm, IsDueFor, IsFirstFull, IsOneFlushed, most_entries}
 use Rattle.alt_merging.specs.HandDeclaredEngineFault.{EngineFault}
 use Rattle.alt_merging.specs.HandDeclaredHand.{Hand}
 use Rattle.alt_merging.specs.Merged.{AreMerged}
-use Rattle.alt_merging.specs.Mergings.{GivesWay, MergingStands, family_of as merged_family, file_of, taken_of}
+use Rattle.alt_merging.specs.Mergings.{GivesWay, MergingStands, family_of_merging as merged_family, file_of_merging, taken_of}
 use Rattle.alt_merging.specs.declared.merging.Merging.{Merging}
-use Rattle.alt_engine.specs.InHand.{hand_of, limits_of, merge_of, next_file_of}
+use Rattle.alt_engine.specs.InHand.{hand_of, limits_of_engine, merge_of, next_file_of_engine}
 use Rattle.alt_engine.specs.declared.engine.Engine.{Engine}
 use Rattle.alt_engine.specs.declared.work.Task.{Task}
 use Rattle.alt_engine.specs.declared.work.Task.TheVariants.{Step, FlushAll, MergeAll}
@@ -28,12 +28,12 @@ use Rattle.alt_engine.specs.declared.work.Task.TheVariants.{Step, FlushAll, Merg
 -- ---- A merge under way.
 
 -- This one is under way, of a live family. One of any other is given up.
-abbrev pub IsUnderWay : List ℕ → Engine → Merging → Type 0
-IsUnderWay live e j = (merge_of e ≡ Some j) × IsIn live (merged_family j)
+abbrev pub MergingIsUnderWay : List ℕ → Engine → Merging → Type 0
+MergingIsUnderWay live e j = (merge_of e ≡ Some j) × IsIn live (merged_family j)
 
 -- No such merge is under way.
 abbrev pub IsFree : List ℕ → Engine → Type 0
-IsFree live e = (j : Merging) → IsUnderWay live e j → ⊥
+IsFree live e = (j : Merging) → MergingIsUnderWay live e j → ⊥
 
 -- Nor is one of a family that isn't live, so that none is given up.
 abbrev pub KeepsMerge : List ℕ → Engine → Type 0
@@ -54,8 +54,8 @@ pub record WasGivenUp (live : List ℕ) (old new : Engine) : Type 0 where
 
 -- No file below the next one is there that wasn't, but for that of the merge under way.
 abbrev pub MakesNoOther : DiskState → DiskState → Engine → Type 0
-MakesNoOther a b old = (f : ℕ) → ((j : Merging) → merge_of old ≡ Some j → f ≢ file_of j)
-    → f < next_file_of old → a.file f ≡ None → b.file f ≡ None
+MakesNoOther a b old = (f : ℕ) → ((j : Merging) → merge_of old ≡ Some j → f ≢ file_of_merging j)
+    → f < next_file_of_engine old → a.file f ≡ None → b.file f ≡ None
 
 -- ---- What applies.
 
@@ -68,14 +68,14 @@ abbrev pub NoneMany : List ℕ → Engine → Type 0
 NoneMany live e = (family : ℕ) → IsIn live family → HasMany (hand_of e) family → ⊥
 
 -- No flush applies to a step: the log is short, and no live family is full.
-abbrev pub IsFlushed : Image → List ℕ → Engine → Type 0
-IsFlushed files live e =
-    ((n : ℕ) → HasEntries files n → n < most_entries (limits_of e).flush) × IsCalm live (hand_of e)
+abbrev pub NeedsNoFlush : Image → List ℕ → Engine → Type 0
+NeedsNoFlush files live e =
+    ((n : ℕ) → HasEntries files n → n < most_entries (limits_of_engine e).flush) × IsCalm live (hand_of e)
 
 -- Nothing applies. For a step, moreover, no merge is under way and no live family has many files; for a flush of all no family has rows in memory, and
 -- the log no entry; for merges of all no merge is under way, and the files of each live family are merged.
 abbrev pub IsIdle : Task → DiskState → List ℕ → Engine → Type 0
-IsIdle Step s live e = IsFlushed s.file live e × (IsFree live e × NoneMany live e)
+IsIdle Step s live e = NeedsNoFlush s.file live e × (IsFree live e × NoneMany live e)
 IsIdle FlushAll s live e = ((n : ℕ) → HasEntries s.file n → n ≡ 0)
     × ((family : ℕ) → rows_in (family_of (hand_of e) family) ≡ empty)
 IsIdle MergeAll s live e = IsFree live e × AllMerged s live (hand_of e)
@@ -83,7 +83,7 @@ IsIdle MergeAll s live e = IsFree live e × AllMerged s live (hand_of e)
 -- ---- What goes on.
 
 -- A merge of all files of the lowest live family with many files has begun: it takes one number of a file.
-pub record Begins (live : List ℕ) (old new : Engine) : Type 0 where
+pub record BeginsMerge (live : List ℕ) (old new : Engine) : Type 0 where
   pub free : IsFree live old
   pub family : ℕ
   pub first : IsFirstMany live (hand_of old) family
@@ -91,7 +91,7 @@ pub record Begins (live : List ℕ) (old new : Engine) : Type 0 where
   pub is : merge_of new ≡ Some job
   pub of : merged_family job ≡ family
   pub all : taken_of job ≡ length (files_at (hand_of old) family)
-  pub next_file : next_file_of new ≡ next_file_of old + 1
+  pub next_file : next_file_of_engine new ≡ next_file_of_engine old + 1
 
 -- A merge has taken 256 rows more, and more are left. It takes no number of a file, nor does its end.
 pub record Furthered (a b : DiskState) (old new : Engine) (job : Merging) : Type 0 where
@@ -99,39 +99,39 @@ pub record Furthered (a b : DiskState) (old new : Engine) (job : Merging) : Type
   pub is : merge_of new ≡ Some after
   pub further : (left : RowList) → MergingStands a (hand_of old) job left
       → MergingStands b (hand_of new) after (drop 256 left) × (drop 256 left ≡ [] → ⊥)
-  pub next_file : next_file_of new ≡ next_file_of old
+  pub next_file : next_file_of_engine new ≡ next_file_of_engine old
 
 -- So has the one under way.
-abbrev pub GoesOn : DiskState → DiskState → List ℕ → Engine → Engine → Type 0
-GoesOn a b live old new = (job : Merging) × IsUnderWay live old job × Furthered a b old new job
+abbrev pub FurthersMerge : DiskState → DiskState → List ℕ → Engine → Engine → Type 0
+FurthersMerge a b live old new = (job : Merging) × MergingIsUnderWay live old job × Furthered a b old new job
 
 -- A step began a merge, or brought one further.
 abbrev pub Went : DiskState → DiskState → List ℕ → Engine → Engine → Type 0
 Went a b live old new =
-    IsFlushed a.file live old × (Begins live old new ⊎ GoesOn a b live old new)
+    NeedsNoFlush a.file live old × (BeginsMerge live old new ⊎ FurthersMerge a b live old new)
 
 -- ---- What is done.
 
 -- A merge had no rows left after 256 more: what was made of its files stands in their place.
-pub record Ended (a b : DiskState) (old new : Engine) (job : Merging) : Type 0 where
+pub record MergeEnded (a b : DiskState) (old new : Engine) (job : Merging) : Type 0 where
   pub none : merge_of new ≡ None
   pub last : (left : RowList) → MergingStands a (hand_of old) job left → drop 256 left ≡ []
   pub gives : GivesWay b (hand_of old) (hand_of new) (merged_family job) (taken_of job)
-  pub next_file : next_file_of new ≡ next_file_of old
+  pub next_file : next_file_of_engine new ≡ next_file_of_engine old
 
 -- So had the one under way.
-abbrev pub Ends : DiskState → DiskState → List ℕ → Engine → Engine → Type 0
-Ends a b live old new = (job : Merging) × IsUnderWay live old job × Ended a b old new job
+abbrev pub EndsMerge : DiskState → DiskState → List ℕ → Engine → Engine → Type 0
+EndsMerge a b live old new = (job : Merging) × MergingIsUnderWay live old job × MergeEnded a b old new job
 
 -- A step flushed all, where the log was long; else the lowest live family that was full; else it ended the merge under way.
 abbrev pub DidStep : DiskState → DiskState → List ℕ → Engine → Engine → Type 0
 DidStep a b live old new =
-    (((n : ℕ) → HasEntries a.file n → most_entries (limits_of old).flush ≤ n)
+    (((n : ℕ) → HasEntries a.file n → most_entries (limits_of_engine old).flush ≤ n)
     × AreAllFlushed live (hand_of old) (hand_of new))
-    ⊎ ((((n : ℕ) → HasEntries a.file n → n < most_entries (limits_of old).flush)
+    ⊎ ((((n : ℕ) → HasEntries a.file n → n < most_entries (limits_of_engine old).flush)
     × ((family : ℕ) × IsFirstFull live (hand_of old) family
     × IsOneFlushed live (hand_of old) (hand_of new) family))
-    ⊎ (IsFlushed a.file live old × Ends a b live old new))
+    ⊎ (NeedsNoFlush a.file live old × EndsMerge a b live old new))
 
 -- What a task did. After merges of all nothing is left to merge.
 abbrev pub Did : Task → DiskState → DiskState → List ℕ → Engine → Engine → Type 0
@@ -146,8 +146,8 @@ IsMergedFile files (f ∷ []) = (m : RowMap) (bytes : List ℕ) → files f ≡ 
     → IsRowFile (entries m) bytes → any_tombstone (entries m) ≡ false
 IsMergedFile files (f ∷ g ∷ fs) = ⊥
 
-abbrev pub IsMerged : List ℕ → Image → Type 0
-IsMerged live files = (v : Version) → HasVersion v (files versions_file) → (family : ℕ)
+abbrev pub LiveFamiliesAreMerged : List ℕ → Image → Type 0
+LiveFamiliesAreMerged live files = (v : Version) → HasVersion v (files versions_file) → (family : ℕ)
     → IsIn live family → IsMergedFile files (files_of v.families family)
 
 -- ---- Faults.
@@ -155,12 +155,12 @@ IsMerged live files = (v : Version) → HasVersion v (files versions_file) → (
 -- A spent number is told only where the files that the task needs go beyond file 2^32 - 1: those of a flush that is due to a step, or one for a merge that
 -- it begins; those of a flush of all; and for merges of all one for each live family at most.
 abbrev pub IsNeeded : Task → List ℕ → Engine → EngineFault → Type 0
-IsNeeded Step live e fault = IsUnspent fault ⊎ (IsDueFor live (hand_of e) fault
+IsNeeded Step live e fault = EngineFaultIsOutside fault ⊎ (IsDueFor live (hand_of e) fault
     ⊎ (IsFree live e × ((family : ℕ) × IsFirstMany live (hand_of e) family)
-    × IsSpentFor (next_file_of e + 1) fault))
+    × IsSpentFor (next_file_of_engine e + 1) fault))
 IsNeeded FlushAll live e fault = IsAllFor live (hand_of e) fault
-IsNeeded MergeAll live e fault = IsSpentFor (next_file_of e + length live) fault
+IsNeeded MergeAll live e fault = IsSpentFor (next_file_of_engine e + length live) fault
 
 -- As many numbers of files as a task takes at most: one for each live family, and one for the log.
-abbrev pub most_files : List ℕ → ℕ
-most_files live = length live + 1
+abbrev pub most_files_of_task : List ℕ → ℕ
+most_files_of_task live = length live + 1

@@ -15,7 +15,7 @@ ghost use Rattle.alt_merging.specs.HandAdding.{IsBehind};
 ghost use Rattle.alt_merging.specs.HandInHand.{BeforeOrAll, BeforeOrWith, IsSpentBy, batch_write, batch_writes, files_made};
 ghost use Rattle.alt_merging.specs.HandRecovery.{ExplainsStore, HasNoLayout, IsNextFile, LeavesFiles, LeavesStore, LeftLike};
 ghost use Rattle.alt_merging.specs.HandSyncing.{AllSynced};
-ghost use Rattle.alt_engine.specs.InHand.{bounds_of, hand_of, last_form_of, limits_of, next_file_of, next_of, Reads, Stands};
+ghost use Rattle.alt_engine.specs.InHand.{bounds_of_engine, hand_of, last_form_of_engine, limits_of_engine, next_file_of_engine, next_write_of_engine, ReadsLayout, StandsForLayout};
 
 use alt_cells::Batch;
 use alt_disk::Disk;
@@ -42,11 +42,11 @@ impl Engine {
     ) -> Result<Engine, RecoverFault>
         // At Ok the engine is that of the rows that the files held and hold.
         ensures ok { IfOk result (λ e. IsTrue (D.state disk.old).tells → (l : Layout)
-            × IsLayout (D.state disk.old).file l × Reads (D.state disk.new) e l) }
+            × IsLayout (D.state disk.old).file l × ReadsLayout (D.state disk.new) e l) }
         // Whatever a stop leaves from then on holds these rows.
         ensures stands { IfOk result (λ e. IsTrusted (D.state disk.old) → (l : Layout)
-            → Reads (D.state disk.new) e l → Stands (D.state disk.new) e l) }
-        ensures limits { IfOk result (λ e. limits_of e ≡ limits) }
+            → ReadsLayout (D.state disk.new) e l → StandsForLayout (D.state disk.new) e l) }
+        ensures limits { IfOk result (λ e. limits_of_engine e ≡ limits) }
         // And every file that is there lasts.
         ensures synced { OnOk result (IsTrusted (D.state disk.old)
             → AllSynced (D.state disk.new)) }
@@ -55,7 +55,7 @@ impl Engine {
         // call fails, whatever the cause, none was removed before all that it names was read.
         ensures next_file { IfOk result (λ e. IsTrue (D.state disk.old).tells → (v : Version)
             → HasVersion v ((D.state disk.old).file versions_file)
-            → IsNextFile v (D.state disk.old).file (next_file_of e)) }
+            → IsNextFile v (D.state disk.old).file (next_file_of_engine e)) }
         ensures removed { OnOk result (IsTrue (D.state disk.old).tells → (v : Version)
             → HasVersion v ((D.state disk.old).file versions_file)
             → LeavesStore v (D.state disk.old).file (D.state disk.new).file) }
@@ -97,8 +97,8 @@ impl Engine {
 
     /// The number of the next write.
     pub fn next_number(&self) -> u64
-        ensures next { result ≡ next_of self.now }
-        ensures layout { (s : DiskState) (l : Layout) → Reads s self.now l
+        ensures next { result ≡ next_write_of_engine self.now }
+        ensures layout { (s : DiskState) (l : Layout) → ReadsLayout s self.now l
             → result ≡ l.next_number }
     {
         self.hand.next_number()
@@ -106,9 +106,9 @@ impl Engine {
 
     /// The number of the file that the segment of a write wants and can't have.
     pub fn wanting_file(&self) -> Option<u64>
-        ensures none { result ≡ None → (bounds_of self.now).file < 2 ^ 32 }
+        ensures none { result ≡ None → (bounds_of_engine self.now).file < 2 ^ 32 }
         ensures last { IfSome result (λ n. (n ≡ 2 ^ 32 - 1)
-            × (2 ^ 32 ≤ (bounds_of self.now).file)) }
+            × (2 ^ 32 ≤ (bounds_of_engine self.now).file)) }
     {
         self.hand.wanting_file()
     }
@@ -123,34 +123,34 @@ impl Engine {
     ) -> Result<u64, EngineFault>
         requires some { 0 < length batches.now }
         requires stands { IsTrusted (D.state disk.old)
-            → (l : Layout) × Stands (D.state disk.old) self.old l }
+            → (l : Layout) × StandsForLayout (D.state disk.old) self.old l }
         ensures ok { OnOk result (IsTrusted (D.state disk.old) → (l : Layout)
-            → Stands (D.state disk.old) self.old l → Stands (D.state disk.new) self.new
+            → StandsForLayout (D.state disk.old) self.old l → StandsForLayout (D.state disk.new) self.new
             (with_writes l (batch_writes l batches.now))) }
-        ensures number { IfOk result (λ n. n ≡ next_of self.old) }
-        ensures next { OnOk result (next_of self.new ≡ next_of self.old + length batches.now) }
-        ensures limits { limits_of self.new ≡ limits_of self.old }
+        ensures number { IfOk result (λ n. n ≡ next_write_of_engine self.old) }
+        ensures next { OnOk result (next_write_of_engine self.new ≡ next_write_of_engine self.old + length batches.now) }
+        ensures limits { limits_of_engine self.new ≡ limits_of_engine self.old }
 
         // At Ok the entry stands in a segment of the second form: in the last one, or in one that was made and named behind the others.
-        ensures segment { OnOk result (IsBehind (last_form_of self.old)
+        ensures segment { OnOk result (IsBehind (last_form_of_engine self.old)
             (hand_of self.old) (hand_of self.new)) }
-        ensures most { next_file_of self.new
-            ≤ next_file_of self.old + files_made (last_form_of self.old) }
-        ensures least { next_file_of self.old ≤ next_file_of self.new }
+        ensures most { next_file_of_engine self.new
+            ≤ next_file_of_engine self.old + files_made (last_form_of_engine self.old) }
+        ensures least { next_file_of_engine self.old ≤ next_file_of_engine self.new }
         // A write takes no number of a file from work: that which it may take is counted before.
-        ensures bounds { bounds_of self.new ≡ bounds_of self.old }
+        ensures bounds { bounds_of_engine self.new ≡ bounds_of_engine self.old }
 
         // A stop at any moment of the call, also one that fails, leaves the rows from before it or with all batches.
         ensures any_moment { IsTrusted (D.state disk.old) → (l : Layout)
-            → Stands (D.state disk.old) self.old l
+            → StandsForLayout (D.state disk.old) self.old l
             → Spans (D.state disk.old) (D.state disk.new) (λ _. ⊤) (BeforeOrAll l batches.now) }
 
         // A number is spent exactly where one of those that are wanted is 2^62 - 1, and else where the new segment wants file 2^32 - 1.
-        ensures spent_number { 2 ^ 62 - 1 < next_of self.old + length batches.now
-            → result ≡ Err (EngineFault.Spent (max (next_of self.old) (2 ^ 62 - 1))) }
-        ensures spent_file { next_of self.old + length batches.now ≤ 2 ^ 62 - 1
-            → last_form_of self.old ≡ One → 2 ^ 32 - 1 ≤ next_file_of self.old
-            → result ≡ Err (EngineFault.Spent (next_file_of self.old)) }
+        ensures spent_number { 2 ^ 62 - 1 < next_write_of_engine self.old + length batches.now
+            → result ≡ Err (EngineFault.Spent (max (next_write_of_engine self.old) (2 ^ 62 - 1))) }
+        ensures spent_file { next_write_of_engine self.old + length batches.now ≤ 2 ^ 62 - 1
+            → last_form_of_engine self.old ≡ One → 2 ^ 32 - 1 ≤ next_file_of_engine self.old
+            → result ≡ Err (EngineFault.Spent (next_file_of_engine self.old)) }
         ensures cause_spent { IfErr result (IsSpentBy (hand_of self.old) (length batches.now)) }
         ensures unchanged { (number : ℕ) → IsErrOf result (EngineFault.Spent number)
             → D.state disk.new ≡ D.state disk.old }
@@ -169,32 +169,32 @@ impl Engine {
     /// Joins a batch to the rows, as `apply_all` of it alone.
     pub fn apply<D: Disk>(&mut self, disk: &mut D, batch: &Batch) -> Result<u64, EngineFault>
         requires { IsTrusted (D.state disk.old)
-            → (l : Layout) × Stands (D.state disk.old) self.old l }
+            → (l : Layout) × StandsForLayout (D.state disk.old) self.old l }
         ensures ok { OnOk result (IsTrusted (D.state disk.old) → (l : Layout)
-            → Stands (D.state disk.old) self.old l
-            → Stands (D.state disk.new) self.new (with_write l (batch_write l batch.now))) }
-        ensures number { IfOk result (λ n. n ≡ next_of self.old) }
-        ensures next { OnOk result (next_of self.new ≡ next_of self.old + 1) }
-        ensures limits { limits_of self.new ≡ limits_of self.old }
-        ensures segment { OnOk result (IsBehind (last_form_of self.old)
+            → StandsForLayout (D.state disk.old) self.old l
+            → StandsForLayout (D.state disk.new) self.new (with_write l (batch_write l batch.now))) }
+        ensures number { IfOk result (λ n. n ≡ next_write_of_engine self.old) }
+        ensures next { OnOk result (next_write_of_engine self.new ≡ next_write_of_engine self.old + 1) }
+        ensures limits { limits_of_engine self.new ≡ limits_of_engine self.old }
+        ensures segment { OnOk result (IsBehind (last_form_of_engine self.old)
             (hand_of self.old) (hand_of self.new)) }
-        ensures most { next_file_of self.new
-            ≤ next_file_of self.old + files_made (last_form_of self.old) }
-        ensures least { next_file_of self.old ≤ next_file_of self.new }
+        ensures most { next_file_of_engine self.new
+            ≤ next_file_of_engine self.old + files_made (last_form_of_engine self.old) }
+        ensures least { next_file_of_engine self.old ≤ next_file_of_engine self.new }
         // A write takes no number of a file from work: that which it may take is counted before.
-        ensures bounds { bounds_of self.new ≡ bounds_of self.old }
+        ensures bounds { bounds_of_engine self.new ≡ bounds_of_engine self.old }
 
         // A stop at any moment of the call, also one that fails, leaves the rows from before it or with the whole batch.
         ensures any_moment { IsTrusted (D.state disk.old) → (l : Layout)
-            → Stands (D.state disk.old) self.old l
+            → StandsForLayout (D.state disk.old) self.old l
             → Spans (D.state disk.old) (D.state disk.new) (λ _. ⊤) (BeforeOrWith l batch.now) }
 
         // A number is spent exactly where the next one is 2^62 - 1, and else where the new segment wants file 2^32 - 1.
-        ensures spent_number { 2 ^ 62 - 1 ≤ next_of self.old
-            → result ≡ Err (EngineFault.Spent (next_of self.old)) }
-        ensures spent_file { next_of self.old < 2 ^ 62 - 1 → last_form_of self.old ≡ One
-            → 2 ^ 32 - 1 ≤ next_file_of self.old
-            → result ≡ Err (EngineFault.Spent (next_file_of self.old)) }
+        ensures spent_number { 2 ^ 62 - 1 ≤ next_write_of_engine self.old
+            → result ≡ Err (EngineFault.Spent (next_write_of_engine self.old)) }
+        ensures spent_file { next_write_of_engine self.old < 2 ^ 62 - 1 → last_form_of_engine self.old ≡ One
+            → 2 ^ 32 - 1 ≤ next_file_of_engine self.old
+            → result ≡ Err (EngineFault.Spent (next_file_of_engine self.old)) }
         ensures cause_spent { IfErr result (IsSpentBy (hand_of self.old) 1) }
         ensures unchanged { (number : ℕ) → IsErrOf result (EngineFault.Spent number)
             → D.state disk.new ≡ D.state disk.old }

@@ -9,8 +9,8 @@ ghost use Rattle.alt_layout.specs.Layout.{Layout, ShowsFirst, rows_between, show
 ghost use Rattle.alt_families.specs.Reads.{most_reads};
 ghost use Rattle.alt_merging.specs.HandInHand.{file_rows};
 ghost use Rattle.alt_merging.specs.HandMerging.{files_at};
-ghost use Rattle.alt_merging.specs.HandOpened.{IsUndamaged, IsUnspent};
-ghost use Rattle.alt_engine.specs.InHand.{Reads, bounds_of, hand_of, limits_of, next_of};
+ghost use Rattle.alt_merging.specs.HandOpened.{EngineFaultIsUndamaged, EngineFaultIsUnspent};
+ghost use Rattle.alt_engine.specs.InHand.{ReadsLayout, bounds_of_engine, hand_of, limits_of_engine, next_write_of_engine};
 ghost use Rattle.alt_engine.specs.Opened.{StaysOn};
 
 use crate::engine::Engine;
@@ -29,16 +29,16 @@ impl Engine {
         key: &[u8],
     ) -> Result<Option<ShownRow>, EngineFault>
         ensures row { IsTrue (D.state disk.old).tells → (l : Layout)
-            → Reads (D.state disk.old) self.old l
+            → ReadsLayout (D.state disk.old) self.old l
             → IfOk result (λ row. row ≡ shown l family key.now) }
         ensures undamaged { IsTrue (D.state disk.old).tells → (l : Layout)
-            → Reads (D.state disk.old) self.old l → IfErr result IsUndamaged }
+            → ReadsLayout (D.state disk.old) self.old l → IfErr result EngineFaultIsUndamaged }
         ensures same { IsTrue (D.state disk.old).tells
             → StaysOn (D.state disk.old) (D.state disk.new) self.old self.new }
-        ensures next { next_of self.new ≡ next_of self.old }
-        ensures limits { limits_of self.new ≡ limits_of self.old }
-        ensures bounds { bounds_of self.new ≡ bounds_of self.old }
-        ensures unspent { IfErr result IsUnspent }
+        ensures next { next_write_of_engine self.new ≡ next_write_of_engine self.old }
+        ensures limits { limits_of_engine self.new ≡ limits_of_engine self.old }
+        ensures bounds { bounds_of_engine self.new ≡ bounds_of_engine self.old }
+        ensures unspent { IfErr result EngineFaultIsUnspent }
         ensures quiet { IsTrue (D.state disk.old).tells
             → Quiet (D.state disk.old) (D.state disk.new) }
         ensures goes { Goes (D.state disk.old) (D.state disk.new) }
@@ -66,18 +66,18 @@ impl Engine {
         out: &mut Vec<(Bytes, ShownRow)>,
     ) -> Result<(), EngineFault>
         ensures rows { IsTrue (D.state disk.old).tells → (l : Layout)
-            → Reads (D.state disk.old) self.old l
+            → ReadsLayout (D.state disk.old) self.old l
             → OnOk result (out.new.items ≡ out.old.items
             ++ take most (rows_between l family range.now.from range.now.to forward)) }
         ensures begun { IsPrefix out.old.items out.new.items }
         ensures undamaged { IsTrue (D.state disk.old).tells → (l : Layout)
-            → Reads (D.state disk.old) self.old l → IfErr result IsUndamaged }
+            → ReadsLayout (D.state disk.old) self.old l → IfErr result EngineFaultIsUndamaged }
         ensures same { IsTrue (D.state disk.old).tells
             → StaysOn (D.state disk.old) (D.state disk.new) self.old self.new }
-        ensures next { next_of self.new ≡ next_of self.old }
-        ensures limits { limits_of self.new ≡ limits_of self.old }
-        ensures bounds { bounds_of self.new ≡ bounds_of self.old }
-        ensures unspent { IfErr result IsUnspent }
+        ensures next { next_write_of_engine self.new ≡ next_write_of_engine self.old }
+        ensures limits { limits_of_engine self.new ≡ limits_of_engine self.old }
+        ensures bounds { bounds_of_engine self.new ≡ bounds_of_engine self.old }
+        ensures unspent { IfErr result EngineFaultIsUnspent }
         ensures quiet { IsTrue (D.state disk.old).tells
             → Quiet (D.state disk.old) (D.state disk.new) }
         ensures goes { Goes (D.state disk.old) (D.state disk.new) }
@@ -88,7 +88,7 @@ impl Engine {
 
         // It reads each row file of the family twice at most, and once more for each version of a row in them that it passes.
         ensures reads { IsTrue (D.state disk.old).tells → (l : Layout)
-            → (reads : Reads (D.state disk.old) self.old l)
+            → (reads : ReadsLayout (D.state disk.old) self.old l)
             → OnOk result ((D.state disk.new).reads ≤ (D.state disk.old).reads
             + most_reads forward range.now.from range.now.to most
             (rows_between l family range.now.from range.now.to forward)
@@ -104,15 +104,15 @@ impl Engine {
         family: u32,
     ) -> Result<Option<(u32, Bytes)>, EngineFault>
         ensures first { IsTrue (D.state disk.old).tells → (l : Layout)
-            → Reads (D.state disk.old) self.old l → IfOk result (ShowsFirst l family) }
+            → ReadsLayout (D.state disk.old) self.old l → IfOk result (ShowsFirst l family) }
         ensures undamaged { IsTrue (D.state disk.old).tells → (l : Layout)
-            → Reads (D.state disk.old) self.old l → IfErr result IsUndamaged }
+            → ReadsLayout (D.state disk.old) self.old l → IfErr result EngineFaultIsUndamaged }
         ensures same { IsTrue (D.state disk.old).tells
             → StaysOn (D.state disk.old) (D.state disk.new) self.old self.new }
-        ensures next { next_of self.new ≡ next_of self.old }
-        ensures limits { limits_of self.new ≡ limits_of self.old }
-        ensures bounds { bounds_of self.new ≡ bounds_of self.old }
-        ensures unspent { IfErr result IsUnspent }
+        ensures next { next_write_of_engine self.new ≡ next_write_of_engine self.old }
+        ensures limits { limits_of_engine self.new ≡ limits_of_engine self.old }
+        ensures bounds { bounds_of_engine self.new ≡ bounds_of_engine self.old }
+        ensures unspent { IfErr result EngineFaultIsUnspent }
         ensures quiet { IsTrue (D.state disk.old).tells
             → Quiet (D.state disk.old) (D.state disk.new) }
         ensures goes { Goes (D.state disk.old) (D.state disk.new) }

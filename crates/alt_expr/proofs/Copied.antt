@@ -1,5 +1,5 @@
 -- A value is that of its tree.
-use Rattle.std.proofs.Common.{◌≡◌, refl, ap, ◌∙◌, sym, Option, Some, None}
+use Rattle.std.proofs.Common.{◌≡◌, refl, ap, ◌∙◌, sym}
 use Rattle.alt_value.specs.declared.attr.Attr.{Attr}
 use Rattle.alt_value.specs.declared.attr.Attr.TheVariants as a
 use Rattle.alt_value.specs.Stands.{tree_of}

@@ -1,5 +1,5 @@
 -- What `holds` is at each kind of condition.
-use Rattle.std.proofs.Common.{◌≡◌, sym, ap, ◌∙◌, Bool, true, false, ◌&&◌, not, List, rules}
+use Rattle.std.proofs.Common.{◌≡◌, sym, ap, ◌∙◌, Bool, ◌&&◌, not, List, rules}
 use Rattle.std.specs.Prelude.{is_some}
 use Rattle.std.specs.List.{list_any, list_all}
 use Rattle.alt_base.proofs.Lists.{all-map, any-map}

@@ -1,7 +1,6 @@
 -- A key condition holds of the items that meet what it asks, and of no others.
-use Rattle.std.proofs.Common.{◌≡◌, refl, sym, ap, ◌∙◌, Bool, true, false, ◌&&◌, ◌⊎◌, inl, inr, not, List, [], ◌∷◌, map, ℕ, Option, Some, None}
+use Rattle.std.proofs.Common.{◌≡◌, refl, sym, ap, ◌∙◌, Bool, true, false, ◌&&◌, not, List, [], ◌∷◌, map, Option, Some, None}
 use Rattle.std.specs.Prelude.{option_and_then, if◌then◌else◌}
-use Rattle.std.specs.Str.{bytes_eq}
 use Rattle.std.specs.Bool.{Decides}
 use Rattle.std.specs.List.{list_all}
 use Rattle.std.specs.declared.cmp.Ordering.{Ordering}
@@ -25,10 +24,10 @@ use Rattle.alt_expr.specs.declared.cond.Operand.{Operand}
 use Rattle.alt_expr.specs.declared.cond.Operand.TheVariants as o
 use Rattle.alt_expr.specs.declared.cond.Cond.{Cond, out-Cond, map-Cond, fold_out-Cond}
 use Rattle.alt_expr.specs.declared.cond.Cond.TheOpen.{Cond-F}
-use Rattle.alt_expr.specs.Located.{View, located, part}
+use Rattle.alt_expr.specs.Located.{View, part}
 use Rattle.alt_expr.specs.Holds.{denoted, judged, holds, compares, begins, same, order, equal}
 use Rattle.alt_expr.specs.KeyForm as k
-use Rattle.alt_expr.specs.KeyForm.{Key, Ask, RangeTest, is_key, has_kind, value_for, mirrored, with_value, key_test, hash_at, hash_value, range_test, asked, both_asked, or_else, in_range, ask_of, meets}
+use Rattle.alt_expr.specs.KeyForm.{Key, Ask, RangeTest, is_key_operand, has_kind, value_for, mirrored, comparison_with_value, key_test, hash_at, hash_value, range_test, ask_of_parts, both_asked, or_else, in_range, ask_of, meets}
 use Rattle.alt_expr.proofs.SameValues.{same_decides}
 use Rattle.alt_expr.proofs.Seen.{some_pair}
 
@@ -109,7 +108,7 @@ module _ (item : View) where
   there (Some t) = refl
 
   -- the key attribute denotes what the item has there
-  key_denotes : (key : Key) (x : Operand) → is_key key x ≡ true → denoted item x ≡ item key.name
+  key_denotes : (key : Key) (x : Operand) → is_key_operand key x ≡ true → denoted item x ≡ item key.name
   key_denotes key (o.At (p.Name n ∷ [])) e = there (item n)
       ∙ ap item ((bytes_decides n key.name).0 e)
   key_denotes key (o.At []) e = cc
@@ -130,7 +129,7 @@ module _ (item : View) where
       by false e = cc
 
   valued : (by : Comparison) (w : Option Attr) (c : Comparison) (v : Attr)
-      → with_value by w ≡ Some (c, v) → (by ≡ c) × (w ≡ Some v)
+      → comparison_with_value by w ≡ Some (c, v) → (by ≡ c) × (w ≡ Some v)
   valued by None c v e = cc
   valued by (Some u) c v e = let s = some_pair (by, u) (c, v) e in (s.0, ap Some s.1)
 
@@ -139,10 +138,10 @@ module _ (item : View) where
       → key_test key by x y ≡ Some (c, v)
       → compares by (denoted item x) (denoted item y)
       ≡ compares c (item key.name) (Some (tree_of v))
-  compared_as key by x y c v e = at (is_key key x) refl e
+  compared_as key by x y c v e = at (is_key_operand key x) refl e
     where
-      behind : (b : Bool) → is_key key y ≡ b
-          → (if b then with_value (mirrored by) (value_for key x) else None) ≡ Some (c, v)
+      behind : (b : Bool) → is_key_operand key y ≡ b
+          → (if b then comparison_with_value (mirrored by) (value_for key x) else None) ≡ Some (c, v)
           → compares by (denoted item x) (denoted item y)
           ≡ compares c (item key.name) (Some (tree_of v))
       behind true is e =
@@ -151,16 +150,16 @@ module _ (item : View) where
           ∙ (λ i. compares (w.0 i) (key_denotes key y is i) (value_denotes key x v w.1 i))
       behind false is e = cc
 
-      at : (b : Bool) → is_key key x ≡ b
-          → (if b then with_value by (value_for key y)
-          else (if is_key key y then with_value (mirrored by) (value_for key x) else None))
+      at : (b : Bool) → is_key_operand key x ≡ b
+          → (if b then comparison_with_value by (value_for key y)
+          else (if is_key_operand key y then comparison_with_value (mirrored by) (value_for key x) else None))
           ≡ Some (c, v)
           → compares by (denoted item x) (denoted item y)
           ≡ compares c (item key.name) (Some (tree_of v))
       at true is e =
           let w = valued by (value_for key y) c v e in
           λ i. compares (w.0 i) (key_denotes key x is i) (value_denotes key y v w.1 i)
-      at false is e = behind (is_key key y) refl e
+      at false is e = behind (is_key_operand key y) refl e
 
   -- ---- the HASH attribute
 
@@ -206,7 +205,7 @@ module _ (item : View) where
       ∙ ap (λ r. in_range r (item key.name)) (same_Some _ t e)
 
   range_bounded : (key : Key) (x low high : Operand) (t : RangeTest) (l h : Option Attr)
-      → value_for key low ≡ l → value_for key high ≡ h → is_key key x ≡ true
+      → value_for key low ≡ l → value_for key high ≡ h → is_key_operand key x ≡ true
       → k.range_between l h ≡ Some t
       → (compares c.GreaterEqual (denoted item x) (denoted item low)
       && compares c.LessEqual (denoted item x) (denoted item high)) ≡ in_range t (item key.name)
@@ -218,7 +217,7 @@ module _ (item : View) where
   range_bounded key x low high t (Some l) None is_low is_high is e = cc
 
   range_begun : (key : Key) (x y : Operand) (t : RangeTest) (j : KeyKind) (v : Option Attr)
-      → value_for key y ≡ v → is_key key x ≡ true → k.range_front j v ≡ Some t
+      → value_for key y ≡ v → is_key_operand key x ≡ true → k.range_front j v ≡ Some t
       → begins (denoted item x) (denoted item y) ≡ in_range t (item key.name)
   range_begun key x y t kind.N v is_v is e = cc
   range_begun key x y t kind.S (Some v) is_v is e =
@@ -244,17 +243,17 @@ module _ (item : View) where
           → judged item (map-Cond Cond Bool (holds item) top) ≡ in_range t (item key.name)
       at (Cond-F.Compare by y z) e = range_compared key by y z t (key_test key by y z) refl e
       at (Cond-F.Between y low high) e =
-          let w = first_alone (is_key key y)
+          let w = first_alone (is_key_operand key y)
           (k.range_between (value_for key low) (value_for key high)) t e in
           range_bounded key y low high t (value_for key low) (value_for key high) refl refl w.0 w.1
       at (Cond-F.BeginsWith y z) e =
-          let w = first_alone (is_key key y) (k.range_front key.kind (value_for key z)) t e in
+          let w = first_alone (is_key_operand key y) (k.range_front key.kind (value_for key z)) t e in
           range_begun key y z t key.kind (value_for key z) refl w.0 w.1
       at _ e = cc
 
   -- ---- the whole
 
-  both_parts : (v : Option Attr) (t : Option RangeTest) (ask : Ask) → asked v t ≡ Some ask
+  both_parts : (v : Option Attr) (t : Option RangeTest) (ask : Ask) → ask_of_parts v t ≡ Some ask
       → (v ≡ Some ask.hash) × (t ≡ Some ask.range)
   both_parts (Some v) (Some t) ask e = let is = same_Some _ ask e in
       (ap (λ a. Some a.hash) is, ap (λ a. Some a.range) is)
@@ -295,7 +294,7 @@ module _ (item : View) where
   any_range (Some range) = refl
 
   alone_holds : (hash : Key) (range : Option Key) (x : Cond) (ask : Ask)
-      → asked (hash_value hash x) (Some k.anything) ≡ Some ask
+      → ask_of_parts (hash_value hash x) (Some k.anything) ≡ Some ask
       → holds item x ≡ meets hash range ask item
   alone_holds hash range x ask e =
       let parts = both_parts (hash_value hash x) (Some k.anything) ask e in
@@ -322,7 +321,7 @@ module _ (item : View) where
       ∙ ap (λ top. judged item (map-Cond Cond Bool (holds item) top)) is
       ∙ all_hold hash range xs ask e
   top_holds hash range x ask (Cond-F.Compare by y z) is e =
-      alone_holds hash range x ask (ap (λ top. asked (k.hash_at hash top) (Some k.anything)) is ∙ e)
+      alone_holds hash range x ask (ap (λ top. ask_of_parts (k.hash_at hash top) (Some k.anything)) is ∙ e)
   top_holds hash range x ask _ is e = cc
 
 -- a key condition holds exactly of what meets its ask

@@ -1,3 +1,4 @@
+pub mod AsciiCuts
 pub mod CondComplete
 pub mod CondSound
 pub mod CondTexts
@@ -26,6 +27,8 @@ pub mod Prefixes
 pub mod SameValues
 pub mod Seen
 pub mod Suffix
+pub mod TestComplete
+pub mod TestSound
 pub mod TextTokens
 pub mod Texts
 pub mod Tokenized

@@ -1,10 +1,10 @@
 -- Lists with commas between: what is derived is read, and what is read was derived.
-use Rattle.std.proofs.Common.{◌≡◌, refl, sym, ap, ◌∙◌, ℕ, zero, suc, ◌+◌, ◌<◌, ◌≤◌, true, false, inl, inr, List, [], ◌∷◌, ◌++◌, length, map, drop, Some, None, arith, append_assoc, append-nil, length-append}
+use Rattle.std.proofs.Common.{◌≡◌, sym, ap, ◌∙◌, ℕ, zero, suc, ◌+◌, ◌<◌, ◌≤◌, false, inl, inr, List, [], ◌∷◌, ◌++◌, length, map, drop, Some, arith, append_assoc, append-nil, length-append}
 use Rattle.std.proofs.lemmas.Bool.{cases_Bool}
 use Rattle.alt_expr.specs.Tokens.{Tok, mark}
 use Rattle.alt_expr.specs.declared.token.Mark.TheVariants as m
 use Rattle.alt_expr.specs.PathGrammar.{between_toks}
-use Rattle.alt_expr.specs.Reader.{Parser, sees_mark, after_mark, listed, listed_from}
+use Rattle.alt_expr.specs.Reader.{Parser, sees_mark, after_mark, comma_separated, listed_from}
 use Rattle.alt_expr.proofs.Seen.{Derived, then_some, some_pair, mark_seen}
 
 module _ {D T : Type 0} (toks : D → List Tok) (tree : D → T) (one : Parser T) where
@@ -47,9 +47,9 @@ module _ {D T : Type 0} (toks : D → List Tok) (tree : D → T) (one : Parser T
 
     pub listed_read : (d : D) (ds : List D) (rest : List Tok) → Fits rest
         → sees_mark m.Comma rest ≡ false
-        → listed one (between_toks toks (mark m.Comma) d ds ++ rest)
+        → comma_separated one (between_toks toks (mark m.Comma) d ds ++ rest)
         ≡ Some (tree d ∷ map tree ds, rest)
-    unfolding listed
+    unfolding comma_separated
     listed_read d ds rest f none =
         let room : length ds < length ((toks d ++ more_toks ds) ++ rest) =
         omega (arith, some d, enough ds, length-append (toks d ++ more_toks ds) rest, length-append (toks d) (more_toks ds)) in
@@ -97,8 +97,8 @@ module _ {D T : Type 0} (toks : D → List Tok) (tree : D → T) (one : Parser T
     ]
 
     pub listed_sound : (i : List Tok) (xs : List T) (rest : List Tok)
-        → listed one i ≡ Some (xs, rest) → Listed i xs rest
-    unfolding listed
+        → comma_separated one i ≡ Some (xs, rest) → Listed i xs rest
+    unfolding comma_separated
     listed_sound i xs rest h =
         let a = then_some (one i) _ _ h in
         let d = sound i _ _ a.1 in

@@ -1,22 +1,20 @@
 -- One look finds the longest token.
-use Rattle.std.proofs.Common.{◌≡◌, refl, subst, ◌∙◌, ℕ, zero, suc, ◌<◌, ◌≤◌, min, Bool, true, false, ◌&&◌, ◌==◌, nat_le, if◌then◌else◌, ◌⊎◌, inl, inr, List, [], ◌∷◌, length, take, Option, Some, None, arith, MatchOption, get_or, add-one}
+use Rattle.std.proofs.Common.{◌≡◌, refl, subst, ◌∙◌, ℕ, zero, suc, ◌<◌, ◌≤◌, min, Bool, true, false, ◌&&◌, ◌==◌, nat_le, if◌then◌else◌, ◌⊎◌, inl, inr, List, [], ◌∷◌, length, take, Option, Some, None, arith, MatchOption}
 use Rattle.std.proofs.lemmas.Bool.{cases_lt, and_right, cases_Bool}
 use Rattle.std.proofs.lemmas.List.{length-take-le}
 use Rattle.std.proofs.Common.{length-drop}
 use Rattle.std.specs.Prelude.{⊤}
 use Rattle.std.specs.List.{list_all, prefix_len}
-use Rattle.std.specs.Str.{IsUtf8, IsCharBoundary}
-use Rattle.std.proofs.lemmas.Str.{IsCharBoundary-start, IsCharBoundary-after_ascii}
 use Rattle.std.specs.Char.{is_ascii_digit, is_ascii_alphabetic}
 use Rattle.std.proofs.lemmas.Bool.Decides.{nat_tests}
 use Rattle.alt_expr.specs.Tokens.{index, mark}
 use Rattle.alt_expr.specs.declared.token.Mark.{Mark}
-use Rattle.alt_expr.specs.Spelling.{is_inner, is_blank, mark_of_byte, pair_of, word_tok, number_of, spelled, spelled_mark, is_some_inner, Stands, NoneStands, skip}
+use Rattle.alt_expr.specs.Spelling.{is_inner, is_blank, mark_of_byte, two_byte_mark, word_tok, number_of_digits, spelled_token, spelled_mark, is_some_inner, TokenStands, NoneStands, skip}
 use Rattle.alt_expr.specs.declared.lexer.Kind.{Kind}
 use Rattle.alt_expr.specs.declared.lexer.Kind.TheVariants as k
 use Rattle.alt_expr.specs.Look.{kind_tok, found, found_signed, found_single, found_mark, LooksFit}
 
-told : {A : Type 0} (o : Option A) → ((x : A) × (o ≡ Some x)) ⊎ (o ≡ None)
+pub told : {A : Type 0} (o : Option A) → ((x : A) × (o ≡ Some x)) ⊎ (o ≡ None)
 told None = inr refl
 told (Some x) = inl (x, refl)
 
@@ -51,20 +49,20 @@ prefix_fits p (b ∷ bs) = elim (cases_Bool (p b)) [
 -- what a scan's answer has to be
 abbrev pub Holds : List ℕ → Option (Kind × ℕ) → Type 0
 Holds text answer =
-    MatchOption answer (NoneStands text) (λ p. Stands text p.1 (kind_tok p.0 (take p.1 text)))
+    MatchOption answer (NoneStands text) (λ p. TokenStands text p.1 (kind_tok p.0 (take p.1 text)))
 
 -- a word and its like: a first byte, then the run of what passes
 run_spells : (p : ℕ → Bool) (b : ℕ) (bs : List ℕ) → list_all p (take (prefix_len p bs) bs) ≡ true
 run_spells p b bs = all_within p bs (prefix_len p bs) (omega arith)
 
 word_longer : (b : ℕ) (bs : List ℕ) → is_ascii_alphabetic b ≡ true → (n : ℕ)
-    → suc (prefix_len is_inner bs) < n → n ≤ length (b ∷ bs) → spelled (take n (b ∷ bs)) ≡ None
+    → suc (prefix_len is_inner bs) < n → n ≤ length (b ∷ bs) → spelled_token (take n (b ∷ bs)) ≡ None
 word_longer b bs letter zero more fits = absurd (omega (arith, more))
 word_longer b bs letter (suc n) more fits =
     simp (letter, not_beyond is_inner bs n (omega (arith, more)) (omega (arith, fits)))
 
 word_stands : (b : ℕ) (bs : List ℕ) → is_ascii_alphabetic b ≡ true
-    → Stands (b ∷ bs) (suc (prefix_len is_inner bs))
+    → TokenStands (b ∷ bs) (suc (prefix_len is_inner bs))
     (word_tok (take (suc (prefix_len is_inner bs)) (b ∷ bs)))
 word_stands b bs letter = record {
   within = omega (arith, prefix_fits is_inner bs);
@@ -123,9 +121,9 @@ digits_longer bs n more fits = elim (cases_lt 8 n) [
 
 -- # words and : words
 module _ (b : ℕ) (kind : Kind) (spell : (cs : List ℕ)
-    → spelled (b ∷ cs) ≡ (if is_some_inner cs then Some (kind_tok kind (b ∷ cs)) else None)) where
+    → spelled_token (b ∷ cs) ≡ (if is_some_inner cs then Some (kind_tok kind (b ∷ cs)) else None)) where
   sign_longer : (bs : List ℕ) (n : ℕ) → suc (prefix_len is_inner bs) < n → n ≤ length (b ∷ bs)
-      → spelled (take n (b ∷ bs)) ≡ None
+      → spelled_token (take n (b ∷ bs)) ≡ None
   sign_longer bs zero more fits = absurd (omega (arith, more))
   sign_longer bs (suc n) more fits = spell (take n bs)
       ∙ rw (signed_longer bs n (omega (arith, more)) (omega (arith, fits))) refl
@@ -151,19 +149,19 @@ module _ (b : ℕ) (kind : Kind) (spell : (cs : List ℕ)
 -- numbers
 module _ (b : ℕ) (not_letter : is_ascii_alphabetic b ≡ false) (no_hash : (b == 35) ≡ false)
     (no_colon : (b == 58) ≡ false) (digit : is_ascii_digit b ≡ true) where
-  number_spelled : (cs : List ℕ) → spelled (b ∷ cs)
+  number_spelled : (cs : List ℕ) → spelled_token (b ∷ cs)
       ≡ (if list_all is_ascii_digit cs && nat_le (length cs) 8
-      then Some (index (number_of (b ∷ cs))) else None)
+      then Some (index (number_of_digits (b ∷ cs))) else None)
   number_spelled cs = simp (not_letter, no_hash, no_colon, digit)
 
   number_longer : (bs : List ℕ) (n : ℕ) → suc (min (prefix_len is_ascii_digit bs) 8) < n
-      → n ≤ length (b ∷ bs) → spelled (take n (b ∷ bs)) ≡ None
+      → n ≤ length (b ∷ bs) → spelled_token (take n (b ∷ bs)) ≡ None
   number_longer bs zero more fits = absurd (omega (arith, more))
   number_longer bs (suc n) more fits = number_spelled (take n bs)
       ∙ rw (digits_longer bs n (omega (arith, more)) (omega (arith, fits))) refl
 
-  number_stands : (bs : List ℕ) → Stands (b ∷ bs) (suc (min (prefix_len is_ascii_digit bs) 8))
-      (index (number_of (take (suc (min (prefix_len is_ascii_digit bs) 8)) (b ∷ bs))))
+  number_stands : (bs : List ℕ) → TokenStands (b ∷ bs) (suc (min (prefix_len is_ascii_digit bs) 8))
+      (index (number_of_digits (take (suc (min (prefix_len is_ascii_digit bs) 8)) (b ∷ bs))))
   number_stands bs = record {
     within = omega (arith, prefix_fits is_ascii_digit bs);
     spells = number_spelled (take (min (prefix_len is_ascii_digit bs) 8) bs)
@@ -173,13 +171,13 @@ module _ (b : ℕ) (not_letter : is_ascii_alphabetic b ≡ false) (no_hash : (b 
 
 module _ (b : ℕ) (not_letter : is_ascii_alphabetic b ≡ false) where
   mark_spelled : (bs : List ℕ) → (b == 35) ≡ false → (b == 58) ≡ false → is_ascii_digit b ≡ false
-      → spelled (b ∷ bs) ≡ spelled_mark b bs
+      → spelled_token (b ∷ bs) ≡ spelled_mark b bs
   mark_spelled bs no_hash no_colon no_digit = simp (not_letter, no_hash, no_colon, no_digit)
 
   module _ (no_hash : (b == 35) ≡ false) (no_colon : (b == 58) ≡ false)
       (no_digit : is_ascii_digit b ≡ false) where
     pair_longer : (c : ℕ) (bs : List ℕ) (n : ℕ) → 2 < n → n ≤ length (b ∷ c ∷ bs)
-        → spelled (take n (b ∷ c ∷ bs)) ≡ None
+        → spelled_token (take n (b ∷ c ∷ bs)) ≡ None
     pair_longer c bs zero more fits = absurd (omega (arith, more))
     pair_longer c bs (suc zero) more fits = absurd (omega (arith, more))
     pair_longer c bs (suc (suc zero)) more fits = absurd (omega (arith, more))
@@ -188,8 +186,8 @@ module _ (b : ℕ) (not_letter : is_ascii_alphabetic b ≡ false) where
         mark_spelled (c ∷ d ∷ take n bs) no_hash no_colon no_digit
 
     mark_longer : (bs : List ℕ) (n : ℕ)
-        → ((c : ℕ) → (cs : List ℕ) → bs ≡ c ∷ cs → pair_of b c ≡ None) → 1 < n → n ≤ length (b ∷ bs)
-        → spelled (take n (b ∷ bs)) ≡ None
+        → ((c : ℕ) → (cs : List ℕ) → bs ≡ c ∷ cs → two_byte_mark b c ≡ None) → 1 < n → n ≤ length (b ∷ bs)
+        → spelled_token (take n (b ∷ bs)) ≡ None
     mark_longer bs zero alone more fits = absurd (omega (arith, more))
     mark_longer bs (suc zero) alone more fits = absurd (omega (arith, more))
     mark_longer [] (suc (suc n)) alone more fits = absurd (omega (arith, fits))
@@ -199,26 +197,26 @@ module _ (b : ℕ) (not_letter : is_ascii_alphabetic b ≡ false) where
         pair_longer c bs (suc (suc (suc n))) (omega arith) fits
 
     one_mark : (bs : List ℕ) (m : Mark)
-        → ((c : ℕ) → (cs : List ℕ) → bs ≡ c ∷ cs → pair_of b c ≡ None) → mark_of_byte b ≡ Some m
-        → Stands (b ∷ bs) 1 (mark m)
+        → ((c : ℕ) → (cs : List ℕ) → bs ≡ c ∷ cs → two_byte_mark b c ≡ None) → mark_of_byte b ≡ Some m
+        → TokenStands (b ∷ bs) 1 (mark m)
     one_mark bs m alone is = record { within = omega arith; spells = mark_spelled [] no_hash no_colon no_digit ∙ rw is refl; longest = λ n. mark_longer bs n alone }
 
-    no_mark : (bs : List ℕ) → ((c : ℕ) → (cs : List ℕ) → bs ≡ c ∷ cs → pair_of b c ≡ None)
+    no_mark : (bs : List ℕ) → ((c : ℕ) → (cs : List ℕ) → bs ≡ c ∷ cs → two_byte_mark b c ≡ None)
         → mark_of_byte b ≡ None → NoneStands (b ∷ bs)
     no_mark bs alone none zero fits = refl
     no_mark bs alone none (suc zero) fits = mark_spelled [] no_hash no_colon no_digit ∙ rw none refl
     no_mark bs alone none (suc (suc n)) fits = mark_longer bs (suc (suc n)) alone (omega arith) fits
 
-    single_holds : (bs : List ℕ) → ((c : ℕ) → (cs : List ℕ) → bs ≡ c ∷ cs → pair_of b c ≡ None)
+    single_holds : (bs : List ℕ) → ((c : ℕ) → (cs : List ℕ) → bs ≡ c ∷ cs → two_byte_mark b c ≡ None)
         → Holds (b ∷ bs) (found_single b)
     single_holds bs alone = elim (told (mark_of_byte b)) [ inl some ↦ rw some.1 (one_mark bs some.0 alone some.1) | inr none ↦ rw none (no_mark bs alone none) ]
 
     mark_holds : (bs : List ℕ) → Holds (b ∷ bs) (found_mark b bs)
     mark_holds [] =
-        let alone = λ (c : ℕ) (cs : List ℕ) (e : [] ≡ c ∷ cs). let f : pair_of b c
+        let alone = λ (c : ℕ) (cs : List ℕ) (e : [] ≡ c ∷ cs). let f : two_byte_mark b c
         ≡ None = cc in f in
         single_holds [] alone
-    mark_holds (c ∷ bs) = elim (told (pair_of b c)) [
+    mark_holds (c ∷ bs) = elim (told (two_byte_mark b c)) [
       | inl pair ↦ rw pair.1 (record {
         within = omega arith;
         spells = mark_spelled (c ∷ []) no_hash no_colon no_digit ∙ rw pair.1 refl;
@@ -226,7 +224,7 @@ module _ (b : ℕ) (not_letter : is_ascii_alphabetic b ≡ false) where
       })
       | inr single ↦
           let alone = λ (d : ℕ) (cs : List ℕ) (e : c ∷ bs ≡ d ∷ cs). let f : c ≡ d = cc in
-          subst (λ x. pair_of b x ≡ None) f single in
+          subst (λ x. two_byte_mark b x ≡ None) f single in
           rw single (single_holds (c ∷ bs) alone)
     ]
 
@@ -249,101 +247,6 @@ scan_holds (b ∷ bs) = elim (cases_Bool (is_ascii_alphabetic b)) [
             (number_stands b not_letter no_hash no_colon digit bs)
         | inr no_digit ↦ rw (not_letter, no_hash, no_colon, no_digit)
             (mark_holds b not_letter no_hash no_colon no_digit bs)
-      ]
-    ]
-  ]
-]
-
--- ---- where a text may be cut
-
-prefix_here : (p : ℕ → Bool) (b : ℕ) (bs : List ℕ) → p b ≡ true → (m : ℕ)
-    → m < suc (prefix_len p bs) → ((k : ℕ) → k < prefix_len p bs → p (get_or bs k 0) ≡ true)
-    → p (get_or (b ∷ bs) m 0) ≡ true
-prefix_here p b bs e zero h ih = e
-prefix_here p b bs e (suc m) h ih = ih m (omega (arith, h))
-
-prefix_last : (p : ℕ → Bool) (bs : List ℕ) (m : ℕ) → m < prefix_len p bs → p (get_or bs m 0) ≡ true
-prefix_last p [] m h = absurd (omega (arith, h))
-prefix_last p (b ∷ bs) m h = elim (cases_Bool (p b)) [
-  | inl yes_b ↦ prefix_here p b bs yes_b m (let g = rw yes_b at h in omega (arith, g))
-      (λ k g. prefix_last p bs k g)
-  | inr no_b ↦ absurd (let g = rw no_b at h in omega (arith, g))
-]
-
-blank_ascii : (b : ℕ) → is_blank b ≡ true → b < 128
-blank_ascii b h = grind (arith, nat_tests, h)
-
-inner_ascii : (b : ℕ) → is_inner b ≡ true → b < 128
-inner_ascii b h = grind (arith, nat_tests, h)
-
-digit_ascii : (b : ℕ) → is_ascii_digit b ≡ true → b < 128
-digit_ascii b h = grind (arith, nat_tests, h)
-
-letter_ascii : (b : ℕ) → is_ascii_alphabetic b ≡ true → b < 128
-letter_ascii b h = grind (arith, nat_tests, h)
-
-mark_ascii : (b : ℕ) (m : Mark) → mark_of_byte b ≡ Some m → b < 128
-mark_ascii b m h = grind (arith, nat_tests, h)
-
-pair_ascii : (b c : ℕ) (m : Mark) → pair_of b c ≡ Some m → c < 128
-pair_ascii b c m h = grind (arith, nat_tests, h)
-
-cut_after : (bs : List ℕ) (n : ℕ) → IsUtf8 bs → n ≤ length bs
-    → ((m : ℕ) → n ≡ suc m → get_or bs m 0 < 128) → IsCharBoundary bs n
-cut_after bs zero utf8 within last = IsCharBoundary-start bs utf8
-cut_after bs (suc m) utf8 within last =
-    rw (← add-one) (IsCharBoundary-after_ascii bs m utf8 (omega (arith, within)) (last m refl))
-
--- behind blanks a text may be cut
-pub blank_cut : (bs : List ℕ) → IsUtf8 bs → IsCharBoundary bs (prefix_len is_blank bs)
-blank_cut bs utf8 = cut_after bs (prefix_len is_blank bs) utf8 (prefix_fits is_blank bs)
-    (λ m e. blank_ascii (get_or bs m 0) (prefix_last is_blank bs m (omega (arith, e))))
-
--- the last byte of what was found is ASCII
-abbrev pub IsAsciiCut : List ℕ → Option (Kind × ℕ) → Type 0
-IsAsciiCut text answer =
-    MatchOption answer ⊤ (λ p. (m : ℕ) × (p.1 ≡ suc m) × (get_or text m 0 < 128))
-
--- within a run of bytes below 128 a text may be cut
-run_cut : (p : ℕ → Bool) → ((b : ℕ) → p b ≡ true → b < 128) → (b : ℕ) (bs : List ℕ) → b < 128
-    → (m : ℕ) → m ≤ prefix_len p bs → get_or (b ∷ bs) m 0 < 128
-run_cut p ascii b bs first zero h = first
-run_cut p ascii b bs first (suc m) h = ascii (get_or bs m 0) (prefix_last p bs m (omega (arith, h)))
-
-byte_is : (b n : ℕ) → n < 128 → (b == n) ≡ true → b < 128
-byte_is b n small h = grind (arith, nat_tests, h)
-
-sign_cut : (kind : Kind) (b : ℕ) (bs : List ℕ) → b < 128
-    → IsAsciiCut (b ∷ bs) (found_signed kind (suc (prefix_len is_inner bs)))
-sign_cut kind b bs first = elim (cases_Bool (suc (prefix_len is_inner bs) == 1)) [
-  | inl only ↦ rw only tt
-  | inr more ↦ rw more (prefix_len is_inner bs, refl, run_cut is_inner inner_ascii b bs first (prefix_len is_inner bs) (omega arith))
-]
-
-single_cut : (b : ℕ) (bs : List ℕ) → IsAsciiCut (b ∷ bs) (found_single b)
-single_cut b bs =
-    elim (told (mark_of_byte
-    b)) [ inl some ↦ rw some.1 (0, refl, mark_ascii b some.0 some.1) | inr none ↦ rw none tt ]
-
-mark_cut : (b : ℕ) (bs : List ℕ) → IsAsciiCut (b ∷ bs) (found_mark b bs)
-mark_cut b [] = single_cut b []
-mark_cut b (c ∷ bs) = elim (told (pair_of b c)) [
-  | inl pair ↦ rw pair.1 (1, refl, pair_ascii b c pair.0 pair.1)
-  | inr single ↦ rw single (single_cut b (c ∷ bs))
-]
-
-found_ascii : (text : List ℕ) → IsAsciiCut text (found text)
-found_ascii [] = tt
-found_ascii (b ∷ bs) = elim (cases_Bool (is_ascii_alphabetic b)) [
-  | inl letter ↦ rw letter (prefix_len is_inner bs, refl, run_cut is_inner inner_ascii b bs (letter_ascii b letter) (prefix_len is_inner bs) (omega arith))
-  | inr not_letter ↦ elim (cases_Bool (b == 35)) [
-    | inl sign ↦ rw (not_letter, sign) (sign_cut k.Hash b bs (byte_is b 35 (omega arith) sign))
-    | inr no_hash ↦ elim (cases_Bool (b == 58)) [
-      | inl sign ↦
-          rw (not_letter, no_hash, sign) (sign_cut k.Colon b bs (byte_is b 58 (omega arith) sign))
-      | inr no_colon ↦ elim (cases_Bool (is_ascii_digit b)) [
-        | inl digit ↦ rw (not_letter, no_hash, no_colon, digit) (min (prefix_len is_ascii_digit bs) 8, refl, run_cut is_ascii_digit digit_ascii b bs (digit_ascii b digit) (min (prefix_len is_ascii_digit bs) 8) (omega arith))
-        | inr no_digit ↦ rw (not_letter, no_hash, no_colon, no_digit) (mark_cut b bs)
       ]
     ]
   ]
@@ -373,7 +276,7 @@ single_fit text b = elim (told (mark_of_byte b)) [ inl some ↦ rw some.1 tt | i
 mark_fit : (text : List ℕ) (b : ℕ) (bs : List ℕ) → Fits9 text (found_mark b bs)
 mark_fit text b [] = single_fit text b
 mark_fit text b (c ∷ bs) =
-    elim (told (pair_of b
+    elim (told (two_byte_mark b
     c)) [ inl pair ↦ rw pair.1 tt | inr single ↦ rw single (single_fit text b) ]
 
 found_fit : (text : List ℕ) → Fits9 text (found text)
@@ -399,21 +302,12 @@ fits_nine text kind n e = subst (Fits9 text) e (found_fit text)
 
 -- what the answer says
 pub stands_of : (text : List ℕ) (kind : Kind) (n : ℕ) → found text ≡ Some (kind, n)
-    → Stands text n (kind_tok kind (take n text))
+    → TokenStands text n (kind_tok kind (take n text))
 stands_of text kind n e = subst (Holds text) e (scan_holds text)
 
 -- where nothing was found no token stands
 pub none_of : (text : List ℕ) → found text ≡ None → NoneStands text
 none_of text e = subst (Holds text) e (scan_holds text)
-
--- behind what was found a text may be cut
-pub found_cut : (text : List ℕ) (kind : Kind) (n : ℕ) → IsUtf8 text → found text ≡ Some (kind, n)
-    → IsCharBoundary text n
-found_cut text kind n utf8 e =
-    let a = subst (IsAsciiCut text) e (found_ascii text) in
-    let s = stands_of text kind n e in
-    cut_after text n utf8 s.within (λ m h. let same : a.0 ≡ m = omega (arith, h, a.1) in
-    subst (λ i. get_or text i 0 < 128) same a.2)
 
 -- behind blanks no more is left than there was
 pub skip_fits : (text : List ℕ) → length (skip text) ≤ length text

@@ -1,5 +1,5 @@
 -- Words are noted exactly where a text was parsed.
-use Rattle.std.proofs.Common.{◌≡◌, ◌≢◌, refl, sym, ap, subst, ◌∙◌, ℕ, Bool, true, List, Ok, Err}
+use Rattle.std.proofs.Common.{◌≡◌, ◌≢◌, subst, ℕ, Bool, true, List, Ok, Err}
 use Rattle.alt_expr.specs.Tokens.{Tok}
 use Rattle.alt_expr.specs.Given.{with_hashes, with_colons}
 use Rattle.alt_expr.specs.Lexed.{Lexes}

@@ -1,8 +1,8 @@
 -- A text has one list of tokens.
-use Rattle.std.proofs.Common.{◌≡◌, refl, sym, ap, subst, ◌∙◌, ℕ, zero, suc, ◌<◌, ◌≤◌, ◌⊎◌, inl, inr, Bool, true, false, List, [], ◌∷◌, length, take, drop, Option, Some, None, arith}
+use Rattle.std.proofs.Common.{◌≡◌, refl, sym, ap, subst, ◌∙◌, ℕ, zero, suc, ◌≤◌, inl, inr, Bool, true, false, List, [], ◌∷◌, take, drop, Option, Some, None, arith}
 use Rattle.std.proofs.lemmas.Bool.{cases_order}
 use Rattle.alt_expr.specs.Tokens.{Tok}
-use Rattle.alt_expr.specs.Spelling.{spelled, Stands, NoneStands, skip}
+use Rattle.alt_expr.specs.Spelling.{spelled_token, TokenStands, NoneStands, skip}
 use Rattle.alt_expr.specs.Lexed.{Lexes}
 
 differ : (x : Tok) (o : Option Tok) → o ≡ Some x → o ≡ None → ⊥
@@ -12,26 +12,26 @@ some_same : (a b : Tok) → Some a ≡ Some b → a ≡ b
 some_same a b h = cc
 
 -- the longest token that stands at the front is one, of one length
-one_token : (text : List ℕ) (m n : ℕ) (t u : Tok) → Stands text m t → Stands text n u
+one_token : (text : List ℕ) (m n : ℕ) (t u : Tok) → TokenStands text m t → TokenStands text n u
     → (m ≡ n) × (t ≡ u)
 one_token text m n t u a b = elim (cases_order m n) [
   | inl same ↦
-      (same, some_same t u (sym a.spells ∙ ap (λ k. spelled (take k text)) same ∙ b.spells))
+      (same, some_same t u (sym a.spells ∙ ap (λ k. spelled_token (take k text)) same ∙ b.spells))
   | inr (inl below) ↦
-      absurd (differ u (spelled (take n text)) b.spells (a.longest n below b.within))
+      absurd (differ u (spelled_token (take n text)) b.spells (a.longest n below b.within))
   | inr (inr above) ↦
-      absurd (differ t (spelled (take m text)) a.spells (b.longest m above a.within))
+      absurd (differ t (spelled_token (take m text)) a.spells (b.longest m above a.within))
 ]
 
-nothing_stands : (text : List ℕ) (n : ℕ) (t : Tok) → Stands text n t → NoneStands text → ⊥
-nothing_stands text n t s none = differ t (spelled (take n text)) s.spells (none n s.within)
+nothing_stands : (text : List ℕ) (n : ℕ) (t : Tok) → TokenStands text n t → NoneStands text → ⊥
+nothing_stands text n t s none = differ t (spelled_token (take n text)) s.spells (none n s.within)
 
-empty_spells : (n : ℕ) (t : Tok) → Stands [] n t → ⊥
+empty_spells : (n : ℕ) (t : Tok) → TokenStands [] n t → ⊥
 empty_spells zero t s = differ t None s.spells refl
 empty_spells (suc n) t s = let w : suc n ≤ 0 = s.within in absurd (omega arith)
 
-none_at_end : (text : List ℕ) (n : ℕ) (t : Tok) → Stands text n t → text ≡ [] → ⊥
-none_at_end text n t s e = empty_spells n t (subst (λ x. Stands x n t) e s)
+none_at_end : (text : List ℕ) (n : ℕ) (t : Tok) → TokenStands text n t → text ≡ [] → ⊥
+none_at_end text n t s e = empty_spells n t (subst (λ x. TokenStands x n t) e s)
 
 -- the tokens of a text, and whether they reach its end, are told by the text
 pub tokens_once : (text : List ℕ) (ts us : List Tok) (v w : Bool) → Lexes text ts v

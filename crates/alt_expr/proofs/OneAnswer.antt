@@ -1,7 +1,7 @@
 -- A text has one tree or one first fault.
-use Rattle.std.proofs.Common.{◌≡◌, refl, sym, ap, ◌∙◌, ℕ, ◌⊎◌, inl, inr, true, List, [], ◌∷◌, Ok, Err}
+use Rattle.std.proofs.Common.{◌≡◌, refl, sym, ap, ◌∙◌, ℕ, inl, inr, true, List, [], ◌∷◌, Ok, Err}
 use Rattle.std.specs.Prelude.{Result}
-use Rattle.alt_expr.specs.Faults.{Language, IsFirst, NoneApplies, Answers, fault_order, HasFault, IsTreeOf, Parsed}
+use Rattle.alt_expr.specs.Faults.{Language, IsFirst, NoneApplies, AnswersTreeOrFault, fault_order, HasFault, IsTreeOf, Parsed}
 use Rattle.alt_expr.specs.Given.{Given}
 use Rattle.alt_expr.specs.Told.{IsTold, IsOnly}
 use Rattle.alt_expr.specs.declared.fault.ExprFault.{ExprFault}
@@ -23,7 +23,7 @@ module _ (P : ExprFault → Type 0) where
   none_first (e ∷ es) f none (inr a) = none_first es f none.1 a.1
 
   -- a fault that is told is the first
-  first_of : {A : Type 0} (T : A → Type 0) (f : ExprFault) → Answers P T (Err f)
+  first_of : {A : Type 0} (T : A → Type 0) (f : ExprFault) → AnswersTreeOrFault P T (Err f)
       → IsTold {A = A} (Err f) → IsFirst P fault_order f
   first_of T fault.TooLong h told = h
   first_of T fault.TooDeep h told = h
@@ -35,7 +35,7 @@ module _ (P : ExprFault → Type 0) where
   first_of T fault.NoMemory h told = absurd (told refl)
 
   one_of : {A : Type 0} (T : A → Type 0) → ((a b : A) → T a → T b → a ≡ b)
-      → (r q : Result A ExprFault) → Answers P T r → Answers P T q → IsTold r → IsTold q → r ≡ q
+      → (r q : Result A ExprFault) → AnswersTreeOrFault P T r → AnswersTreeOrFault P T q → IsTold r → IsTold q → r ≡ q
   one_of T same (Ok a) (Ok b) h i t u = ap Ok (same a b h.1 i.1)
   one_of T same (Ok a) (Err f) h i t u =
       absurd (none_first fault_order f h.0 (first_of T f i u))

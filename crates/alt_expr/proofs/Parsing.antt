@@ -5,8 +5,8 @@ use Rattle.std.specs.List.{list_any}
 use Rattle.alt_expr.specs.Tokens.{Tok}
 use Rattle.alt_expr.specs.Given.{Given, is_unknown}
 use Rattle.alt_expr.specs.Lexed.{Lexes}
-use Rattle.alt_expr.specs.Nesting.{TooDeep}
-use Rattle.alt_expr.specs.Faults.{Language, IsFirst, NoneApplies, Answers, fault_order, HasFault, IsTreeOf, Parsed}
+use Rattle.alt_expr.specs.Nesting.{NestsTooDeep}
+use Rattle.alt_expr.specs.Faults.{Language, IsFirst, NoneApplies, AnswersTreeOrFault, fault_order, HasFault, IsTreeOf, Parsed}
 use Rattle.alt_expr.specs.Read.{IsOf, IsTree, ReadsWhole, TokensHave, ReadTokens}
 use Rattle.alt_expr.specs.declared.fault.ExprFault.{ExprFault}
 use Rattle.alt_expr.specs.declared.fault.ExprFault.TheVariants as fault
@@ -27,7 +27,7 @@ module _ (P Q : ExprFault → Type 0) (to : (f : ExprFault) → P f → Q f)
 
   -- what is answered with one tree is answered with what follows of it
   pub answers_as : {A : Type 0} (T U : A → Type 0) → ((a : A) → T a → U a)
-      → (r : Result A ExprFault) → Answers P T r → Answers Q U r
+      → (r : Result A ExprFault) → AnswersTreeOrFault P T r → AnswersTreeOrFault Q U r
   answers_as T U tree (Ok a) h = (none_as fault_order h.0, tree a h.1)
   answers_as T U tree (Err fault.TooLong) h = first_as fault_order fault.TooLong h
   answers_as T U tree (Err fault.TooDeep) h = first_as fault_order fault.TooDeep h
@@ -63,7 +63,7 @@ module _ {D A : Type 0} (L : Language D A) (g : Given) where
         → TokensHave L g toks whole f
     to_tokens short fault.TooLong h = absurd (omega (arith, short, h))
     to_tokens short fault.TooDeep h =
-        subst TooDeep (sym (tokens_once text toks h.0 whole h.1 lexes h.2).0) h.3
+        subst NestsTooDeep (sym (tokens_once text toks h.0 whole h.1 lexes h.2).0) h.3
     to_tokens short fault.Syntax h = λ p. h (p.1.0, by_tokens p.1.0 p.0 p.1.1)
     to_tokens short fault.Undefined h = let o = once h.0 h.1 in (o.1, (h.0, o.0, h.2))
     to_tokens short fault.TooMany h = let o = once h.0 h.1 in (o.1, (h.0, o.0, h.2))
@@ -102,21 +102,21 @@ module _ {D A : Type 0} (L : Language D A) (g : Given) where
     no_length : TokensHave L g toks whole fault.TooLong → ⊥
     no_length h = h
 
-    pub read_too_deep : TooDeep toks → ReadTokens L g toks whole (Err fault.TooDeep)
+    pub read_too_deep : NestsTooDeep toks → ReadTokens L g toks whole (Err fault.TooDeep)
     unfolding ReadTokens
     read_too_deep deep = inr (no_length, inl (refl, deep))
 
-    pub read_cut : (TooDeep toks → ⊥) → whole ≡ false → ReadTokens L g toks whole (Err fault.Syntax)
+    pub read_cut : (NestsTooDeep toks → ⊥) → whole ≡ false → ReadTokens L g toks whole (Err fault.Syntax)
     unfolding ReadTokens
     read_cut shallow cut = inr (no_length, inr (shallow, inl (refl, λ p. let e : true ≡ false = sym p.0 ∙ cut in absurd (cc))))
 
-    pub read_syntax : (TooDeep toks → ⊥) → (IsOf L g toks → ⊥)
+    pub read_syntax : (NestsTooDeep toks → ⊥) → (IsOf L g toks → ⊥)
         → ReadTokens L g toks whole (Err fault.Syntax)
     unfolding ReadTokens
     read_syntax shallow none = inr (no_length, inr (shallow, inl (refl, λ p. none p.1)))
 
     -- an error of the reader
-    pub read_err : (f : ExprFault) → (TooDeep toks → ⊥) → ReadsWhole L g toks (Err f)
+    pub read_err : (f : ExprFault) → (NestsTooDeep toks → ⊥) → ReadsWhole L g toks (Err f)
         → ReadTokens L g toks whole (Err f)
     unfolding ReadTokens ReadsWhole
     read_err fault.TooLong shallow h = let e = (h (λ e. cc)).0 in absurd (cc)
@@ -128,7 +128,7 @@ module _ {D A : Type 0} (L : Language D A) (g : Given) where
     read_err fault.Overlap shallow h = let e = (h (λ e. cc)).0 in absurd (cc)
     read_err fault.NoMemory shallow h = tt
 
-    module _ (shallow : TooDeep toks → ⊥) (is_whole : whole ≡ true) (a : A)
+    module _ (shallow : NestsTooDeep toks → ⊥) (is_whole : whole ≡ true) (a : A)
         (tree : IsTree L g toks a)
         (one_tree : (d e : D) → L.toks d ≡ L.toks e → L.tree g d ≡ L.tree g e) where
       has_syntax : TokensHave L g toks whole fault.Syntax → ⊥

@@ -1,13 +1,13 @@
 -- A path that was read is a path, and its tree is the phrase's.
-use Rattle.std.proofs.Common.{◌≡◌, refl, sym, ap, subst, ◌∙◌, ℕ, zero, suc, Bool, true, false, ◌⊎◌, inl, inr, List, [], ◌∷◌, ◌++◌, length, map, drop, Option, Some, None, append_assoc, append-nil}
+use Rattle.std.proofs.Common.{◌≡◌, sym, ap, subst, ◌∙◌, ℕ, zero, suc, inl, inr, List, [], ◌∷◌, ◌++◌, map, drop, Option, Some, None, append_assoc, append-nil}
 use Rattle.std.proofs.lemmas.Bool.{cases_Bool}
 use Rattle.alt_value.specs.Tree.{Pair}
-use Rattle.alt_expr.specs.Tokens.{Tok, key, word, hash, colon, index, mark}
+use Rattle.alt_expr.specs.Tokens.{Tok, word, hash, index, mark}
 use Rattle.alt_expr.specs.Given.{name_of}
 use Rattle.alt_expr.specs.declared.token.Mark.TheVariants as m
 use Rattle.alt_expr.specs.declared.path.PathPart.{PathPart}
 use Rattle.alt_expr.specs.declared.path.PathPart.TheVariants as p
-use Rattle.alt_expr.specs.PathGrammar.{NamePhrase, plain, hashed, StepPhrase, dotted, indexed, PathPhrase, path, name_tok, step_toks, steps_toks, path_toks, name_text, step_part, path_tree}
+use Rattle.alt_expr.specs.PathGrammar.{NamePhrase, plain, hashed, StepPhrase, dotted, indexed, path, name_tok, step_toks, steps_toks, path_toks, name_text, step_part, path_tree}
 use Rattle.alt_expr.specs.Reader as r
 use Rattle.alt_expr.specs.Reader.{Parser, sees_mark, after_mark, expect, parts_from, in_brackets}
 use Rattle.alt_expr.proofs.Seen.{Derived, then_some, some_pair, mark_seen, expected}

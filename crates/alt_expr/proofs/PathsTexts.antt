@@ -2,7 +2,7 @@
 use Rattle.std.proofs.Common.{◌≡◌, refl, sym, ap, ◌∙◌, ℕ, suc, List, [], ◌∷◌, length, Option, Some, None, arith}
 use Rattle.alt_expr.specs.Given.{Given}
 use Rattle.alt_expr.specs.Languages.{projections}
-use Rattle.alt_expr.specs.Reader.{listed, path}
+use Rattle.alt_expr.specs.Reader.{comma_separated, path}
 use Rattle.alt_expr.specs.Told.{Told}
 use Rattle.alt_expr.specs.Tokens.{Tok}
 use Rattle.alt_expr.specs.declared.fault.ExprFault.TheVariants as fault
@@ -12,9 +12,9 @@ use Rattle.alt_expr.proofs.Texts.{ReadAs, as_tree, as_none, text_told}
 
 -- the tokens that are read to the end, or aren't
 read : (g : Given) (toks : List Tok) → ReadAs projections g toks
-read g toks = by (listed (path g.names) toks) refl
+read g toks = by (comma_separated (path g.names) toks) refl
   where
-    by : (o : Option (List (List PathPart) × List Tok)) → listed (path g.names) toks ≡ o
+    by : (o : Option (List (List PathPart) × List Tok)) → comma_separated (path g.names) toks ≡ o
         → ReadAs projections g toks
     by None e = as_none projections g toks (read_none g toks fault.Syntax (λ other. (e, refl)))
     by (Some (t, [])) e = as_tree projections g toks t (read_all g toks t e)

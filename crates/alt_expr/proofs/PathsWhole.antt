@@ -14,7 +14,7 @@ use Rattle.alt_expr.specs.PathGrammar.{PathPhrase, path, path_toks, path_tree}
 use Rattle.alt_expr.specs.PathsGrammar.{PathsPhrase, paths, paths_toks, paths_tree, some_overlap}
 use Rattle.alt_expr.specs.Read.{ReadsWhole}
 use Rattle.alt_expr.specs.Reader as r
-use Rattle.alt_expr.specs.Reader.{sees_mark, listed}
+use Rattle.alt_expr.specs.Reader.{sees_mark, comma_separated}
 use Rattle.alt_expr.proofs.Seen.{some_pair}
 use Rattle.alt_expr.proofs.PathRead.{Ends, path_read, ends_comma, ends_nothing}
 use Rattle.alt_expr.proofs.PathFound.{path_sound}
@@ -30,7 +30,7 @@ no_comma_end = refl
 
 module _ (g : Given) where
   -- what a phrase derives is read as its tree
-  pub whole_read : (d : PathsPhrase) → listed (r.path g.names) (paths_toks d)
+  pub whole_read : (d : PathsPhrase) → comma_separated (r.path g.names) (paths_toks d)
       ≡ Some (paths_tree g d, [])
   whole_read (paths p ps) =
       rw append-nil at
@@ -39,11 +39,11 @@ module _ (g : Given) where
 
   module _ (toks : List Tok) where
     read_of : (d : PathsPhrase) → toks ≡ paths_toks d
-        → listed (r.path g.names) toks ≡ Some (paths_tree g d, [])
+        → comma_separated (r.path g.names) toks ≡ Some (paths_tree g d, [])
     read_of d is =
-        subst (λ i. listed (r.path g.names) i ≡ Some (paths_tree g d, [])) (sym is) (whole_read d)
+        subst (λ i. comma_separated (r.path g.names) i ≡ Some (paths_tree g d, [])) (sym is) (whole_read d)
 
-    pub read_all : (t : List (List PathPart)) → listed (r.path g.names) toks ≡ Some (t, [])
+    pub read_all : (t : List (List PathPart)) → comma_separated (r.path g.names) toks ≡ Some (t, [])
         → ReadsWhole projections g toks (Ok t)
     unfolding projections
     read_all t h =
@@ -52,7 +52,7 @@ module _ (g : Given) where
         whole_tree projections g toks t (paths d.first d.others, d.tokens ∙ append-nil (paths_toks (paths d.first d.others)), d.stands)
 
     pub read_part : (t : List (List PathPart)) (rest : List Tok)
-        → listed (r.path g.names) toks ≡ Some (t, rest) → (rest ≡ [] → ⊥)
+        → comma_separated (r.path g.names) toks ≡ Some (t, rest) → (rest ≡ [] → ⊥)
         → ReadsWhole projections g toks (Err fault.Syntax)
     unfolding projections
     read_part t rest h more =
@@ -60,7 +60,7 @@ module _ (g : Given) where
         (λ other. (refl, λ p. more (some_pair _ _ (sym h ∙ read_of p.0 p.1)).1))
 
     pub read_none : (f : ExprFault)
-        → (f ≢ fault.NoMemory → (listed (r.path g.names) toks ≡ None) × (f ≡ fault.Syntax))
+        → (f ≢ fault.NoMemory → (comma_separated (r.path g.names) toks ≡ None) × (f ≡ fault.Syntax))
         → ReadsWhole projections g toks (Err f)
     unfolding projections
     read_none f h =
@@ -70,7 +70,7 @@ module _ (g : Given) where
   -- tokens have one tree
   pub one_tree : (d e : PathsPhrase) → paths_toks d ≡ paths_toks e → paths_tree g d ≡ paths_tree g e
   one_tree d e same =
-      (some_pair _ _ (sym (whole_read d) ∙ ap (listed (r.path g.names)) same ∙ whole_read e)).0
+      (some_pair _ _ (sym (whole_read d) ∙ ap (comma_separated (r.path g.names)) same ∙ whole_read e)).0
 
   -- one list of tokens has one tree
   pub unique : (d e : PathsPhrase) → projections.toks d ≡ projections.toks e

@@ -1,5 +1,5 @@
 -- What a look at the next tokens tells of them, and what both halves of a reader gave.
-use Rattle.std.proofs.Common.{◌≡◌, refl, ap, ◌∙◌, ℕ, true, inl, inr, List, [], ◌∷◌, ◌++◌, drop, Option, Some, None, unwrap_or, rules}
+use Rattle.std.proofs.Common.{◌≡◌, refl, ap, ◌∙◌, ℕ, true, inl, inr, List, [], ◌∷◌, ◌++◌, drop, Some, None, unwrap_or, rules}
 use denote.Enum.Bare.{same_true}
 use Rattle.std.proofs.lemmas.Bool.{and_parts, cases_Bool}
 use Rattle.alt_base.proofs.Lists.{bytes_eq-true}
@@ -9,7 +9,7 @@ use Rattle.alt_expr.specs.Tokens.{Tok, key, word, mark, same_mark, same_keyword}
 use Rattle.alt_expr.specs.declared.token.Keyword.{Keyword}
 use Rattle.alt_expr.specs.declared.token.Mark.{Mark}
 use Rattle.alt_expr.specs.declared.token.Mark.TheVariants as m
-use Rattle.alt_expr.specs.Reader.{Outcome, Parser, and_then, sees_mark, sees_key, calls, expect, expect_key}
+use Rattle.alt_expr.specs.Reader.{ParseOutcome, Parser, parse_and_then, sees_mark, sees_key, calls, expect, expect_key}
 
 -- a phrase of what stands in front of the rest, whose tree is x
 pub record Derived {D T : Type 0} (toks : D → List Tok) (tree : D → T) (i : List Tok) (x : T)
@@ -19,8 +19,8 @@ pub record Derived {D T : Type 0} (toks : D → List Tok) (tree : D → T) (i : 
   pub stands : x ≡ tree by
 
 -- both halves of a reader that read something
-pub then_some : {A B : Type 0} (o : Outcome A) (f : A → Parser B) (q : B × List Tok)
-    → and_then o f ≡ Some q → (p : A × List Tok) × (o ≡ Some p) × (f p.0 p.1 ≡ Some q)
+pub then_some : {A B : Type 0} (o : ParseOutcome A) (f : A → Parser B) (q : B × List Tok)
+    → parse_and_then o f ≡ Some q → (p : A × List Tok) × (o ≡ Some p) × (f p.0 p.1 ≡ Some q)
 then_some None f q h = absurd (cc)
 then_some (Some p) f q h = (p, refl, h)
 

@@ -5,7 +5,7 @@ use Rattle.std.specs.List.{list_any}
 use Rattle.std.proofs.lemmas.Bool.{cases_lt}
 use Rattle.alt_expr.specs.Faults.{Language}
 use Rattle.alt_expr.specs.Given.{Given, is_unknown}
-use Rattle.alt_expr.specs.Nesting.{TooDeep}
+use Rattle.alt_expr.specs.Nesting.{NestsTooDeep}
 use Rattle.alt_expr.specs.Read.{IsTree, ReadsWhole, ReadTokens}
 use Rattle.alt_expr.specs.Told.{Told, IsTold}
 use Rattle.alt_expr.specs.Tokens.{Tok}
@@ -55,7 +55,7 @@ module _ {D A : Type 0} (L : Language D A) (g : Given) where
           → ReadTokens L g toks whole (Err f) → ToldOf toks whole
       told_fault f other h = record { result = Err f; read = h; told = told_err f other }
 
-      module _ (shallow : TooDeep toks → ⊥) (is_whole : whole ≡ true) (t : A)
+      module _ (shallow : NestsTooDeep toks → ⊥) (is_whole : whole ≡ true) (t : A)
           (tree : IsTree L g toks t) where
         same : (d : D) → toks ≡ L.toks d → L.repeats d ≡ L.repeats tree.0
         same d is = same_clauses d tree.0 (sym is ∙ tree.1)
@@ -82,7 +82,7 @@ module _ {D A : Type 0} (L : Language D A) (g : Given) where
         of_tree = of_tests (list_any (is_unknown g) toks) (L.is_crowded t) (L.repeats tree.0)
             (L.overlaps t) refl refl refl refl
 
-      of_reading : (TooDeep toks → ⊥) → whole ≡ true → (r : Result A ExprFault)
+      of_reading : (NestsTooDeep toks → ⊥) → whole ≡ true → (r : Result A ExprFault)
           → ReadsWhole L g toks r → IsTold r → ToldOf toks whole
       of_reading shallow is_whole (Ok t) reads told =
           of_tree shallow is_whole t (tree_read L g toks t reads)

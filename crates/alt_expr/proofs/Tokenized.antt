@@ -2,7 +2,7 @@
 use Rattle.std.proofs.Common.{◌≡◌, refl, sym, ap, subst, ℕ, zero, suc, ◌<◌, Bool, List, [], ◌∷◌, ◌++◌, length, map, Some, arith, append-nil, length-drop, Ok}
 use Rattle.alt_expr.specs.declared.token.Token.{Token}
 use Rattle.alt_expr.specs.Tokens.{Tok, tok_of}
-use Rattle.alt_expr.specs.Spelling.{Stands, skip}
+use Rattle.alt_expr.specs.Spelling.{TokenStands, skip}
 use Rattle.alt_expr.specs.Lexed.{Lexed, Lexes}
 use Rattle.alt_expr.proofs.Longest.{skip_fits}
 
@@ -38,7 +38,7 @@ ends text rest found whole c h =
     subst (λ z. Lexes text z whole) (append-nil (map tok_of found)) (c.goes_on [] whole h)
 
 -- a token has bytes
-pub stands_some : (text : List ℕ) (len : ℕ) (t : Tok) → Stands text len t → 0 < len
+pub stands_some : (text : List ℕ) (len : ℕ) (t : Tok) → TokenStands text len t → 0 < len
 stands_some text zero t s = let e = s.spells in cc
 stands_some text (suc n) t s = omega arith
 

@@ -15,7 +15,7 @@ use Rattle.alt_expr.specs.Reader.{sees_mark, calls, after_mark, expect, name}
 use Rattle.alt_expr.proofs.PathRead.{Ends, path_read, no_call, not_call, ends_key, ends_close, ends_comma, ends_nothing}
 use Rattle.alt_expr.proofs.Lists.{listed_read}
 use Rattle.alt_expr.specs.UpdateReader as r
-use Rattle.alt_expr.proofs.CondComplete.{comma_read}
+use Rattle.alt_expr.proofs.TestComplete.{comma_read}
 use Rattle.alt_expr.proofs.PathsWhole.{path_some}
 use Rattle.alt_expr.proofs.UpdateBehind.{behind, put_behind}
 

@@ -18,12 +18,12 @@ use Rattle.alt_expr.specs.declared.update.Action.{Action}
 use Rattle.alt_expr.specs.declared.update.Action.TheVariants as a
 use Rattle.alt_expr.specs.PathGrammar.{NamePhrase, plain, hashed, name_tok, name_text, path_toks, path_tree, between_toks}
 use Rattle.alt_expr.specs.UpdateGrammar.{at, value, if_not_exists, list_append, one, plus, minus, set, PairPhrase, pair, ClausePhrase, sets, removes, adds, deletes, UpdatePhrase, clauses, term_toks, sum_toks, set_toks, pair_toks, clause_toks, clauses_toks, update_toks, term_tree, sum_tree, set_tree, remove_tree, add_tree, delete_tree, clause_tree, clauses_tree, update_tree}
-use Rattle.alt_expr.specs.Reader.{Parser, and_then, sees_mark, calls, is_call, after_mark, expect, name, path, listed}
+use Rattle.alt_expr.specs.Reader.{Parser, parse_and_then, sees_mark, calls, is_call, after_mark, expect, name, path, comma_separated}
 use Rattle.alt_expr.proofs.Seen.{Derived, then_some, some_pair, mark_seen, expected, called}
 use Rattle.alt_expr.proofs.PathFound.{path_sound}
 use Rattle.alt_expr.proofs.Lists.{listed_sound}
 use Rattle.alt_expr.specs.UpdateReader as r
-use Rattle.alt_expr.proofs.CondSound.{comma_found}
+use Rattle.alt_expr.proofs.TestSound.{comma_found}
 use Rattle.alt_expr.proofs.UpdateBehind.{behind}
 
 -- ---- terms
@@ -228,7 +228,7 @@ value_of_pair g (pair n w) = value_of g.values w
 
 -- a name and a value, as an action
 pair_found : (g : Given) (f : List ℕ → Attr → Action) (i : List Tok) (x : Action) (rest : List Tok)
-    → and_then (name g.names i) (λ n j. and_then (r.value g j) (λ v l. Some (f n v, l)))
+    → parse_and_then (name g.names i) (λ n j. parse_and_then (r.value g j) (λ v l. Some (f n v, l)))
     ≡ Some (x, rest)
     → Derived pair_toks (λ d. f (name_of_pair g d) (value_of_pair g d)) i x rest
 pair_found g f i x rest h =
@@ -278,7 +278,7 @@ actions_sound : {D : Type 0} (toks : D → List Tok) (tree : D → Action) (j : 
     → (found : List Action) (i : List Tok) (xs : List Action) (rest : List Tok)
     → r.listed_behind (r.action g j) found i ≡ Some (xs, rest) → Acts toks tree found i xs rest
 actions_sound toks tree j g sound found i xs rest h =
-    let b = then_some (listed (r.action g j) i) (λ xs l. Some (found ++ xs, l)) _
+    let b = then_some (comma_separated (r.action g j) i) (λ xs l. Some (found ++ xs, l)) _
     (sym (behind (r.action g j) found i) ∙ h) in
     let l = listed_sound toks tree (r.action g j) sound i _ _ b.1 in
     let e = some_pair _ _ b.2 in

@@ -10,7 +10,7 @@ use Rattle.std.specs.FinMap.Entries.{by_order}
 use Rattle.alt_value.specs.Item.{with_pair}
 use Rattle.alt_value.specs.Members.{text_order, has_member}
 use Rattle.alt_value.specs.Tree.{Tree, Pair}
-use Rattle.alt_expr.specs.Given.{has_unused, is_name, are_names}
+use Rattle.alt_expr.specs.Given.{has_unused, is_given_name, are_names}
 
 abbrev stays : List (List ℕ) → Pair → Bool
 stays used p = not (has_member text_order p.0 used)
@@ -32,21 +32,21 @@ pub unused_on : (given : List Pair) (used : List (List ℕ)) (i : ℕ)
 unused_on given used i = rw add-one (unused_step given used i)
 
 -- names with one name more are names
-pub are_names-with_pair : (w : List ℕ) (t : Tree) (ps : List Pair) → is_name t ≡ true
+pub are_names-with_pair : (w : List ℕ) (t : Tree) (ps : List Pair) → is_given_name t ≡ true
     → are_names ps ≡ true → are_names (with_pair w t ps) ≡ true
 are_names-with_pair w t [] name names = and_from _ _ name refl
 are_names-with_pair w t (p ∷ ps) name names =
     elim (text_order w p.0) as (λ o. are_names
     (by_order o ((w, t) ∷ p ∷ ps) ((p.0, t) ∷ ps) (p ∷ with_pair w t ps)) ≡ true) [
       | Less ↦ and_from _ _ name names
-      | Equal ↦ and_from _ _ name (second_so (is_name p.1) _ names)
+      | Equal ↦ and_from _ _ name (second_so (is_given_name p.1) _ names)
       | Greater ↦ and_from _ _ (first_so _ _ names)
-          (are_names-with_pair w t ps name (second_so (is_name p.1) _ names))
+          (are_names-with_pair w t ps name (second_so (is_given_name p.1) _ names))
     ]
 
 -- the same of an answer
 pub names_put : {E : Type 0} (r : Result (Unit {0}) E) (w : List ℕ) (t : Tree) (old new : List Pair)
-    → is_name t ≡ true → are_names old ≡ true
+    → is_given_name t ≡ true → are_names old ≡ true
     → OnOk r (new ≡ with_pair w t old) → OnOk r (are_names new ≡ true)
 names_put (Ok u) w t old new name names is = rw is (are_names-with_pair w t old name names)
 names_put (Err e) w t old new name names is = tt

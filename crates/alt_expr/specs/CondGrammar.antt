@@ -13,7 +13,7 @@
 --             | "attribute_type" "(" path "," operand ")"
 --             | "begins_with" "(" operand "," operand ")" | "contains" "(" operand "," operand ")"
 use Rattle.std.specs.Prelude.{ℕ, List, [], ◌∷◌, ◌++◌, map, codes}
-use Rattle.alt_expr.specs.Tokens.{Tok, key, word, colon, mark}
+use Rattle.alt_expr.specs.Tokens.{Tok, key, colon, mark}
 use Rattle.alt_expr.specs.Given.{Given, value_of}
 use Rattle.alt_expr.specs.PathGrammar.{PathPhrase, path_toks, path_tree, call_toks, between_toks}
 use Rattle.alt_expr.specs.declared.token.Keyword.TheVariants as k
@@ -141,15 +141,15 @@ any_of (c ∷ []) = c
 any_of cs = cond.Any cs
 
 -- one member alone, or all of several
-abbrev pub all_of : List Cond → Cond
-all_of (c ∷ []) = c
-all_of cs = cond.All cs
+abbrev pub conjunction_of : List Cond → Cond
+conjunction_of (c ∷ []) = c
+conjunction_of cs = cond.All cs
 
 abbrev mutual
   -- the alternatives of a condition
   pub cond_trees : Given → CondPhrase → List Cond
-  cond_trees g (last a) = all_of (and_trees g a) ∷ []
-  cond_trees g (either a o) = all_of (and_trees g a) ∷ cond_trees g o
+  cond_trees g (last a) = conjunction_of (and_trees g a) ∷ []
+  cond_trees g (either a o) = conjunction_of (and_trees g a) ∷ cond_trees g o
 
   -- the members with AND between them
   pub and_trees : Given → AndPhrase → List Cond

@@ -1,8 +1,8 @@
 -- What each function of the parser reads. Private contracts alone cite it; that it meets the grammar is proved of `parse`.
-use Rattle.std.specs.Prelude.{ℕ, zero, suc, Bool, true, false, if◌then◌else◌, List, [], ◌∷◌, ◌++◌, length, drop, Option, Some, None, codes}
+use Rattle.std.specs.Prelude.{ℕ, zero, suc, if◌then◌else◌, List, [], ◌∷◌, ◌++◌, length, Option, Some, None, codes}
 use Rattle.alt_expr.specs.Tokens.{Tok, colon, mark}
 use Rattle.alt_expr.specs.Given.{Given, value_of}
-use Rattle.alt_expr.specs.Reader.{Outcome, Parser, ◌>>=◌, ◌>>◌, ◌<$>◌, pure, refuse, sees_mark, sees_key, calls, is_call, eat, eat_key, expect, expect_key, skip, path, in_brackets, listed}
+use Rattle.alt_expr.specs.Reader.{ParseOutcome, Parser, ◌>>=◌, ◌>>◌, ◌<$>◌, pure, refuse, calls, is_call, eat, eat_key, expect, expect_key, skip, path, in_brackets, comma_separated}
 use Rattle.alt_expr.specs.declared.token.Keyword.{Keyword}
 use Rattle.alt_expr.specs.declared.token.Keyword.TheVariants as k
 use Rattle.alt_expr.specs.declared.token.Mark.{Mark}
@@ -22,7 +22,7 @@ named g = λ i. if calls (codes "size") i then (skip 2 >> (o.Size <$> in_bracket
     else if is_call i then None else (o.At <$> path g.names) i
 
 -- an operand: the value of a `:` word, or one that begins with a name
-abbrev pub operand_at : Given → List Tok → Outcome Operand
+abbrev pub operand_at : Given → List Tok → ParseOutcome Operand
 operand_at g (colon w ∷ ts) = Some (o.Value (value_of g.values w), ts)
 operand_at g i = named g i
 
@@ -32,7 +32,7 @@ operand = operand_at
 
 -- one or more operands, with commas between
 abbrev pub operands : Given → Parser (List Operand)
-operands g = listed (operand g)
+operands g = comma_separated (operand g)
 
 -- ---- tests
 
@@ -127,19 +127,19 @@ joined_from one k (suc n) found = do
   if more then joined_from one k n (found ++ x ∷ []) else pure (found ++ x ∷ [])
 
 -- one member, or two and more with the keyword between
-unfoldable pub joined : Parser Cond → Keyword → (List Cond → Cond) → Parser Cond
-joined one k f = λ i. (do
+unfoldable pub joined_by_keyword : Parser Cond → Keyword → (List Cond → Cond) → Parser Cond
+joined_by_keyword one k f = λ i. (do
   x ← one
   more ← eat_key k
   if more then (f <$> joined_from one k (length i) (x ∷ [])) else pure x) i
 
 -- members with AND between them
 unfoldable pub all : Parser Cond → Parser Cond
-all one = joined one k.And cond.All
+all one = joined_by_keyword one k.And cond.All
 
 -- alternatives with OR between them
 unfoldable pub any : Parser Cond → Parser Cond
-any one = joined (all one) k.Or cond.Any
+any one = joined_by_keyword (all one) k.Or cond.Any
 
 -- a condition in brackets, or a test
 unfoldable pub prim : Given → Parser Cond → Parser Cond

@@ -1,5 +1,5 @@
 -- Which trees have a path of over 32 parts or an IN with over 100 operands.
-use Rattle.std.specs.Prelude.{ℕ, Bool, false, ◌||◌, nat_lt, List, length}
+use Rattle.std.specs.Prelude.{Bool, false, ◌||◌, nat_lt, List, length}
 use Rattle.std.specs.List.{list_any}
 use Rattle.alt_expr.specs.declared.path.PathPart.{PathPart}
 use Rattle.alt_expr.specs.declared.cond.Operand.{Operand}

@@ -4,8 +4,8 @@ use Rattle.std.specs.List.{list_any}
 use Rattle.alt_expr.specs.Tokens.{Tok}
 use Rattle.alt_expr.specs.Given.{Given, is_unknown, with_hashes, with_colons}
 use Rattle.alt_expr.specs.Lexed.{Lexes}
-use Rattle.alt_expr.specs.Nesting.{TooDeep}
-use Rattle.alt_expr.specs.NamesGiven.{given_names, used_names, is_empty_given, given_values, used_values}
+use Rattle.alt_expr.specs.Nesting.{NestsTooDeep}
+use Rattle.alt_expr.specs.NamesGiven.{given_names, used_names, is_empty_given, used_values}
 use Rattle.alt_expr.specs.declared.fault.ExprFault.{ExprFault}
 use Rattle.alt_expr.specs.declared.fault.ExprFault.TheVariants as fault
 use Rattle.alt_expr.specs.declared.names.Names.{Names}
@@ -36,11 +36,11 @@ NoneApplies Applies [] = ⊤
 NoneApplies Applies (e ∷ es) = (Applies e → ⊥) × NoneApplies Applies es
 
 -- a tree exactly where no fault applies, and else the first that does
-abbrev pub Answers : {A : Type 0} → (ExprFault → Type 0) → (A → Type 0)
+abbrev pub AnswersTreeOrFault : {A : Type 0} → (ExprFault → Type 0) → (A → Type 0)
     → Result A ExprFault → Type 0
-Answers Applies IsTree (Ok a) = NoneApplies Applies fault_order × IsTree a
-Answers Applies IsTree (Err fault.NoMemory) = ⊤
-Answers Applies IsTree (Err f) = IsFirst Applies fault_order f
+AnswersTreeOrFault Applies IsTree (Ok a) = NoneApplies Applies fault_order × IsTree a
+AnswersTreeOrFault Applies IsTree (Err fault.NoMemory) = ⊤
+AnswersTreeOrFault Applies IsTree (Err f) = IsFirst Applies fault_order f
 
 module _ {D A : Type 0} (L : Language D A) (g : Given) (text : List ℕ) where
   -- the text is derived by the productions, as this phrase
@@ -50,7 +50,7 @@ module _ {D A : Type 0} (L : Language D A) (g : Given) (text : List ℕ) where
   -- which faults a text has
   abbrev pub HasFault : ExprFault → Type 0
   HasFault fault.TooLong = 4096 < length text
-  HasFault fault.TooDeep = (toks : List Tok) × (whole : Bool) × Lexes text toks whole × TooDeep toks
+  HasFault fault.TooDeep = (toks : List Tok) × (whole : Bool) × Lexes text toks whole × NestsTooDeep toks
   HasFault fault.Syntax = (d : D) × Derives d → ⊥
   HasFault fault.Undefined = (d : D) × Derives d × (list_any (is_unknown g) (L.toks d) ≡ true)
   HasFault fault.TooMany = (d : D) × Derives d × (L.is_crowded (L.tree g d) ≡ true)
@@ -64,7 +64,7 @@ module _ {D A : Type 0} (L : Language D A) (g : Given) (text : List ℕ) where
 
   -- what a parser answers of the text
   unfoldable pub Parsed : Result A ExprFault → Type 0
-  Parsed result = Answers HasFault IsTreeOf result
+  Parsed result = AnswersTreeOrFault HasFault IsTreeOf result
 
 -- the words of a text that was parsed are noted; where it wasn't, none is
 unfoldable pub NotesHashes : {A : Type 0} → List ℕ → Names → Names → Result A ExprFault → Type 0

@@ -1,5 +1,5 @@
 -- The names and values that a request gives for the `#` and `:` words of its texts, and which of them the texts have used.
-use Rattle.std.specs.Prelude.{ℕ, Bool, true, false, not, List, [], ◌∷◌, Option, Some, None, is_none, unwrap_or}
+use Rattle.std.specs.Prelude.{ℕ, Bool, true, false, not, List, [], ◌∷◌, is_none, unwrap_or}
 use Rattle.std.specs.Option.{option_map_or}
 use Rattle.std.specs.List.{list_any, list_all}
 use Rattle.alt_value.specs.declared.attr.Attr.{Attr}
@@ -15,13 +15,13 @@ pub record Given : Type 0 where
   pub values : List Pair
 
 -- a value that is a text, as its bytes
-abbrev pub text_in : Tree → List ℕ
-text_in (S_tree s) = s
-text_in _ = []
+abbrev pub value_text : Tree → List ℕ
+value_text (S_tree s) = s
+value_text _ = []
 
 -- the name that a word stands for; the word itself where it isn't given
 abbrev pub name_of : List Pair → List ℕ → List ℕ
-name_of names w = option_map_or text_in (at_name w names) w
+name_of names w = option_map_or value_text (at_name w names) w
 
 -- the value that a tree is of
 abbrev pub attr_of : Tree → Attr
@@ -63,11 +63,11 @@ abbrev pub has_unused : List Pair → List (List ℕ) → Bool
 has_unused given used = list_any (λ p. not (has_member text_order p.0 used)) given
 
 -- a name: a text that isn't empty
-abbrev pub is_name : Tree → Bool
-is_name (S_tree []) = false
-is_name (S_tree (b ∷ bs)) = true
-is_name _ = false
+abbrev pub is_given_name : Tree → Bool
+is_given_name (S_tree []) = false
+is_given_name (S_tree (b ∷ bs)) = true
+is_given_name _ = false
 
 -- each value given for a name is a text that has bytes
 abbrev pub are_names : List Pair → Bool
-are_names given = list_all (λ p. is_name p.1) given
+are_names given = list_all (λ p. is_given_name p.1) given

@@ -50,19 +50,19 @@ abbrev mutual
   same_fields _ _ = false
 
 -- The size of a text or a binary is its bytes, that of a set, a list or a map its elements; nothing else has one.
-abbrev pub count_of : Tree → Option ℕ
-count_of (S_tree s) = Some (length s)
-count_of (B_tree b) = Some (length b)
-count_of (SS_tree ss) = Some (length ss)
-count_of (NS_tree zs) = Some (length zs)
-count_of (BS_tree bs) = Some (length bs)
-count_of (L_tree ts) = Some (length (elements ts))
-count_of (M_tree fs) = Some (length (pairs fs))
-count_of _ = None
+abbrev pub counted_size : Tree → Option ℕ
+counted_size (S_tree s) = Some (length s)
+counted_size (B_tree b) = Some (length b)
+counted_size (SS_tree ss) = Some (length ss)
+counted_size (NS_tree zs) = Some (length zs)
+counted_size (BS_tree bs) = Some (length bs)
+counted_size (L_tree ts) = Some (length (elements ts))
+counted_size (M_tree fs) = Some (length (pairs fs))
+counted_size _ = None
 
 -- the size as a number
 abbrev pub size_of : Tree → Option Tree
-size_of t = option_map (λ n. N_tree (units_in n)) (count_of t)
+size_of t = option_map (λ n. N_tree (units_in n)) (counted_size t)
 
 -- An operand denotes a part of the item, a given value or a size, or is missing.
 abbrev pub denoted : View → Operand → Option Tree

@@ -40,9 +40,9 @@ pub record Ask : Type 0 where
 -- ---- operands
 
 -- the operand is the key attribute itself
-abbrev pub is_key : Key → Operand → Bool
-is_key key (o.At (p.Name n ∷ [])) = bytes_eq n key.name
-is_key key _ = false
+abbrev pub is_key_operand : Key → Operand → Bool
+is_key_operand key (o.At (p.Name n ∷ [])) = bytes_eq n key.name
+is_key_operand key _ = false
 
 -- the value is of the kind
 abbrev pub has_kind : KeyKind → Attr → Bool
@@ -68,15 +68,15 @@ mirrored c.Greater = c.Less
 mirrored c.GreaterEqual = c.LessEqual
 
 -- the comparison with a value that is there
-abbrev pub with_value : Comparison → Option Attr → Option (Comparison × Attr)
-with_value by (Some v) = Some (by, v)
-with_value by None = None
+abbrev pub comparison_with_value : Comparison → Option Attr → Option (Comparison × Attr)
+comparison_with_value by (Some v) = Some (by, v)
+comparison_with_value by None = None
 
 -- how the key is compared with a value; turned round where the value stands at the left
 abbrev pub key_test : Key → Comparison → Operand → Operand → Option (Comparison × Attr)
 key_test key by x y =
-    if is_key key x then with_value by (value_for key y)
-    else if is_key key y then with_value (mirrored by) (value_for key x)
+    if is_key_operand key x then comparison_with_value by (value_for key y)
+    else if is_key_operand key y then comparison_with_value (mirrored by) (value_for key x)
     else None
 
 -- ---- the HASH attribute
@@ -118,9 +118,9 @@ range_front _ None = None
 abbrev pub range_at : Key → Cond-F Cond → Option RangeTest
 range_at key (Cond-F.Compare by x y) = range_comparison (key_test key by x y)
 range_at key (Cond-F.Between x low high) =
-    if is_key key x then range_between (value_for key low) (value_for key high) else None
+    if is_key_operand key x then range_between (value_for key low) (value_for key high) else None
 range_at key (Cond-F.BeginsWith x y) =
-    if is_key key x then range_front key.kind (value_for key y) else None
+    if is_key_operand key x then range_front key.kind (value_for key y) else None
 range_at key _ = None
 
 -- what a condition asks of the RANGE attribute
@@ -130,13 +130,13 @@ range_test key x = range_at key (out-Cond x)
 -- ---- the whole
 
 -- both parts, where both are there
-abbrev pub asked : Option Attr → Option RangeTest → Option Ask
-asked (Some v) (Some test) = Some (record { hash = v; range = test })
-asked _ _ = None
+abbrev pub ask_of_parts : Option Attr → Option RangeTest → Option Ask
+ask_of_parts (Some v) (Some test) = Some (record { hash = v; range = test })
+ask_of_parts _ _ = None
 
 -- the first on the HASH attribute and the second on the RANGE attribute, which has to be there
 abbrev pub both_asked : Key → Option Key → Cond → Cond → Option Ask
-both_asked hash (Some range) x y = asked (hash_value hash x) (range_test range y)
+both_asked hash (Some range) x y = ask_of_parts (hash_value hash x) (range_test range y)
 both_asked hash None x y = None
 
 -- the first, else the second
@@ -152,7 +152,7 @@ joined_ask hash range _ = None
 -- what a condition of this form asks, by the top of its tree
 abbrev pub ask_at : Key → Option Key → Cond-F Cond → Option Ask
 ask_at hash range (Cond-F.All members) = joined_ask hash range members
-ask_at hash range top = asked (hash_at hash top) (Some anything)
+ask_at hash range top = ask_of_parts (hash_at hash top) (Some anything)
 
 -- what a condition asks; none where it isn't of the form
 unfoldable pub ask_of : Key → Option Key → Cond → Option Ask

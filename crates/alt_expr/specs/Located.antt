@@ -10,15 +10,15 @@ abbrev pub View : Type 0
 View = List ℕ → Option Tree
 
 -- A step leads to what has its name in a map, or its index in a list; else to nothing.
-abbrev pub step : PathPart → Tree → Option Tree
-step (Name name) (M_tree fs) = at_name name (pairs fs)
-step (Index i) (L_tree ts) = slice_get (elements ts) i
-step _ _ = None
+abbrev pub step_into : PathPart → Tree → Option Tree
+step_into (Name name) (M_tree fs) = at_name name (pairs fs)
+step_into (Index i) (L_tree ts) = slice_get (elements ts) i
+step_into _ _ = None
 
 -- what the steps lead to, one after another
 abbrev pub part : List PathPart → Tree → Option Tree
 part [] t = Some t
-part (s ∷ ss) t = option_and_then (part ss) (step s t)
+part (s ∷ ss) t = option_and_then (part ss) (step_into s t)
 
 -- A path leads from a name of the item on; what it doesn't lead to is missing.
 abbrev pub located : View → List PathPart → Option Tree

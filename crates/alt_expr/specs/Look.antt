@@ -6,14 +6,14 @@ use Rattle.std.specs.Char.{is_ascii_digit, is_ascii_alphabetic}
 use Rattle.alt_expr.specs.declared.lexer.Kind.{Kind}
 use Rattle.alt_expr.specs.declared.lexer.Kind.TheVariants as k
 use Rattle.alt_expr.specs.Tokens.{Tok, hash, colon, index, mark}
-use Rattle.alt_expr.specs.Spelling.{is_inner, mark_of_byte, pair_of, word_tok, number_of}
+use Rattle.alt_expr.specs.Spelling.{is_inner, mark_of_byte, two_byte_mark, word_tok, number_of_digits}
 
 -- the token of that kind with that spelling
 abbrev pub kind_tok : Kind → List ℕ → Tok
 kind_tok k.Word w = word_tok w
 kind_tok k.Hash w = hash w
 kind_tok k.Colon w = colon w
-kind_tok k.Index w = index (number_of w)
+kind_tok k.Index w = index (number_of_digits w)
 kind_tok (k.Mark m) w = mark m
 
 -- an index is spelled by at most nine digits
@@ -32,7 +32,7 @@ found_single b = option_map (λ m. (k.Mark m, 1)) (mark_of_byte b)
 -- a mark of two bytes where it can be, else of one
 abbrev pub found_mark : ℕ → List ℕ → Option (Kind × ℕ)
 found_mark b [] = found_single b
-found_mark b (c ∷ bs) = option_map_or (λ m. Some (k.Mark m, 2)) (pair_of b c) (found_single b)
+found_mark b (c ∷ bs) = option_map_or (λ m. Some (k.Mark m, 2)) (two_byte_mark b c) (found_single b)
 
 -- the kind and the length of the token at the front
 abbrev pub found : List ℕ → Option (Kind × ℕ)

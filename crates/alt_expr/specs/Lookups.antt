@@ -12,8 +12,8 @@ abbrev pub given_by : Names → Values → Given
 given_by n v = record { names = given_names n; values = given_values v }
 
 -- the words that an expression's lookups stand for
-abbrev pub given_to : Lookups → Given
-given_to l = given_by l.names.now l.values.now
+abbrev pub given_by_lookups : Lookups → Given
+given_by_lookups l = given_by l.names.now l.values.now
 
 -- names without values
 abbrev pub names_alone : List Pair → Given

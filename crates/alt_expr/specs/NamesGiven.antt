@@ -1,7 +1,6 @@
 -- What `Names` and `Values` hold.
-use Rattle.std.specs.Prelude.{ℕ, Bool, ◌||◌, List}
+use Rattle.std.specs.Prelude.{ℕ, Bool, List}
 use Rattle.alt_value.specs.Tree.{Pair}
-use Rattle.alt_expr.specs.Given.{has_unused}
 use Rattle.alt_expr.specs.declared.names.Names.{Names}
 use Rattle.alt_expr.specs.declared.values.Values.{Values}
 

@@ -1,6 +1,6 @@
 -- The page of a list of items (DynamoDB Developer Guide, "Paginating table query results" and "Filter expressions for the Query
 -- operation"). Where a page ends is said of the list alone; filter and projection come after.
-use Rattle.std.specs.Prelude.{ℕ, Bool, true, false, not, ◌||◌, nat_le, List, [], ◌∷◌, length, map, sum_by, Option, Some, None, is_some, unwrap_or}
+use Rattle.std.specs.Prelude.{ℕ, Bool, true, false, ◌||◌, nat_le, List, [], ◌∷◌, length, map, sum_by, Option, is_some, unwrap_or}
 use Rattle.std.specs.List.{filter, find}
 use Rattle.std.specs.Option.{option_map_or}
 use Rattle.alt_value.specs.Item.{at_name}
@@ -18,12 +18,12 @@ abbrev pub page_bytes : ℕ
 page_bytes = 1048576
 
 -- so many items fill a page, where there is a limit
-abbrev pub reaches : Option ℕ → List (List Pair) → Bool
-reaches limit items = option_map_or (λ most. nat_le most (length items)) limit false
+abbrev pub reaches_limit : Option ℕ → List (List Pair) → Bool
+reaches_limit limit items = option_map_or (λ most. nat_le most (length items)) limit false
 
 -- Items fill a page where there are as many as the limit, or where their sizes add up to 1 MB.
 abbrev pub fills : Option ℕ → List (List Pair) → Bool
-fills limit items = reaches limit items || nat_le page_bytes (sum_by item_size items)
+fills limit items = reaches_limit limit items || nat_le page_bytes (sum_by item_size items)
 
 -- the prefixes of a list, from the shortest on
 abbrev pub prefixes : {A : Type 0} → List A → List (List A)

@@ -9,13 +9,13 @@ use Rattle.alt_expr.specs.declared.path.PathPart.{PathPart}
 use Rattle.alt_expr.specs.declared.path.PathPart.TheVariants.{Name, Index}
 
 -- a part as numbers
-abbrev pub numbers_of : PathPart → List ℕ
-numbers_of (Name n) = 0 ∷ n
-numbers_of (Index i) = 1 ∷ i ∷ []
+abbrev pub path_part_numbers : PathPart → List ℕ
+path_part_numbers (Name n) = 0 ∷ n
+path_part_numbers (Index i) = 1 ∷ i ∷ []
 
 -- names stand before indexes
 abbrev pub part_cmp : PathPart → PathPart → Ordering
-part_cmp s t = slice_cmp nat_cmp (numbers_of s) (numbers_of t)
+part_cmp s t = slice_cmp nat_cmp (path_part_numbers s) (path_part_numbers t)
 
 -- one of the paths behind a path begins with the one right before it
 abbrev pub is_one_before : List PathPart → List (List PathPart) → Bool

@@ -13,14 +13,14 @@ same_step (Index i) (Index j) = i == j
 same_step _ _ = false
 
 -- what stands behind a step in a path that begins with it; nothing of another path
-abbrev pub behind : PathPart → List PathPart → List (List PathPart)
-behind s [] = []
-behind s (p ∷ ps) = if same_step s p then ps ∷ [] else []
+abbrev pub paths_behind : PathPart → List PathPart → List (List PathPart)
+paths_behind s [] = []
+paths_behind s (p ∷ ps) = if same_step s p then ps ∷ [] else []
 
 -- the paths that go on from a step
 abbrev pub under : PathPart → List (List PathPart) → List (List PathPart)
 under s [] = []
-under s (path ∷ paths) = behind s path ++ under s paths
+under s (path ∷ paths) = paths_behind s path ++ under s paths
 
 -- whether a path ends here
 abbrev pub ends : List PathPart → Bool
@@ -28,8 +28,8 @@ ends [] = true
 ends (p ∷ ps) = false
 
 -- A value is chosen whole where a path ends at it.
-abbrev pub is_whole : List (List PathPart) → Bool
-is_whole paths = list_any ends paths
+abbrev pub is_chosen_whole : List (List PathPart) → Bool
+is_chosen_whole paths = list_any ends paths
 
 -- a list or a map is given only where a chosen part within it is there
 abbrev pub some_list : Trees → Option Tree
@@ -56,10 +56,10 @@ abbrev mutual
   -- what the paths choose of a value: the whole where one ends, else the parts that they name
   pub chosen : List (List PathPart) → Tree → Option Tree
   chosen paths (L_tree ts) =
-      if is_whole paths then Some (L_tree ts) else some_list (chosen_elements paths 0 ts)
+      if is_chosen_whole paths then Some (L_tree ts) else some_list (chosen_elements paths 0 ts)
   chosen paths (M_tree fs) =
-      if is_whole paths then Some (M_tree fs) else some_map (chosen_fields paths fs)
-  chosen paths t = if is_whole paths then Some t else None
+      if is_chosen_whole paths then Some (M_tree fs) else some_map (chosen_fields paths fs)
+  chosen paths t = if is_chosen_whole paths then Some t else None
 
   -- what the paths choose of the elements from an index on
   pub chosen_elements : List (List PathPart) → ℕ → Trees → Trees

@@ -1,10 +1,10 @@
 -- What is answered of a text's tokens, where it isn't too long. Private contracts of the parsers alone cite it.
-use Rattle.std.specs.Prelude.{◌≡◌, ◌≢◌, ℕ, Bool, true, List, Result, Ok, Err}
+use Rattle.std.specs.Prelude.{◌≡◌, ◌≢◌, Bool, true, List, Result, Ok, Err}
 use Rattle.std.specs.List.{list_any}
 use Rattle.alt_expr.specs.Tokens.{Tok}
 use Rattle.alt_expr.specs.Given.{Given, is_unknown}
-use Rattle.alt_expr.specs.Nesting.{TooDeep}
-use Rattle.alt_expr.specs.Faults.{Language, Answers}
+use Rattle.alt_expr.specs.Nesting.{NestsTooDeep}
+use Rattle.alt_expr.specs.Faults.{Language, AnswersTreeOrFault}
 use Rattle.alt_expr.specs.declared.fault.ExprFault.{ExprFault}
 use Rattle.alt_expr.specs.declared.fault.ExprFault.TheVariants as fault
 
@@ -25,7 +25,7 @@ module _ {D A : Type 0} (L : Language D A) (g : Given) (toks : List Tok) where
   -- the faults by the tokens, of which there may be none behind the last
   abbrev pub TokensHave : Bool → ExprFault → Type 0
   TokensHave whole fault.TooLong = ⊥
-  TokensHave whole fault.TooDeep = TooDeep toks
+  TokensHave whole fault.TooDeep = NestsTooDeep toks
   TokensHave whole fault.Syntax = (whole ≡ true) × IsOf → ⊥
   TokensHave whole fault.Undefined = (whole ≡ true)
       × ((d : D) × (toks ≡ L.toks d) × (list_any (is_unknown g) (L.toks d) ≡ true))
@@ -39,4 +39,4 @@ module _ {D A : Type 0} (L : Language D A) (g : Given) (toks : List Tok) where
 
   -- the tokens so far may be cut off: a tree only where they are whole
   unfoldable pub ReadTokens : Bool → Result A ExprFault → Type 0
-  ReadTokens whole result = Answers (TokensHave whole) (λ a. (whole ≡ true) × IsTree a) result
+  ReadTokens whole result = AnswersTreeOrFault (TokensHave whole) (λ a. (whole ≡ true) × IsTree a) result

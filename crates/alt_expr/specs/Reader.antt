@@ -3,7 +3,7 @@
 use Rattle.std.specs.Prelude.{◌≡◌, ◌≢◌, ℕ, zero, suc, Bool, true, false, ◌&&◌, if◌then◌else◌, List, [], ◌∷◌, ◌++◌, length, map, drop, Option, Some, None, Result, Ok, Err}
 use Rattle.std.specs.Str.{bytes_eq}
 use Rattle.alt_value.specs.Tree.{Pair}
-use Rattle.alt_expr.specs.Tokens.{Tok, key, word, hash, index, mark, tok_of, is_mark, is_key}
+use Rattle.alt_expr.specs.Tokens.{Tok, word, hash, index, tok_of, is_mark, is_keyword}
 use Rattle.alt_expr.specs.Given.{name_of}
 use Rattle.alt_expr.specs.declared.token.Keyword.{Keyword}
 use Rattle.alt_expr.specs.declared.token.Mark.{Mark}
@@ -19,22 +19,22 @@ abbrev pub left : Cursor → List Tok
 left t = map tok_of t.rest.now
 
 -- what was read and the tokens behind it; none where the tokens are of no such phrase
-abbrev pub Outcome : Type 0 → Type 0
-Outcome A = Option (A × List Tok)
+abbrev pub ParseOutcome : Type 0 → Type 0
+ParseOutcome A = Option (A × List Tok)
 
 -- a reader of the front of a list of tokens
 abbrev pub Parser : Type 0 → Type 0
-Parser A = List Tok → Outcome A
+Parser A = List Tok → ParseOutcome A
 
 -- the next reader goes on behind what the first has read
-abbrev pub and_then : {A B : Type 0} → Outcome A → (A → Parser B) → Outcome B
-and_then None f = None
-and_then (Some p) f = f p.0 p.1
+abbrev pub parse_and_then : {A B : Type 0} → ParseOutcome A → (A → Parser B) → ParseOutcome B
+parse_and_then None f = None
+parse_and_then (Some p) f = f p.0 p.1
 
 infixl 10 ◌>>=◌
 -- a parser, and behind it the parser that its tree picks
 abbrev pub ◌>>=◌ : {A B : Type 0} → Parser A → (A → Parser B) → Parser B
-p >>= f = λ i. and_then (p i) f
+p >>= f = λ i. parse_and_then (p i) f
 
 infixl 10 ◌>>◌
 -- a parser, and behind it another whatever the first one gave
@@ -57,9 +57,9 @@ refuse = λ i. None
 -- ---- the next tokens
 
 -- whether a token is that word
-abbrev pub is_word : List ℕ → Tok → Bool
-is_word name (word w) = bytes_eq w name
-is_word name _ = false
+abbrev pub is_word_token : List ℕ → Tok → Bool
+is_word_token name (word w) = bytes_eq w name
+is_word_token name _ = false
 
 -- whether a token is a word
 abbrev pub is_any_word : Tok → Bool
@@ -77,11 +77,11 @@ sees_mark m i = first_is (is_mark m) i
 
 -- whether a keyword stands next, without taking it
 unfoldable pub sees_key : Keyword → List Tok → Bool
-sees_key k i = first_is (is_key k) i
+sees_key k i = first_is (is_keyword k) i
 
 -- a word, and a round bracket behind it
 unfoldable pub calls : List ℕ → List Tok → Bool
-calls name i = first_is (is_word name) i && sees_mark m.LeftRound (drop 1 i)
+calls name i = first_is (is_word_token name) i && sees_mark m.LeftRound (drop 1 i)
 
 -- whether a word stands next with a bracket behind it
 unfoldable pub is_call : List Tok → Bool
@@ -118,7 +118,7 @@ skip n = λ i. Some (tt, drop n i)
 -- ---- paths
 
 -- a name: a word, or what a `#` word is given
-abbrev pub name_at : List Pair → List Tok → Outcome (List ℕ)
+abbrev pub name_at : List Pair → List Tok → ParseOutcome (List ℕ)
 name_at names (word w ∷ ts) = Some (w, ts)
 name_at names (hash w ∷ ts) = Some (name_of names w, ts)
 name_at names _ = None
@@ -128,13 +128,13 @@ unfoldable pub name : List Pair → Parser (List ℕ)
 name = name_at
 
 -- an index
-abbrev pub index_at : List Tok → Outcome ℕ
-index_at (index n ∷ ts) = Some (n, ts)
-index_at _ = None
+abbrev pub index_token : List Tok → ParseOutcome ℕ
+index_token (index n ∷ ts) = Some (n, ts)
+index_token _ = None
 
 -- an index, wherever the tokens stand
 unfoldable pub number : Parser ℕ
-number = index_at
+number = index_token
 
 -- an index and the bracket that closes it
 unfoldable pub index_part : Parser PathPart
@@ -193,14 +193,14 @@ listed_from one (suc n) found = do
     listed_from one n (found ++ x ∷ [])) else pure found
 
 -- one or more, with commas between
-unfoldable pub listed : {A : Type 0} → Parser A → Parser (List A)
-listed one = λ i. (do
+unfoldable pub comma_separated : {A : Type 0} → Parser A → Parser (List A)
+comma_separated one = λ i. (do
   x ← one
   listed_from one (length i) (x ∷ [])) i
 
 -- ---- what a function that parses ensures: the outcome, unless memory fails
 
 -- an answer is what the parser reads, with the tokens behind it left; a refusal is of the grammar, if memory is there
-abbrev pub Reads : {A : Type 0} → Outcome A → Result A ExprFault → List Tok → Type 0
-Reads outcome (Ok a) new = outcome ≡ Some (a, new)
-Reads outcome (Err e) new = e ≢ NoMemory → (outcome ≡ None) × (e ≡ Syntax)
+abbrev pub ReadsExpression : {A : Type 0} → ParseOutcome A → Result A ExprFault → List Tok → Type 0
+ReadsExpression outcome (Ok a) new = outcome ≡ Some (a, new)
+ReadsExpression outcome (Err e) new = e ≢ NoMemory → (outcome ≡ None) × (e ≡ Syntax)

@@ -3,8 +3,8 @@ use Rattle.std.specs.Prelude.{ℕ, List}
 use Rattle.alt_expr.specs.declared.lexer.Lexer.{Lexer}
 
 -- the text that a lexer reads
-abbrev pub text_of : Lexer → List ℕ
-text_of l = l.whole.now
+abbrev pub lexer_text : Lexer → List ℕ
+lexer_text l = l.whole.now
 
 -- what a lexer has still to read
 abbrev pub left_of : Lexer → List ℕ

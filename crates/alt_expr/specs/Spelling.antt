@@ -38,8 +38,8 @@ abbrev pub word_tok : List ℕ → Tok
 word_tok w = option_map_or key (keyword_of w) (word w)
 
 -- the number that digits write
-abbrev pub number_of : List ℕ → ℕ
-number_of bs = fold (λ n b. n * 10 + (b - 48)) 0 bs
+abbrev pub number_of_digits : List ℕ → ℕ
+number_of_digits bs = fold (λ n b. n * 10 + (b - 48)) 0 bs
 
 -- a mark of one byte: . [ ] ( ) , = < > + -
 abbrev pub mark_of_byte : ℕ → Option Mark
@@ -58,8 +58,8 @@ mark_of_byte b =
     else None
 
 -- a mark of two bytes: <> <= >=
-abbrev pub pair_of : ℕ → ℕ → Option Mark
-pair_of b c =
+abbrev pub two_byte_mark : ℕ → ℕ → Option Mark
+two_byte_mark b c =
     if b == 60 && c == 62 then Some m.NotEqual
     else if b == 60 && c == 61 then Some m.LessEqual
     else if b == 62 && c == 61 then Some m.GreaterEqual
@@ -68,7 +68,7 @@ pair_of b c =
 -- what a mark's first byte and the bytes behind it spell
 abbrev pub spelled_mark : ℕ → List ℕ → Option Tok
 spelled_mark b [] = option_map mark (mark_of_byte b)
-spelled_mark b (c ∷ []) = option_map mark (pair_of b c)
+spelled_mark b (c ∷ []) = option_map mark (two_byte_mark b c)
 spelled_mark b (c ∷ d ∷ bs) = None
 
 -- one or more letters, digits or `_`
@@ -77,26 +77,26 @@ is_some_inner [] = false
 is_some_inner (b ∷ bs) = is_inner b && list_all is_inner bs
 
 -- the token that a whole text spells, if it is one: told by its first byte, and by a test of the others
-abbrev pub spelled : List ℕ → Option Tok
-spelled [] = None
-spelled (b ∷ bs) =
+abbrev pub spelled_token : List ℕ → Option Tok
+spelled_token [] = None
+spelled_token (b ∷ bs) =
     if is_ascii_alphabetic b then (if list_all is_inner bs then Some (word_tok (b ∷ bs)) else None)
     else if b == 35 then (if is_some_inner bs then Some (hash (b ∷ bs)) else None)
     else if b == 58 then (if is_some_inner bs then Some (colon (b ∷ bs)) else None)
     else if is_ascii_digit b then
     (if list_all is_ascii_digit bs && nat_le (length bs) 8
-    then Some (index (number_of (b ∷ bs))) else None)
+    then Some (index (number_of_digits (b ∷ bs))) else None)
     else spelled_mark b bs
 
 -- the token is the longest that a front of the text spells, and has this length
-pub record Stands (text : List ℕ) (len : ℕ) (t : Tok) : Type 0 where
+pub record TokenStands (text : List ℕ) (len : ℕ) (t : Tok) : Type 0 where
   pub within : len ≤ length text
-  pub spells : spelled (take len text) ≡ Some t
-  pub longest : (n : ℕ) → len < n → n ≤ length text → spelled (take n text) ≡ None
+  pub spells : spelled_token (take len text) ≡ Some t
+  pub longest : (n : ℕ) → len < n → n ≤ length text → spelled_token (take n text) ≡ None
 
 -- no front of the text spells a token
 abbrev pub NoneStands : List ℕ → Type 0
-NoneStands text = (n : ℕ) → n ≤ length text → spelled (take n text) ≡ None
+NoneStands text = (n : ℕ) → n ≤ length text → spelled_token (take n text) ≡ None
 
 -- the text behind separators
 abbrev pub skip : List ℕ → List ℕ

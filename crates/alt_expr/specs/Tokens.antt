@@ -40,6 +40,6 @@ is_mark m (mark n) = same_mark n m
 is_mark m _ = false
 
 -- the token is this keyword
-abbrev pub is_key : Keyword → Tok → Bool
-is_key k (key j) = same_keyword j k
-is_key k _ = false
+abbrev pub is_keyword : Keyword → Tok → Bool
+is_keyword k (key j) = same_keyword j k
+is_keyword k _ = false

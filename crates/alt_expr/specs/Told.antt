@@ -1,6 +1,6 @@
 -- What there is to tell of a text: its tokens, and over what is given its tree or its first fault. Both are told by the text alone, so
 -- whoever has one of these records has the one that there is (`tokens_once`, `one_answer`).
-use Rattle.std.specs.Prelude.{◌≡◌, ℕ, Bool, List, Result, Ok, Err}
+use Rattle.std.specs.Prelude.{◌≡◌, ℕ, Bool, List, Result, Err}
 use Rattle.alt_expr.specs.Faults.{Language, Parsed}
 use Rattle.alt_expr.specs.Given.{Given}
 use Rattle.alt_expr.specs.Lexed.{Lexes}

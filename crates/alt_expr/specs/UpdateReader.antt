@@ -3,7 +3,7 @@ use Rattle.std.specs.Prelude.{ℕ, zero, suc, Bool, ◌==◌, if◌then◌else�
 use Rattle.alt_value.specs.declared.attr.Attr.{Attr}
 use Rattle.alt_expr.specs.Tokens.{Tok, key, colon}
 use Rattle.alt_expr.specs.Given.{Given, value_of}
-use Rattle.alt_expr.specs.Reader.{Outcome, Parser, ◌>>=◌, ◌>>◌, ◌<$>◌, pure, refuse, calls, is_call, eat, expect, skip, name, path, listed_from}
+use Rattle.alt_expr.specs.Reader.{ParseOutcome, Parser, ◌>>=◌, ◌>>◌, ◌<$>◌, pure, refuse, calls, is_call, eat, expect, skip, name, path, listed_from}
 use Rattle.alt_expr.specs.declared.token.Keyword.{Keyword}
 use Rattle.alt_expr.specs.declared.token.Keyword.TheVariants as k
 use Rattle.alt_expr.specs.declared.token.Mark.TheVariants as m
@@ -21,7 +21,7 @@ unfoldable pub located : Given → Parser Term
 located g = λ i. if is_call i then None else (t.At <$> path g.names) i
 
 -- the value of a `:` word, or a path
-abbrev pub operand_at : Given → List Tok → Outcome Term
+abbrev pub operand_at : Given → List Tok → ParseOutcome Term
 operand_at g (colon w ∷ ts) = Some (t.Value (value_of g.values w), ts)
 operand_at g i = located g i
 
@@ -71,7 +71,7 @@ sum g = do
 -- ---- actions
 
 -- the value of a `:` word
-abbrev pub value_at : Given → List Tok → Outcome Attr
+abbrev pub value_at : Given → List Tok → ParseOutcome Attr
 value_at g (colon w ∷ ts) = Some (value_of g.values w, ts)
 value_at g _ = None
 
@@ -106,16 +106,16 @@ delete g = do
   pure (a.Delete n v)
 
 -- an action of the clause with a keyword
-abbrev pub action_of : Given → Keyword → Parser Action
-action_of g k.Set = set g
-action_of g k.Remove = remove g
-action_of g k.Add = add g
-action_of g k.Delete = delete g
-action_of g _ = refuse
+abbrev pub clause_action : Given → Keyword → Parser Action
+clause_action g k.Set = set g
+clause_action g k.Remove = remove g
+clause_action g k.Add = add g
+clause_action g k.Delete = delete g
+clause_action g _ = refuse
 
 -- an action of the clause with a keyword, wherever the tokens stand
 unfoldable pub action : Given → Keyword → Parser Action
-action = action_of
+action = clause_action
 
 -- ---- clauses
 
@@ -126,7 +126,7 @@ listed_behind one found = λ i. (do
   listed_from one (length i) (found ++ x ∷ [])) i
 
 -- behind the actions found, those of a clause
-abbrev pub clause_at : Given → List Action → List Tok → Outcome (List Action)
+abbrev pub clause_at : Given → List Action → List Tok → ParseOutcome (List Action)
 clause_at g found (key j ∷ ts) = listed_behind (action g j) found ts
 clause_at g found _ = None
 

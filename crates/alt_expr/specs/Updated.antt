@@ -8,7 +8,7 @@ use Rattle.alt_decimal.specs.Number.{fitted_units}
 use Rattle.alt_value.specs.Item.{with_pair}
 use Rattle.alt_value.specs.Members.{text_order, with_members, without_members}
 use Rattle.alt_value.specs.Stands.{tree_of}
-use Rattle.alt_value.specs.Tree.{Tree, S_tree, N_tree, B_tree, SS_tree, NS_tree, BS_tree, L_tree, M_tree, Trees, no_trees, tree_then, Fields, no_fields, field_then, Pair, trees_of, fields_of, elements, pairs}
+use Rattle.alt_value.specs.Tree.{Tree, N_tree, SS_tree, NS_tree, BS_tree, L_tree, M_tree, Trees, no_trees, tree_then, Fields, no_fields, field_then, Pair, trees_of, fields_of, elements, pairs}
 use Rattle.alt_expr.specs.declared.path.PathPart.{PathPart}
 use Rattle.alt_expr.specs.declared.path.PathPart.TheVariants.{Name, Index}
 use Rattle.alt_expr.specs.declared.update.Term.{Term, fold-Term}
@@ -21,66 +21,66 @@ use Rattle.alt_expr.specs.Located.{View, located}
 use Rattle.alt_expr.specs.Projected.{same_step, element_then, pair_then}
 
 -- Why an action is refused: a path that has to be there isn't, a value isn't of the kind that is wanted, or a sum doesn't fit.
-pub data Fault : Type 0 where
-  no_path : Fault
-  wrong_kind : Fault
-  no_number : NumberFault → Fault
+pub data ActionFault : Type 0 where
+  no_path : ActionFault
+  wrong_kind : ActionFault
+  no_number : NumberFault → ActionFault
 
 -- what comes next, unless there was a fault
 infixl 10 ◌>>=◌
 -- what comes next, of a result that is Ok; a fault stays
-abbrev pub ◌>>=◌ : {A B : Type 0} → Result A Fault → (A → Result B Fault) → Result B Fault
+abbrev pub ◌>>=◌ : {A B : Type 0} → Result A ActionFault → (A → Result B ActionFault) → Result B ActionFault
 Ok a >>= next = next a
 Err f >>= next = Err f
 
 -- ---- what the terms of an action stand for
 
 -- a part of the item that has to be there
-abbrev pub there : Option Tree → Result Tree Fault
+abbrev pub there : Option Tree → Result Tree ActionFault
 there (Some t) = Ok t
 there None = Err no_path
 
 -- if_not_exists gives the part where it is there, and only else the other
-abbrev pub or_else : Option Tree → Result Tree Fault → Result Tree Fault
+abbrev pub or_else : Option Tree → Result Tree ActionFault → Result Tree ActionFault
 or_else (Some t) other = Ok t
 or_else None other = other
 
 -- list_append puts the elements of the second list behind those of the first
-abbrev pub joined : Tree → Tree → Result Tree Fault
-joined (L_tree ss) (L_tree ts) = Ok (L_tree (trees_of (elements ss ++ elements ts)))
-joined _ _ = Err wrong_kind
+abbrev pub appended_list : Tree → Tree → Result Tree ActionFault
+appended_list (L_tree ss) (L_tree ts) = Ok (L_tree (trees_of (elements ss ++ elements ts)))
+appended_list _ _ = Err wrong_kind
 
 -- a sum of units as a value, where it fits
-abbrev pub as_number : Result ℤ NumberFault → Result Tree Fault
+abbrev pub as_number : Result ℤ NumberFault → Result Tree ActionFault
 as_number (Ok z) = Ok (N_tree z)
 as_number (Err f) = Err (no_number f)
 
 -- the sum of two numbers; a fault where one is none or the sum does not fit
-abbrev pub plus : Tree → Tree → Result Tree Fault
+abbrev pub plus : Tree → Tree → Result Tree ActionFault
 plus (N_tree y) (N_tree z) = as_number (fitted_units (y +ℤ z))
 plus _ _ = Err wrong_kind
 
 -- the difference of two numbers; a fault where one is none or the difference does not fit
-abbrev pub minus : Tree → Tree → Result Tree Fault
+abbrev pub minus : Tree → Tree → Result Tree ActionFault
 minus (N_tree y) (N_tree z) = as_number (fitted_units (y -ℤ z))
 minus _ _ = Err wrong_kind
 
 -- what a term stands for, once it is known what its parts do
-abbrev pub made : View → Term-F (Result Tree Fault) → Result Tree Fault
+abbrev pub made : View → Term-F (Result Tree ActionFault) → Result Tree ActionFault
 made item (Term-F.At path) = there (located item path)
 made item (Term-F.Value a) = Ok (tree_of a)
 made item (Term-F.IfNotExists path other) = or_else (located item path) other
 made item (Term-F.ListAppend x y) = do
   s ← x
   t ← y
-  joined s t
+  appended_list s t
 
 -- what a term stands for
-unfoldable pub term : View → Term → Result Tree Fault
-term item = fold-Term (Result Tree Fault) (made item)
+unfoldable pub term : View → Term → Result Tree ActionFault
+term item = fold-Term (Result Tree ActionFault) (made item)
 
 -- what is put at a path: the operands come first, from left to right, and then the sum
-abbrev pub sum_of : View → Sum → Result Tree Fault
+abbrev pub sum_of : View → Sum → Result Tree ActionFault
 sum_of item (One x) = term item x
 sum_of item (Plus x y) = do
   s ← term item x
@@ -98,20 +98,20 @@ abbrev pub Edit : Type 0
 Edit = List PathPart × Option Tree
 
 -- a map takes a name, and a list an index
-abbrev pub takes : Tree → Option PathPart → Result (Unit {0}) Fault
+abbrev pub takes : Tree → Option PathPart → Result (Unit {0}) ActionFault
 takes (M_tree fs) (Some (Name name)) = Ok tt
 takes (L_tree ts) (Some (Index i)) = Ok tt
 takes _ _ = Err wrong_kind
 
 -- A path of more than one part needs its parent there before, of the kind that takes its last part.
-abbrev pub parent : View → List PathPart → Result (Unit {0}) Fault
+abbrev pub parent : View → List PathPart → Result (Unit {0}) ActionFault
 parent item path =
     if nat_lt 1 (length path) then there (located item (take (length path - 1) path))
     >>= (λ t. takes t (slice_get path (length path - 1)))
     else Ok tt
 
 -- ADD puts a number or a set where nothing was, and else adds to a number, or unites a set with a set of its kind.
-abbrev pub added : Option Tree → Tree → Result Tree Fault
+abbrev pub added : Option Tree → Tree → Result Tree ActionFault
 added None (N_tree z) = Ok (N_tree z)
 added None (SS_tree ss) = Ok (SS_tree ss)
 added None (NS_tree zs) = Ok (NS_tree zs)
@@ -128,17 +128,17 @@ left kind [] = None
 left kind (x ∷ xs) = Some (kind (x ∷ xs))
 
 -- DELETE takes a set's members out of a set of its kind, and does nothing where nothing is there.
-abbrev pub taken : Option Tree → Tree → Result (Option Tree) Fault
-taken None (SS_tree ss) = Ok None
-taken None (NS_tree zs) = Ok None
-taken None (BS_tree bs) = Ok None
-taken (Some (SS_tree ss)) (SS_tree less) = Ok (left SS_tree (without_members text_order less ss))
-taken (Some (NS_tree zs)) (NS_tree less) = Ok (left NS_tree (without_members int_cmp less zs))
-taken (Some (BS_tree bs)) (BS_tree less) = Ok (left BS_tree (without_members text_order less bs))
-taken _ _ = Err wrong_kind
+abbrev pub taken_from_set : Option Tree → Tree → Result (Option Tree) ActionFault
+taken_from_set None (SS_tree ss) = Ok None
+taken_from_set None (NS_tree zs) = Ok None
+taken_from_set None (BS_tree bs) = Ok None
+taken_from_set (Some (SS_tree ss)) (SS_tree less) = Ok (left SS_tree (without_members text_order less ss))
+taken_from_set (Some (NS_tree zs)) (NS_tree less) = Ok (left NS_tree (without_members int_cmp less zs))
+taken_from_set (Some (BS_tree bs)) (BS_tree less) = Ok (left BS_tree (without_members text_order less bs))
+taken_from_set _ _ = Err wrong_kind
 
 -- what an action does, or why it is refused
-abbrev pub edit : View → Action → Result Edit Fault
+abbrev pub edit : View → Action → Result Edit ActionFault
 edit item (Set path sum) = do
   t ← sum_of item sum
   _ ← parent item path
@@ -147,10 +147,10 @@ edit item (Remove path) = do
   _ ← parent item path
   Ok (path, None)
 edit item (Add name a) = added (item name) (tree_of a) >>= (λ t. Ok (Name name ∷ [], Some t))
-edit item (Delete name a) = taken (item name) (tree_of a) >>= (λ o. Ok (Name name ∷ [], o))
+edit item (Delete name a) = taken_from_set (item name) (tree_of a) >>= (λ o. Ok (Name name ∷ [], o))
 
 -- what all actions do, or why the first that is refused in text order is
-abbrev pub edits : View → List Action → Result (List Edit) Fault
+abbrev pub edits : View → List Action → Result (List Edit) ActionFault
 edits item [] = Ok []
 edits item (a ∷ more) = do
   e ← edit item a
@@ -160,14 +160,14 @@ edits item (a ∷ more) = do
 -- ---- all edits together
 
 -- what stands behind a step in an edit that begins with it
-abbrev pub behind : PathPart → Edit → List Edit
-behind s ([], v) = []
-behind s (p ∷ ps, v) = if same_step s p then (ps, v) ∷ [] else []
+abbrev pub edits_behind : PathPart → Edit → List Edit
+edits_behind s ([], v) = []
+edits_behind s (p ∷ ps, v) = if same_step s p then (ps, v) ∷ [] else []
 
 -- the edits that go on from a step
 abbrev pub under : PathPart → List Edit → List Edit
 under s [] = []
-under s (e ∷ es) = behind s e ++ under s es
+under s (e ∷ es) = edits_behind s e ++ under s es
 
 -- what is put at this very place
 abbrev pub put_here : List Edit → Option Tree
@@ -182,11 +182,11 @@ is_taken (([], None) ∷ es) = true
 is_taken (_ ∷ es) = is_taken es
 
 -- what is put at an index past the end, by rising index
-abbrev pub past : ℕ → List Edit → List (ℕ × Tree)
-past n [] = []
-past n ((Index i ∷ [], Some t) ∷ es) =
-    if nat_le n i then entries.put nat_cmp i t (past n es) else past n es
-past n (_ ∷ es) = past n es
+abbrev pub elements_past_end : ℕ → List Edit → List (ℕ × Tree)
+elements_past_end n [] = []
+elements_past_end n ((Index i ∷ [], Some t) ∷ es) =
+    if nat_le n i then entries.put nat_cmp i t (elements_past_end n es) else elements_past_end n es
+elements_past_end n (_ ∷ es) = elements_past_end n es
 
 -- the pairs with a value at a name; a map has no empty name, and no text has one either
 abbrev pub put_name : List ℕ → Tree → List Pair → List Pair
@@ -211,7 +211,7 @@ abbrev mutual
   pub changed : List Edit → Tree → Option Tree
   changed es (L_tree ts) = outcome (put_here es) (is_taken es)
       (L_tree (trees_of
-      (elements (changed_elements es 0 ts) ++ map (λ p. p.1) (past (length (elements ts)) es))))
+      (elements (changed_elements es 0 ts) ++ map (λ p. p.1) (elements_past_end (length (elements ts)) es))))
   changed es (M_tree fs) = outcome (put_here es) (is_taken es)
       (M_tree (fields_of (put_names es (pairs (changed_fields es fs)))))
   changed es t = outcome (put_here es) (is_taken es) t
@@ -229,11 +229,11 @@ abbrev mutual
       pair_then name (changed (under (Name name) es) t) (changed_fields es fs)
 
 -- what becomes of a place, where something may have been
-abbrev pub after : List Edit → Option Tree → Option Tree
-after es None = put_here es
-after es (Some t) = changed es t
+abbrev pub place_after : List Edit → Option Tree → Option Tree
+place_after es None = put_here es
+place_after es (Some t) = changed es t
 
 -- the item after an update, or why the first refused action is
-abbrev pub updated : View → List Action → Result View Fault
+abbrev pub updated : View → List Action → Result View ActionFault
 updated item update =
-    edits item update >>= (λ es. Ok (λ name. after (under (Name name) es) (item name)))
+    edits item update >>= (λ es. Ok (λ name. place_after (under (Name name) es) (item name)))

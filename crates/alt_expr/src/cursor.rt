@@ -18,7 +18,7 @@ pub struct Cursor<'a> {
 }
 
 impl<'a> Cursor<'a> {
-    ghost use Rattle.alt_expr.specs.Reader.{left, Reads};
+    ghost use Rattle.alt_expr.specs.Reader.{left, ReadsExpression};
     ghost use Rattle.alt_expr.specs.NamesGiven.{given_names};
     ghost use Rattle.std.specs.Prelude.{map};
 
@@ -126,7 +126,7 @@ impl<'a> Cursor<'a> {
     /// The name that the next token is or stands for. A given one isn't copied.
     #[tactic(auto, unfolding(crate::specs::Reader::name))]
     pub fn name(&mut self, alloc: Global, names: &Names) -> Result<Shared<Text>, ExprFault>
-        ensures { Reads (spec.name (given_names names.now) (left self.old)) result (left self.new) }
+        ensures { ReadsExpression (spec.name (given_names names.now) (left self.old)) result (left self.new) }
     {
         match self.peek() {
             Some(Token::Word(word)) => {
@@ -143,7 +143,7 @@ impl<'a> Cursor<'a> {
 
     #[tactic(auto, unfolding(crate::specs::Reader::number))]
     pub fn number(&mut self) -> Result<u32, ExprFault>
-        ensures { Reads (spec.number (left self.old)) result (left self.new) }
+        ensures { ReadsExpression (spec.number (left self.old)) result (left self.new) }
     {
         match self.peek() {
             Some(Token::Index(number)) => {
@@ -157,7 +157,7 @@ impl<'a> Cursor<'a> {
     /// Past the mark, which has to come next.
     #[tactic(auto, unfolding(crate::specs::Reader::expect, crate::specs::Reader::after_mark))]
     pub fn expect(&mut self, wanted: Mark) -> Result<(), ExprFault>
-        ensures { Reads (spec.expect wanted (left self.old)) result (left self.new) }
+        ensures { ReadsExpression (spec.expect wanted (left self.old)) result (left self.new) }
     {
         if self.eat(wanted) {
             Ok(())
@@ -169,7 +169,7 @@ impl<'a> Cursor<'a> {
     /// Past the keyword, which has to come next.
     #[tactic(auto, unfolding(crate::specs::Reader::expect_key, crate::specs::Reader::after_key))]
     pub fn expect_key(&mut self, wanted: Keyword) -> Result<(), ExprFault>
-        ensures { Reads (spec.expect_key wanted (left self.old)) result (left self.new) }
+        ensures { ReadsExpression (spec.expect_key wanted (left self.old)) result (left self.new) }
     {
         if self.eat_key(wanted) {
             Ok(())

@@ -4,7 +4,7 @@ ghost use Rattle.std.specs.Prelude.{◌≡◌, ◌≤◌, ◌-◌, suc, true, mi
 ghost use Rattle.std.specs.List.{prefix_len, list_all};
 ghost use Rattle.std.specs.Char.{is_ascii_digit};
 ghost use Rattle.std.specs.Str.{str_eq_ignore_ascii_case};
-ghost use Rattle.alt_expr.specs.Spelling.{is_inner, is_blank, mark_of_byte, pair_of, keyword_of, word_tok, number_of, skip};
+ghost use Rattle.alt_expr.specs.Spelling.{is_inner, is_blank, mark_of_byte, two_byte_mark, keyword_of, word_tok, number_of_digits, skip};
 ghost use Rattle.alt_expr.specs.Look.{kind_tok, found, found_signed, found_mark, LooksFit};
 ghost use Rattle.alt_expr.specs.Tokens.{tok_of};
 ghost use Rattle.alt_expr.specs.Lexed.{Lexed};
@@ -27,11 +27,11 @@ pub struct Lexer<'a> {
 }
 
 impl<'a> Lexer<'a> {
-    ghost use Rattle.alt_expr.specs.Reading.{text_of, left_of};
+    ghost use Rattle.alt_expr.specs.Reading.{lexer_text, left_of};
 
     /// A lexer at the front of the text.
     pub fn new(text: &'a str) -> Lexer<'a>
-        ensures whole { text_of result ≡ text.now }
+        ensures whole { lexer_text result ≡ text.now }
         ensures front { left_of result ≡ text.now }
     {
         Lexer {
@@ -43,8 +43,8 @@ impl<'a> Lexer<'a> {
     /// The next token, and the lexer then stands behind it. None exactly where only separators are left, and `At` exactly where
     /// no token stands behind the separators; the lexer then stays.
     pub fn next(&mut self) -> Result<Option<Token<'a>>, At>
-        ensures found { Lexed (text_of self.old) (left_of self.old) result (left_of self.new) }
-        ensures whole { text_of self.new ≡ text_of self.old }
+        ensures found { Lexed (lexer_text self.old) (left_of self.old) result (left_of self.new) }
+        ensures whole { lexer_text self.new ≡ lexer_text self.old }
     {
         let text = skip(self.rest);
         if text.is_empty() {
@@ -144,7 +144,7 @@ fn mark_of_byte(b: u8) -> Option<Mark>
 }
 
 fn pair_of(b: u8, c: u8) -> Option<Mark>
-    ensures { result ≡ pair_of b c }
+    ensures { result ≡ two_byte_mark b c }
 {
     if b == b'<' && c == b'>' {
         Some(Mark::NotEqual)
@@ -272,7 +272,7 @@ fn is_word(word: &str, keyword: &str) -> bool
 fn number(digits: &[u8]) -> u32
     requires digits { list_all is_ascii_digit digits.now ≡ true }
     requires few { length digits.now ≤ 9 }
-    ensures { result ≡ number_of digits.now }
+    ensures { result ≡ number_of_digits digits.now }
 {
     let mut value: u32 = 0;
     for digit in digits {

@@ -38,7 +38,7 @@ pub fn part<'a>(steps: &[PathPart], value: &'a Attr) -> Option<&'a Attr>
 
 /// What one step leads to.
 pub fn stepped<'a>(step: &PathPart, value: &'a Attr) -> Option<&'a Attr>
-    ensures part { option_map (λ a. tree_of a.now) result ≡ spec.step step.now (tree_of value.now) }
+    ensures part { option_map (λ a. tree_of a.now) result ≡ spec.step_into step.now (tree_of value.now) }
 {
     match step {
         PathPart::Name(name) => match value {

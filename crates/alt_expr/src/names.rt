@@ -6,7 +6,7 @@ ghost use Rattle.serde_json.specs.View.{view, members_view};
 ghost use Rattle.alt_value.specs.Stands.{tree_of};
 ghost use Rattle.alt_value.specs.Item.{at_name, with_pair};
 ghost use Rattle.alt_expr.specs.Tokens.{tok_of};
-ghost use Rattle.alt_expr.specs.Given.{name_of, with_hashes, has_unused, are_names, is_name};
+ghost use Rattle.alt_expr.specs.Given.{name_of, with_hashes, has_unused, are_names, is_given_name};
 ghost use Rattle.alt_expr.specs.NamesIn.{gives_names, names_in, name_in, gives_empty};
 
 use crate::shared::Shared;
@@ -126,7 +126,7 @@ fn put_names(
 
 fn put_name(alloc: Global, given: &mut Item, word: &str, name: &Value) -> Result<(), NoMemory>
     requires word { 0 < length word.now }
-    requires name { is_name (name_in (view name.now)) ≡ true }
+    requires name { is_given_name (name_in (view name.now)) ≡ true }
     requires names { are_names given.old ≡ true }
     ensures ok { OnOk result (given.new ≡ with_pair word.now (name_in (view name.now)) given.old) }
     ensures names { OnOk result (are_names given.new ≡ true) }

@@ -1,8 +1,8 @@
 //! How deep a text nests, by its tokens alone.
 
 ghost use Rattle.std.specs.Prelude.{◌≡◌, ◌↔◌, IsTrue, map};
-ghost use Rattle.alt_expr.specs.Tokens.{tok_of, is_mark, is_key};
-ghost use Rattle.alt_expr.specs.Nesting.{TooDeep};
+ghost use Rattle.alt_expr.specs.Tokens.{tok_of, is_mark, is_keyword};
+ghost use Rattle.alt_expr.specs.Nesting.{NestsTooDeep};
 ghost use Rattle.alt_expr.specs.Walks.{is_deep};
 
 use crate::token::{Keyword, Mark, Token, same_keyword, same_mark};
@@ -10,7 +10,7 @@ use crate::token::{Keyword, Mark, Token, same_keyword, same_mark};
 /// Whether a front of the tokens has over 64 more opening brackets than closing ones, or NOT stands over 64 times.
 #[tactic(auto, using(crate::proofs::Deep::deep_is))]
 pub fn is_too_deep(tokens: &[Token<'_>]) -> bool
-    ensures { IsTrue result ↔ TooDeep (map tok_of tokens.now) }
+    ensures { IsTrue result ↔ NestsTooDeep (map tok_of tokens.now) }
 {
     walks_too_deep(tokens)
 }
@@ -43,7 +43,7 @@ fn is_mark(token: Token<'_>, wanted: Mark) -> bool
 }
 
 fn is_key(token: Token<'_>, wanted: Keyword) -> bool
-    ensures { result ≡ is_key wanted (tok_of token.entry) }
+    ensures { result ≡ is_keyword wanted (tok_of token.entry) }
 {
     match token {
         Token::Keyword(keyword) => same_keyword(keyword, wanted),

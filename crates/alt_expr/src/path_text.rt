@@ -1,9 +1,8 @@
 //! Paths, read from tokens.
 
-ghost use Rattle.std.specs.Prelude.{◌≡◌, ◌∷◌, ◌++◌, []};
 ghost use Rattle.alt_expr.specs.NamesGiven.{given_names};
 ghost use Rattle.alt_expr.specs.Reader as spec;
-ghost use Rattle.alt_expr.specs.Reader.{left, Reads};
+ghost use Rattle.alt_expr.specs.Reader.{left, ReadsExpression};
 
 use crate::cursor::Cursor;
 use crate::fault::ExprFault;
@@ -16,7 +15,7 @@ use std::alloc::Global;
 /// A path, with the names that its words stand for.
 #[tactic(auto, unfolding(crate::specs::Reader::path))]
 pub fn read_path(alloc: Global, names: &Names, tokens: &mut Cursor<'_>) -> Result<Path, ExprFault>
-    ensures { Reads (spec.path (given_names names.now) (left tokens.old)) result (left tokens.new) }
+    ensures { ReadsExpression (spec.path (given_names names.now) (left tokens.old)) result (left tokens.new) }
 {
     let turns = tokens.len();
     let mut found = Items::new(alloc);
@@ -37,7 +36,7 @@ pub fn read_path_in_brackets(
     names: &Names,
     tokens: &mut Cursor<'_>,
 ) -> Result<Path, ExprFault>
-    ensures { Reads (spec.in_brackets (spec.path (given_names names.now)) (left tokens.old)) result
+    ensures { ReadsExpression (spec.in_brackets (spec.path (given_names names.now)) (left tokens.old)) result
         (left tokens.new) }
 {
     let path = read_path(alloc, names, tokens)?;
@@ -52,7 +51,7 @@ fn part(
     names: &Names,
     tokens: &mut Cursor<'_>,
 ) -> Result<Option<PathPart>, ExprFault>
-    ensures { Reads (spec.part (given_names names.now) (left tokens.old)) result (left tokens.new) }
+    ensures { ReadsExpression (spec.part (given_names names.now) (left tokens.old)) result (left tokens.new) }
 {
     if tokens.eat(Mark::Dot) {
         return Ok(Some(PathPart::Name(tokens.name(alloc, names)?)));
@@ -65,7 +64,7 @@ fn part(
 
 #[tactic(auto, unfolding(crate::specs::Reader::index_part))]
 fn index(tokens: &mut Cursor<'_>) -> Result<PathPart, ExprFault>
-    ensures { Reads (spec.index_part (left tokens.old)) result (left tokens.new) }
+    ensures { ReadsExpression (spec.index_part (left tokens.old)) result (left tokens.new) }
 {
     let number = tokens.number()?;
     tokens.expect(Mark::RightSquare)?;

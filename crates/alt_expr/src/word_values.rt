@@ -46,11 +46,11 @@ impl Kept for Attr {
 
 impl Kept for Text {
     ghost use Rattle.alt_value.specs.Tree.{S_tree};
-    ghost use Rattle.alt_expr.specs.Given.{is_name};
+    ghost use Rattle.alt_expr.specs.Given.{is_given_name};
 
     ghost tree = { S_tree };
 
-    ghost may_keep = { is_name };
+    ghost may_keep = { is_given_name };
 
     fn kept(value: &Attr) -> Result<Text, NoMemory> {
         match value {

@@ -23,7 +23,7 @@ use Rattle.alt_cells.proofs.CellLaws.{key_total}
 use Rattle.alt_disk.specs.Disk.{DiskState}
 use Rattle.alt_layout.specs.Layout.{end_bound, shown_of}
 use Rattle.alt_merge.specs.declared.merge.Merge.{Merge}
-use Rattle.alt_merge.specs.Costs.{CallSpends, HasLists, IsPassed, all_due, all_times, all_width, times}
+use Rattle.alt_merge.specs.Costs.{CallSpends, HasLists, FirstRowMayBePassed, all_due, all_times, all_width, times}
 use Rattle.alt_merge.specs.Merges.{Each2, all_rows}
 use Rattle.alt_merge.specs.Whole.{heads_of, is_forward, sources_of}
 use Rattle.alt_merge.proofs.Costs.{due_le, same_times}
@@ -114,7 +114,7 @@ passed_first forward from to e more shows n are is out =
 
 -- what is passed is counted among all, and among those with such keys
 passed_counts : {S : Type 0} (width : S → ℕ) (p : List ℕ → Bool) (key : List ℕ) → p key ≡ true
-    → (xs : List S) (lists rest : List RowList) → Each2 (IsPassed key) lists rest
+    → (xs : List S) (lists rest : List RowList) → Each2 (FirstRowMayBePassed key) lists rest
     → all_times width xs rest + all_times width xs (map (passed_of p) lists)
     ≡ all_times width xs lists + all_times width xs (map (passed_of p) rest)
 passed_counts width p key is [] lists rest each = refl
@@ -126,7 +126,7 @@ passed_counts width p key is (x ∷ xs) (l ∷ lists) (r ∷ rest) each =
     let more = passed_counts width p key is xs lists rest each.1 in
     omega (arith, one, more)
   where
-    one_counts : (n : ℕ) (l r : RowList) → IsPassed key l r
+    one_counts : (n : ℕ) (l r : RowList) → FirstRowMayBePassed key l r
         → times n r + times n (passed_of p l) ≡ times n l + times n (passed_of p r)
     one_counts n l r passed = ⊎_elim
         (λ (same : r ≡ l). ap (λ x. times n x + times n (passed_of p l)) same

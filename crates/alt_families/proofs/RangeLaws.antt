@@ -22,7 +22,7 @@ use Rattle.alt_cells.specs.Shown.{row_shown}
 use Rattle.alt_layout.specs.Layout.{Layout, end_bound, rows_between, shown_of, shown_rows}
 use Rattle.alt_layout.proofs.ShownLaws.{is_sorted-shown, shown-filter, shown-turned}
 use Rattle.alt_cells.specs.declared.row.RowCells.{RowCells}
-use Rattle.alt_families.specs.Ranges.{Ahead, AreAhead, is_out, reaches, shown_between, start_of}
+use Rattle.alt_families.specs.Ranges.{Ahead, AreAhead, is_out, walk_reaches, shown_between, start_of}
 
 -- ---- lists of entries by their keys
 
@@ -100,7 +100,7 @@ within from to = range_contains key_cmp (Included from) (end_bound to)
 
 -- a key of the range is reached
 is_reached : (forward : Bool) (from : List ℕ) (to : Option (List ℕ)) (k : List ℕ)
-    → within from to k ≡ true → reaches forward from to k ≡ true
+    → within from to k ≡ true → walk_reaches forward from to k ≡ true
 is_reached true from to k is = by (is_le (key_cmp from k)) _ is
   where
     by : (a b : Bool) → (a && b) ≡ true → (a && true) ≡ true
@@ -115,7 +115,7 @@ is_reached false from (Some to) k is = by (is_le (key_cmp from k)) (not (is_le (
 
 -- and one that is reached is of the range, unless it is behind it
 pub is_within : (forward : Bool) (from : List ℕ) (to : Option (List ℕ)) (k : List ℕ)
-    → reaches forward from to k ≡ true → is_out forward from to k ≡ false → within from to k ≡ true
+    → walk_reaches forward from to k ≡ true → is_out forward from to k ≡ false → within from to k ≡ true
 is_within true from None k reached out = reached
 is_within true from (Some to) k reached out =
     by (is_le (key_cmp from k)) (is_le (key_cmp to k)) reached out
@@ -141,11 +141,11 @@ pub from_start : (rows : RowMap) (forward : Bool) (from : List ℕ) (to : Option
     → entries_between key_cmp (Included from) (end_bound to)
     (rows_from rows (start_of forward from to) forward)
     ≡ turned forward (entries_between key_cmp (Included from) (end_bound to) (entries rows))
-from_start rows true from to = filter_twice (within from to) (reaches true from to) (entries rows)
+from_start rows true from to = filter_twice (within from to) (walk_reaches true from to) (entries rows)
     (is_reached true from to)
 from_start rows false from to =
-    filter_back (within from to) (filter (λ e. reaches false from to e.0) (entries rows))
-    ∙ ap reverse (filter_twice (within from to) (reaches false from to) (entries rows)
+    filter_back (within from to) (filter (λ e. walk_reaches false from to e.0) (entries rows))
+    ∙ ap reverse (filter_twice (within from to) (walk_reaches false from to) (entries rows)
     (is_reached false from to))
 
 -- and they are ahead
@@ -156,12 +156,12 @@ ahead_first rows forward from to = record {
   reached = by forward;
 }
   where
-    by : (forward : Bool) → AllByRecursion (λ e. reaches forward from to e.0 ≡ true)
+    by : (forward : Bool) → AllByRecursion (λ e. walk_reaches forward from to e.0 ≡ true)
         (rows_from rows (start_of forward from to) forward)
-    by true = all_passed (reaches true from to) (entries rows)
-    by false = all_back (λ e. reaches false from to e.0 ≡ true)
-        (filter (λ e. reaches false from to e.0) (entries rows))
-        (all_passed (reaches false from to) (entries rows))
+    by true = all_passed (walk_reaches true from to) (entries rows)
+    by false = all_back (λ e. walk_reaches false from to e.0 ≡ true)
+        (filter (λ e. walk_reaches false from to e.0) (entries rows))
+        (all_passed (walk_reaches false from to) (entries rows))
 
 -- those behind the first are
 pub ahead_next : (forward : Bool) (from : List ℕ) (to : Option (List ℕ)) (e : List ℕ × RowCells)

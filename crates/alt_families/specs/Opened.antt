@@ -8,7 +8,7 @@ use Rattle.alt_cells.specs.declared.source.SourceFault.{SourceFault}
 use Rattle.alt_disk.specs.Disk.{DiskState}
 use Rattle.alt_layout.specs.Layout.{RowMap}
 use Rattle.alt_merge.specs.Merges.{Each2, all_rows}
-use Rattle.alt_rowfile.specs.InHand.{Reads as RowReads}
+use Rattle.alt_rowfile.specs.InHand.{ReadsRows as RowReads}
 use Rattle.alt_rowfile.specs.declared.rowfile.RowFile.{RowFile}
 use Rattle.alt_families.specs.Families.{rows_in, files_in}
 use Rattle.alt_families.specs.declared.family.Family.{Family}
@@ -24,5 +24,5 @@ pub record FamilyReads (s : DiskState) (f : Option Family) (rows : RowMap) : Typ
   pub is : rows ≡ joined_map join_row (rows_in f) (all_rows maps)
 
 -- The fault tells of no damage.
-abbrev pub IsUndamaged : SourceFault → Type 0
-IsUndamaged fault = IsDamaged fault → ⊥
+abbrev pub SourceFaultIsUndamaged : SourceFault → Type 0
+SourceFaultIsUndamaged fault = IsDamaged fault → ⊥

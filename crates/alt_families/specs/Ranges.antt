@@ -35,15 +35,15 @@ shown_between rows from to forward = shown_of row_shown
     (turned forward (entries_between key_cmp (Included from) (end_bound to) (entries rows)))
 
 -- The walk may come to the key from where it begins.
-abbrev pub reaches : Bool → List ℕ → Option (List ℕ) → List ℕ → Bool
-reaches forward from to = range_contains key_cmp (first_bound forward (start_of forward from to))
+abbrev pub walk_reaches : Bool → List ℕ → Option (List ℕ) → List ℕ → Bool
+walk_reaches forward from to = range_contains key_cmp (first_bound forward (start_of forward from to))
     (last_bound forward (start_of forward from to))
 
 -- The rows may be left of a walk over the range: they are in its order, and it may come to each.
 pub record AreAhead (forward : Bool) (from : List ℕ) (to : Option (List ℕ))
     (rest : RowList) : Type 0 where
   pub sorted : T (is_sorted (walk_cmp forward) rest)
-  pub reached : AllByRecursion (λ e. reaches forward from to e.0 ≡ true) rest
+  pub reached : AllByRecursion (λ e. walk_reaches forward from to e.0 ≡ true) rest
 
 -- The walk has rows left that show this in the range.
 pub record Ahead (Left : RowList → Type 0) (forward : Bool) (from : List ℕ) (to : Option (List ℕ))

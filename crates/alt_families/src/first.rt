@@ -10,7 +10,7 @@ ghost use Rattle.alt_disk.specs.Disk.{Goes};
 ghost use Rattle.alt_disk.specs.Runs.{Quiet};
 ghost use Rattle.alt_layout.specs.Layout.{FindsFirst, RowMap};
 ghost use Rattle.alt_families.specs.First.{FindsKey};
-ghost use Rattle.alt_families.specs.Opened.{FamilyReads, IsUndamaged};
+ghost use Rattle.alt_families.specs.Opened.{FamilyReads, SourceFaultIsUndamaged};
 
 use crate::family::Family;
 use crate::rows::shown_rows;
@@ -33,7 +33,7 @@ pub fn first_shown<D: Disk>(
         → IfOk result (FindsFirst (λ f key. option_and_then row_shown (get (rows f) key)) family) }
     ensures undamaged { IsTrue (D.state disk.old).tells → (rows : ℕ → RowMap)
         → ((f : ℕ) → FamilyReads (D.state disk.old) (tree_get nat_cmp families.now f) (rows f))
-        → IfErr result IsUndamaged }
+        → IfErr result SourceFaultIsUndamaged }
     ensures quiet { IsTrue (D.state disk.old).tells
         → Quiet (D.state disk.old) (D.state disk.new) }
     ensures goes { Goes (D.state disk.old) (D.state disk.new) }
@@ -65,7 +65,7 @@ fn first_key<D: Disk>(
         → IfOk result (FindsKey (λ key. option_and_then row_shown (get rows key))) }
     ensures undamaged { IsTrue (D.state disk.old).tells → (rows : RowMap)
         → FamilyReads (D.state disk.old) (tree_get nat_cmp families.now family) rows
-        → IfErr result IsUndamaged }
+        → IfErr result SourceFaultIsUndamaged }
     ensures quiet { IsTrue (D.state disk.old).tells
         → Quiet (D.state disk.old) (D.state disk.new) }
     ensures goes { Goes (D.state disk.old) (D.state disk.new) }

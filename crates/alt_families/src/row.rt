@@ -12,7 +12,7 @@ ghost use Rattle.alt_disk.specs.Disk.{Goes};
 ghost use Rattle.alt_disk.specs.Runs.{Quiet};
 ghost use Rattle.alt_layout.specs.Layout.{RowMap};
 ghost use Rattle.alt_families.specs.Families.{files_in};
-ghost use Rattle.alt_families.specs.Opened.{FamilyReads, IsOpen, IsUndamaged};
+ghost use Rattle.alt_families.specs.Opened.{FamilyReads, IsOpen, SourceFaultIsUndamaged};
 ghost use Rattle.alt_merge.specs.Merges.{Each2, all_rows};
 
 use crate::family::Family;
@@ -37,7 +37,7 @@ pub fn shown_row<D: Disk>(
         → IfOk result (λ row. row ≡ option_and_then row_shown (get rows key.now)) }
     ensures undamaged { IsTrue (D.state disk.old).tells → (rows : RowMap)
         → FamilyReads (D.state disk.old) (tree_get nat_cmp families.now family) rows
-        → IfErr result IsUndamaged }
+        → IfErr result SourceFaultIsUndamaged }
     ensures quiet { IsTrue (D.state disk.old).tells
         → Quiet (D.state disk.old) (D.state disk.new) }
     ensures goes { Goes (D.state disk.old) (D.state disk.new) }
@@ -66,7 +66,7 @@ fn shown_in<D: Disk>(
         → FamilyReads (D.state disk.old) (Some family.now) rows
         → IfOk result (λ row. row ≡ option_and_then row_shown (get rows key.now)) }
     ensures undamaged { IsTrue (D.state disk.old).tells → (rows : RowMap)
-        → FamilyReads (D.state disk.old) (Some family.now) rows → IfErr result IsUndamaged }
+        → FamilyReads (D.state disk.old) (Some family.now) rows → IfErr result SourceFaultIsUndamaged }
     ensures quiet { IsTrue (D.state disk.old).tells
         → Quiet (D.state disk.old) (D.state disk.new) }
     ensures goes { Goes (D.state disk.old) (D.state disk.new) }
@@ -94,7 +94,7 @@ fn row_in_files<D: Disk>(
         → IfOk result (λ row. row ≡ get (all_rows maps) key.now) }
     ensures undamaged { IsTrue (D.state disk.old).tells → (maps : List RowMap)
         → Each2 (IsOpen (D.state disk.old)) family.now.files.items maps
-        → IfErr result IsUndamaged }
+        → IfErr result SourceFaultIsUndamaged }
     ensures quiet { IsTrue (D.state disk.old).tells
         → Quiet (D.state disk.old) (D.state disk.new) }
     ensures goes { Goes (D.state disk.old) (D.state disk.new) }

@@ -11,7 +11,7 @@ ghost use Rattle.alt_cells.specs.Walks.{RowMap};
 ghost use Rattle.alt_disk.specs.Disk.{Goes};
 ghost use Rattle.alt_disk.specs.Runs.{Quiet};
 ghost use Rattle.alt_merge.specs.Whole.{merge_holds};
-ghost use Rattle.alt_families.specs.Opened.{FamilyReads, IsUndamaged};
+ghost use Rattle.alt_families.specs.Opened.{FamilyReads, SourceFaultIsUndamaged};
 ghost use Rattle.alt_families.specs.Ranges.{Ahead, GivesSome, GivesStep, is_out, shown_between, start_of};
 ghost use Rattle.alt_families.specs.Paying.{IsPaid};
 ghost use Rattle.alt_families.specs.Reads.{is_passed, most_reads};
@@ -47,7 +47,7 @@ pub fn shown_rows<D: Disk>(
     ensures begun { IsPrefix out.old.items out.new.items }
     ensures undamaged { IsTrue (D.state disk.old).tells → (rows : RowMap)
         → FamilyReads (D.state disk.old) (tree_get nat_cmp families.now family) rows
-        → IfErr result IsUndamaged }
+        → IfErr result SourceFaultIsUndamaged }
     ensures quiet { IsTrue (D.state disk.old).tells
         → Quiet (D.state disk.old) (D.state disk.new) }
     ensures goes { Goes (D.state disk.old) (D.state disk.new) }
@@ -124,7 +124,7 @@ fn go_on<'a, D: Disk>(
         → merge_holds source_holds (D.state disk.old) walk.old rows
         → merge_holds source_holds (D.state disk.new) walk.new rows }
     ensures undamaged { IsTrue (D.state disk.old).tells → (rows : RowMap)
-        → merge_holds source_holds (D.state disk.old) walk.old rows → IfErr result IsUndamaged }
+        → merge_holds source_holds (D.state disk.old) walk.old rows → IfErr result SourceFaultIsUndamaged }
     ensures quiet { IsTrue (D.state disk.old).tells
         → Quiet (D.state disk.old) (D.state disk.new) }
     ensures goes { Goes (D.state disk.old) (D.state disk.new) }
@@ -178,7 +178,7 @@ fn take_one<'a, D: Disk>(
         → merge_holds source_holds (D.state disk.old) walk.old rows
         → merge_holds source_holds (D.state disk.new) walk.new rows }
     ensures undamaged { IsTrue (D.state disk.old).tells → (rows : RowMap)
-        → merge_holds source_holds (D.state disk.old) walk.old rows → IfErr result IsUndamaged }
+        → merge_holds source_holds (D.state disk.old) walk.old rows → IfErr result SourceFaultIsUndamaged }
     ensures quiet { IsTrue (D.state disk.old).tells
         → Quiet (D.state disk.old) (D.state disk.new) }
     ensures goes { Goes (D.state disk.old) (D.state disk.new) }
@@ -215,7 +215,7 @@ fn gather<'a, D: Disk>(
         × ((D.state disk.new).reads ≤ bound)) }
     ensures begun { IsPrefix out.old.items out.new.items }
     ensures undamaged { IsTrue (D.state disk.old).tells → (rows : RowMap)
-        → merge_holds source_holds (D.state disk.old) walk.old rows → IfErr result IsUndamaged }
+        → merge_holds source_holds (D.state disk.old) walk.old rows → IfErr result SourceFaultIsUndamaged }
     ensures quiet { IsTrue (D.state disk.old).tells
         → Quiet (D.state disk.old) (D.state disk.new) }
     ensures goes { Goes (D.state disk.old) (D.state disk.new) }
@@ -270,7 +270,7 @@ fn walk_family<D: Disk>(
         (shown_between rows range.now.from range.now.to forward) reads.maps) }
     ensures begun { IsPrefix out.old.items out.new.items }
     ensures undamaged { IsTrue (D.state disk.old).tells → (rows : RowMap)
-        → FamilyReads (D.state disk.old) (Some family.now) rows → IfErr result IsUndamaged }
+        → FamilyReads (D.state disk.old) (Some family.now) rows → IfErr result SourceFaultIsUndamaged }
     ensures quiet { IsTrue (D.state disk.old).tells
         → Quiet (D.state disk.old) (D.state disk.new) }
     ensures goes { Goes (D.state disk.old) (D.state disk.new) }

@@ -1,6 +1,6 @@
 -- What one fault tells leads to what it tells otherwise.
 use Rattle.std.proofs.Common.{ℕ, List}
-use Rattle.alt_faults.specs.Faults.{Damage, bad_bytes, bad_digest, bad_row, Fault, failed, no_memory, spent, damaged, IsMemory, IsOutside, IsUndamaged, IsUnspent, OnlyDamaged, OnlyRow, OnlySpent, Outside, RowWhere, Tells, without_numbers}
+use Rattle.alt_faults.specs.Faults.{Damage, bad_bytes, bad_digest, bad_row, Fault, failed, no_memory, spent, damaged, IsMemoryRefused, IsOutside, IsUndamaged, IsUnspent, OnlyDamaged, OnlyRow, OnlySpent, Outside, RowWhere, Tells, without_numbers}
 
 -- what is asked of a number and of damage is met by a fault that tells neither
 pub outside-tells : (P : ℕ → Type 0) (Q : Damage → Type 0) (f : Fault) → IsOutside f → Tells P Q f
@@ -58,7 +58,7 @@ outside-numbers (spent n) h = tt
 outside-numbers (damaged d) h = absurd h
 
 -- want of memory is nothing from inside
-pub memory-outside : (f : Fault) → IsMemory f → IsOutside f
+pub memory-outside : (f : Fault) → IsMemoryRefused f → IsOutside f
 memory-outside failed h = absurd h
 memory-outside no_memory h = tt
 memory-outside (spent n) h = absurd h
@@ -74,7 +74,7 @@ outside-by P Q (spent n) p q = tt
 outside-by P Q (damaged d) p q = tt
 
 -- of want of memory alone the second is asked
-pub memory-else : (P Q : Type 0) (f : Fault) → IsMemory f → Q → Outside P Q f
+pub memory-else : (P Q : Type 0) (f : Fault) → IsMemoryRefused f → Q → Outside P Q f
 memory-else P Q failed h q = absurd h
 memory-else P Q no_memory h q = q
 memory-else P Q (spent n) h q = tt

@@ -46,11 +46,11 @@ abbrev pub OnlyDamaged : (Damage → Type 0) → Fault → Type 0
 OnlyDamaged = Tells (λ number. ⊥)
 
 -- Memory was refused, and nothing else is told.
-abbrev pub IsMemory : Fault → Type 0
-IsMemory failed = ⊥
-IsMemory no_memory = Unit {0}
-IsMemory (spent number) = ⊥
-IsMemory (damaged damage) = ⊥
+abbrev pub IsMemoryRefused : Fault → Type 0
+IsMemoryRefused failed = ⊥
+IsMemoryRefused no_memory = Unit {0}
+IsMemoryRefused (spent number) = ⊥
+IsMemoryRefused (damaged damage) = ⊥
 
 -- The first holds where the device failed, the second where memory was refused; of all else nothing is asked.
 abbrev pub Outside : Type 0 → Type 0 → Fault → Type 0

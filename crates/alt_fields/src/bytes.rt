@@ -46,6 +46,14 @@ impl Bytes {
         Bytes { items }
     }
 
+    /// The vector of the bytes, which is moved and not copied.
+    pub fn into_vec(self) -> Vec<u8>
+        ensures same { result.items ≡ self }
+    {
+        let Bytes { items } = self;
+        items
+    }
+
     pub fn copy(&self) -> Result<Bytes, NoMemory>
         ensures same { IfOk result (λ b. b ≡ self.now) }
     {

@@ -10,14 +10,14 @@ use Rattle.alt_cells.specs.Compacted.{compacted}
 use Rattle.alt_cells.specs.declared.source.SourceFault.{SourceFault}
 use Rattle.alt_cells.specs.declared.source.SourceFault.TheVariants.{Damaged, Failed, NoMemory}
 use Rattle.alt_cells.specs.Walks.{RowMap, RowList, SameFiles, HasCause}
-use Rattle.alt_compact.specs.Jobs.{IsUnderWay, Moves, purges}
+use Rattle.alt_compact.specs.Jobs.{IsUnderWay, MovesOnlyTouched, purges}
 use Rattle.alt_merge.specs.declared.merge.Merge.{Merge}
 use Rattle.alt_merge.specs.Merges.{Each2, all_rows, any_reads}
 use Rattle.alt_merge.specs.MergeLaws.{or_left, or_right}
 use Rattle.alt_merge.specs.Whole.{merge_reads, merge_holds}
 use Rattle.alt_rowfile.specs.InHand.{file_of}
 use Rattle.alt_rowfile.specs.Walking.{walk_holds, walk_reads, reads_on, itself}
-use Rattle.alt_rowfile.specs.Writing.{Writes, writer_file, writer_writes, writes_on}
+use Rattle.alt_rowfile.specs.Writing.{WritesRows, writer_file, writer_writes, writes_on}
 use Rattle.alt_rowfile.specs.declared.rowfile.RowFile.{RowFile}
 use Rattle.alt_rowfile.specs.declared.walk.RowFileWalk.{RowFileWalk}
 use Rattle.alt_rowfile.specs.declared.writer.RowFileWriter.{RowFileWriter}
@@ -78,7 +78,7 @@ cause_of a b files walks result each = IfErr-weaker result _ _
 pub under_of : (s : DiskState) (files : List RowFile) (merging : FileMerge)
     (merge : Merge RowFileWalk) (taken left : RowList) → MergeStands s files merging taken left
     → Each2 IsWalkOf files merge.sources.items
-    → IsUnderWay (merge_holds walk_holds) (merge_reads walk_reads) Writes writer_writes s merging.job
+    → IsUnderWay (merge_holds walk_holds) (merge_reads walk_reads) WritesRows writer_writes s merging.job
     merge merging.writer taken left
 under_of s files merging merge taken left stands walks = record {
   rows = all_rows stands.lists;
@@ -136,9 +136,9 @@ same_file v w same = eqb-true (writer_file v) (writer_file w)
 pub after_step : (a b : DiskState) (files : List RowFile) (merging later : FileMerge)
     (merge : Merge RowFileWalk) (taken left : RowList) (n : ℕ) → IsTrusted a
     → MergeStands a files merging taken left
-    → Moves (writer_writes merging.writer) a b
+    → MovesOnlyTouched (writer_writes merging.writer) a b
     → writer_writes later.writer ≡ writer_writes merging.writer
-    → IsUnderWay (merge_holds walk_holds) (merge_reads walk_reads) Writes writer_writes b later.job
+    → IsUnderWay (merge_holds walk_holds) (merge_reads walk_reads) WritesRows writer_writes b later.job
     merge later.writer (taken ++ take n left) (drop n left)
     → MergeStands b files later (taken ++ take n left) (drop n left)
 after_step a b files merging later merge taken left n t stands moves files_same under = record {

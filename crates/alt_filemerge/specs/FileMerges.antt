@@ -6,16 +6,16 @@ use Rattle.alt_cells.specs.Compacted.{compacted}
 use Rattle.alt_cells.specs.Walks.{RowMap, RowList, SameFiles}
 use Rattle.alt_compact.specs.Jobs.{HasTaken, purges}
 use Rattle.alt_merge.specs.Merges.{Each2, all_rows}
-use Rattle.alt_rowfile.specs.InHand.{Reads, file_of}
+use Rattle.alt_rowfile.specs.InHand.{ReadsRows, file_of}
 use Rattle.alt_rowfile.specs.Walking.{walk_holds, walk_reads}
-use Rattle.alt_rowfile.specs.Writing.{Writes, writer_file, writer_writes}
+use Rattle.alt_rowfile.specs.Writing.{WritesRows, writer_file, writer_writes}
 use Rattle.alt_rowfile.specs.declared.rowfile.RowFile.{RowFile}
 use Rattle.alt_rowfile.specs.declared.walk.RowFileWalk.{RowFileWalk}
 use Rattle.alt_filemerge.specs.declared.filemerge.FileMerge.{FileMerge}
 
 -- each row file in hand reads as these rows
 abbrev pub ReadEach : DiskState → List RowFile → List RowMap → Type 0
-ReadEach s files lists = Each2 (λ file rows. Reads s file (entries rows)) files lists
+ReadEach s files lists = Each2 (λ file rows. ReadsRows s file (entries rows)) files lists
 
 -- the number is one of these files
 abbrev pub any_file : List RowFile → ℕ → Bool
@@ -40,7 +40,7 @@ is_touched files merge f = any_file files f || is_output merge f
 
 -- a walk over a row file
 pub record IsWalkOf (file : RowFile) (walk : RowFileWalk) : Type 0 where
-  pub holds : (s : DiskState) (rows : RowMap) → Reads s file (entries rows)
+  pub holds : (s : DiskState) (rows : RowMap) → ReadsRows s file (entries rows)
       → walk_holds s walk rows
   pub reads : (f : ℕ) → walk_reads walk f ≡ (f == file_of file)
 
@@ -52,7 +52,7 @@ pub record MergeStands (s : DiskState) (files : List RowFile) (merge : FileMerge
   pub reads : ReadEach s files lists
   pub are : entries (all_rows lists) ≡ taken ++ left
   pub at : HasTaken merge.job taken
-  pub written : Writes s merge.writer (compacted (drops merge) taken)
+  pub written : WritesRows s merge.writer (compacted (drops merge) taken)
   pub apart : any_file files (output_of merge) ≡ false
 
 -- it stands as it stood where these files and its own read as they did

@@ -1,16 +1,16 @@
 //! A merge of row files under way.
 
-ghost use Rattle.std.specs.Prelude.{◌≡◌, ◌<◌, ◌++◌, ◌==◌, ℕ, Bool, false, List, [], None, IsTrue, IsErrOf, IfOk, IfErr, take, drop};
+ghost use Rattle.std.specs.Prelude.{◌≡◌, ◌<◌, ◌++◌, false, List, [], None, IsTrue, IsErrOf, IfOk, IfErr, take, drop};
 ghost use Rattle.std.specs.FinMap.{entries};
 ghost use Rattle.alt_base.specs.Counts.{Rose};
-ghost use Rattle.alt_disk.specs.Disk.{DiskState, IsTrusted, Goes};
+ghost use Rattle.alt_disk.specs.Disk.{IsTrusted, Goes};
 ghost use Rattle.alt_disk.specs.Runs.{Run};
 ghost use Rattle.alt_cells.specs.Compacted.{compacted};
 ghost use Rattle.alt_cells.specs.Walks.{RowMap, RowList, HasCause, IsDamaged, answered_by};
-ghost use Rattle.alt_compact.specs.Jobs.{Says, Moves};
+ghost use Rattle.alt_compact.specs.Jobs.{StepSays, MovesOnlyTouched};
 ghost use Rattle.alt_merge.specs.Merges.{Each2, all_rows};
-ghost use Rattle.alt_rowfile.specs.InHand.{Stands, file_of};
-ghost use Rattle.alt_rowfile.specs.Sinks.{Anything};
+ghost use Rattle.alt_rowfile.specs.InHand.{StandsForRows, file_of};
+ghost use Rattle.alt_rowfile.specs.Sinks.{AnyFileContents};
 ghost use Rattle.alt_filemerge.specs.FileMerges.{MergeStands, ReadEach, StaysApart, any_file, output_of, is_output, drops, IsWalkOf};
 
 use alt_base::NoMemory;
@@ -45,7 +45,7 @@ impl FileMerge {
             → ReadEach (D.state disk.new) files lists → any_file files f ≡ false
             → MergeStands (D.state disk.new) files merge [] (entries (all_rows lists))) }
         ensures any_moment { IsTrusted (D.state disk.old)
-            → Run (D.state disk.old) (D.state disk.new) f Anything }
+            → Run (D.state disk.old) (D.state disk.new) f AnyFileContents }
         ensures goes { Goes (D.state disk.old) (D.state disk.new) }
         ensures cause { IsErrOf result DiskFault.Failed
             → Rose (D.state disk.old).faults (D.state disk.new).faults }
@@ -75,10 +75,10 @@ impl FileMerge {
         ensures taken { IsTrusted (D.state disk.old) → (taken left : RowList)
             → MergeStands (D.state disk.old) files.now self.old taken left
             → IfOk result (λ stepped. MergeStands (D.state disk.new) files.now self.new
-            (taken ++ take rows left) (drop rows left) × Says stepped (drop rows left)) }
+            (taken ++ take rows left) (drop rows left) × StepSays stepped (drop rows left)) }
         ensures purge { drops self.new ≡ drops self.old }
         ensures output { is_output self.new ≡ is_output self.old }
-        ensures moves { Moves (is_output self.old) (D.state disk.old) (D.state disk.new) }
+        ensures moves { MovesOnlyTouched (is_output self.old) (D.state disk.old) (D.state disk.new) }
         ensures cause { IfErr result (HasCause (any_file files.now) (D.state disk.old)
             (D.state disk.new)) }
         ensures sound { IsTrusted (D.state disk.old) → (taken left : RowList)
@@ -100,9 +100,9 @@ impl FileMerge {
         ensures finished { IfOk result (λ file. IsTrusted (D.state disk.old)
             → (files : List RowFile) (taken : RowList)
             → MergeStands (D.state disk.old) files self taken []
-            → Stands (D.state disk.new) file (compacted (drops self) taken)) }
+            → StandsForRows (D.state disk.new) file (compacted (drops self) taken)) }
         ensures any_moment { IsTrusted (D.state disk.old)
-            → Run (D.state disk.old) (D.state disk.new) (output_of self) Anything }
+            → Run (D.state disk.old) (D.state disk.new) (output_of self) AnyFileContents }
         ensures goes { Goes (D.state disk.old) (D.state disk.new) }
         ensures cause { IsErrOf result DiskFault.Failed
             → Rose (D.state disk.old).faults (D.state disk.new).faults }

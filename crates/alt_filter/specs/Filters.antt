@@ -14,12 +14,12 @@ abbrev pub mixed : ℕ → ℕ
 mixed hash = bit_xor hash (hash / 2 ^ 32) * 11400714819323198485 % 2 ^ 64
 
 -- the hash of a key
-unfoldable pub hash_of : List ℕ → ℕ
-hash_of key = mixed (fnv key)
+unfoldable pub key_hash : List ℕ → ℕ
+key_hash key = mixed (fnv key)
 
 -- its three places, each below 256: the highest three bytes of its hash
 unfoldable pub places : List ℕ → List ℕ
-places key = take 3 (to_be_bytes w64 (hash_of key))
+places key = take 3 (to_be_bytes w64 (key_hash key))
 
 -- the bit at a place is set
 abbrev pub IsSet : Filter → ℕ → Type 0

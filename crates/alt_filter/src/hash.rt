@@ -1,12 +1,12 @@
 //! One hash of all bytes of a key: FNV-1a, and at its end its two halves mixed.
 
 ghost use Rattle.std.specs.Prelude.{◌≡◌};
-ghost use Rattle.alt_filter.specs.Filters.{fnv, hash_of};
+ghost use Rattle.alt_filter.specs.Filters.{fnv, key_hash};
 
 /// The hash of a key.
-#[tactic(auto, unfolding(crate::specs::Filters::hash_of))]
+#[tactic(auto, unfolding(crate::specs::Filters::key_hash))]
 pub(crate) fn hash_of(key: &[u8]) -> u64
-    ensures { result ≡ hash_of key.now }
+    ensures { result ≡ key_hash key.now }
 {
     let hash = fnv(key);
     (hash ^ (hash >> 32)).wrapping_mul(0x9e37_79b9_7f4a_7c15)

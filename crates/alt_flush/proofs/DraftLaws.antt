@@ -6,13 +6,13 @@ use Rattle.alt_disk.specs.Disk.{DiskState, IsSettled}
 use Rattle.alt_disk.specs.Fates.{Fates, Fits}
 use Rattle.alt_disk.specs.Runs.{Run, Spans}
 use Rattle.alt_disk.proofs.Staying.{settled_on}
-use Rattle.alt_gatelog.specs.InHand.{file_of as log_file, form_of, Stands as LogStands}
+use Rattle.alt_gatelog.specs.InHand.{file_of_gate_log as log_file, form_of, StandsForEntries as LogStands}
 use Rattle.alt_gatelog.specs.declared.gatelog.GateLog.{GateLog}
 use Rattle.alt_gatelog.proofs.Elsewhere.{reads_log, reads_stays}
-use Rattle.alt_rowfile.specs.InHand.{Stands as RowFileStands}
+use Rattle.alt_rowfile.specs.InHand.{StandsForRows as RowFileStands}
 use Rattle.alt_rowfile.specs.declared.rowfile.RowFile.{RowFile}
 use Rattle.alt_writes.specs.Writes.{Write}
-use Rattle.alt_manifest.specs.InHand.{file_of, version_of, OldOrNew, Stands}
+use Rattle.alt_manifest.specs.InHand.{file_of_manifest, version_of, OldOrNew, StandsForVersion}
 use Rattle.alt_manifest.specs.Versions.{HasVersion, IsFamily, IsIn, IsVersion, RiseFrom, files_named, row_files}
 use Rattle.alt_manifest.specs.declared.manifest.Manifest.{Manifest}
 use Rattle.alt_manifest.specs.declared.version.FamilyVersion.{FamilyVersion}
@@ -26,10 +26,11 @@ use Rattle.alt_layout.specs.Layout.{RowMap}
 use Rattle.alt_layout.specs.Moments.{Has, HasEither, IsIt, Lies}
 use Rattle.alt_layout.proofs.FamilyLaws.{same_layouts}
 use Rattle.alt_layout.proofs.FileLaws.{stored_on}
-use Rattle.alt_layout.proofs.FlushLaws.{above_all, all_later, flush_same, named_with, next_after-stays, stored_with, version_with_is}
+use Rattle.alt_layout.proofs.FlushLaws.{above_all, all_later, stored_with, version_with_is}
+use Rattle.alt_layout.proofs.FlushedLayout.{flush_same, named_with, next_after-stays}
 use Rattle.alt_layout.proofs.MomentLaws.{layout_where, lies_on, lies_version, spans_version}
 use Rattle.alt_layout.proofs.PastLaws.{none_below, with_later-past}
-use Rattle.alt_flush.specs.Drafts.{Drafted, From, over_new_log, renumbered, with_flush, with_segment, without}
+use Rattle.alt_flush.specs.Drafts.{Drafted, From, over_new_log, renumbered, with_flush, with_segment, without_family}
 use Rattle.alt_flush.proofs.DropLaws.{named_without, without_is, without_stored}
 use Rattle.alt_flush.proofs.NewLogLaws.{named_new_log, new_log_is, new_log_stored}
 use Rattle.alt_flush.proofs.SegmentLaws.{all_of-none, in_inserted, with_segment_is, with_segment_stored}
@@ -108,7 +109,7 @@ first_same v held parts file next top =
 
 pub without_drafted : (s : DiskState) (u : Version) (family : ℕ) (held : Held)
     (parts : List (List Write)) → Drafted s u held parts → family < 2 ^ 32
-    → Drafted s (without u family) held parts
+    → Drafted s (without_family u family) held parts
 without_drafted s u family held parts drafted fits = record {
   is = without_is u family drafted.is fits;
   stored = without_stored s.file u family held parts drafted.stored;
@@ -288,15 +289,15 @@ settled_beside a b touched P spans g not_it settled left fits =
 -- the log of the versions stands as it stood
 pub manifest_still : (a b : DiskState) (touched : ℕ → Type 0)
     (P : ℕ → (ℕ → Option (List ℕ)) → Type 0) → Spans a b touched P → (m : Manifest)
-    → (touched (file_of m) → ⊥) → Stands a m → Stands b m
+    → (touched (file_of_manifest m) → ⊥) → StandsForVersion a m → StandsForVersion b m
 manifest_still a b touched P spans m not_it stands = record {
   reads = record {
     before = stands.reads.before;
-    log = reads_stays a b m.log _ (spans.file (file_of m) not_it) stands.reads.log;
+    log = reads_stays a b m.log _ (spans.file (file_of_manifest m) not_it) stands.reads.log;
     form = stands.reads.form;
     is = stands.reads.is;
   };
-  settled = settled_beside a b touched P spans (file_of m) not_it stands.settled;
+  settled = settled_beside a b touched P spans (file_of_manifest m) not_it stands.settled;
 }
 
 -- ---- the version
@@ -304,7 +305,7 @@ manifest_still a b touched P spans m not_it stands = record {
 -- While the draft is added as the next version each image has the layout of the last one, or its own.
 pub adding : (a b : DiskState) (m : Manifest) (u : Version) (held more : Held)
     (parts us : List (List Write)) → Lies a (version_of m) held parts → Drafted a u more us
-    → file_of m ≡ versions_file → Run a b (file_of m) (OldOrNew (version_of m) u)
+    → file_of_manifest m ≡ versions_file → Run a b (file_of_manifest m) (OldOrNew (version_of m) u)
     → Spans a b (IsIt versions_file) (HasEither (layout_of (version_of m) held (all_of parts))
     (layout_of u more (all_of us)))
 adding a b m u held more parts us lies drafted first run =
@@ -313,13 +314,13 @@ adding a b m u held more parts us lies drafted first run =
 
 -- And then the store lies by it.
 pub added : (a b : DiskState) (m n : Manifest) (u : Version) (more : Held)
-    (us : List (List Write)) → Drafted a u more us → file_of m ≡ versions_file
-    → Run a b (file_of m) (OldOrNew (version_of m) u) → file_of n ≡ file_of m → version_of n ≡ u
-    → Stands b n → Lies b u more us
+    (us : List (List Write)) → Drafted a u more us → file_of_manifest m ≡ versions_file
+    → Run a b (file_of_manifest m) (OldOrNew (version_of m) u) → file_of_manifest n ≡ file_of_manifest m → version_of n ≡ u
+    → StandsForVersion b n → Lies b u more us
 added a b m n u more us drafted first run same_file same_version stands =
     lies_version a b u more us (OldOrNew (version_of m) u) drafted.stored drafted.settled
     (subst (λ g. Run a b g (OldOrNew (version_of m) u)) first run)
     (subst (HasVersion u) (ap b.file (same_file ∙ first))
-    (subst (λ (w : Version). HasVersion w (b.file (file_of n))) same_version
+    (subst (λ (w : Version). HasVersion w (b.file (file_of_manifest n))) same_version
     (has_version b n stands.reads)))
     (subst (IsSettled b) (same_file ∙ first) stands.settled)

@@ -12,8 +12,9 @@ use Rattle.alt_manifest.specs.declared.version.Version.{Version}
 use Rattle.alt_layout.specs.Families.{Held, flushed_of, files_of, with_later, next_after, family_rows, joined_files}
 use Rattle.alt_layout.specs.Files.{Image, AreRowFiles, Stored}
 use Rattle.alt_layout.proofs.RowLaws.{with_later-none}
-use Rattle.alt_layout.proofs.FlushLaws.{count_numbers, differs, numbers_fit, rise_count}
-use Rattle.alt_flush.specs.Drafts.{with_none, without}
+use Rattle.alt_layout.proofs.FlushLaws.{count_numbers, numbers_fit, rise_count}
+use Rattle.alt_layout.proofs.FlushedFiles.{differs}
+use Rattle.alt_flush.specs.Drafts.{with_none, without_family}
 
 -- ---- the families
 
@@ -245,16 +246,16 @@ families_none family flushed next (f ∷ fs) fits low are =
     here false false rest = (are.0, rest)
 
 -- the files that it names were named
-pub named_without : (u : Version) (family f : ℕ) → IsIn (files_named (without u family)) f
+pub named_without : (u : Version) (family f : ℕ) → IsIn (files_named (without_family u family)) f
     → IsIn (files_named u) f
-named_without u family f there = in_cut (files_named u) (files_named (without u family)) f
+named_without u family f there = in_cut (files_named u) (files_named (without_family u family)) f
     (cut_behind u.segments (row_files u.families)
     (row_files (with_none family (u.next_number - 1) u.families))
     (cut_none family (u.next_number - 1) u.families)) there
 
 -- The draft is a version.
 pub without_is : (u : Version) (family : ℕ) → IsVersion u → family < 2 ^ 32
-    → IsVersion (without u family)
+    → IsVersion (without_family u family)
 without_is u family is fits =
     let flushed : ℕ = u.next_number - 1 in
     let more = with_none family flushed u.families in
@@ -279,15 +280,15 @@ without_is u family is fits =
             (numbers_fit u.next_number more families),
         count_numbers more,
       );
-      below = all_cut (λ f. f < u.next_file) (files_named u) (files_named (without u family)) cut
+      below = all_cut (λ f. f < u.next_file) (files_named u) (files_named (without_family u family)) cut
           is.below;
-      differ = distinct_cut (files_named u) (files_named (without u family)) cut is.differ;
+      differ = distinct_cut (files_named u) (files_named (without_family u family)) cut is.differ;
     }
 
 -- Its files hold what they held.
 pub without_stored : (image : Image) (u : Version) (family : ℕ) (held : Held)
     (parts : List (List Write)) → Stored image u held parts
-    → Stored image (without u family) held parts
+    → Stored image (without_family u family) held parts
 without_stored image u family held parts stored = record {
   files = files_none u.families stored.files;
   segments = stored.segments;
@@ -319,7 +320,7 @@ without_stored image u family held parts stored = record {
 -- The family has no rows.
 pub without_rows : (u : Version) (family : ℕ) (held : Held) (ws : List Write) → IsVersion u
     → u.next_number ≡ next_after u.next_number ws
-    → family_rows (without u family).families held ws family ≡ empty
+    → family_rows (without_family u family).families held ws family ≡ empty
 without_rows u family held ws is top =
     let files = files_of-none family (u.next_number - 1) u.families is.rising in
     let flushed = flushed_of-none family (u.next_number - 1) u.families in
@@ -329,7 +330,7 @@ without_rows u family held ws is top =
 
 -- Each other one has what it had.
 pub without_others : (u : Version) (family other : ℕ) (held : Held) (ws : List Write)
-    → other ≢ family → family_rows (without u family).families held ws other
+    → other ≢ family → family_rows (without_family u family).families held ws other
     ≡ family_rows u.families held ws other
 without_others u family other held ws apart = λ i.
     with_later (none-other (λ (f : FamilyVersion). f.flushed) family (u.next_number - 1) other 0

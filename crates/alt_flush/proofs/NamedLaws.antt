@@ -8,7 +8,7 @@ use Rattle.alt_layout.specs.Families.{files_of, flushed_of}
 use Rattle.alt_layout.specs.Flushes.{with_file}
 use Rattle.alt_layout.specs.Merged.{with_made}
 use Rattle.alt_layout.proofs.FileLaws.{in_either}
-use Rattle.alt_layout.proofs.FlushLaws.{files_of-own, flushed_of-own, of-other, put_file}
+use Rattle.alt_layout.proofs.FlushedFiles.{files_of-own, flushed_of-own, of-other, put_file}
 use Rattle.alt_flush.specs.Drafts.{kept_before, with_files, with_none}
 use Rattle.alt_flush.specs.Laws.{FlushDrops, FlushNames, LogDrops, LogNames, MergeDrops, WithoutDrops, WithoutNames}
 use Rattle.alt_flush.proofs.DropLaws.{files_of-none, flushed_of-none, none-other}

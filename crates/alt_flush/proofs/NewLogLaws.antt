@@ -13,7 +13,8 @@ use Rattle.alt_manifest.specs.declared.version.Version.{Version}
 use Rattle.alt_layout.specs.Families.{Held, flushed_of, files_of, with_later, next_after, joined_files, layout_of}
 use Rattle.alt_layout.specs.Files.{Image, AreRowFiles, IsSegment, Stored, all_of}
 use Rattle.alt_layout.proofs.FamilyLaws.{same_layouts}
-use Rattle.alt_layout.proofs.FlushLaws.{above_all, all_later, count_numbers, differs, numbers_fit, rise_count}
+use Rattle.alt_layout.proofs.FlushLaws.{above_all, all_later, count_numbers, numbers_fit, rise_count}
+use Rattle.alt_layout.proofs.FlushedFiles.{differs}
 use Rattle.alt_layout.proofs.RowLaws.{none_behind, with_later-from}
 use Rattle.alt_flush.specs.Drafts.{kept_before, over_new_log, with_files}
 use Rattle.alt_manifest.proofs.Among.{distinct_back, rise_lower}

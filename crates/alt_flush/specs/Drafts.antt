@@ -45,8 +45,8 @@ with_none family flushed (f ∷ fs) =
     else f ∷ with_none family flushed fs)
 
 -- The draft in which the family has no files, and no write so far counts for it.
-abbrev pub without : Version → ℕ → Version
-without u family = record {
+abbrev pub without_family : Version → ℕ → Version
+without_family u family = record {
   next_file = u.next_file;
   next_number = u.next_number;
   segments = u.segments;

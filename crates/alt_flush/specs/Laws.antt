@@ -5,7 +5,7 @@ use Rattle.alt_manifest.specs.declared.version.FamilyVersion.{FamilyVersion}
 use Rattle.alt_manifest.specs.declared.version.Version.{Version}
 use Rattle.alt_layout.specs.Families.{files_of, flushed_of}
 use Rattle.alt_layout.specs.Merged.{version_made}
-use Rattle.alt_flush.specs.Drafts.{over_new_log, with_flush, with_segment, without}
+use Rattle.alt_flush.specs.Drafts.{over_new_log, with_flush, with_segment, without_family}
 
 -- The family has these files, up to this number, and each other family is as it was.
 pub record HasFiles (old new : List FamilyVersion) (family : ℕ) (files : List ℕ)
@@ -32,12 +32,12 @@ FlushDrops = (u : Version) (family : ℕ) → DropsOnly u (with_flush u family) 
 -- A family that is left out has no files, and is flushed up to the last write.
 abbrev pub WithoutNames : Type 0
 WithoutNames = (u : Version) (family : ℕ) → RiseFrom 0 (numbers_of u.families)
-    → HasFiles u.families (without u family).families family [] (u.next_number - 1)
+    → HasFiles u.families (without_family u family).families family [] (u.next_number - 1)
 
 -- Its files go.
 abbrev pub WithoutDrops : Type 0
 WithoutDrops = (u : Version) (family : ℕ)
-    → DropsOnly u (without u family) (files_of u.families family)
+    → DropsOnly u (without_family u family) (files_of u.families family)
 
 -- Over a new log each family has the files that it had, and one without files isn't named.
 abbrev pub LogNames : Type 0

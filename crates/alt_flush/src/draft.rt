@@ -1,7 +1,7 @@
 //! The steps by which a draft of the next version comes from the last one.
 
 ghost use Rattle.std.specs.Prelude.{◌≡◌, ◌<◌, ◌+◌, ◌-◌, ◌^◌, IfOk};
-ghost use Rattle.alt_flush.specs.Drafts.{over_new_log, renumbered, with_flush, with_segment, without};
+ghost use Rattle.alt_flush.specs.Drafts.{over_new_log, renumbered, with_flush, with_segment, without_family};
 
 use crate::lists::{copy_files, put_copies, with_file, with_files, with_none};
 use alt_base::NoMemory;
@@ -51,7 +51,7 @@ pub fn with_flush(alloc: Global, old: &Version, family: u32) -> Result<Version, 
 
 /// The draft in which a family has no files, and no write so far counts for it.
 pub fn without(alloc: Global, old: &Version, family: u32) -> Result<Version, NoMemory>
-    ensures { IfOk result (λ v. v ≡ without old.now family) }
+    ensures { IfOk result (λ v. v ≡ without_family old.now family) }
 {
     let segments = copy_files(alloc, old.segments.as_slice())?;
     let families = with_none(

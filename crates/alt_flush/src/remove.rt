@@ -4,8 +4,8 @@ ghost use Rattle.std.specs.Prelude.{◌≡◌, ℕ, None, OnOk, OnErr, IsTrue, �
 ghost use Rattle.alt_base.specs.Counts.{Rose};
 ghost use Rattle.alt_disk.specs.Disk.{IsTrusted, Goes};
 ghost use Rattle.alt_disk.specs.Runs.{Spans};
-ghost use Rattle.alt_manifest.specs.Rules.{Tells};
-ghost use Rattle.alt_manifest.specs.Versions.{IsIn, files_named, row_files};
+ghost use Rattle.alt_manifest.specs.Rules.{Reflects};
+ghost use Rattle.alt_manifest.specs.Versions.{IsIn, row_files};
 ghost use Rattle.alt_layout.specs.Files.{IsOf};
 ghost use Rattle.alt_flush.specs.Drafts.{IsLeftOver};
 
@@ -61,7 +61,7 @@ fn remove_one<D: Disk>(disk: &mut D, file: u32, version: &Version) -> Result<(),
 
 /// Whether the file belongs to the store of this version.
 fn is_of(version: &Version, file: u32) -> bool
-    ensures { Tells result (IsOf version.now file) }
+    ensures { Reflects result (IsOf version.now file) }
 {
     if file == VERSIONS {
         return true;
@@ -73,7 +73,7 @@ fn is_of(version: &Version, file: u32) -> bool
 }
 
 fn has_row_file(families: &[FamilyVersion], file: u32) -> bool
-    ensures { Tells result (IsIn (row_files families.now) file) }
+    ensures { Reflects result (IsIn (row_files families.now) file) }
 {
     for family in families {
         if has(family.files.as_slice(), file) {
@@ -85,7 +85,7 @@ fn has_row_file(families: &[FamilyVersion], file: u32) -> bool
 
 /// Whether the number is among these.
 pub fn has(numbers: &[u32], number: u32) -> bool
-    ensures { Tells result (IsIn numbers.now number) }
+    ensures { Reflects result (IsIn numbers.now number) }
 {
     for n in numbers {
         if *n == number {

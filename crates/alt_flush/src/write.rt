@@ -5,8 +5,8 @@ ghost use Rattle.std.specs.FinMap.{entries};
 ghost use Rattle.alt_base.specs.Counts.{Rose};
 ghost use Rattle.alt_disk.specs.Disk.{IsTrusted, Goes};
 ghost use Rattle.alt_disk.specs.Runs.{Run};
-ghost use Rattle.alt_rowfile.specs.InHand.{file_of, Stands};
-ghost use Rattle.alt_rowfile.specs.Sinks.{Anything};
+ghost use Rattle.alt_rowfile.specs.InHand.{file_of, StandsForRows};
+ghost use Rattle.alt_rowfile.specs.Sinks.{AnyFileContents};
 
 use alt_cells::{RowCells, RowWriter};
 use alt_disk::{Disk, DiskFault};
@@ -26,9 +26,9 @@ pub fn write_rows<D: Disk>(
     requires { IsTrusted (D.state disk.old) → (D.state disk.old).file f ≡ None }
     ensures file { IfOk result (λ file. file_of file ≡ f) }
     ensures rows { IfOk result (λ file. IsTrusted (D.state disk.old)
-        → Stands (D.state disk.new) file (entries table.now.0)) }
+        → StandsForRows (D.state disk.new) file (entries table.now.0)) }
     ensures any_moment { IsTrusted (D.state disk.old)
-        → Run (D.state disk.old) (D.state disk.new) f Anything }
+        → Run (D.state disk.old) (D.state disk.new) f AnyFileContents }
     ensures goes { Goes (D.state disk.old) (D.state disk.new) }
     ensures cause { IsErrOf result DiskFault.Failed
         → Rose (D.state disk.old).faults (D.state disk.new).faults }

@@ -3,8 +3,8 @@ use Rattle.std.proofs.Common.{◌≡◌, ◌<◌, ◌≤◌, ◌+◌, ◌^◌, i
 use Rattle.std.proofs.lemmas.List.{append-nil, drop_more, drop-drop, length-take-le, length-take}
 use Rattle.std.specs.Int.{w64, to_be_bytes, from_be_bytes}
 use Rattle.std.specs.List.{AllByRecursion}
-use Rattle.alt_gatelog.specs.Log.{framed, header, log_front, gates_from, IsCut, IsShortEntry, ExplainsLog}
-use Rattle.alt_gatelog.specs.Log.IsDamaged.{ends_inside}
+use Rattle.alt_gatelog.specs.Log.{framed, header, log_front, gates_from, IsCutEntry, IsShortEntry, ExplainsLog}
+use Rattle.alt_gatelog.specs.Log.LogIsDamagedAt.{ends_inside}
 use Rattle.alt_gatelog.specs.Parse.{HasEntry, IsCutAt}
 use Rattle.alt_gatelog.specs.declared.fault.LogFault.{LogFault}
 use Rattle.alt_gatelog.specs.declared.form.Form.{Form}
@@ -96,18 +96,18 @@ read_start form bytes head long = record {
 }
 
 -- the first nine bytes from a place on are none where nothing stands there
-pub cut_empty : (ahead : List ℕ) → take 9 ahead ≡ [] → IsCut ahead
+pub cut_empty : (ahead : List ℕ) → take 9 ahead ≡ [] → IsCutEntry ahead
 cut_empty [] none = tt
 cut_empty (b ∷ ahead) none = absurd (let empty : b ∷ take 8 ahead ≡ [] = none in cc empty)
 
 -- fewer than nine bytes from an open gate on hold no length
-pub cut_short : (ahead : List ℕ) → get_or ahead 0 0 ≡ 1 → length ahead < 9 → IsCut ahead
+pub cut_short : (ahead : List ℕ) → get_or ahead 0 0 ≡ 1 → length ahead < 9 → IsCutEntry ahead
 cut_short [] gate short = tt
 cut_short (b ∷ ahead) gate short = (gate, inl (omega (arith, short)))
 
 -- and fewer than the length says no entry
 pub cut_long : (ahead : List ℕ) (n : ℕ) → get_or ahead 0 0 ≡ 1
-    → from_be_bytes w64 (take 8 (drop 1 ahead)) ≡ n → length ahead < 9 + n → IsCut ahead
+    → from_be_bytes w64 (take 8 (drop 1 ahead)) ≡ n → length ahead < 9 + n → IsCutEntry ahead
 cut_long [] n gate number short = tt
 cut_long (b ∷ ahead) n gate number short = (gate, inr (omega (arith, short, number)))
 

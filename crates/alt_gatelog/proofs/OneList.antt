@@ -4,8 +4,8 @@ use Rattle.std.proofs.lemmas.List.{take_at, drop_at}
 use Rattle.std.proofs.lemmas.Nat.{from_be_bytes-to_be_bytes_8}
 use Rattle.std.specs.Int.{w64, to_be_bytes, from_be_bytes}
 use Rattle.std.specs.List.{AllByRecursion}
-use Rattle.alt_gatelog.specs.Log.{header, framed, behind_gates, log_front, IsLog, IsShortEntry, IsCut, IsDamaged, ExplainsLog}
-use Rattle.alt_gatelog.specs.Log.IsDamaged.{no_header, ends_inside}
+use Rattle.alt_gatelog.specs.Log.{header, framed, behind_gates, log_front, IsLog, IsShortEntry, IsCutEntry, LogIsDamagedAt, ExplainsLog}
+use Rattle.alt_gatelog.specs.Log.LogIsDamagedAt.{no_header, ends_inside}
 use Rattle.alt_gatelog.specs.Parse.{HasNoLog, HasNoHeader}
 use Rattle.alt_gatelog.specs.declared.fault.LogFault.{LogFault}
 use Rattle.alt_gatelog.specs.declared.fault.LogFault.TheVariants.{Damaged, Failed, NoMemory}
@@ -62,7 +62,7 @@ closed_none gate rest closed entry more short same =
     closed (let first : gate ∷ rest ≡ 1 ∷ (framed entry ++ more) = same in cc first)
 
 -- nor where the bytes end inside of one
-cut_none : (bytes : List ℕ) → IsCut bytes → NoEntry bytes
+cut_none : (bytes : List ℕ) → IsCutEntry bytes → NoEntry bytes
 cut_none [] cut entry more short same = let none : [] ≡ 1 ∷ (framed entry ++ more) = same in cc none
 cut_none (gate ∷ rest) cut entry more short same =
     let whole : gate ∷ rest ≡ 1 ∷ (framed entry ++ more) = same in
@@ -166,21 +166,21 @@ one_form form other file a b first second =
     ≡ log_front other b ++ second.gate ∷ second.rest = cc bytes in inner)
 
 -- no closed gate is an open one
-log_cut : (gate : ℕ) (rest : List ℕ) → gate ≢ 1 → IsCut (gate ∷ rest) → ⊥
+log_cut : (gate : ℕ) (rest : List ℕ) → gate ≢ 1 → IsCutEntry (gate ∷ rest) → ⊥
 log_cut gate rest closed cut = closed cut.0
 
 -- where bytes end inside of an entry of a log of one form they are no log of it
 cut_no_log : (form : Form) (bytes : List ℕ) (entries read : List (List ℕ))
     (gate : ℕ) (behind rest : List ℕ) → gate ≢ 1 → AllByRecursion IsShortEntry entries
     → AllByRecursion IsShortEntry read → bytes ≡ log_front form entries ++ gate ∷ behind
-    → bytes ≡ log_front form read ++ rest → IsCut rest → ⊥
+    → bytes ≡ log_front form read ++ rest → IsCutEntry rest → ⊥
 cut_no_log form bytes entries read gate behind rest closed short lengths whole is cut =
     let same = same_fronts form entries read (gate ∷ behind) rest short lengths
     (closed_none gate behind closed) (cut_none rest cut) (sym whole ∙ is) in
-    log_cut gate behind closed (subst IsCut (sym same.1) cut)
+    log_cut gate behind closed (subst IsCutEntry (sym same.1) cut)
 
 -- damaged bytes are none
-pub damaged_no_log : (at : ℕ) (bytes : List ℕ) → IsDamaged at bytes → (form : Form)
+pub damaged_no_log : (at : ℕ) (bytes : List ℕ) → LogIsDamagedAt at bytes → (form : Form)
     (entries : List (List ℕ)) → IsLog form entries (Some bytes) → ⊥
 damaged_no_log at bytes (no_header is none) form entries log =
     let whole : Some bytes ≡ Some (log_front form entries ++ log.gate ∷ log.rest) = log.is in

@@ -13,36 +13,36 @@ abbrev pub form_of : GateLog → Form
 form_of log = log.form
 
 -- the number of its file
-abbrev pub file_of : GateLog → ℕ
-file_of log = log.file
+abbrev pub file_of_gate_log : GateLog → ℕ
+file_of_gate_log log = log.file
 
 -- how many entries it has
 abbrev pub count_of : GateLog → ℕ
 count_of log = length log.places.items
 
 -- the place of an entry's gate
-abbrev pub place_of : GateLog → ℕ → ℕ
-place_of log i = get_or log.places.items i 0
+abbrev pub place_of_gate : GateLog → ℕ → ℕ
+place_of_gate log i = get_or log.places.items i 0
 
 -- the place behind an entry: the next gate's
 abbrev pub end_of : GateLog → ℕ → ℕ
-end_of log i = if i + 1 == count_of log then log.gate else place_of log (i + 1)
+end_of log i = if i + 1 == count_of log then log.gate else place_of_gate log (i + 1)
 
 -- the place of its bytes, behind its gate and its length
 abbrev pub bytes_place : GateLog → ℕ → ℕ
-bytes_place log i = place_of log i + 9
+bytes_place log i = place_of_gate log i + 9
 
 -- and how many these are
-abbrev pub length_of : GateLog → ℕ → ℕ
-length_of log i = end_of log i - bytes_place log i
+abbrev pub length_of_entry : GateLog → ℕ → ℕ
+length_of_entry log i = end_of log i - bytes_place log i
 
 -- Bytes that were read for an entry: as many as it has, by one read that answered, which asked for them all. Where the disk tells
 -- what it has they are those that stand there, whatever else the file has.
 pub record IsEntryRead (old new : DiskState) (log : GateLog) (i : ℕ) (bytes : List ℕ) : Type 0 where
-  pub size : length bytes ≡ length_of log i
-  pub read : ReadCall old new (file_of log) (bytes_place log i) (length_of log i) true
+  pub size : length bytes ≡ length_of_entry log i
+  pub read : ReadCall old new (file_of_gate_log log) (bytes_place log i) (length_of_entry log i) true
   pub there : IsTrue old.tells
-      → bytes ≡ take (length_of log i) (drop (bytes_place log i) (contents old (file_of log)))
+      → bytes ≡ take (length_of_entry log i) (drop (bytes_place log i) (contents old (file_of_gate_log log)))
 
 -- a list has become longer by such bytes
 pub record HasRead (old new : DiskState) (log : GateLog) (i : ℕ) (before after : List ℕ) : Type 0 where
@@ -62,8 +62,8 @@ pub record LogAs (form : Form) (bytes : List ℕ) (at : ℕ) (places : List ℕ)
   pub are_at : places ≡ gates_from 8 entries
 
 -- the log is that of these bytes
-abbrev pub IsReadAs : List ℕ → GateLog → List (List ℕ) → Type 0
-IsReadAs bytes log entries = LogAs (form_of log) bytes log.gate log.places.items entries
+abbrev pub IsReadAsLog : List ℕ → GateLog → List (List ℕ) → Type 0
+IsReadAsLog bytes log entries = LogAs (form_of log) bytes log.gate log.places.items entries
 
 -- a file that reads as a gated log of these entries, with the closed gate and the entries' gates at these places
 pub record ReadsAs (form : Form) (s : DiskState) (f at : ℕ) (places : List ℕ)
@@ -77,8 +77,8 @@ pub record ReadsAs (form : Form) (s : DiskState) (f at : ℕ) (places : List ℕ
   pub are_at : places ≡ gates_from 8 entries
 
 -- the log in hand is that of its file as it reads, a gated log of these entries
-abbrev pub Reads : DiskState → GateLog → List (List ℕ) → Type 0
-Reads s log entries = ReadsAs (form_of log) s log.file log.gate log.places.items entries
+abbrev pub ReadsEntries : DiskState → GateLog → List (List ℕ) → Type 0
+ReadsEntries s log entries = ReadsAs (form_of log) s log.file log.gate log.places.items entries
 
 -- and a stop leaves its file as it reads
 pub record StandsAs (form : Form) (s : DiskState) (f at : ℕ) (places : List ℕ)
@@ -87,8 +87,8 @@ pub record StandsAs (form : Form) (s : DiskState) (f at : ℕ) (places : List �
   pub settled : IsSettled s f
 
 -- the log in hand stands for these entries, in reads and in what a stop now leaves
-abbrev pub Stands : DiskState → GateLog → List (List ℕ) → Type 0
-Stands s log entries = StandsAs (form_of log) s log.file log.gate log.places.items entries
+abbrev pub StandsForEntries : DiskState → GateLog → List (List ℕ) → Type 0
+StandsForEntries s log entries = StandsAs (form_of log) s log.file log.gate log.places.items entries
 
 -- it is the same log: a call left it as it was
 pub record SameLog (old new : GateLog) : Type 0 where

@@ -3,8 +3,8 @@ use Rattle.std.specs.Prelude.{◌≡◌, ◌≢◌, ℕ, List, Option, Some, ⊤
 use Rattle.alt_disk.specs.Fates.{Fits}
 use Rattle.alt_disk.specs.Disk.{DiskState, now}
 use Rattle.alt_disk.specs.Runs.{Run, Quiet}
-use Rattle.alt_gatelog.specs.Log.{IsLog, IsDamaged}
-use Rattle.alt_gatelog.specs.InHand.{file_of, form_of, Stands}
+use Rattle.alt_gatelog.specs.Log.{IsLog, LogIsDamagedAt}
+use Rattle.alt_gatelog.specs.InHand.{file_of_gate_log, form_of, StandsForEntries}
 use Rattle.alt_gatelog.specs.declared.form.Form.{Form}
 use Rattle.alt_gatelog.specs.declared.gatelog.GateLog.{GateLog}
 
@@ -20,20 +20,20 @@ OneForm = (form other : Form) (file : Option (List ℕ)) (a b : List (List ℕ))
 
 -- where bytes are damaged they are no gated log
 abbrev pub DamagedIsNone : Type 0
-DamagedIsNone = (at : ℕ) (bytes : List ℕ) → IsDamaged at bytes → (form : Form)
+DamagedIsNone = (at : ℕ) (bytes : List ℕ) → LogIsDamagedAt at bytes → (form : Form)
     → (entries : List (List ℕ)) → IsLog form entries (Some bytes) → ⊥
 
 -- where a log in hand stands, each stop leaves its file as a gated log of its entries
-abbrev pub InEachImage : Type 0
-InEachImage = (s : DiskState) (log : GateLog) (entries : List (List ℕ)) → Stands s log entries
-    → (left : Option (List ℕ)) → Fits (now s (file_of log)) left → IsLog (form_of log) entries left
+abbrev pub EachStopLeavesLog : Type 0
+EachStopLeavesLog = (s : DiskState) (log : GateLog) (entries : List (List ℕ)) → StandsForEntries s log entries
+    → (left : Option (List ℕ)) → Fits (now s (file_of_gate_log log)) left → IsLog (form_of log) entries left
 
 -- a log in hand stands as it stood while calls touch another file
 abbrev pub StaysElsewhere : Type 0
 StaysElsewhere = (a b : DiskState) (log : GateLog) (entries : List (List ℕ)) (f : ℕ)
-    → Stands a log entries → Run a b f (λ _ _. ⊤) → file_of log ≢ f → Stands b log entries
+    → StandsForEntries a log entries → Run a b f (λ _ _. ⊤) → file_of_gate_log log ≢ f → StandsForEntries b log entries
 
 -- and while calls leave every file
 abbrev pub StaysQuiet : Type 0
-StaysQuiet = (a b : DiskState) (log : GateLog) (entries : List (List ℕ)) → Stands a log entries
-    → Quiet a b → Stands b log entries
+StaysQuiet = (a b : DiskState) (log : GateLog) (entries : List (List ℕ)) → StandsForEntries a log entries
+    → Quiet a b → StandsForEntries b log entries

@@ -61,20 +61,20 @@ BeforeOrAfter form entries entry t file =
     IsLog form entries file ⊎ IsLog form (entries ++ entry ∷ []) file
 
 -- behind whole entries there is the end, or an open gate with no whole entry behind it
-abbrev pub IsCut : List ℕ → Type 0
-IsCut [] = Unit {0}
-IsCut (gate ∷ rest) = (gate ≡ 1) × ((length rest < 8)
+abbrev pub IsCutEntry : List ℕ → Type 0
+IsCutEntry [] = Unit {0}
+IsCutEntry (gate ∷ rest) = (gate ≡ 1) × ((length rest < 8)
     ⊎ (length rest < 8 + from_be_bytes w64 (take 8 rest)))
 
 -- the bytes are no gated log of either form from this place on: they have no header, or end there
-pub data IsDamaged (at : ℕ) (bytes : List ℕ) : Type 0 where
-  no_header : at ≡ 0 → ((form : Form) → take 8 bytes ≡ header form → ⊥) → IsDamaged at bytes
+pub data LogIsDamagedAt (at : ℕ) (bytes : List ℕ) : Type 0 where
+  no_header : at ≡ 0 → ((form : Form) → take 8 bytes ≡ header form → ⊥) → LogIsDamagedAt at bytes
   ends_inside : (form : Form) (entries : List (List ℕ)) (rest : List ℕ)
       → bytes ≡ log_front form entries ++ rest → AllByRecursion IsShortEntry entries
-      → at ≡ length (log_front form entries) → IsCut rest → IsDamaged at bytes
+      → at ≡ length (log_front form entries) → IsCutEntry rest → LogIsDamagedAt at bytes
 
 -- a fault of this file's bytes names the place where they are no gated log
 abbrev pub ExplainsLog : ℕ → List ℕ → LogFault → Type 0
-ExplainsLog f bytes (Damaged file at) = (file ≡ f) × IsDamaged at bytes
+ExplainsLog f bytes (Damaged file at) = (file ≡ f) × LogIsDamagedAt at bytes
 ExplainsLog f bytes Failed = Unit {0}
 ExplainsLog f bytes NoMemory = Unit {0}

@@ -1,6 +1,6 @@
 -- What stands at a gate's place, and what a disk gives of it.
 use Rattle.std.specs.Prelude.{◌≡◌, ◌≢◌, ◌+◌, ◌<◌, ◌≤◌, ℕ, List, ◌∷◌, ◌++◌, length, get_or, take, drop, Some}
-use Rattle.alt_gatelog.specs.Log.{framed, header, IsCut, IsLog}
+use Rattle.alt_gatelog.specs.Log.{framed, header, IsCutEntry, IsLog}
 use Rattle.alt_gatelog.specs.declared.fault.LogFault.{LogFault}
 use Rattle.alt_gatelog.specs.declared.fault.LogFault.TheVariants.{Damaged, Failed, NoMemory}
 use Rattle.alt_gatelog.specs.declared.form.Form.{Form}
@@ -26,7 +26,7 @@ HasRoom left (Open n) = 9 + n ≤ left
 
 -- damaged at this place, where the bytes end too early
 abbrev pub IsCutAt : ℕ → ℕ → List ℕ → LogFault → Type 0
-IsCutAt f at bytes (Damaged file place) = (file ≡ f) × (place ≡ at) × IsCut (drop at bytes)
+IsCutAt f at bytes (Damaged file place) = (file ≡ f) × (place ≡ at) × IsCutEntry (drop at bytes)
 IsCutAt f at bytes Failed = Unit {0}
 IsCutAt f at bytes NoMemory = Unit {0}
 

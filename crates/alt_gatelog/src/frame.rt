@@ -1,9 +1,9 @@
 //! An entry as it stands in the file: its gate, its length in eight bytes, and its bytes.
 
-ghost use Rattle.std.specs.Prelude.{◌≡◌, ◌<◌, ◌≤◌, ◌+◌, ◌-◌, ◌^◌, ◌∷◌, ◌++◌, [], ℕ, List, IfOk, IfSome, IfNone, length, take, drop};
+ghost use Rattle.std.specs.Prelude.{◌≡◌, ◌<◌, ◌+◌, ◌-◌, ℕ, List, IfOk, IfSome, IfNone, length, take, drop};
 ghost use Rattle.std.specs.Int.{w64, to_be_bytes};
 ghost use Rattle.alt_gatelog.specs.InHand.{IsFramed};
-ghost use Rattle.alt_gatelog.specs.Log.{IsCut};
+ghost use Rattle.alt_gatelog.specs.Log.{IsCutEntry};
 ghost use Rattle.alt_gatelog.specs.Parse.{GateIs, HasRoom};
 
 use std::alloc::{AllocError, Global};
@@ -34,7 +34,7 @@ pub(crate) fn gate_of(head: &[u8], left: u64) -> Option<Gate>
     ensures some { IfSome result (λ gate. (bytes : List ℕ) (at : ℕ)
         → head.now ≡ take 9 (drop at bytes) → left ≡ length bytes - at → GateIs bytes at gate) }
     ensures none { IfNone result ((bytes : List ℕ) (at : ℕ) → head.now ≡ take 9 (drop at bytes)
-        → left ≡ length bytes - at → IsCut (drop at bytes)) }
+        → left ≡ length bytes - at → IsCutEntry (drop at bytes)) }
     ensures room { IfSome result (λ gate. HasRoom left gate) }
 {
     if head.is_empty() || left == 0 {

@@ -30,7 +30,7 @@ impl GateLog {
     ghost use Rattle.alt_disk.specs.Disk.{DiskState, IsTrusted, Goes, contents};
     ghost use Rattle.alt_disk.specs.Runs.{Run, Quiet};
     ghost use Rattle.alt_gatelog.specs.Log.{log_bytes, log_after, gate_place, BeforeOrAfter, ExplainsLog};
-    ghost use Rattle.alt_gatelog.specs.InHand.{file_of, form_of, count_of, end_of, HasPlace, HasRead, IsFramed, Reads, SameLog, Stands};
+    ghost use Rattle.alt_gatelog.specs.InHand.{file_of_gate_log, form_of, count_of, end_of, HasPlace, HasRead, IsFramed, ReadsEntries, SameLog, StandsForEntries};
     ghost use Rattle.alt_gatelog.specs.Parse.{HasNoLog, IsNoDamage, IsDamageAt};
 
     /// Makes an empty log of a form in a missing file, which then has nine bytes.
@@ -41,11 +41,11 @@ impl GateLog {
         form: Form,
     ) -> Result<GateLog, DiskFault>
         requires { IsTrusted (D.state disk.old) → (D.state disk.old).file f ≡ None }
-        ensures file { IfOk result (λ log. file_of log ≡ f) }
+        ensures file { IfOk result (λ log. file_of_gate_log log ≡ f) }
         ensures given { IfOk result (λ log. form_of log ≡ form) }
         ensures room { IfOk result HasPlace }
         ensures made { IfOk result (λ log. IsTrusted (D.state disk.old)
-            → Stands (D.state disk.new) log []) }
+            → StandsForEntries (D.state disk.new) log []) }
         ensures bytes { IfOk result (λ log. IsTrusted (D.state disk.old)
             → (D.state disk.new).file f ≡ Some (log_bytes (form_of log) [] 0 [])) }
         ensures any_moment { IsTrusted (D.state disk.old)
@@ -74,29 +74,29 @@ impl GateLog {
     /// since the file may read with the entry or without.
     pub fn append<D: Disk>(&mut self, disk: &mut D, bytes: &[u8]) -> Result<(), DiskFault>
         requires { IsTrusted (D.state disk.old)
-            → (entries : List (List ℕ)) × Reads (D.state disk.old) self.old entries }
-        ensures file { file_of self.new ≡ file_of self.old }
+            → (entries : List (List ℕ)) × ReadsEntries (D.state disk.old) self.old entries }
+        ensures file { file_of_gate_log self.new ≡ file_of_gate_log self.old }
         ensures form { form_of self.new ≡ form_of self.old }
 
         // At Ok the list is the old one with the entry, as the disk reads and in what a stop leaves, and ends with the closed gate 00.
         ensures ok { OnOk result (IsTrusted (D.state disk.old) → (entries : List (List ℕ))
-            → Reads (D.state disk.old) self.old entries
-            → Stands (D.state disk.new) self.new (entries ++ bytes.now ∷ [])) }
+            → ReadsEntries (D.state disk.old) self.old entries
+            → StandsForEntries (D.state disk.new) self.new (entries ++ bytes.now ∷ [])) }
         ensures bytes { OnOk result (IsTrusted (D.state disk.old) → (entries : List (List ℕ))
-            → (reads : Reads (D.state disk.old) self.old entries)
-            → (D.state disk.new).file (file_of self.old)
+            → (reads : ReadsEntries (D.state disk.old) self.old entries)
+            → (D.state disk.new).file (file_of_gate_log self.old)
             ≡ Some (log_after (form_of self.old) entries bytes.now reads.rest)) }
         ensures err { OnErr result (SameLog self.old self.new) }
 
         // Where a stop left the log so before, one at any moment of the call leaves the list from before it, or with the entry.
         ensures any_moment { IsTrusted (D.state disk.old) → (entries : List (List ℕ))
-            → Stands (D.state disk.old) self.old entries
-            → Run (D.state disk.old) (D.state disk.new) (file_of self.old)
+            → StandsForEntries (D.state disk.old) self.old entries
+            → Run (D.state disk.old) (D.state disk.new) (file_of_gate_log self.old)
             (BeforeOrAfter (form_of self.old) entries bytes.now) }
 
         // Other files stay as they were, in reads and in what a stop leaves.
         ensures others { IsTrusted (D.state disk.old)
-            → Run (D.state disk.old) (D.state disk.new) (file_of self.old) (λ _ _. ⊤) }
+            → Run (D.state disk.old) (D.state disk.new) (file_of_gate_log self.old) (λ _ _. ⊤) }
         ensures no_memory { IsErrOf result DiskFault.NoMemory
             → D.state disk.new ≡ D.state disk.old }
         ensures calls { OnOk result ((D.state disk.new).moment ≡ (D.state disk.old).moment + 4) }
@@ -122,27 +122,27 @@ impl GateLog {
     /// Adds an entry by its frame, as `append` does. It takes no memory.
     pub fn add<D: Disk>(&mut self, disk: &mut D, block: &[u8]) -> Result<(), Failed>
         requires reads { IsTrusted (D.state disk.old)
-            → (entries : List (List ℕ)) × Reads (D.state disk.old) self.old entries }
+            → (entries : List (List ℕ)) × ReadsEntries (D.state disk.old) self.old entries }
         requires room { HasPlace self.old }
-        ensures file { file_of self.new ≡ file_of self.old }
+        ensures file { file_of_gate_log self.new ≡ file_of_gate_log self.old }
         ensures form { form_of self.new ≡ form_of self.old }
         ensures ok { OnOk result (IsTrusted (D.state disk.old)
             → (entries : List (List ℕ)) (entry : List ℕ) → IsFramed block.now entry
-            → Reads (D.state disk.old) self.old entries
-            → Stands (D.state disk.new) self.new (entries ++ entry ∷ [])) }
+            → ReadsEntries (D.state disk.old) self.old entries
+            → StandsForEntries (D.state disk.new) self.new (entries ++ entry ∷ [])) }
         ensures bytes { OnOk result (IsTrusted (D.state disk.old)
             → (entries : List (List ℕ)) (entry : List ℕ) → IsFramed block.now entry
-            → (reads : Reads (D.state disk.old) self.old entries)
-            → (D.state disk.new).file (file_of self.old)
+            → (reads : ReadsEntries (D.state disk.old) self.old entries)
+            → (D.state disk.new).file (file_of_gate_log self.old)
             ≡ Some (log_after (form_of self.old) entries entry reads.rest)) }
         ensures err { OnErr result (SameLog self.old self.new) }
         ensures any_moment { IsTrusted (D.state disk.old)
             → (entries : List (List ℕ)) (entry : List ℕ) → IsFramed block.now entry
-            → Stands (D.state disk.old) self.old entries
-            → Run (D.state disk.old) (D.state disk.new) (file_of self.old)
+            → StandsForEntries (D.state disk.old) self.old entries
+            → Run (D.state disk.old) (D.state disk.new) (file_of_gate_log self.old)
             (BeforeOrAfter (form_of self.old) entries entry) }
         ensures others { IsTrusted (D.state disk.old)
-            → Run (D.state disk.old) (D.state disk.new) (file_of self.old) (λ _ _. ⊤) }
+            → Run (D.state disk.old) (D.state disk.new) (file_of_gate_log self.old) (λ _ _. ⊤) }
         ensures calls { OnOk result ((D.state disk.new).moment ≡ (D.state disk.old).moment + 4) }
         ensures goes { Goes (D.state disk.old) (D.state disk.new) }
         ensures cause { OnErr result (Rose (D.state disk.old).faults (D.state disk.new).faults) }
@@ -165,7 +165,7 @@ impl GateLog {
     /// How many entries there are.
     pub fn entries(&self) -> usize
         ensures count { result ≡ count_of self.now }
-        ensures list { (s : DiskState) (entries : List (List ℕ)) → Reads s self.now entries
+        ensures list { (s : DiskState) (entries : List (List ℕ)) → ReadsEntries s self.now entries
             → result ≡ length entries }
     {
         self.places.len()
@@ -174,7 +174,7 @@ impl GateLog {
     /// The place of an entry's gate.
     pub fn place(&self, i: usize) -> u64
         requires { i < count_of self.now }
-        ensures { (s : DiskState) (entries : List (List ℕ)) → Reads s self.now entries
+        ensures { (s : DiskState) (entries : List (List ℕ)) → ReadsEntries s self.now entries
             → result ≡ gate_place entries i }
     {
         self.places[i]
@@ -182,9 +182,9 @@ impl GateLog {
 
     /// Reads the log of a file, of either form. It holds the places of the entries, and no entry.
     pub fn recover<D: Disk>(alloc: Global, disk: &mut D, f: u32) -> Result<GateLog, LogFault>
-        ensures file { IfOk result (λ log. file_of log ≡ f) }
+        ensures file { IfOk result (λ log. file_of_gate_log log ≡ f) }
         ensures reads { IfOk result (λ log. IsTrue (D.state disk.old).tells
-            → (entries : List (List ℕ)) × Reads (D.state disk.new) log entries) }
+            → (entries : List (List ℕ)) × ReadsEntries (D.state disk.new) log entries) }
         ensures damaged { IsTrue (D.state disk.old).tells
             → IfErr result (ExplainsLog f (contents (D.state disk.old) f)) }
         ensures no_log { IsTrue (D.state disk.old).tells
@@ -213,15 +213,15 @@ impl GateLog {
     ) -> Result<(), LogFault>
         requires { i < count_of self.old }
         ensures ok { OnOk result (IsTrue (D.state disk.old).tells → (entries : List (List ℕ))
-            → Reads (D.state disk.old) self.old entries
+            → ReadsEntries (D.state disk.old) self.old entries
             → out.new.items ≡ out.old.items ++ get_or entries i []) }
         ensures given { OnOk result (HasRead (D.state disk.old) (D.state disk.new) self.old i
             out.old.items out.new.items) }
         ensures err { OnErr result (out.new.items ≡ out.old.items) }
         ensures undamaged { IsTrue (D.state disk.old).tells → (entries : List (List ℕ))
-            → Reads (D.state disk.old) self.old entries → IfErr result IsNoDamage }
-        ensures damaged { (s : DiskState) (entries : List (List ℕ)) → Reads s self.old entries
-            → IfErr result (IsDamageAt (file_of self.old)
+            → ReadsEntries (D.state disk.old) self.old entries → IfErr result IsNoDamage }
+        ensures damaged { (s : DiskState) (entries : List (List ℕ)) → ReadsEntries s self.old entries
+            → IfErr result (IsDamageAt (file_of_gate_log self.old)
             (gate_place entries i)) }
         ensures list { self.new ≡ self.old }
         ensures quiet { IsTrue (D.state disk.old).tells

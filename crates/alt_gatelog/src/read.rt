@@ -5,7 +5,7 @@ ghost use Rattle.alt_base.specs.Counts.{Rose};
 ghost use Rattle.alt_disk.specs.Disk.{Goes, ReadCall, contents};
 ghost use Rattle.alt_disk.specs.Runs.{Quiet};
 ghost use Rattle.alt_gatelog.specs.Log.{header, ExplainsLog};
-ghost use Rattle.alt_gatelog.specs.InHand.{file_of, form_of, IsReadAs};
+ghost use Rattle.alt_gatelog.specs.InHand.{file_of_gate_log, form_of, IsReadAsLog};
 ghost use Rattle.alt_gatelog.specs.Parse.{GateIs, HasRoom, IsCutAt, HasNoHeader};
 ghost use Rattle.alt_gatelog.specs.declared.form.Form as forms;
 
@@ -100,10 +100,10 @@ pub(crate) fn walk<D: Disk>(
         → size ≡ length (contents (D.state disk.old) f) }
     requires header { IsTrue (D.state disk.old).tells
         → take 8 (contents (D.state disk.old) f) ≡ header form }
-    ensures file { IfOk result (λ log. file_of log ≡ f) }
+    ensures file { IfOk result (λ log. file_of_gate_log log ≡ f) }
     ensures form { IfOk result (λ log. form_of log ≡ form) }
     ensures reads { IfOk result (λ log. IsTrue (D.state disk.old).tells
-        → (entries : List (List ℕ)) × IsReadAs (contents (D.state disk.old) f) log entries) }
+        → (entries : List (List ℕ)) × IsReadAsLog (contents (D.state disk.old) f) log entries) }
     ensures damaged { IsTrue (D.state disk.old).tells
         → IfErr result (ExplainsLog f (contents (D.state disk.old) f)) }
     ensures quiet { IsTrue (D.state disk.old).tells

@@ -13,14 +13,14 @@ use Rattle.alt_gatelog.specs.declared.form.Form.TheVariants.{One}
 use Rattle.alt_layout.specs.Files.{IsOf}
 use Rattle.alt_layout.specs.Fresh.{versions_file}
 use Rattle.alt_layout.specs.Layout.{Layout}
-use Rattle.alt_manifest.specs.InHand.{file_of as manifest_file, version_of, OldOrNew, Stands as ManifestStands}
+use Rattle.alt_manifest.specs.InHand.{file_of_manifest as manifest_file, version_of, OldOrNew, StandsForVersion as ManifestStands}
 use Rattle.alt_manifest.specs.Versions.{HasVersion, IsIn, files_named, version_bytes}
 use Rattle.alt_manifest.specs.declared.manifest.Manifest.{Manifest}
 use Rattle.alt_manifest.specs.declared.version.Version.{Version}
 use Rattle.alt_manifest.proofs.AppendLaws.{has_version}
-use Rattle.alt_hand.specs.Adding.{Adds, HasLast, HasOneOf, MakesNone}
-use Rattle.alt_hand.specs.Drafting.{IsReady}
-use Rattle.alt_hand.specs.InHand.{Stands}
+use Rattle.alt_hand.specs.Adding.{AddsVersion, HasLast, HasOneOf, MakesNone}
+use Rattle.alt_hand.specs.Drafting.{DraftIsReady}
+use Rattle.alt_hand.specs.InHand.{HandStandsForLayout}
 use Rattle.alt_hand.specs.Merging.{version_in}
 use Rattle.alt_hand.specs.declared.hand.Hand.{Hand}
 use Rattle.alt_hand.proofs.HandLaws.{lies_of}
@@ -44,7 +44,7 @@ some_versions v file has none =
 -- A draft that becomes the next version.
 pub adds_draft : (z : DiskState) (e f : Hand) (u : Version) (left : List ℕ)
     → DropsOnly (version_in e) u left → ((g : ℕ) → IsLeftOver left u g → z.file g ≡ None)
-    → version_in f ≡ u → f.next_file ≡ u.next_file → Adds z e f
+    → version_in f ≡ u → f.next_file ≡ u.next_file → AddsVersion z e f
 adds_draft z e f u left drops gone version next = record {
   next_file = ap (λ (v : Version). v.next_file) version ∙ sym next;
   removed = λ g of out. ⊎_elim (λ (first : g ≡ versions_file). absurd (out (inl first)))
@@ -56,7 +56,7 @@ adds_draft z e f u left drops gone version next = record {
 }
 
 -- Files below the next one stay until it is added, and then none is made.
-pub makes_none : (a d z : DiskState) (e : Hand) (l : Layout) → Stands a e l
+pub makes_none : (a d z : DiskState) (e : Hand) (l : Layout) → HandStandsForLayout a e l
     → ((g : ℕ) → g < e.next_file → d.file g ≡ a.file g)
     → ((g : ℕ) → g ≢ versions_file → d.file g ≡ None → z.file g ≡ None) → MakesNone a z e.next_file
 makes_none a d z e l stands same missing g low none = missing g
@@ -92,7 +92,7 @@ or_last a b v w spans = spans_weaker a b (λ g. Unit {0}) (λ g. Unit {0}) (HasO
     (λ g it. it) (λ t image has. inr has)
 
 -- while a version is added it is the one before, or that one
-pub adding_last : (a b : DiskState) (e : Hand) (u : Version) (m : Layout) → IsReady a e u m
+pub adding_last : (a b : DiskState) (e : Hand) (u : Version) (m : Layout) → DraftIsReady a e u m
     → Run a b (manifest_file e.manifest) (OldOrNew (version_of e.manifest) u)
     → Spans a b (λ g. Unit {0}) (HasOneOf (version_in e) u)
 adding_last a b e u m ready run = run_spans a b (manifest_file e.manifest)
@@ -102,7 +102,7 @@ adding_last a b e u m ready run = run_spans a b (manifest_file e.manifest)
 
 -- and so it is while files are removed behind it
 pub added_last : (a b c : DiskState) (e : Hand) (n : Manifest) (u : Version) (m : Layout)
-    (left : List ℕ) → IsReady a e u m
+    (left : List ℕ) → DraftIsReady a e u m
     → Run a b (manifest_file e.manifest) (OldOrNew (version_of e.manifest) u)
     → manifest_file n ≡ manifest_file e.manifest → version_of n ≡ u → ManifestStands b n
     → Spans b c (IsLeftOver left u) (λ t image. Unit {0})
@@ -115,7 +115,7 @@ added_last a b c e n u m left ready run same version stands spans =
     (subst (λ g. HasVersion (version_of n) (b.file g)) first (has_version b n stands.reads)))
     (subst (IsSettled b) first stands.settled) (λ over. over.1 (inl refl)) spans))
 
-module _ (a d : DiskState) (e : Hand) (l : Layout) (stands : Stands a e l)
+module _ (a d : DiskState) (e : Hand) (l : Layout) (stands : HandStandsForLayout a e l)
     (spans : Spans a d (From e.next_file) (λ t image. Unit {0})) where
   -- while files are made that no version names it stays
   before_last : Spans a d (λ g. Unit {0}) (HasLast (version_in e))

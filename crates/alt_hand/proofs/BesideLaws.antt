@@ -10,24 +10,25 @@ use Rattle.alt_disk.specs.Runs.{Spans}
 use Rattle.alt_disk.proofs.Runs.{spans_weaker}
 use Rattle.alt_fields.proofs.Apart.{all_back}
 use Rattle.alt_flush.proofs.DraftLaws.{layout_still, next_above, settled_beside}
-use Rattle.alt_gatelog.specs.InHand.{file_of as log_file}
+use Rattle.alt_gatelog.specs.InHand.{file_of_gate_log as log_file}
 use Rattle.alt_gatelog.proofs.Elsewhere.{reads_stays}
 use Rattle.alt_layout.specs.Families.{Held, IsMapBelow, files_of, flushed_of, layout_of}
 use Rattle.alt_layout.specs.Files.{AreRowFiles, HoldsRows, IsLayout, IsOf, all_of}
 use Rattle.alt_layout.specs.Layout.{Layout, RowMap}
 use Rattle.alt_layout.specs.Moments.{Has, IsIt}
 use Rattle.alt_layout.proofs.FileLaws.{last_named, stored_on}
-use Rattle.alt_layout.proofs.FlushLaws.{all_later, of_family, unnamed}
-use Rattle.alt_manifest.specs.InHand.{file_of as manifest_file, version_of}
+use Rattle.alt_layout.proofs.FlushLaws.{all_later}
+use Rattle.alt_layout.proofs.FlushedLayout.{of_family, unnamed}
+use Rattle.alt_manifest.specs.InHand.{file_of_manifest as manifest_file, version_of}
 use Rattle.alt_manifest.specs.Versions.{files_named, row_files}
 use Rattle.alt_manifest.specs.declared.version.FamilyVersion.{FamilyVersion}
 use Rattle.alt_manifest.specs.declared.version.Version.{Version}
 use Rattle.alt_merge.specs.Merges.{Each2}
-use Rattle.alt_rowfile.specs.InHand.{file_of as row_file, Reads as RowReads}
+use Rattle.alt_rowfile.specs.InHand.{file_of as row_file, ReadsRows as RowReads}
 use Rattle.alt_rowfile.specs.declared.rowfile.RowFile.{RowFile}
 use Rattle.alt_families.specs.Families.{files_in}
 use Rattle.alt_hand.specs.Beside.{FilesBeside, FilesRead, MergingStays, StandsBeside}
-use Rattle.alt_hand.specs.InHand.{AreOpen, Stands, family_of}
+use Rattle.alt_hand.specs.InHand.{AreOpen, HandStandsForLayout, family_of}
 use Rattle.alt_hand.specs.Merging.{IsLater, IsMerging, IsOlder, files_at}
 use Rattle.alt_hand.specs.declared.hand.Hand.{Hand}
 use Rattle.alt_drafts.proofs.MakesLaws.{in_row_files, open_still}
@@ -39,7 +40,7 @@ use Rattle.alt_manifest.proofs.Among.{in_back, in_front}
 
 -- ---- an engine
 
-module _ (a b : DiskState) (e : Hand) (l : Layout) (stands : Stands a e l)
+module _ (a b : DiskState) (e : Hand) (l : Layout) (stands : HandStandsForLayout a e l)
     (touched : ℕ → Type 0) (spans : Spans a b touched Anything)
     (untouched : (g : ℕ) → IsOf (version_of e.manifest) g → touched g → ⊥) where
   abbrev v : Version
@@ -57,7 +58,7 @@ module _ (a b : DiskState) (e : Hand) (l : Layout) (stands : Stands a e l)
       (λ t image has. subst (IsLayout image) (sym stands.reads.is) has)
 
   -- and it stands as it stood
-  pub stands_beside : ((f : ℕ) → e.next_file ≤ f → b.file f ≡ Option.None) → Stands b e l
+  pub stands_beside : ((f : ℕ) → e.next_file ≤ f → b.file f ≡ Option.None) → HandStandsForLayout b e l
   stands_beside fresh = record {
     reads = record {
       held = stands.reads.held;
@@ -174,12 +175,12 @@ all_older s held number file (g ∷ gs) (f ∷ fs) are holds below = (
   all_older s held number file gs fs are.2 holds.1 below.1,
 )
 
-module _ (s : DiskState) (e : Hand) (l : Layout) (stands : Stands s e l) where
+module _ (s : DiskState) (e : Hand) (l : Layout) (stands : HandStandsForLayout s e l) where
   abbrev last : Version
   last = version_of e.manifest
 
   -- An engine stands once it has taken a number.
-  pub stands_taken : Stands s (record e { next_file = e.next_file + 1 }) l
+  pub stands_taken : HandStandsForLayout s (record e { next_file = e.next_file + 1 }) l
   stands_taken = record {
     reads = record {
       held = stands.reads.held;

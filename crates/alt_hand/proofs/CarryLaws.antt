@@ -9,7 +9,7 @@ use Rattle.alt_disk.specs.Disk.{DiskState}
 use Rattle.alt_disk.specs.Runs.{Run, Spans}
 use Rattle.alt_fields.proofs.Apart.{all_front}
 use Rattle.alt_flush.specs.Drafts.{From, IsLeftOver, renumbered}
-use Rattle.alt_gatelog.specs.InHand.{file_of as log_file}
+use Rattle.alt_gatelog.specs.InHand.{file_of_gate_log as log_file}
 use Rattle.alt_gatelog.specs.declared.gatelog.GateLog.{GateLog}
 use Rattle.alt_layout.specs.Families.{files_of, flushed_of}
 use Rattle.alt_layout.specs.Layout.{Layout}
@@ -23,9 +23,9 @@ use Rattle.alt_rowfile.specs.declared.rowfile.RowFile.{RowFile}
 use Rattle.alt_families.specs.Families.{Families, files_in}
 use Rattle.alt_families.specs.Memory.{AreWrittenTo}
 use Rattle.alt_writes.specs.Writes.{Write}
-use Rattle.alt_hand.specs.Carrying.{AreStill, Carries, CarriesDraft}
+use Rattle.alt_hand.specs.Carrying.{AreStill, CarriesFamily, CarriesDraft}
 use Rattle.alt_hand.specs.Drafting.{IsSameHand, Makes}
-use Rattle.alt_hand.specs.InHand.{Stands, family_of}
+use Rattle.alt_hand.specs.InHand.{HandStandsForLayout, family_of}
 use Rattle.alt_hand.specs.Merging.{MayEnd, files_at, version_in}
 use Rattle.alt_hand.specs.declared.hand.Hand.{Hand}
 use Rattle.alt_drafts.proofs.StillLaws.{each_on, may_end_on}
@@ -52,7 +52,7 @@ may_end_by s u w fs family taken number file next segments families may = record
       (sym families) may.reached;
 }
 
-module _ (a b : DiskState) (e : Hand) (l : Layout) (stands : Stands a e l)
+module _ (a b : DiskState) (e : Hand) (l : Layout) (stands : HandStandsForLayout a e l)
     (P : ℕ → Option (List ℕ) → Type 0) (run : Run a b (log_file e.log) P) where
   abbrev v : Version
   v = version_of e.manifest
@@ -75,7 +75,7 @@ module _ (a b : DiskState) (e : Hand) (l : Layout) (stands : Stands a e l)
   -- A write leaves a merge of any family one.
   pub carries_write : (log : GateLog) (size next : ℕ) (families : Families) (full : Bool)
       (ws : List Write) (family : ℕ) → AreWrittenTo e.families families ws
-      → Carries a b e (record e {
+      → CarriesFamily a b e (record e {
         log = log;
         length = size;
         next = next;
@@ -102,8 +102,8 @@ module _ (a b : DiskState) (e : Hand) (l : Layout) (stands : Stands a e l)
 -- ---- one call behind another
 
 -- What is carried twice is carried.
-pub carries_on : (a b c : DiskState) (e f g : Hand) (family : ℕ) → Carries a b e f family
-    → Carries b c f g family → Carries a c e g family
+pub carries_on : (a b c : DiskState) (e f g : Hand) (family : ℕ) → CarriesFamily a b e f family
+    → CarriesFamily b c f g family → CarriesFamily a c e g family
 carries_on a b c e f g family first later = record {
   more = first.more ++ later.more;
   files = later.files ∙ ap (λ fs. fs ++ later.more) first.files
@@ -120,9 +120,9 @@ carries_on a b c e f g family first later = record {
 
 -- Memory that is taken leaves a merge one.
 pub carries_prepared : (s : DiskState) (e f : Hand) (family : ℕ) → IsSameHand e f
-    → Carries s s e f family
+    → CarriesFamily s s e f family
 carries_prepared s e f family same =
-    subst (λ (h : Hand). Carries s s e h family) (sym same.others) (record {
+    subst (λ (h : Hand). CarriesFamily s s e h family) (sym same.others) (record {
       more = [];
       files = sym (append-nil (files_at e family));
       still = all_still s (files_at e family);
@@ -137,7 +137,7 @@ carries_prepared s e f family same =
 -- ---- a new version
 
 -- Where no call is made all stays.
-pub carries_none : (s : DiskState) (e : Hand) (family : ℕ) → Carries s s e e family
+pub carries_none : (s : DiskState) (e : Hand) (family : ℕ) → CarriesFamily s s e e family
 carries_none s e family = record {
   more = [];
   files = sym (append-nil (files_at e family));
@@ -183,7 +183,7 @@ pub carries_published : (a d z : DiskState) (e f : Hand) (u : Version) (families
     (get nat_cmp families family) family → Makes d u families parts m
     → ((g : ℕ) → IsIn left g → IsIn (files_named (version_in e)) g)
     → ((g : ℕ) → g ≢ versions_file → (IsLeftOver left u g → ⊥) → z.file g ≡ d.file g)
-    → f.families ≡ families → version_in f ≡ u → f.next_file ≡ u.next_file → Carries a z e f family
+    → f.families ≡ families → version_in f ≡ u → f.next_file ≡ u.next_file → CarriesFamily a z e f family
 carries_published a d z e f u families parts m left family spans carries makes named others same
     version next =
     let o = get nat_cmp families family in

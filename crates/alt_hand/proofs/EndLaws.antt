@@ -9,13 +9,13 @@ use Rattle.alt_cells.specs.Shown.{row_shown}
 use Rattle.alt_disk.specs.Disk.{DiskState}
 use Rattle.alt_disk.specs.Runs.{Spans}
 use Rattle.alt_disk.proofs.Runs.{quiet_spans, quiet_start, spans_weaker}
-use Rattle.alt_flush.specs.Drafts.{renumbered, without}
+use Rattle.alt_flush.specs.Drafts.{renumbered, without_family}
 use Rattle.alt_flush.proofs.DropLaws.{named_without}
 use Rattle.alt_layout.specs.Files.{IsLayout}
 use Rattle.alt_layout.specs.Layout.{Layout}
 use Rattle.alt_layout.specs.Merged.{ShowsSame}
 use Rattle.alt_layout.specs.Moments.{HasEither}
-use Rattle.alt_manifest.specs.InHand.{file_of as manifest_file, version_of}
+use Rattle.alt_manifest.specs.InHand.{file_of_manifest as manifest_file, version_of}
 use Rattle.alt_manifest.specs.Versions.{IsIn, files_named}
 use Rattle.alt_manifest.specs.declared.version.Version.{Version}
 use Rattle.alt_rowfile.specs.InHand.{file_of as row_file}
@@ -23,8 +23,8 @@ use Rattle.alt_rowfile.specs.declared.rowfile.RowFile.{RowFile}
 use Rattle.alt_writes.specs.Writes.{Write}
 use Rattle.alt_families.specs.declared.family.Family.{Family}
 use Rattle.alt_families.specs.Families.{Families, files_in}
-use Rattle.alt_hand.specs.Drafting.{AreDead, Empties, IsLying, IsReady, Makes, without_all}
-use Rattle.alt_hand.specs.InHand.{IsLength, Stands}
+use Rattle.alt_hand.specs.Drafting.{AreDead, Empties, IsLying, DraftIsReady, Makes, without_families}
+use Rattle.alt_hand.specs.InHand.{IsLength, HandStandsForLayout}
 use Rattle.alt_hand.specs.Merging.{IsMadeOf, MayEnd}
 use Rattle.alt_hand.specs.Working.{Works, WorksIn}
 use Rattle.alt_hand.specs.declared.hand.Hand.{Hand}
@@ -36,15 +36,15 @@ use Rattle.alt_drafts.proofs.LeftOutLaws.{flushed_others}
 -- ---- families that aren't live
 
 -- no file is named anew
-named_others : (u : Version) (dead : List ℕ) (f : ℕ) → IsIn (files_named (without_all u dead)) f
+named_others : (u : Version) (dead : List ℕ) (f : ℕ) → IsIn (files_named (without_families u dead)) f
     → IsIn (files_named u) f
 named_others u [] f there = there
-named_others u (d ∷ dead) f there = named_without u d f (named_others (without u d) dead f there)
+named_others u (d ∷ dead) f there = named_without u d f (named_others (without_family u d) dead f there)
 
 -- A merge of a live family may end in a draft without some that aren't.
 pub may_end_alive : (s : DiskState) (first alive : Version) (files : List RowFile)
     (family taken number file : ℕ) (live : List ℕ) → IsIn live family
-    → (dead : List ℕ) × AreDead live dead × (alive ≡ without_all first dead)
+    → (dead : List ℕ) × AreDead live dead × (alive ≡ without_families first dead)
     → MayEnd s first files family taken number file
     → MayEnd s alive files family taken number file
 may_end_alive s first alive files family taken number file live there of may =
@@ -90,7 +90,7 @@ works_same live l = record {
 }
 
 -- While no call is made each image has the layout.
-pub works_still : (s : DiskState) (e : Hand) (l : Layout) (live : List ℕ) → Stands s e l
+pub works_still : (s : DiskState) (e : Hand) (l : Layout) (live : List ℕ) → HandStandsForLayout s e l
     → Spans s s (λ g. Unit {0}) (WorksIn live l)
 works_still s e l live stands = quiet_spans s s (λ g. Unit {0}) (WorksIn live l) (quiet_start s)
     (λ t image fits. record {
@@ -110,7 +110,7 @@ works_either a b live l m works spans =
 
 -- ---- an engine before its next version
 
-module _ (s : DiskState) (e : Hand) (l : Layout) (stands : Stands s e l) where
+module _ (s : DiskState) (e : Hand) (l : Layout) (stands : HandStandsForLayout s e l) where
   pub lying_at : IsLying s e.manifest l
   lying_at = record {
     held = stands.reads.held;
@@ -123,7 +123,7 @@ module _ (s : DiskState) (e : Hand) (l : Layout) (stands : Stands s e l) where
   pub ready_at : (u : Version) (families : Families) (m : Layout)
       → Makes s u families stands.reads.parts m → m.next_number ≡ l.next_number
       → u.segments ≡ (version_of e.manifest).segments
-      → IsReady s (record e { families = families }) u m
+      → DraftIsReady s (record e { families = families }) u m
   ready_at u families m makes number segments = record {
     parts = stands.reads.parts;
     writes = stands.reads.writes;
@@ -145,13 +145,13 @@ module _ (s : DiskState) (e : Hand) (l : Layout) (stands : Stands s e l) where
   }
 
 -- From an engine whose merge may end to the draft with what was made: the engine is ready for it, and its layout is one that work leaves.
-pub merge_ended : (a : DiskState) (e : Hand) (l : Layout) (live : List ℕ) (stands : Stands a e l)
+pub merge_ended : (a : DiskState) (e : Hand) (l : Layout) (live : List ℕ) (stands : HandStandsForLayout a e l)
     (first alive draft : Version) (left after : Families) (family taken number file : ℕ)
     (made : RowFile) → e.next_file < 2 ^ 32
     → first ≡ renumbered (version_of e.manifest) e.next_file e.next → IsIn live family
     → ((s : DiskState) (parts : List (List Write)) (l : Layout) → Makes s first e.families parts l
     → (m : Layout) × Makes s alive left parts m × Empties live l m)
-    → (dead : List ℕ) × AreDead live dead × (alive ≡ without_all first dead)
+    → (dead : List ℕ) × AreDead live dead × (alive ≡ without_families first dead)
     → get nat_cmp left family ≡ get nat_cmp e.families family
     → alive.segments ≡ first.segments → draft.segments ≡ alive.segments
     → MayEnd a (renumbered (version_of e.manifest) e.next_file e.next)
@@ -163,7 +163,7 @@ pub merge_ended : (a : DiskState) (e : Hand) (l : Layout) (live : List ℕ) (sta
     → MayEnd s alive (files_in (get nat_cmp left family)) family taken number file
     → row_file made ≡ file → IsMadeOf s (take taken (files_in (get nat_cmp left family))) made
     → (m : Layout) × Makes s draft after parts m × ShowsSame l m)
-    → (m : Layout) × IsReady a (record e { families = after }) draft m × Works live l m
+    → (m : Layout) × DraftIsReady a (record e { families = after }) draft m × Works live l m
 merge_ended a e l live stands first alive draft left after family taken number file made fits is there
     leave version lives alive_segments draft_segments may file_is of merged =
     let begins = begun a e l live stands first alive left fits is leave in

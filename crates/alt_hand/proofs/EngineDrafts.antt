@@ -8,7 +8,7 @@ use Rattle.alt_disk.specs.Runs.{Run}
 use Rattle.alt_disk.proofs.Staying.{settled_on}
 use Rattle.alt_flush.specs.Drafts.{renumbered}
 use Rattle.alt_flush.proofs.DraftLaws.{first_drafted, first_same, next_above}
-use Rattle.alt_gatelog.specs.InHand.{file_of as log_file}
+use Rattle.alt_gatelog.specs.InHand.{file_of_gate_log as log_file}
 use Rattle.alt_gatelog.specs.declared.gatelog.GateLog.{GateLog}
 use Rattle.alt_layout.specs.Families.{files_of, flushed_of, layout_of, next_after, with_later}
 use Rattle.alt_layout.specs.Files.{EndsWith, IsOf, Stored, all_of}
@@ -16,7 +16,7 @@ use Rattle.alt_layout.specs.Fresh.{versions_file}
 use Rattle.alt_layout.specs.Layout.{Layout}
 use Rattle.alt_layout.proofs.FileLaws.{last_named, named_later, stored_on}
 use Rattle.alt_layout.proofs.RowLaws.{next_after-least}
-use Rattle.alt_manifest.specs.InHand.{file_of as manifest_file, version_of, Stands as ManifestStands}
+use Rattle.alt_manifest.specs.InHand.{file_of_manifest as manifest_file, version_of, StandsForVersion as ManifestStands}
 use Rattle.alt_manifest.specs.Versions.{IsIn, files_named, row_files}
 use Rattle.alt_manifest.specs.declared.manifest.Manifest.{Manifest}
 use Rattle.alt_manifest.specs.declared.version.Version.{Version}
@@ -24,7 +24,7 @@ use Rattle.alt_writes.specs.Bytes.{AllHeld}
 use Rattle.alt_writes.specs.Writes.{Write}
 use Rattle.alt_families.specs.Families.{Families, files_in, rows_in}
 use Rattle.alt_hand.specs.Drafting.{Makes}
-use Rattle.alt_hand.specs.InHand.{AreBelow, AreOpen, IsLength, LogHolds, Stands}
+use Rattle.alt_hand.specs.InHand.{AreBelow, AreOpen, IsLength, LogHolds, HandStandsForLayout}
 use Rattle.alt_hand.specs.declared.hand.Hand.{Hand}
 use Rattle.alt_drafts.proofs.MakesLaws.{named_of, open_still}
 use Rattle.alt_hand.proofs.HandLaws.{lies_of}
@@ -41,7 +41,7 @@ next_fits next (w ∷ ws) fits held =
     next_fits (max next (w.number + 1)) ws (let low = held.0.number in omega (arith, fits, low)) held.1
 
 -- The last version with the engine's numbers is a draft of its layout.
-pub makes_first : (s : DiskState) (e : Hand) (l : Layout) (stands : Stands s e l)
+pub makes_first : (s : DiskState) (e : Hand) (l : Layout) (stands : HandStandsForLayout s e l)
     → e.next_file < 2 ^ 32
     → Makes s (renumbered (version_of e.manifest) e.next_file e.next) e.families stands.reads.parts l
 makes_first s e l stands fits =
@@ -73,7 +73,7 @@ pub stands_by : (b c : DiskState) (e : Hand) (u : Version) (families : Families)
     → version_of n ≡ u → ManifestStands c n → EndsWith u parts (log_file log) writes
     → LogHolds b log writes → IsLength b.file u.segments size → e.next ≡ l.next_number
     → (full : Bool) → (full ≡ false → AreBelow e.limits.flush families)
-    → Stands c (record e {
+    → HandStandsForLayout c (record e {
       manifest = n;
       log = log;
       length = size;

@@ -9,23 +9,23 @@ use Rattle.alt_disk.specs.Runs.{Run, Spans}
 use Rattle.alt_disk.proofs.Runs.{run_spans, spans_on, spans_weaker}
 use Rattle.alt_flush.specs.Drafts.{From, over_new_log, renumbered}
 use Rattle.alt_flush.proofs.DraftLaws.{from_untouched, layout_still, lies_still, manifest_still}
-use Rattle.alt_gatelog.specs.InHand.{file_of as log_file, form_of, Stands as LogStands}
+use Rattle.alt_gatelog.specs.InHand.{file_of_gate_log as log_file, form_of, StandsForEntries as LogStands}
 use Rattle.alt_gatelog.specs.declared.gatelog.GateLog.{GateLog}
 use Rattle.alt_gatelog.proofs.Elsewhere.{reads_log}
 use Rattle.alt_layout.specs.Families.{layout_of}
 use Rattle.alt_layout.specs.Files.{IsLayout, IsOf, all_of}
 use Rattle.alt_layout.specs.Layout.{Layout}
-use Rattle.alt_layout.specs.Sizes.{IsSized}
+use Rattle.alt_layout.specs.Sizes.{LogIsSized}
 use Rattle.alt_layout.specs.Moments.{Has, HasEither}
 use Rattle.alt_layout.proofs.FileLaws.{last_named}
 use Rattle.alt_layout.proofs.MomentLaws.{same_or_not}
-use Rattle.alt_manifest.specs.InHand.{file_of as manifest_file, version_of, Stands as ManifestStands}
+use Rattle.alt_manifest.specs.InHand.{file_of_manifest as manifest_file, version_of, StandsForVersion as ManifestStands}
 use Rattle.alt_manifest.specs.Versions.{IsIn, row_files}
 use Rattle.alt_manifest.specs.declared.version.Version.{Version}
 use Rattle.alt_writes.specs.Writes.{Write}
 use Rattle.alt_families.specs.Families.{Families, rows_in}
-use Rattle.alt_hand.specs.Drafting.{Empties, EmptiedIn, IsLying, IsReady, Makes}
-use Rattle.alt_hand.specs.InHand.{IsLength, Stands}
+use Rattle.alt_hand.specs.Drafting.{Empties, EmptiedIn, IsLying, DraftIsReady, Makes}
+use Rattle.alt_hand.specs.InHand.{IsLength, HandStandsForLayout}
 use Rattle.alt_hand.specs.declared.hand.Hand.{Hand}
 use Rattle.alt_hand.proofs.HandLaws.{lies_of}
 use Rattle.alt_hand.proofs.LogLaws.{holds_empty, holds_on, length_on}
@@ -34,7 +34,7 @@ use Rattle.alt_hand.proofs.EngineDrafts.{makes_first}
 use Rattle.alt_manifest.proofs.Among.{in_front, in_or_not}
 
 -- The families that aren't live are left out of the first draft.
-pub begun : (a : DiskState) (e : Hand) (l : Layout) (live : List ℕ) (stands : Stands a e l)
+pub begun : (a : DiskState) (e : Hand) (l : Layout) (live : List ℕ) (stands : HandStandsForLayout a e l)
     (first alive : Version) (families : Families) → e.next_file < 2 ^ 32
     → first ≡ renumbered (version_of e.manifest) e.next_file e.next
     → ((s : DiskState) (parts : List (List Write)) (l : Layout) → Makes s first e.families parts l
@@ -52,7 +52,7 @@ run_later a b c file f P low first run =
     spans_on a b c (From file) (λ t image. Unit {0}) first
     (run_spans b c f P (From file) (λ t image. Unit {0}) run low (λ t image here others. tt))
 
-module _ (a b : DiskState) (e : Hand) (l : Layout) (live : List ℕ) (stands : Stands a e l)
+module _ (a b : DiskState) (e : Hand) (l : Layout) (live : List ℕ) (stands : HandStandsForLayout a e l)
     (spans : Spans a b (From e.next_file) (λ t image. Unit {0})) where
   abbrev v : Version
   v = version_of e.manifest
@@ -93,7 +93,7 @@ module _ (a b : DiskState) (e : Hand) (l : Layout) (live : List ℕ) (stands : S
   -- Where the segments stay, the engine is ready for the draft.
   pub ready_same : (u : Version) (families : Families) (m : Layout)
       → Makes b u families stands.reads.parts m → Empties live l m → u.segments ≡ v.segments
-      → IsReady b (record e { families = families }) u m
+      → DraftIsReady b (record e { families = families }) u m
   ready_same u families m makes empties segments = record {
     parts = stands.reads.parts;
     writes = stands.reads.writes;
@@ -122,7 +122,7 @@ module _ (a b : DiskState) (e : Hand) (l : Layout) (live : List ℕ) (stands : S
       → Empties live l m → u.next_file + 1 < 2 ^ 32
       → ((family : ℕ) → rows_in (get nat_cmp families family) ≡ empty) → Run s b u.next_file P
       → log_file log ≡ u.next_file → LogStands b log []
-      → IsReady b (record e { log = log; length = 0; families = families }) (over_new_log u) m
+      → DraftIsReady b (record e { log = log; length = 0; families = families }) (over_new_log u) m
   ready_new s u families parts m P log makes empties room none run log_is log_stands = record {
     parts = [] ∷ [];
     writes = [];
@@ -141,7 +141,7 @@ module _ (a b : DiskState) (e : Hand) (l : Layout) (live : List ℕ) (stands : S
       sized = (
         0,
         0,
-        subst (λ f. IsSized 0 (b.file f)) log_is (record {
+        subst (λ f. LogIsSized 0 (b.file f)) log_is (record {
           form = form_of log;
           entries = [];
           log = reads_log b log [] log_stands.reads;

@@ -10,7 +10,7 @@ use Rattle.alt_disk.specs.Runs.{Quiet}
 use Rattle.alt_families.specs.Families.{Families, files_in, rows_in}
 use Rattle.alt_gatelog.specs.Log.{IsLog, gate_place}
 use Rattle.alt_gatelog.specs.declared.form.Form.{Form}
-use Rattle.alt_gatelog.specs.InHand.{file_of as log_file}
+use Rattle.alt_gatelog.specs.InHand.{file_of_gate_log as log_file}
 use Rattle.alt_gatelog.specs.declared.fault.LogFault.{LogFault}
 use Rattle.alt_gatelog.specs.declared.fault.LogFault.TheVariants as log
 use Rattle.alt_gatelog.specs.declared.gatelog.GateLog.{GateLog}
@@ -21,14 +21,14 @@ use Rattle.alt_layout.specs.Fresh.{versions_file}
 use Rattle.alt_layout.specs.Layout.{Layout}
 use Rattle.alt_layout.proofs.RowLaws.{next_after-least}
 use Rattle.alt_manifest.proofs.AppendLaws.{has_version}
-use Rattle.alt_manifest.specs.InHand.{file_of as manifest_file, version_of, Reads as ManifestReads}
+use Rattle.alt_manifest.specs.InHand.{file_of_manifest as manifest_file, version_of, ReadsVersion as ManifestReads}
 use Rattle.alt_manifest.specs.Recovery.{ExplainsVersions, IsNoVersions}
 use Rattle.alt_manifest.specs.Recovery.IsNoVersions.{no_last, no_log, other_form as is_other}
 use Rattle.alt_manifest.specs.Versions.{HasVersion, IsIn, version_bytes}
 use Rattle.alt_manifest.specs.declared.manifest.Manifest.{Manifest}
 use Rattle.alt_manifest.specs.declared.version.Version.{Version}
 use Rattle.alt_memtable.specs.Rows.{most_bytes}
-use Rattle.alt_recovery.specs.Families.{AreFamilies, AreInHand, ExplainsFamilies, IsBadFamily}
+use Rattle.alt_recovery.specs.Families.{AreOpenedFamilies, AreInHand, ExplainsFamilies, IsBadFamily}
 use Rattle.alt_recovery.specs.Flushed.{flushed_in}
 use Rattle.alt_recovery.specs.Opening.{ExplainsRows}
 use Rattle.alt_recovery.specs.Replays.{ExplainsSegments, IsBadEntry, Replays, ReplaysLast}
@@ -39,12 +39,12 @@ use Rattle.alt_rowfile.specs.Recovery.{HasDigest, NoRowFile}
 use Rattle.alt_rowfile.specs.declared.fault.RowFileFault.{RowFileFault}
 use Rattle.alt_rowfile.specs.declared.fault.RowFileFault.TheVariants as rows
 use Rattle.alt_rowfile.specs.declared.rowfile.RowFile.{RowFile}
-use Rattle.alt_layout.specs.Sizes.{AreSized}
+use Rattle.alt_layout.specs.Sizes.{SegmentsAreSized}
 use Rattle.alt_layout.specs.Entries.{IsNoEntry}
 use Rattle.alt_writes.specs.Writes.{Write}
 use Rattle.alt_hand.specs.Found.{Found, log_fault, rows_fault}
 use Rattle.alt_hand.specs.InHand.{AreOpen, LogHolds, family_of}
-use Rattle.alt_hand.specs.Recovery.{ExplainsStore, IsBadAt, IsBadDigest, IsRowFileOf, late_rows, no_rows, no_segment, no_version, no_versions, no_write, other_form}
+use Rattle.alt_hand.specs.Recovery.{ExplainsStore, IsBadFileAt, IsBadDigest, IsRowFileOf, late_rows, no_rows, no_segment, no_version, no_versions, no_write, other_form}
 use Rattle.alt_hand.specs.declared.hand.Hand.{Hand}
 use Rattle.alt_layout.proofs.FileLaws.{rising-join}
 use Rattle.alt_writes.proofs.PushLaws.{held-join}
@@ -90,7 +90,7 @@ version_there s m reads first =
 module _ (a b d : DiskState) (m : Manifest) (families : Families) (flushed : BTreeMap ℕ ℕ)
     (start done : Replay) (log : GateLog) (held : Held) (reads : ManifestReads a m)
     (first : manifest_file m ≡ versions_file) (to_b : Quiet a b) (to_d : Quiet b d)
-    (opened : AreFamilies b held (version_of m).families families)
+    (opened : AreOpenedFamilies b held (version_of m).families families)
     (numbers : (family : ℕ) → flushed_in flushed family ≡ flushed_of (version_of m).families family)
     (begun : start ≡ record { families = families; flushed = flushed; least = 1; length = 0 })
     (last : ReplaysLast d (version_of m).segments start done log) where
@@ -109,7 +109,7 @@ module _ (a b d : DiskState) (m : Manifest) (families : Families) (flushed : BTr
   replays : Replays s done ws last.bytes
   replays = subst (λ (r : Replay). Replays r done ws last.bytes) begun last.replays
 
-  open_d : AreFamilies d held v.families families
+  open_d : AreOpenedFamilies d held v.families families
   open_d = families_quiet b d held v.families families to_d opened
 
   pub found_of : (e : Hand) → e.manifest ≡ m → e.log ≡ log → e.length ≡ done.length
@@ -147,7 +147,7 @@ module _ (a b d : DiskState) (m : Manifest) (families : Families) (flushed : BTr
           ∙ sym (next_after-max 1 v.next_number ws reads.is.next_number.0);
       length = record {
         bytes = last.bytes;
-        sized = subst (λ (n : Manifest). AreSized d.file (version_of n).segments last.bytes)
+        sized = subst (λ (n : Manifest). SegmentsAreSized d.file (version_of n).segments last.bytes)
             (sym manifest) last.sized;
         is = length ∙ replays.length (omega arith)
             ∙ (let same : min (0 + last.bytes) most_bytes ≡ min last.bytes most_bytes = omega arith in
@@ -179,7 +179,7 @@ pub versions_explain : (files : Image) (fault : LogFault)
     → ExplainsVersions versions_file (files versions_file) fault → ExplainsStore files (log_fault fault)
 versions_explain files (log.Damaged f at) h = by_case h.1
   where
-    by_case : IsNoVersions (files versions_file) at → IsBadAt files f at
+    by_case : IsNoVersions (files versions_file) at → IsBadFileAt files f at
     by_case (no_log bad) = no_versions h.0 bad
     by_case (is_other place es is) = other_form h.0 place es is
     by_case (no_last es is bad) = no_version h.0 es is bad
@@ -203,7 +203,7 @@ module _ (files : Image) (v : Version) (has : HasVersion v (files versions_file)
       }
 
       by_rows : ExplainsRows bad.told.0 bad.family.flushed (files bad.told.0) (rows.Damaged g at)
-          → IsBadAt files g at
+          → IsBadFileAt files g at
       by_rows (inl h) = no_rows v has bad.family.flushed (of h.0) h.1
           (subst (λ (n : ℕ). (length (bytes_or_none (files n)) < 32)
           ⊎ (HasDigest (bytes_or_none (files n)) × NoRowFile (bytes_or_none (files n)))) (sym h.0) h.2)
@@ -254,7 +254,7 @@ module _ (files : Image) (v : Version) (has : HasVersion v (files versions_file)
       by_entry entry.0 entry.1 entry.2 entry.3) bad.bad
     where
       by_entry : (form : Form) (es : List (List ℕ)) → IsLog form es (files f)
-          → IsBadEntry form es (next_after 1 (all_of bad.parts)) at → IsBadAt files f at
+          → IsBadEntry form es (next_after 1 (all_of bad.parts)) at → IsBadFileAt files f at
       by_entry form es is h = no_write v has bad.before
           (record { behind = bad.behind; is = bad.is })
           bad.parts bad.are form h.front h.writes h.entry h.behind

@@ -8,7 +8,7 @@ use Rattle.alt_cells.specs.declared.batch.RowChange.{RowChange}
 use Rattle.alt_disk.specs.Disk.{DiskState, IsImage, IsSettled}
 use Rattle.alt_disk.specs.Runs.{Quiet, Run, Spans}
 use Rattle.alt_disk.proofs.Runs.{spans_weaker}
-use Rattle.alt_gatelog.specs.InHand.{file_of as log_file, form_of, Stands as LogStands}
+use Rattle.alt_gatelog.specs.InHand.{file_of_gate_log as log_file, form_of, StandsForEntries as LogStands}
 use Rattle.alt_gatelog.specs.declared.form.Form.{Form}
 use Rattle.alt_gatelog.specs.declared.gatelog.GateLog.{GateLog}
 use Rattle.alt_gatelog.specs.Log.{BeforeOrAfter, IsLog}
@@ -19,7 +19,7 @@ use Rattle.alt_writes.specs.Writes.{AreRising, Write, numbered}
 use Rattle.alt_writes.proofs.PushLaws.{rising-numbered}
 use Rattle.alt_memtable.specs.Rows.{most_bytes}
 use Rattle.alt_layout.specs.Entries.{HoldWrites, IsEntry}
-use Rattle.alt_layout.specs.Sizes.{AreSized, bytes_in}
+use Rattle.alt_layout.specs.Sizes.{SegmentsAreSized, bytes_in}
 use Rattle.alt_layout.proofs.EntryLaws.{holds_push}
 use Rattle.alt_layout.proofs.SizeLaws.{bytes_in-push, one_size, sized_last, sized_on, sized_with}
 use Rattle.alt_layout.specs.Fresh.{versions_file}
@@ -32,12 +32,12 @@ use Rattle.alt_layout.specs.Files.{IsLayout, all_of}
 use Rattle.alt_layout.specs.Moments.{Lies, HasEither, IsIt}
 use Rattle.alt_layout.proofs.FileLaws.{all_of-join, apart, distinct_front, last_named, layout_join, named_later, stored_on}
 use Rattle.alt_layout.proofs.FamilyLaws.{flushed_below}
-use Rattle.alt_layout.proofs.FlushLaws.{unnamed}
+use Rattle.alt_layout.proofs.FlushedLayout.{unnamed}
 use Rattle.alt_layout.proofs.RowLaws.{next_after-least, next_number-numbered, with_later-above, with_later-append}
 use Rattle.alt_layout.proofs.MomentLaws.{in_each_image, lies_quiet, lies_writes, spans_writes}
 use Rattle.alt_layout.proofs.PastLaws.{stored_past}
 use Rattle.alt_layout.specs.Writes.{rows_with, with_writes}
-use Rattle.alt_hand.specs.InHand.{Reads, Stands, AreBelow, AreOpen, batch_writes, BeforeOrAll, IsLength, IsWritten, family_of}
+use Rattle.alt_hand.specs.InHand.{HandReadsLayout, HandStandsForLayout, AreBelow, AreOpen, batch_writes, BeforeOrAll, IsLength, IsWritten, family_of}
 use Rattle.alt_families.specs.Families.{Families, files_in, rows_in}
 use Rattle.alt_families.specs.Memory.{AreWrittenTo}
 use Rattle.alt_hand.specs.declared.hand.Hand.{Hand}
@@ -46,18 +46,18 @@ use Rattle.alt_hand.proofs.LogLaws.{holds_on, length_on}
 use Rattle.alt_manifest.proofs.Among.{in_back}
 
 -- the last version, as the disk reads
-last_of : (s : DiskState) (e : Hand) (l : Layout) → Reads s e l
+last_of : (s : DiskState) (e : Hand) (l : Layout) → HandReadsLayout s e l
     → HasVersion (version_of e.manifest) (s.file versions_file)
 last_of s e l reads = subst (λ f. HasVersion (version_of e.manifest) (s.file f)) reads.first
     (has_version s e.manifest reads.versions)
 
 -- no row is of the next number or a later one
-pub reads_past : (s : DiskState) (e : Hand) (l : Layout) → Reads s e l → IsPast l
+pub reads_past : (s : DiskState) (e : Hand) (l : Layout) → HandReadsLayout s e l → IsPast l
 reads_past s e l reads = subst IsPast (sym reads.is)
     (stored_past s.file (version_of e.manifest) reads.held reads.parts reads.versions.is reads.stored)
 
 -- the files hold its rows
-pub files_hold : (s : DiskState) (e : Hand) (l : Layout) → Reads s e l → IsLayout s.file l
+pub files_hold : (s : DiskState) (e : Hand) (l : Layout) → HandReadsLayout s e l → IsLayout s.file l
 files_hold s e l reads = record {
   version = version_of e.manifest;
   last = last_of s e l reads;
@@ -68,7 +68,7 @@ files_hold s e l reads = record {
 }
 
 -- a store lies on the disk where an engine stands
-pub lies_of : (s : DiskState) (e : Hand) (l : Layout) (stands : Stands s e l)
+pub lies_of : (s : DiskState) (e : Hand) (l : Layout) (stands : HandStandsForLayout s e l)
     → Lies s (version_of e.manifest) stands.reads.held stands.reads.parts
 lies_of s e l stands = record {
   last = last_of s e l stands.reads;
@@ -77,7 +77,7 @@ lies_of s e l stands = record {
 }
 
 -- each stop leaves its rows
-pub each_image : (s : DiskState) (e : Hand) (l : Layout) → Stands s e l
+pub each_image : (s : DiskState) (e : Hand) (l : Layout) → HandStandsForLayout s e l
     → (image : ℕ → Option (List ℕ)) → IsImage s s.moment image → IsLayout image l
 each_image s e l stands image is_image = subst (IsLayout image) (sym stands.reads.is)
     (in_each_image s (version_of e.manifest) stands.reads.held stands.reads.parts
@@ -100,8 +100,8 @@ open_on a b held (g ∷ gs) (f ∷ fs) same are = (
 )
 
 -- it reads as it read while calls leave every file
-pub reads_quiet : (a b : DiskState) (e : Hand) (l : Layout) → Reads a e l → Quiet a b
-    → Reads b e l
+pub reads_quiet : (a b : DiskState) (e : Hand) (l : Layout) → HandReadsLayout a e l → Quiet a b
+    → HandReadsLayout b e l
 reads_quiet a b e l reads quiet = record {
   held = reads.held;
   parts = reads.parts;
@@ -132,8 +132,8 @@ reads_quiet a b e l reads quiet = record {
 }
 
 -- and stands as it stood
-pub stays_quiet : (a b : DiskState) (e : Hand) (l : Layout) → Stands a e l → Quiet a b
-    → Stands b e l
+pub stays_quiet : (a b : DiskState) (e : Hand) (l : Layout) → HandStandsForLayout a e l → Quiet a b
+    → HandStandsForLayout b e l
 stays_quiet a b e l stands quiet = record {
   reads = reads_quiet a b e l stands.reads quiet;
   settled = (lies_quiet a b (version_of e.manifest) stands.reads.held stands.reads.parts
@@ -142,7 +142,7 @@ stays_quiet a b e l stands quiet = record {
 
 -- The writes of batches have numbers that rise from the next one of the log on.
 pub rise_on : (s : DiskState) (e : Hand) (l : Layout) (batches : List (List RowChange))
-    (reads : Reads s e l)
+    (reads : HandReadsLayout s e l)
     → AreRising (next_after (version_of e.manifest).next_number (all_of reads.parts))
     (batch_writes l batches)
 rise_on s e l batches reads =
@@ -151,7 +151,7 @@ rise_on s e l batches reads =
 
 -- While batches are added to the last segment each image has the rows before, or with all of them.
 pub write_images : (a b : DiskState) (e : Hand) (l : Layout) (batches : List (List RowChange))
-    (entry : List ℕ) (stands : Stands a e l)
+    (entry : List ℕ) (stands : HandStandsForLayout a e l)
     → IsEntry (form_of e.log) entry (batch_writes l batches)
     → Run a b (log_file e.log) (BeforeOrAfter (form_of e.log) stands.reads.log.entries entry)
     → Spans a b IsWritten (BeforeOrAll l batches)
@@ -188,11 +188,11 @@ open_elsewhere a b held (g ∷ gs) (f ∷ fs) same are = (
 )
 
 module _ (a b : DiskState) (e : Hand) (l : Layout) (batches : List (List RowChange))
-    (bytes : List ℕ) (stands : Stands a e l)
+    (bytes : List ℕ) (stands : HandStandsForLayout a e l)
     (is_entry : IsEntry (form_of e.log) bytes (batch_writes l batches))
     (run : Run a b (log_file e.log)
     (BeforeOrAfter (form_of e.log) stands.reads.log.entries bytes)) where
-  abbrev reads : Reads a e l
+  abbrev reads : HandReadsLayout a e l
   reads = stands.reads
 
   abbrev v : Version
@@ -261,7 +261,7 @@ module _ (a b : DiskState) (e : Hand) (l : Layout) (batches : List (List RowChan
     size_after : IsLength b.file v.segments size
     size_after =
         let split = sized_last a.file reads.ends.firsts f reads.length.bytes
-        (subst (λ fs. AreSized a.file fs reads.length.bytes) reads.ends.segments
+        (subst (λ fs. SegmentsAreSized a.file fs reads.length.bytes) reads.ends.segments
         reads.length.sized) in
         let own = one_size split.0 (bytes_in logged) (a.file f) split.2
         (record {
@@ -277,7 +277,7 @@ module _ (a b : DiskState) (e : Hand) (l : Layout) (batches : List (List RowChan
         let old = reads.length.is in
         record {
           bytes = split.1 + bytes_in (logged ++ bytes ∷ []);
-          sized = subst (λ fs. AreSized b.file fs (split.1 + bytes_in (logged ++ bytes ∷ [])))
+          sized = subst (λ fs. SegmentsAreSized b.file fs (split.1 + bytes_in (logged ++ bytes ∷ [])))
               (sym reads.ends.segments) (sized_with b.file reads.ends.firsts f split.1
               (bytes_in (logged ++ bytes ∷ [])) front (record {
                 form = form_of e.log;
@@ -314,7 +314,7 @@ module _ (a b : DiskState) (e : Hand) (l : Layout) (batches : List (List RowChan
         (reads.opened family))
 
     -- then the engine stands with the batches
-    pub with_batches : Stands b (record e {
+    pub with_batches : HandStandsForLayout b (record e {
       log = log;
       length = size;
       next = next;

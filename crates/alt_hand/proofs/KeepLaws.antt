@@ -6,14 +6,14 @@ use Rattle.alt_disk.specs.Disk.{DiskState, IsNames}
 use Rattle.alt_disk.specs.Runs.{Spans}
 use Rattle.alt_disk.proofs.Settled.{synced_settled}
 use Rattle.alt_families.specs.Families.{files_in}
-use Rattle.alt_gatelog.specs.InHand.{file_of as log_file}
+use Rattle.alt_gatelog.specs.InHand.{file_of_gate_log as log_file}
 use Rattle.alt_gatelog.proofs.Elsewhere.{reads_stays}
 use Rattle.alt_layout.specs.Families.{Held, files_of}
 use Rattle.alt_layout.specs.Files.{AreRowFiles, AreSegments, HoldsRows, Image, IsLayout, IsOf, Stored}
 use Rattle.alt_layout.specs.Fresh.{versions_file}
 use Rattle.alt_layout.specs.Layout.{Layout}
 use Rattle.alt_layout.proofs.FileLaws.{in_either, last_named, stored_on}
-use Rattle.alt_layout.proofs.FlushLaws.{unnamed}
+use Rattle.alt_layout.proofs.FlushedLayout.{unnamed}
 use Rattle.alt_layout.proofs.MomentLaws.{same_or_not}
 use Rattle.alt_manifest.specs.Versions.{HasVersion, IsIn, IsVersion, RiseFrom, files_named, row_files, version_bytes}
 use Rattle.alt_manifest.specs.declared.version.FamilyVersion.{FamilyVersion}
@@ -22,7 +22,7 @@ use Rattle.alt_manifest.proofs.OneVersion.{same_version}
 use Rattle.alt_recovery.specs.Others.{IsOther, next_past}
 use Rattle.alt_writes.specs.Writes.{Write}
 use Rattle.alt_hand.specs.Found.{Found, version_in}
-use Rattle.alt_hand.specs.InHand.{AreBelow, Reads, Stands, family_of}
+use Rattle.alt_hand.specs.InHand.{AreBelow, HandReadsLayout, HandStandsForLayout, family_of}
 use Rattle.alt_hand.specs.Syncing.{AllSynced}
 use Rattle.alt_hand.specs.declared.hand.Hand.{Hand}
 use Rattle.alt_hand.proofs.FoundLaws.{version_there}
@@ -134,7 +134,7 @@ pub found_reads : (a b : DiskState) (e : Hand) (l : Layout) (n : ℕ) → Found 
     → ((f : ℕ) → IsOf (version_in e) f → b.file f ≡ a.file f) → e.next_file ≤ n
     → ((f : ℕ) → IsOther (version_in e) f → b.file f ≡ None) → (full : Bool)
     → (full ≡ false → AreBelow e.limits.flush e.families)
-    → Reads b (record e { next_file = n; full = full }) l
+    → HandReadsLayout b (record e { next_file = n; full = full }) l
 found_reads a b e l n found kept le gone full calm =
     let v = version_in e in
     let past : v.next_file ≤ n = (let file = found.file in omega (arith, le, file)) in
@@ -173,8 +173,8 @@ found_reads a b e l n found kept le gone full calm =
 -- ---- what lasts
 
 -- the version's files are settled where all files were synced
-pub synced_stands : (s : DiskState) (e : Hand) (l : Layout) → AllSynced s → Reads s e l
-    → Stands s e l
+pub synced_stands : (s : DiskState) (e : Hand) (l : Layout) → AllSynced s → HandReadsLayout s e l
+    → HandStandsForLayout s e l
 synced_stands s e l all reads = record {
   reads = reads;
   settled = λ f of. let there = of_there s.file (version_in e) reads.held reads.parts f

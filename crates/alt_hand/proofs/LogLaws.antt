@@ -1,7 +1,7 @@
 -- The log in hand and the bytes of all entries, where files change.
 use Rattle.std.proofs.Common.{◌≡◌, ℕ, List, []}
 use Rattle.alt_disk.specs.Disk.{DiskState}
-use Rattle.alt_gatelog.specs.InHand.{Stands as LogStands}
+use Rattle.alt_gatelog.specs.InHand.{StandsForEntries as LogStands}
 use Rattle.alt_gatelog.specs.declared.gatelog.GateLog.{GateLog}
 use Rattle.alt_gatelog.proofs.Elsewhere.{reads_stays}
 use Rattle.alt_layout.specs.Files.{Image}

@@ -5,7 +5,7 @@ use Rattle.alt_disk.specs.Runs.{Run, Spans}
 use Rattle.alt_disk.proofs.Runs.{spans_on, spans_weaker}
 use Rattle.alt_flush.specs.Drafts.{IsLeftOver}
 use Rattle.alt_flush.proofs.DraftLaws.{adding, layout_still, next_above, settled_beside}
-use Rattle.alt_gatelog.specs.InHand.{file_of as log_file}
+use Rattle.alt_gatelog.specs.InHand.{file_of_gate_log as log_file}
 use Rattle.alt_gatelog.proofs.Elsewhere.{reads_stays}
 use Rattle.alt_layout.specs.Families.{files_of, layout_of}
 use Rattle.alt_layout.specs.Files.{IsLayout, IsOf, all_of}
@@ -13,14 +13,14 @@ use Rattle.alt_layout.specs.Fresh.{versions_file}
 use Rattle.alt_layout.specs.Layout.{Layout}
 use Rattle.alt_layout.specs.Moments.{Has, HasEither, IsIt}
 use Rattle.alt_layout.proofs.FileLaws.{last_named, stored_on}
-use Rattle.alt_layout.proofs.FlushLaws.{unnamed}
-use Rattle.alt_manifest.specs.InHand.{file_of as manifest_file, version_of, OldOrNew, Stands as ManifestStands}
+use Rattle.alt_layout.proofs.FlushedLayout.{unnamed}
+use Rattle.alt_manifest.specs.InHand.{file_of_manifest as manifest_file, version_of, OldOrNew, StandsForVersion as ManifestStands}
 use Rattle.alt_manifest.specs.Versions.{IsIn, files_named, row_files}
 use Rattle.alt_manifest.specs.declared.manifest.Manifest.{Manifest}
 use Rattle.alt_manifest.specs.declared.version.Version.{Version}
 use Rattle.alt_families.specs.Families.{files_in}
-use Rattle.alt_hand.specs.Drafting.{IsLying, IsReady}
-use Rattle.alt_hand.specs.InHand.{AreBelow, Stands, family_of}
+use Rattle.alt_hand.specs.Drafting.{IsLying, DraftIsReady}
+use Rattle.alt_hand.specs.InHand.{AreBelow, HandStandsForLayout, family_of}
 use Rattle.alt_hand.specs.declared.hand.Hand.{Hand}
 use Rattle.alt_drafts.proofs.MakesLaws.{in_row_files, open_still}
 use Rattle.alt_hand.proofs.HandLaws.{lies_of}
@@ -30,7 +30,7 @@ use Rattle.alt_manifest.proofs.Among.{in_back, in_front, in_or_not}
 
 -- ---- files that are left over
 
-module _ (a b : DiskState) (e : Hand) (l : Layout) (files : List ℕ) (stands : Stands a e l)
+module _ (a b : DiskState) (e : Hand) (l : Layout) (files : List ℕ) (stands : HandStandsForLayout a e l)
     (spans : Spans a b (IsLeftOver files (version_of e.manifest)) (λ t image. Unit {0})) where
   abbrev v : Version
   v = version_of e.manifest
@@ -50,7 +50,7 @@ module _ (a b : DiskState) (e : Hand) (l : Layout) (files : List ℕ) (stands : 
       (λ t image has. subst (IsLayout image) (sym stands.reads.is) has)
 
   -- and then the engine stands as it stood
-  pub removed : ((f : ℕ) → IsLeftOver files v f → b.file f ≡ Option.None) → Stands b e l
+  pub removed : ((f : ℕ) → IsLeftOver files v f → b.file f ≡ Option.None) → HandStandsForLayout b e l
   removed gone = record {
     reads = record {
       held = stands.reads.held;
@@ -101,7 +101,7 @@ module _ (a b : DiskState) (e : Hand) (l : Layout) (files : List ℕ) (stands : 
 -- ---- the version
 
 module _ (a b : DiskState) (e : Hand) (u : Version) (l m : Layout) (lying : IsLying a e.manifest l)
-    (ready : IsReady a e u m)
+    (ready : DraftIsReady a e u m)
     (run : Run a b (manifest_file e.manifest) (OldOrNew (version_of e.manifest) u)) where
   -- while it is added each image has the layout before, or its own
   pub publishing : Spans a b (λ g. Unit {0}) (HasEither l m)
@@ -118,11 +118,11 @@ module _ (a b : DiskState) (e : Hand) (u : Version) (l m : Layout) (lying : IsLy
 
 -- And then the engine stands by it.
 pub published : (a b : DiskState) (e : Hand) (u : Version) (m : Layout) (n : Manifest)
-    (P : ℕ → Option (List ℕ) → Type 0) → IsReady a e u m
+    (P : ℕ → Option (List ℕ) → Type 0) → DraftIsReady a e u m
     → Run a b (manifest_file e.manifest) P → manifest_file n ≡ manifest_file e.manifest
     → version_of n ≡ u → ManifestStands b n → (full : Bool)
     → (full ≡ false → AreBelow e.limits.flush e.families)
-    → Stands b (record e { manifest = n; next_file = u.next_file; full = full }) m
+    → HandStandsForLayout b (record e { manifest = n; next_file = u.next_file; full = full }) m
 published a b e u m n P ready run same version stands full calm =
     stands_by a b e u e.families ready.parts m P n e.log ready.writes e.length ready.makes
     (subst (λ g. Run a b g P) ready.first run) (same ∙ ready.first) version stands ready.ends ready.log

@@ -11,7 +11,7 @@ use Rattle.alt_disk.specs.Disk.{DiskState, IsImage, bytes_or_none, now}
 use Rattle.alt_disk.specs.Fates.{Fates, Fits}
 use Rattle.alt_disk.specs.Runs.{Spans}
 use Rattle.alt_disk.proofs.Settled.{synced_settled}
-use Rattle.alt_gatelog.specs.Log.{IsDamaged, IsLog}
+use Rattle.alt_gatelog.specs.Log.{LogIsDamagedAt, IsLog}
 use Rattle.alt_gatelog.specs.declared.form.Form.{Form}
 use Rattle.alt_gatelog.specs.declared.form.Form.TheVariants.{One, Two}
 use Rattle.alt_gatelog.proofs.OneList.{damaged_no_log, one_form, one_list}
@@ -33,7 +33,7 @@ use Rattle.alt_rowfile.specs.Recovery.{HasDigest, NoRowFile}
 use Rattle.alt_layout.proofs.EntryLaws.{one_entry}
 use Rattle.alt_writes.specs.Writes.{AreRising, Write}
 use Rattle.alt_hand.specs.Found.{Found, version_in}
-use Rattle.alt_hand.specs.Recovery.{ExplainsStore, HasNoLayout, IsBadAt, IsBadDigest, IsRowFileOf, IsSegmentOf, LeftLike, late_rows, no_rows, no_segment, no_version, no_versions, no_write, other_form}
+use Rattle.alt_hand.specs.Recovery.{ExplainsStore, HasNoLayout, IsBadFileAt, IsBadDigest, IsRowFileOf, IsSegmentOf, LeftLike, late_rows, no_rows, no_segment, no_version, no_versions, no_write, other_form}
 use Rattle.alt_hand.specs.Syncing.{AllSynced, Narrows}
 use Rattle.alt_hand.specs.declared.hand.Hand.{Hand}
 use Rattle.alt_hand.specs.declared.recover.RecoverFault.{RecoverFault}
@@ -154,7 +154,7 @@ all_of-split (us ∷ fronts) ws behind = ap (λ x. us ++ x) (all_of-split fronts
 module _ (files : Image) (l : Layout) (layout : IsLayout files l) where
   -- a log isn't damaged
   no_log : (form : Form) (f at : ℕ) (es : List (List ℕ)) → IsLog form es (files f)
-      → IsDamaged at (bytes_or_none (files f)) → ⊥
+      → LogIsDamagedAt at (bytes_or_none (files f)) → ⊥
   no_log form f at es is bad = damaged_no_log at (bytes_or_none (files f)) bad form es
       (subst (IsLog form es) (is.is
       ∙ ap (λ (file : Option (List ℕ)). Some (bytes_or_none file)) (sym is.is)) is)
@@ -231,7 +231,7 @@ module _ (files : Image) (l : Layout) (layout : IsLayout files l) where
       (subst (AreRising (next_after 1 (all_of parts))) own.holds.are rising))
 
   -- files that have a layout are bad at no place
-  bad_is_none : (f at : ℕ) → IsBadAt files f at → ⊥
+  bad_is_none : (f at : ℕ) → IsBadFileAt files f at → ⊥
   bad_is_none f at (no_versions is bad) = no_log One versions_file at _ layout.last.log bad
   bad_is_none f at (other_form is place es log) =
       let no : One ≡ Two = one_form One Two (files versions_file) _ es layout.last.log log in cc no

@@ -10,25 +10,25 @@ use Rattle.alt_disk.proofs.Runs.{run_spans, spans_on, spans_weaker}
 use Rattle.alt_flush.specs.Drafts.{From, renumbered, with_segment}
 use Rattle.alt_flush.proofs.DraftLaws.{from_untouched, layout_still, old_file, with_segment_drafted}
 use Rattle.alt_flush.proofs.SegmentLaws.{all_of-none, in_inserted, with_segment_same}
-use Rattle.alt_gatelog.specs.InHand.{file_of as log_file, form_of, Stands as LogStands}
+use Rattle.alt_gatelog.specs.InHand.{file_of_gate_log as log_file, form_of, StandsForEntries as LogStands}
 use Rattle.alt_gatelog.specs.declared.gatelog.GateLog.{GateLog}
 use Rattle.alt_gatelog.proofs.Elsewhere.{reads_log}
 use Rattle.alt_layout.specs.Families.{files_of, flushed_of, layout_of, with_later}
 use Rattle.alt_layout.specs.Files.{IsLayout, all_of}
 use Rattle.alt_layout.specs.Layout.{Layout}
 use Rattle.alt_layout.specs.Moments.{Has, HasEither}
-use Rattle.alt_layout.specs.Sizes.{IsSized}
+use Rattle.alt_layout.specs.Sizes.{LogIsSized}
 use Rattle.alt_memtable.specs.Rows.{most_bytes}
 use Rattle.alt_layout.proofs.SizeLaws.{sized_on, sized_with}
-use Rattle.alt_manifest.specs.InHand.{file_of as manifest_file, version_of, OldOrNew, Stands as ManifestStands}
+use Rattle.alt_manifest.specs.InHand.{file_of_manifest as manifest_file, version_of, OldOrNew, StandsForVersion as ManifestStands}
 use Rattle.alt_manifest.specs.declared.manifest.Manifest.{Manifest}
 use Rattle.alt_manifest.specs.Versions.{IsIn, files_named, row_files}
 use Rattle.alt_manifest.specs.declared.version.Version.{Version}
 use Rattle.alt_writes.specs.Writes.{Write}
 use Rattle.alt_families.specs.Families.{Families, files_in}
-use Rattle.alt_hand.specs.Carrying.{AreStill, Carries, CarriesDraft}
-use Rattle.alt_hand.specs.Drafting.{IsReady, Makes}
-use Rattle.alt_hand.specs.InHand.{Stands, family_of}
+use Rattle.alt_hand.specs.Carrying.{AreStill, CarriesFamily, CarriesDraft}
+use Rattle.alt_hand.specs.Drafting.{DraftIsReady, Makes}
+use Rattle.alt_hand.specs.InHand.{HandStandsForLayout, family_of}
 use Rattle.alt_hand.specs.declared.hand.Hand.{Hand}
 use Rattle.alt_drafts.proofs.StillLaws.{each_on, may_end_on}
 use Rattle.alt_hand.proofs.CarryLaws.{carries_published}
@@ -60,11 +60,11 @@ makes_segment a b u families parts l P log makes room run log_is stands = record
 
 -- The engine is ready for it, where it is made of the version in hand.
 pub ready_segment : (a b : DiskState) (e : Hand) (l : Layout) (live : List ℕ)
-    (stands : Stands a e l) (P : ℕ → Option (List ℕ) → Type 0) (log : GateLog)
+    (stands : HandStandsForLayout a e l) (P : ℕ → Option (List ℕ) → Type 0) (log : GateLog)
     → e.next_file + 1 < 2 ^ 32 → Run a b e.next_file P
     → Spans a b (From e.next_file) (λ t image. Unit {0}) → log_file log ≡ e.next_file
     → LogStands b log []
-    → IsReady b (record e { log = log })
+    → DraftIsReady b (record e { log = log })
     (with_segment (renumbered (version_of e.manifest) e.next_file e.next)) l
 ready_segment a b e l live stands P log room run spans log_is log_stands =
     let v = version_of e.manifest in
@@ -91,7 +91,7 @@ ready_segment a b e l live stands P log room run spans log_is log_stands =
             (sized_on a.file b.file v.segments length.bytes (λ g there. run.file g
             (old_file a b u makes.held stands.reads.parts P makes.drafted run g
             (in_front v.segments (row_files v.families) g there))) length.sized)
-            (subst (λ f. IsSized 0 (b.file f)) log_is (record {
+            (subst (λ f. LogIsSized 0 (b.file f)) log_is (record {
               form = form_of log;
               entries = [];
               log = reads_log b log [] log_stands.reads;
@@ -139,7 +139,7 @@ carries_segment a b u families parts l makes P run family =
 -- ---- moments
 
 -- While files are made that no version names each image has the rows.
-pub keeping : (a b : DiskState) (e : Hand) (l : Layout) (stands : Stands a e l)
+pub keeping : (a b : DiskState) (e : Hand) (l : Layout) (stands : HandStandsForLayout a e l)
     → Spans a b (From e.next_file) (λ t image. Unit {0}) → Spans a b (λ g. Unit {0}) (Has l)
 keeping a b e l stands spans =
     let v = version_of e.manifest in
@@ -165,7 +165,7 @@ pub spans_of : (a b : DiskState) (f : ℕ) → Run a b f (λ t left. Unit {0})
 spans_of a b f run = run_spans a b f (λ t left. Unit {0}) (From f) (λ t image. Unit {0}) run
     (omega arith) (λ t image here others. tt)
 
-module _ (a d : DiskState) (e : Hand) (l : Layout) (stands : Stands a e l) (u : Version)
+module _ (a d : DiskState) (e : Hand) (l : Layout) (stands : HandStandsForLayout a e l) (u : Version)
     (is : u ≡ with_segment (renumbered (version_of e.manifest) e.next_file e.next))
     (log : GateLog) (room : e.next_file + 1 < 2 ^ 32)
     (run : Run a d e.next_file (λ t left. Unit {0})) (log_is : log_file log ≡ e.next_file)
@@ -177,8 +177,8 @@ module _ (a d : DiskState) (e : Hand) (l : Layout) (stands : Stands a e l) (u : 
   spans = spans_of a d e.next_file run
 
   -- once the segment is made the engine is ready for the version
-  pub ready_by : IsReady d (record e { log = log }) u l
-  ready_by = subst (λ (v : Version). IsReady d (record e { log = log }) v l) (sym is)
+  pub ready_by : DraftIsReady d (record e { log = log }) u l
+  ready_by = subst (λ (v : Version). DraftIsReady d (record e { log = log }) v l) (sym is)
       (ready_segment a d e l [] stands (λ t left. Unit {0}) log room run spans log_is log_stands)
 
   module _ (z : DiskState)
@@ -194,12 +194,12 @@ module _ (a d : DiskState) (e : Hand) (l : Layout) (stands : Stands a e l) (u : 
       new = record e { manifest = n; log = log; next_file = u.next_file }
 
       -- then the engine stands as it stood
-      pub renewed : Stands z new l
+      pub renewed : HandStandsForLayout z new l
       renewed = published d z (record e { log = log }) u l n (OldOrNew (version_of e.manifest) u)
           ready_by added same version manifest e.full stands.reads.calm
 
       -- and merges are carried
-      pub renew_carries : (family : ℕ) → Carries a z e new family
+      pub renew_carries : (family : ℕ) → CarriesFamily a z e new family
       renew_carries family = carries_published a d z e new u e.families ready_by.parts l [] family
           spans
           (subst (λ (v : Version). CarriesDraft a d first v (family_of e family) (family_of e family)

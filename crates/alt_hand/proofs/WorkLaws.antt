@@ -15,12 +15,12 @@ use Rattle.alt_manifest.specs.InHand.{version_of}
 use Rattle.alt_manifest.specs.declared.version.Version.{Version}
 use Rattle.alt_manifest.proofs.OneVersion.{same_version}
 use Rattle.alt_memtable.specs.Rows.{most_bytes}
-use Rattle.alt_layout.specs.Sizes.{AreSized}
+use Rattle.alt_layout.specs.Sizes.{SegmentsAreSized}
 use Rattle.alt_layout.proofs.SizeLaws.{none_in, one_size_of}
 use Rattle.alt_families.specs.Families.{rows_in}
 use Rattle.alt_hand.specs.Drafting.{Empties, EmptiedIn}
-use Rattle.alt_hand.specs.InHand.{Stands, family_of, limits_of}
-use Rattle.alt_hand.specs.Working.{HasEntries, IsLong, IsShort, Works, WorksIn, most_entries}
+use Rattle.alt_hand.specs.InHand.{HandStandsForLayout, family_of, limits_of}
+use Rattle.alt_hand.specs.Working.{HasEntries, IsLong, LogIsShort, Works, WorksIn, most_entries}
 use Rattle.alt_hand.specs.declared.hand.Hand.{Hand}
 use Rattle.alt_hand.proofs.HandLaws.{lies_of}
 
@@ -54,7 +54,7 @@ worked_in a b live l spans =
 -- ---- the bytes of entries
 
 -- The engine counts the bytes of the entries, up to 2^62.
-pub entries_length : (s : DiskState) (e : Hand) (l : Layout) (n : ℕ) → Stands s e l
+pub entries_length : (s : DiskState) (e : Hand) (l : Layout) (n : ℕ) → HandStandsForLayout s e l
     → HasEntries s.file n → e.length ≡ min n most_bytes
 entries_length s e l n stands has =
     let v = version_of e.manifest in
@@ -62,12 +62,12 @@ entries_length s e l n stands has =
     (lies_of s e l stands).last has.last in
     let length = stands.reads.length in
     let same : length.bytes ≡ n = one_size_of s.file has.version.segments length.bytes n
-    (subst (λ (u : Version). AreSized s.file u.segments length.bytes) version length.sized)
+    (subst (λ (u : Version). SegmentsAreSized s.file u.segments length.bytes) version length.sized)
     has.segments in
     length.is ∙ ap (λ k. min k most_bytes) same
 
 -- And there are so many.
-pub has_entries : (s : DiskState) (e : Hand) (l : Layout) → Stands s e l
+pub has_entries : (s : DiskState) (e : Hand) (l : Layout) → HandStandsForLayout s e l
     → (n : ℕ) × HasEntries s.file n
 has_entries s e l stands = (
   stands.reads.length.bytes,
@@ -80,23 +80,23 @@ has_entries s e l stands = (
 
 -- ---- short and long
 
-pub short_entries : (s : DiskState) (e : Hand) (l : Layout) → Stands s e l → IsShort e
+pub short_entries : (s : DiskState) (e : Hand) (l : Layout) → HandStandsForLayout s e l → LogIsShort e
     → (n : ℕ) → HasEntries s.file n → n < most_entries (limits_of e).flush
 short_entries s e l stands short n has =
     let at = entries_length s e l n stands has in omega (arith, at, short)
 
-pub long_entries : (s : DiskState) (e : Hand) (l : Layout) → Stands s e l → IsLong e
+pub long_entries : (s : DiskState) (e : Hand) (l : Layout) → HandStandsForLayout s e l → IsLong e
     → (n : ℕ) → HasEntries s.file n → most_entries (limits_of e).flush ≤ n
 long_entries s e l stands long n has =
     let at = entries_length s e l n stands has in omega (arith, at, long)
 
-pub no_entries : (s : DiskState) (e : Hand) (l : Layout) → Stands s e l → e.length ≡ 0
+pub no_entries : (s : DiskState) (e : Hand) (l : Layout) → HandStandsForLayout s e l → e.length ≡ 0
     → (n : ℕ) → HasEntries s.file n → n ≡ 0
 no_entries s e l stands none n has =
     let at = entries_length s e l n stands has in omega (arith, at, none)
 
 -- Where there are none, no family has rows in memory.
-pub none_in_memory : (s : DiskState) (e : Hand) (l : Layout) → Stands s e l → e.length ≡ 0
+pub none_in_memory : (s : DiskState) (e : Hand) (l : Layout) → HandStandsForLayout s e l → e.length ≡ 0
     → (family : ℕ) → rows_in (family_of e family) ≡ empty
 none_in_memory s e l stands none family =
     let length = stands.reads.length in
@@ -110,10 +110,10 @@ none_in_memory s e l stands none family =
 
 -- After it the log is short.
 pub step_short : (s : DiskState) (e f : Hand) (m : Layout) → 0 < (limits_of e).flush
-    → Stands s f m → (f.length ≡ 0) ⊎ (IsShort e × (f.length ≡ e.length)) → (n : ℕ)
+    → HandStandsForLayout s f m → (f.length ≡ 0) ⊎ (LogIsShort e × (f.length ≡ e.length)) → (n : ℕ)
     → HasEntries s.file n → n < 16 * (limits_of e).flush
 step_short s e f m some stands bytes n has =
     let at = entries_length s f m n stands has in ⊎_elim
     (λ (none : f.length ≡ 0). omega (arith, at, none, some))
-    (λ (same : IsShort e × (f.length ≡ e.length)). let short = same.0 in let eq = same.1 in
+    (λ (same : LogIsShort e × (f.length ≡ e.length)). let short = same.0 in let eq = same.1 in
     omega (arith, at, short, eq)) bytes

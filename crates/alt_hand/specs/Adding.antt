@@ -2,7 +2,7 @@
 use Rattle.std.specs.Prelude.{◌≡◌, ◌⊎◌, ◌<◌, ◌+◌, ◌-◌, ◌++◌, ℕ, List, [], ◌∷◌, None}
 use Rattle.std.specs.FinMap.{empty}
 use Rattle.alt_disk.specs.Disk.{DiskState}
-use Rattle.alt_gatelog.specs.InHand.{file_of as log_file, form_of}
+use Rattle.alt_gatelog.specs.InHand.{file_of_gate_log as log_file, form_of}
 use Rattle.alt_gatelog.specs.declared.form.Form.{Form}
 use Rattle.alt_gatelog.specs.declared.form.Form.TheVariants.{One, Two}
 use Rattle.alt_layout.specs.Files.{Image, IsOf}
@@ -17,7 +17,7 @@ pub use Rattle.alt_drafts.specs.Drafting.{IsLeftOut, IsThere}
 -- ---- Files.
 
 -- A version was added: its next file is the engine's, and files that the last one named and that it doesn't name are gone.
-pub record Adds (s : DiskState) (old new : Hand) : Type 0 where
+pub record AddsVersion (s : DiskState) (old new : Hand) : Type 0 where
   pub next_file : (version_in new).next_file ≡ next_file_of new
   pub removed : (f : ℕ) → IsOf (version_in old) f → (IsOf (version_in new) f → ⊥)
       → s.file f ≡ None

@@ -7,7 +7,7 @@ use Rattle.alt_hand.specs.declared.hand.Hand.{Hand}
 pub use Rattle.alt_drafts.specs.Carrying.{AreStill, CarriesDraft}
 
 -- Its files stay in front, read as they read, a merge of the first of them stays one, and the file that the merge writes reads as it read.
-pub record Carries (a b : DiskState) (e f : Hand) (family : ℕ) : Type 0 where
+pub record CarriesFamily (a b : DiskState) (e f : Hand) (family : ℕ) : Type 0 where
   pub more : List RowFile
   pub files : files_at f family ≡ files_at e family ++ more
   pub still : AreStill a b (files_at e family)

@@ -1,11 +1,11 @@
--- An engine and a draft of the next version, and what a call that is not done yet leaves in hand. Private contracts alone cite `IsReady`, `IsLying`,
--- `IsSameHand`, `IsPrepared` and `with_rows`.
+-- An engine and a draft of the next version, and what a call that is not done yet leaves in hand. Private contracts alone cite `DraftIsReady`, `IsLying`,
+-- `IsSameHand`, `IsPrepared` and `with_memory_rows`.
 use Rattle.std.specs.Prelude.{◌≡◌, ◌<◌, ◌-◌, ◌^◌, ℕ, Bool, List, Option, Some, None}
 use Rattle.alt_disk.specs.Disk.{DiskState}
 use Rattle.alt_flush.specs.Drafts.{renumbered, with_segment}
-use Rattle.alt_gatelog.specs.InHand.{file_of as log_file, form_of, HasPlace, IsFramed, SameLog}
+use Rattle.alt_gatelog.specs.InHand.{file_of_gate_log as log_file, form_of, HasPlace, IsFramed, SameLog}
 use Rattle.alt_gatelog.specs.declared.form.Form.TheVariants.{One, Two}
-use Rattle.alt_manifest.specs.InHand.{file_of as manifest_file, version_of, SameManifest, Stands as ManifestStands}
+use Rattle.alt_manifest.specs.InHand.{file_of_manifest as manifest_file, version_of, SameManifest, StandsForVersion as ManifestStands}
 use Rattle.alt_manifest.specs.Versions.{version_bytes}
 use Rattle.alt_manifest.specs.declared.manifest.Manifest.{Manifest}
 use Rattle.alt_manifest.specs.declared.version.Version.{Version}
@@ -22,10 +22,10 @@ use Rattle.alt_hand.specs.declared.renew.Renewal.{Renewal}
 use Rattle.alt_drafts.specs.declared.fault.EngineFault.{EngineFault}
 use Rattle.alt_hand.specs.Faults.{told_by_engine}
 use Rattle.alt_faults.specs.Faults.{IsOutside}
-pub use Rattle.alt_drafts.specs.Drafting.{AreDead, Empties, IsFlushed, IsSpentFor, Makes, files_for, files_needed, without_all}
+pub use Rattle.alt_drafts.specs.Drafting.{AreDead, Empties, MemoryIsFlushed, IsSpentFor, Makes, files_for, files_needed, without_families}
 
 -- Once the draft is its version, the engine stands for this layout.
-pub record IsReady (s : DiskState) (e : Hand) (u : Version) (l : Layout) : Type 0 where
+pub record DraftIsReady (s : DiskState) (e : Hand) (u : Version) (l : Layout) : Type 0 where
   pub parts : List (List Write)
   pub writes : List Write
   pub makes : Makes s u e.families parts l
@@ -54,8 +54,8 @@ abbrev pub EmptiedIn : List ℕ → Layout → ℕ → Image → Type 0
 EmptiedIn live l t image = IsEmptied live l image
 
 -- The fault tells of no spent number, and of no damage.
-abbrev pub IsUnspent : EngineFault → Type 0
-IsUnspent f = IsOutside (told_by_engine f)
+abbrev pub EngineFaultIsOutside : EngineFault → Type 0
+EngineFaultIsOutside f = IsOutside (told_by_engine f)
 
 -- ---- A write.
 
@@ -74,5 +74,5 @@ IsPrepared e (Some r) = (form_of e.log ≡ One) × (e.next_file < 2 ^ 32 - 1)
     × IsFramed r.block.items (version_bytes r.draft)
 
 -- The same engine with other rows in memory.
-abbrev pub with_rows : Hand → Families → Bool → Hand
-with_rows e families full = record e { families = families; full = full }
+abbrev pub with_memory_rows : Hand → Families → Bool → Hand
+with_memory_rows e families full = record e { families = families; full = full }

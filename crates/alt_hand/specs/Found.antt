@@ -5,14 +5,14 @@ use Rattle.alt_disk.specs.Disk.{DiskState}
 use Rattle.alt_disk.specs.declared.disk.DiskFault.{DiskFault}
 use Rattle.alt_disk.specs.declared.disk.DiskFault.TheVariants as disk
 use Rattle.alt_families.specs.Families.{files_in, rows_in}
-use Rattle.alt_gatelog.specs.InHand.{file_of as log_file}
+use Rattle.alt_gatelog.specs.InHand.{file_of_gate_log as log_file}
 use Rattle.alt_gatelog.specs.declared.fault.LogFault.{LogFault}
 use Rattle.alt_gatelog.specs.declared.fault.LogFault.TheVariants as log
 use Rattle.alt_layout.specs.Families.{Held, files_of, flushed_of, layout_of, with_later}
 use Rattle.alt_layout.specs.Files.{EndsWith, Stored, all_of}
 use Rattle.alt_layout.specs.Fresh.{versions_file}
 use Rattle.alt_layout.specs.Layout.{Layout}
-use Rattle.alt_manifest.specs.InHand.{file_of as manifest_file, version_of, Reads as ManifestReads}
+use Rattle.alt_manifest.specs.InHand.{file_of_manifest as manifest_file, version_of, ReadsVersion as ManifestReads}
 use Rattle.alt_manifest.specs.declared.version.Version.{Version}
 use Rattle.alt_rowfile.specs.declared.fault.RowFileFault.{RowFileFault}
 use Rattle.alt_rowfile.specs.declared.fault.RowFileFault.TheVariants as rows

@@ -5,17 +5,17 @@ use Rattle.std.specs.FinMap.{empty}
 use Rattle.std.specs.Ordering.{nat_cmp}
 use Rattle.alt_cells.specs.declared.batch.RowChange.{RowChange}
 use Rattle.alt_disk.specs.Disk.{DiskState, IsSettled}
-use Rattle.alt_gatelog.specs.InHand.{file_of as log_file, form_of, Reads as LogReads}
+use Rattle.alt_gatelog.specs.InHand.{file_of_gate_log as log_file, form_of, ReadsEntries as LogReads}
 use Rattle.alt_gatelog.specs.declared.form.Form.{Form}
 use Rattle.alt_gatelog.specs.declared.form.Form.TheVariants.{One, Two}
 use Rattle.alt_gatelog.specs.declared.gatelog.GateLog.{GateLog}
 use Rattle.alt_layout.specs.Layout.{Layout, RowMap}
 use Rattle.alt_writes.specs.Writes.{Write, numbered}
 use Rattle.alt_layout.specs.Entries.{HoldWrites}
-use Rattle.alt_layout.specs.Sizes.{AreSized}
+use Rattle.alt_layout.specs.Sizes.{SegmentsAreSized}
 use Rattle.alt_layout.specs.Fresh.{versions_file}
 use Rattle.alt_memtable.specs.Rows.{most_bytes}
-use Rattle.alt_manifest.specs.InHand.{file_of as manifest_file, version_of, Reads as ManifestReads}
+use Rattle.alt_manifest.specs.InHand.{file_of_manifest as manifest_file, version_of, ReadsVersion as ManifestReads}
 use Rattle.alt_layout.specs.Families.{Held, flushed_of, files_of, layout_of, with_later}
 use Rattle.alt_layout.specs.Files.{EndsWith, Image, IsLayout, IsOf, Stored, all_of}
 use Rattle.alt_layout.specs.Writes.{with_write, with_writes}
@@ -26,7 +26,7 @@ use Rattle.alt_faults.specs.Faults.{OnlySpent}
 use Rattle.alt_families.specs.Families.{rows_in, files_in}
 use Rattle.alt_families.specs.declared.family.Family.{Family}
 use Rattle.alt_hand.specs.declared.hand.Limits.{Limits}
-pub use Rattle.alt_drafts.specs.InHand.{AreBelow, AreOpen, bytes_in}
+pub use Rattle.alt_drafts.specs.InHand.{AreBelow, AreOpen, bytes_in_memory}
 
 -- The family of this number, if the engine has one.
 abbrev pub family_of : Hand → ℕ → Option Family
@@ -68,7 +68,7 @@ length_of e = e.length
 -- The entries of these segments have so many bytes together, counted up to 2^62.
 pub record IsLength (image : Image) (segments : List ℕ) (length : ℕ) : Type 0 where
   pub bytes : ℕ
-  pub sized : AreSized image segments bytes
+  pub sized : SegmentsAreSized image segments bytes
   pub is : length ≡ min bytes most_bytes
 
 -- The log in hand is that of its file as it reads, and its entries hold these writes.
@@ -79,7 +79,7 @@ pub record LogHolds (s : DiskState) (log : GateLog) (ws : List Write) : Type 0 w
 
 -- The engine is that of this layout as the disk reads: the files that the version in hand names hold it, each is the one in hand, and memory has what
 -- the log has and no row file. No file is there from the next one on. Where it says that no family is full, none is.
-pub record Reads (s : DiskState) (e : Hand) (l : Layout) : Type 0 where
+pub record HandReadsLayout (s : DiskState) (e : Hand) (l : Layout) : Type 0 where
   pub held : Held
   pub parts : List (List Write)
   pub writes : List Write
@@ -100,8 +100,8 @@ pub record Reads (s : DiskState) (e : Hand) (l : Layout) : Type 0 where
   pub calm : e.full ≡ false → AreBelow e.limits.flush e.families
 
 -- The engine is that of this layout, and a stop now leaves of each of these files what reads give.
-pub record Stands (s : DiskState) (e : Hand) (l : Layout) : Type 0 where
-  pub reads : Reads s e l
+pub record HandStandsForLayout (s : DiskState) (e : Hand) (l : Layout) : Type 0 where
+  pub reads : HandReadsLayout s e l
   pub settled : (f : ℕ) → IsOf (version_of e.manifest) f → IsSettled s f
 
 -- The write of a batch has the next number.

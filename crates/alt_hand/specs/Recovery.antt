@@ -3,7 +3,7 @@ use Rattle.std.specs.Prelude.{◌≡◌, ◌≢◌, ◌⊎◌, ◌≤◌, ◌<�
 use Rattle.std.specs.FinMap.{entries}
 use Rattle.sha2.specs.Sha256.{sha256}
 use Rattle.alt_disk.specs.Disk.{DiskState, IsImage, IsNames, bytes_or_none}
-use Rattle.alt_gatelog.specs.Log.{IsLog, IsDamaged, gate_place}
+use Rattle.alt_gatelog.specs.Log.{IsLog, LogIsDamagedAt, gate_place}
 use Rattle.alt_gatelog.specs.declared.form.Form.{Form}
 use Rattle.alt_gatelog.specs.declared.form.Form.TheVariants.{One, Two}
 use Rattle.alt_rowfile.specs.Format.{IsRowFile}
@@ -41,30 +41,30 @@ pub record IsSegmentOf (v : Version) (before : List ℕ) (f : ℕ) : Type 0 wher
   pub is : v.segments ≡ before ++ f ∷ behind
 
 -- Files have no layout at a place of one of them. A damaged entry is named by the place of its gate, and a row file by its beginning.
-pub data IsBadAt (files : Image) (f at : ℕ) : Type 0 where
+pub data IsBadFileAt (files : Image) (f at : ℕ) : Type 0 where
   -- File 1 is no log.
-  no_versions : f ≡ versions_file → IsDamaged at (bytes_or_none (files versions_file))
-      → IsBadAt files f at
+  no_versions : f ≡ versions_file → LogIsDamagedAt at (bytes_or_none (files versions_file))
+      → IsBadFileAt files f at
   -- It is one of the second form.
   other_form : f ≡ versions_file → at ≡ 0 → (es : List (List ℕ))
-      → IsLog Two es (files versions_file) → IsBadAt files f at
+      → IsLog Two es (files versions_file) → IsBadFileAt files f at
   -- It has no entry, or its last one is no version.
   no_version : f ≡ versions_file → (es : List (List ℕ)) → IsLog One es (files versions_file)
-      → IsBadLast es at → IsBadAt files f at
+      → IsBadLast es at → IsBadFileAt files f at
   -- A row file is too short, or its digest is right and it is no row file all the same.
   no_rows : (v : Version) → HasVersion v (files versions_file) → (flushed : ℕ)
       → IsRowFileOf v f flushed → at ≡ 0
       → (length (bytes_or_none (files f)) < 32)
       ⊎ (HasDigest (bytes_or_none (files f)) × NoRowFile (bytes_or_none (files f)))
-      → IsBadAt files f at
+      → IsBadFileAt files f at
   -- A row file has a timestamp above the family's flushed number.
   late_rows : (v : Version) → HasVersion v (files versions_file) → (flushed : ℕ)
       → IsRowFileOf v f flushed → at ≡ 0 → (m : RowMap) (bytes : List ℕ) → files f ≡ Some bytes
-      → IsRowFile (entries m) bytes → (IsMapBelow (flushed + 1) m → ⊥) → IsBadAt files f at
+      → IsRowFile (entries m) bytes → (IsMapBelow (flushed + 1) m → ⊥) → IsBadFileAt files f at
   -- A segment is no log.
   no_segment : (v : Version) → HasVersion v (files versions_file) → (before : List ℕ)
-      → IsSegmentOf v before f → IsDamaged at (bytes_or_none (files f))
-      → IsBadAt files f at
+      → IsSegmentOf v before f → LogIsDamagedAt at (bytes_or_none (files f))
+      → IsBadFileAt files f at
   -- Behind entries that hold writes with rising numbers an entry holds none with later ones.
   no_write : (v : Version) → HasVersion v (files versions_file) → (before : List ℕ)
       → IsSegmentOf v before f → (parts : List (List Write)) → AreSegments files before parts
@@ -74,7 +74,7 @@ pub data IsBadAt (files : Image) (f at : ℕ) : Type 0 where
       → AllHeld (all_of parts ++ writes) → AreRising 1 (all_of parts ++ writes)
       → IsNoEntry form (next_after 1 (all_of parts ++ writes)) entry
       → at ≡ gate_place (front ++ entry ∷ behind) (length front)
-      → IsBadAt files f at
+      → IsBadFileAt files f at
 
 -- A row file that the last version names doesn't end with the digest of what stands before it.
 pub record IsBadDigest (files : Image) (f : ℕ) (kept found : List ℕ) : Type 0 where
@@ -91,7 +91,7 @@ pub record IsBadDigest (files : Image) (f : ℕ) (kept found : List ℕ) : Type 
 
 -- Damage and a digest that differs are explained by the files.
 abbrev pub ExplainsStore : Image → RecoverFault → Type 0
-ExplainsStore files f = OnlyDamaged (FileWhere (IsBadAt files) (IsBadDigest files))
+ExplainsStore files f = OnlyDamaged (FileWhere (IsBadFileAt files) (IsBadDigest files))
     (told_by_recovery f)
 
 -- Where either is told the files have no layout.

@@ -7,11 +7,11 @@ use Rattle.alt_manifest.specs.declared.version.Version.{Version}
 use Rattle.alt_layout.specs.Files.{Image, IsLayout}
 use Rattle.alt_layout.specs.Fresh.{versions_file}
 use Rattle.alt_layout.specs.Layout.{Layout, shown}
-use Rattle.alt_layout.specs.Sizes.{AreSized}
+use Rattle.alt_layout.specs.Sizes.{SegmentsAreSized}
 use Rattle.alt_families.specs.Families.{rows_in}
-use Rattle.alt_hand.specs.Drafting.{IsFlushed, IsSpentFor, files_for, files_needed}
+use Rattle.alt_hand.specs.Drafting.{MemoryIsFlushed, IsSpentFor, files_for, files_needed}
 use Rattle.alt_hand.specs.Faults.{told_by_engine}
-use Rattle.alt_hand.specs.InHand.{bytes_in, family_of, length_of, limits_of, next_file_of}
+use Rattle.alt_hand.specs.InHand.{bytes_in_memory, family_of, length_of, limits_of, next_file_of}
 use Rattle.alt_hand.specs.declared.hand.Hand.{Hand}
 use Rattle.alt_drafts.specs.declared.fault.EngineFault.{EngineFault}
 
@@ -42,19 +42,19 @@ WorksIn live l t image = IsWorked live l image
 pub record HasEntries (files : Image) (bytes : ℕ) : Type 0 where
   pub version : Version
   pub last : HasVersion version (files versions_file)
-  pub segments : AreSized files version.segments bytes
+  pub segments : SegmentsAreSized files version.segments bytes
 
 -- ---- What applies.
 
 -- The family has rows of so many bytes in memory that it is flushed.
-abbrev pub IsFull : Hand → ℕ → Type 0
-IsFull e family = (limits_of e).flush ≤ bytes_in (family_of e family)
+abbrev pub FamilyIsFull : Hand → ℕ → Type 0
+FamilyIsFull e family = (limits_of e).flush ≤ bytes_in_memory (family_of e family)
 
 -- It is the lowest live one.
 pub record IsFirstFull (live : List ℕ) (e : Hand) (family : ℕ) : Type 0 where
   pub lives : IsIn live family
-  pub full : IsFull e family
-  pub first : (other : ℕ) → IsIn live other → other < family → IsFull e other → ⊥
+  pub full : FamilyIsFull e family
+  pub first : (other : ℕ) → IsIn live other → other < family → FamilyIsFull e other → ⊥
 
 -- From so many bytes of entries on a step flushes all families: 16 times those at which one is flushed, and 2^62 at most.
 abbrev pub most_entries : ℕ → ℕ
@@ -62,14 +62,14 @@ most_entries flush = min (16 * flush) (2 ^ 62)
 
 -- No live family is full.
 abbrev pub IsCalm : List ℕ → Hand → Type 0
-IsCalm live e = (family : ℕ) → IsIn live family → IsFull e family → ⊥
+IsCalm live e = (family : ℕ) → IsIn live family → FamilyIsFull e family → ⊥
 
 -- The log in hand is so long that a step flushes all, or it is shorter.
 abbrev pub IsLong : Hand → Type 0
 IsLong e = most_entries (limits_of e).flush ≤ length_of e
 
-abbrev pub IsShort : Hand → Type 0
-IsShort e = length_of e < most_entries (limits_of e).flush
+abbrev pub LogIsShort : Hand → Type 0
+LogIsShort e = length_of e < most_entries (limits_of e).flush
 
 -- ---- What is done.
 
@@ -77,13 +77,13 @@ IsShort e = length_of e < most_entries (limits_of e).flush
 -- one for the log.
 pub record AreAllFlushed (live : List ℕ) (old new : Hand) : Type 0 where
   pub lives : (family : ℕ) → IsIn live family
-      → IsFlushed (family_of old family) (family_of new family)
+      → MemoryIsFlushed (family_of old family) (family_of new family)
   pub others : (family : ℕ) → IsIn live family ⊎ (rows_in (family_of new family) ≡ empty)
   pub file : next_file_of new ≡ next_file_of old + files_needed old.families live + 1
 
 -- One live family was flushed, each other is as it was, and no family that isn't live has rows in memory. The file that was made took the next number.
 pub record IsOneFlushed (live : List ℕ) (old new : Hand) (family : ℕ) : Type 0 where
-  pub it : IsFlushed (family_of old family) (family_of new family)
+  pub it : MemoryIsFlushed (family_of old family) (family_of new family)
   pub lives : (other : ℕ) → IsIn live other → other ≢ family
       → family_of new other ≡ family_of old other
   pub others : (other : ℕ) → IsIn live other ⊎ (rows_in (family_of new other) ≡ empty)
@@ -93,7 +93,7 @@ pub record IsOneFlushed (live : List ℕ) (old new : Hand) (family : ℕ) : Type
 -- What a step flushed: all where the log was long, and else the lowest live family that was full.
 abbrev pub IsFlushDone : List ℕ → Hand → Hand → Type 0
 IsFlushDone live old new = (IsLong old × AreAllFlushed live old new)
-    ⊎ (IsShort old × ((family : ℕ) × IsFirstFull live old family × IsOneFlushed live old new family))
+    ⊎ (LogIsShort old × ((family : ℕ) × IsFirstFull live old family × IsOneFlushed live old new family))
 
 -- ---- Faults.
 
@@ -109,9 +109,9 @@ IsAllFor live e fault = IsSpentFor (next_file_of e + files_needed e.families liv
 -- A flush of a step does where the log is long, and else where the file of the lowest live family that is full goes beyond it.
 abbrev pub IsDueFor : List ℕ → Hand → EngineFault → Type 0
 IsDueFor live e fault = (IsLong e × IsAllFor live e fault)
-    ⊎ (IsShort e × ((family : ℕ) × IsFirstFull live e family
+    ⊎ (LogIsShort e × ((family : ℕ) × IsFirstFull live e family
     × IsSpentFor (next_file_of e + files_for (entries (rows_in (family_of e family)))) fault))
 
 -- It tells of no damage.
-abbrev pub IsNoDamage : EngineFault → Type 0
-IsNoDamage f = IsUndamaged (told_by_engine f)
+abbrev pub TellsNoDamage : EngineFault → Type 0
+TellsNoDamage f = IsUndamaged (told_by_engine f)

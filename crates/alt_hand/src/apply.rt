@@ -8,10 +8,10 @@ ghost use Rattle.alt_gatelog.specs.declared.form.Form.TheVariants.{One};
 ghost use Rattle.alt_layout.specs.Layout.{Layout};
 ghost use Rattle.alt_layout.specs.Writes.{with_write, with_writes};
 ghost use Rattle.alt_hand.specs.Adding.{IsBehind};
-ghost use Rattle.alt_hand.specs.Carrying.{Carries};
-ghost use Rattle.alt_hand.specs.Drafting.{IsUnspent};
+ghost use Rattle.alt_hand.specs.Carrying.{CarriesFamily};
+ghost use Rattle.alt_hand.specs.Drafting.{EngineFaultIsOutside};
 ghost use Rattle.alt_hand.specs.Merging.{files_at};
-ghost use Rattle.alt_hand.specs.InHand.{BeforeOrAll, BeforeOrWith, IsSpentBy, Stands, WantsFile, WantsNumber, batch_write, batch_writes, files_made, last_form_of, limits_of, next_file_of, next_of, work_file_of};
+ghost use Rattle.alt_hand.specs.InHand.{BeforeOrAll, BeforeOrWith, IsSpentBy, HandStandsForLayout, WantsFile, WantsNumber, batch_write, batch_writes, files_made, last_form_of, limits_of, next_file_of, next_of, work_file_of};
 
 use crate::hand::Hand;
 use alt_cells::Batch;
@@ -34,9 +34,9 @@ impl Hand {
     ) -> Result<u64, EngineFault>
         requires some { 0 < length batches.now }
         requires stands { IsTrusted (D.state disk.old)
-            → (l : Layout) × Stands (D.state disk.old) self.old l }
+            → (l : Layout) × HandStandsForLayout (D.state disk.old) self.old l }
         ensures ok { OnOk result (IsTrusted (D.state disk.old) → (l : Layout)
-            → Stands (D.state disk.old) self.old l → Stands (D.state disk.new) self.new
+            → HandStandsForLayout (D.state disk.old) self.old l → HandStandsForLayout (D.state disk.new) self.new
             (with_writes l (batch_writes l batches.now))) }
         ensures number { IfOk result (λ n. n ≡ next_of self.old) }
         ensures next { OnOk result (next_of self.new ≡ next_of self.old + length batches.now) }
@@ -53,12 +53,12 @@ impl Hand {
         ensures files { OnOk result ((family : ℕ)
             → files_at self.new family ≡ files_at self.old family) }
         ensures carries { OnOk result (IsTrusted (D.state disk.old) → (l : Layout)
-            → Stands (D.state disk.old) self.old l → (family : ℕ)
-            → Carries (D.state disk.old) (D.state disk.new) self.old self.new family) }
+            → HandStandsForLayout (D.state disk.old) self.old l → (family : ℕ)
+            → CarriesFamily (D.state disk.old) (D.state disk.new) self.old self.new family) }
 
         // A stop at any moment of the call, also one that fails, leaves the rows from before it or with all batches.
         ensures any_moment { IsTrusted (D.state disk.old) → (l : Layout)
-            → Stands (D.state disk.old) self.old l
+            → HandStandsForLayout (D.state disk.old) self.old l
             → Spans (D.state disk.old) (D.state disk.new) (λ _. ⊤) (BeforeOrAll l batches.now) }
 
         // A number is spent exactly where one of those that are wanted is 2^62 - 1, and else where the new segment wants file 2^32 - 1.
@@ -88,10 +88,10 @@ impl Hand {
     /// Joins a batch to the rows, as `apply_all` of it alone.
     pub fn apply<D: Disk>(&mut self, disk: &mut D, batch: &Batch) -> Result<u64, EngineFault>
         requires { IsTrusted (D.state disk.old)
-            → (l : Layout) × Stands (D.state disk.old) self.old l }
+            → (l : Layout) × HandStandsForLayout (D.state disk.old) self.old l }
         ensures ok { OnOk result (IsTrusted (D.state disk.old) → (l : Layout)
-            → Stands (D.state disk.old) self.old l
-            → Stands (D.state disk.new) self.new (with_write l (batch_write l batch.now))) }
+            → HandStandsForLayout (D.state disk.old) self.old l
+            → HandStandsForLayout (D.state disk.new) self.new (with_write l (batch_write l batch.now))) }
         ensures number { IfOk result (λ n. n ≡ next_of self.old) }
         ensures next { OnOk result (next_of self.new ≡ next_of self.old + 1) }
         ensures limits { limits_of self.new ≡ limits_of self.old }
@@ -103,12 +103,12 @@ impl Hand {
         ensures files { OnOk result ((family : ℕ)
             → files_at self.new family ≡ files_at self.old family) }
         ensures carries { OnOk result (IsTrusted (D.state disk.old) → (l : Layout)
-            → Stands (D.state disk.old) self.old l → (family : ℕ)
-            → Carries (D.state disk.old) (D.state disk.new) self.old self.new family) }
+            → HandStandsForLayout (D.state disk.old) self.old l → (family : ℕ)
+            → CarriesFamily (D.state disk.old) (D.state disk.new) self.old self.new family) }
 
         // A stop at any moment of the call, also one that fails, leaves the rows from before it or with the whole batch.
         ensures any_moment { IsTrusted (D.state disk.old) → (l : Layout)
-            → Stands (D.state disk.old) self.old l
+            → HandStandsForLayout (D.state disk.old) self.old l
             → Spans (D.state disk.old) (D.state disk.new) (λ _. ⊤) (BeforeOrWith l batch.now) }
 
         // A number is spent exactly where the next one is 2^62 - 1, and else where the new segment wants file 2^32 - 1.
@@ -138,9 +138,9 @@ impl Hand {
         requires numbers { next_of self.old + length batches.now ≤ 2 ^ 62 - 1 }
         requires file { last_form_of self.old ≡ One → next_file_of self.old < 2 ^ 32 - 1 }
         requires stands { IsTrusted (D.state disk.old)
-            → (l : Layout) × Stands (D.state disk.old) self.old l }
+            → (l : Layout) × HandStandsForLayout (D.state disk.old) self.old l }
         ensures ok { OnOk result (IsTrusted (D.state disk.old) → (l : Layout)
-            → Stands (D.state disk.old) self.old l → Stands (D.state disk.new) self.new
+            → HandStandsForLayout (D.state disk.old) self.old l → HandStandsForLayout (D.state disk.new) self.new
             (with_writes l (batch_writes l batches.now))) }
         ensures number { IfOk result (λ n. n ≡ next_of self.old) }
         ensures next { OnOk result (next_of self.new ≡ next_of self.old + length batches.now) }
@@ -153,12 +153,12 @@ impl Hand {
         ensures files { OnOk result ((family : ℕ)
             → files_at self.new family ≡ files_at self.old family) }
         ensures carries { OnOk result (IsTrusted (D.state disk.old) → (l : Layout)
-            → Stands (D.state disk.old) self.old l → (family : ℕ)
-            → Carries (D.state disk.old) (D.state disk.new) self.old self.new family) }
+            → HandStandsForLayout (D.state disk.old) self.old l → (family : ℕ)
+            → CarriesFamily (D.state disk.old) (D.state disk.new) self.old self.new family) }
         ensures any_moment { IsTrusted (D.state disk.old) → (l : Layout)
-            → Stands (D.state disk.old) self.old l
+            → HandStandsForLayout (D.state disk.old) self.old l
             → Spans (D.state disk.old) (D.state disk.new) (λ _. ⊤) (BeforeOrAll l batches.now) }
-        ensures unspent { IfErr result IsUnspent }
+        ensures unspent { IfErr result EngineFaultIsOutside }
         ensures no_memory { IsErrOf result EngineFault.NoMemory
             → D.state disk.new ≡ D.state disk.old }
         ensures goes { Goes (D.state disk.old) (D.state disk.new) }

@@ -1,12 +1,12 @@
 //! The least family that shows a row.
 
-ghost use Rattle.std.specs.Prelude.{◌≡◌, IfOk, IfErr, OnOk, IsErrOf, IsTrue};
+ghost use Rattle.std.specs.Prelude.{◌≡◌, IfOk, IfErr, IsErrOf, IsTrue};
 ghost use Rattle.alt_base.specs.Counts.{Rose};
 ghost use Rattle.alt_disk.specs.Disk.{Goes};
 ghost use Rattle.alt_disk.specs.Runs.{Quiet};
 ghost use Rattle.alt_layout.specs.Layout.{Layout, ShowsFirst};
-ghost use Rattle.alt_hand.specs.InHand.{Reads};
-ghost use Rattle.alt_hand.specs.Opened.{IsUndamaged, IsUnspent, StaysOn};
+ghost use Rattle.alt_hand.specs.InHand.{HandReadsLayout};
+ghost use Rattle.alt_hand.specs.Opened.{EngineFaultIsUndamaged, EngineFaultIsUnspent, HandStaysOn};
 
 use crate::hand::Hand;
 use alt_disk::Disk;
@@ -22,12 +22,12 @@ impl Hand {
         family: u32,
     ) -> Result<Option<(u32, Bytes)>, EngineFault>
         ensures first { IsTrue (D.state disk.old).tells → (l : Layout)
-            → Reads (D.state disk.old) self.now l → IfOk result (ShowsFirst l family) }
+            → HandReadsLayout (D.state disk.old) self.now l → IfOk result (ShowsFirst l family) }
         ensures undamaged { IsTrue (D.state disk.old).tells → (l : Layout)
-            → Reads (D.state disk.old) self.now l → IfErr result IsUndamaged }
+            → HandReadsLayout (D.state disk.old) self.now l → IfErr result EngineFaultIsUndamaged }
         ensures same { IsTrue (D.state disk.old).tells
-            → StaysOn (D.state disk.old) (D.state disk.new) self.now self.now }
-        ensures unspent { IfErr result IsUnspent }
+            → HandStaysOn (D.state disk.old) (D.state disk.new) self.now self.now }
+        ensures unspent { IfErr result EngineFaultIsUnspent }
         ensures quiet { IsTrue (D.state disk.old).tells
             → Quiet (D.state disk.old) (D.state disk.new) }
         ensures goes { Goes (D.state disk.old) (D.state disk.new) }

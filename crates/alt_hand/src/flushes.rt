@@ -8,10 +8,10 @@ ghost use Rattle.alt_disk.specs.Runs.{Spans};
 ghost use Rattle.alt_layout.specs.Layout.{Layout};
 ghost use Rattle.alt_manifest.specs.Versions.{IsIn, RiseFrom};
 ghost use Rattle.alt_families.specs.Families.{rows_in};
-ghost use Rattle.alt_hand.specs.Adding.{Adds, HasOneOf, IsOverNewLog, LeavesOut, MakesNone};
-ghost use Rattle.alt_hand.specs.Carrying.{Carries};
+ghost use Rattle.alt_hand.specs.Adding.{AddsVersion, HasOneOf, IsOverNewLog, LeavesOut, MakesNone};
+ghost use Rattle.alt_hand.specs.Carrying.{CarriesFamily};
 ghost use Rattle.alt_hand.specs.Drafting.{Empties, EmptiedIn, IsSpentFor, files_for};
-ghost use Rattle.alt_hand.specs.InHand.{Stands, family_of, length_of, limits_of, next_file_of, next_of};
+ghost use Rattle.alt_hand.specs.InHand.{HandStandsForLayout, family_of, length_of, limits_of, next_file_of, next_of};
 ghost use Rattle.alt_hand.specs.Merging.{version_in};
 ghost use Rattle.alt_hand.specs.Working.{AreAllFlushed, IsAllFor, IsOneFlushed};
 
@@ -27,11 +27,11 @@ impl Hand {
     /// Puts the rows in memory of each live family into a file of its own, under a new and empty log. After an Err the engine is spent.
     pub fn flush_all<D: Disk>(&mut self, disk: &mut D, live: &[u32]) -> Result<(), EngineFault>
         requires ready { IsTrusted (D.state disk.old)
-            → (l : Layout) × Stands (D.state disk.old) self.old l }
+            → (l : Layout) × HandStandsForLayout (D.state disk.old) self.old l }
         requires live { RiseFrom 0 live.now }
         ensures ok { OnOk result (IsTrusted (D.state disk.old) → (l : Layout)
-            → Stands (D.state disk.old) self.old l
-            → (m : Layout) × Stands (D.state disk.new) self.new m × Empties live.now l m) }
+            → HandStandsForLayout (D.state disk.old) self.old l
+            → (m : Layout) × HandStandsForLayout (D.state disk.new) self.new m × Empties live.now l m) }
         ensures next { next_of self.new ≡ next_of self.old }
         ensures limits { limits_of self.new ≡ limits_of self.old }
         ensures length { OnOk result (length_of self.new ≡ 0) }
@@ -39,22 +39,22 @@ impl Hand {
 
         // There is one version more, over the new log, which names no family that isn't live.
         ensures new_log { OnOk result (IsTrusted (D.state disk.old) → (l : Layout)
-            → Stands (D.state disk.old) self.old l → IsOverNewLog live.now self.old self.new) }
+            → HandStandsForLayout (D.state disk.old) self.old l → IsOverNewLog live.now self.old self.new) }
         ensures adds { OnOk result (IsTrusted (D.state disk.old)
-            → Adds (D.state disk.new) self.old self.new) }
+            → AddsVersion (D.state disk.new) self.old self.new) }
         ensures missing { OnOk result (IsTrusted (D.state disk.old) → (l : Layout)
-            → Stands (D.state disk.old) self.old l
+            → HandStandsForLayout (D.state disk.old) self.old l
             → MakesNone (D.state disk.old) (D.state disk.new) (next_file_of self.old)) }
         ensures one_version { IsTrusted (D.state disk.old) → (l : Layout)
-            → Stands (D.state disk.old) self.old l → (w : Version)
+            → HandStandsForLayout (D.state disk.old) self.old l → (w : Version)
             × Spans (D.state disk.old) (D.state disk.new) (λ _. ⊤) (HasOneOf (version_in self.old) w) }
 
         // A merge of files of a live family under way stays one.
         ensures carries { OnOk result (IsTrusted (D.state disk.old) → (l : Layout)
-            → Stands (D.state disk.old) self.old l → (family : ℕ) → IsIn live.now family
-            → Carries (D.state disk.old) (D.state disk.new) self.old self.new family) }
+            → HandStandsForLayout (D.state disk.old) self.old l → (family : ℕ) → IsIn live.now family
+            → CarriesFamily (D.state disk.old) (D.state disk.new) self.old self.new family) }
         ensures any_moment { IsTrusted (D.state disk.old) → (l : Layout)
-            → Stands (D.state disk.old) self.old l
+            → HandStandsForLayout (D.state disk.old) self.old l
             → Spans (D.state disk.old) (D.state disk.new) (λ _. ⊤) (EmptiedIn live.now l) }
         ensures spent { IfErr result (IsAllFor live.now self.old) }
         ensures goes { Goes (D.state disk.old) (D.state disk.new) }
@@ -92,29 +92,29 @@ impl Hand {
         family: u32,
     ) -> Result<(), EngineFault>
         requires ready { IsTrusted (D.state disk.old)
-            → (l : Layout) × Stands (D.state disk.old) self.old l }
+            → (l : Layout) × HandStandsForLayout (D.state disk.old) self.old l }
         requires live { IsIn live.now family }
         ensures ok { OnOk result (IsTrusted (D.state disk.old) → (l : Layout)
-            → Stands (D.state disk.old) self.old l
-            → (m : Layout) × Stands (D.state disk.new) self.new m × Empties live.now l m) }
+            → HandStandsForLayout (D.state disk.old) self.old l
+            → (m : Layout) × HandStandsForLayout (D.state disk.new) self.new m × Empties live.now l m) }
         ensures next { next_of self.new ≡ next_of self.old }
         ensures limits { limits_of self.new ≡ limits_of self.old }
         ensures length { OnOk result (length_of self.new ≡ length_of self.old) }
         ensures flushed { OnOk result (IsOneFlushed live.now self.old self.new family) }
         ensures leaves_out { OnOk result (LeavesOut live.now self.old self.new) }
         ensures adds { OnOk result (IsTrusted (D.state disk.old)
-            → Adds (D.state disk.new) self.old self.new) }
+            → AddsVersion (D.state disk.new) self.old self.new) }
         ensures missing { OnOk result (IsTrusted (D.state disk.old) → (l : Layout)
-            → Stands (D.state disk.old) self.old l
+            → HandStandsForLayout (D.state disk.old) self.old l
             → MakesNone (D.state disk.old) (D.state disk.new) (next_file_of self.old)) }
         ensures one_version { IsTrusted (D.state disk.old) → (l : Layout)
-            → Stands (D.state disk.old) self.old l → (w : Version)
+            → HandStandsForLayout (D.state disk.old) self.old l → (w : Version)
             × Spans (D.state disk.old) (D.state disk.new) (λ _. ⊤) (HasOneOf (version_in self.old) w) }
         ensures carries { OnOk result (IsTrusted (D.state disk.old) → (l : Layout)
-            → Stands (D.state disk.old) self.old l → (other : ℕ) → IsIn live.now other
-            → Carries (D.state disk.old) (D.state disk.new) self.old self.new other) }
+            → HandStandsForLayout (D.state disk.old) self.old l → (other : ℕ) → IsIn live.now other
+            → CarriesFamily (D.state disk.old) (D.state disk.new) self.old self.new other) }
         ensures any_moment { IsTrusted (D.state disk.old) → (l : Layout)
-            → Stands (D.state disk.old) self.old l
+            → HandStandsForLayout (D.state disk.old) self.old l
             → Spans (D.state disk.old) (D.state disk.new) (λ _. ⊤) (EmptiedIn live.now l) }
         ensures spent { IfErr result (IsSpentFor (self.old.next_file
             + files_for (entries (rows_in (family_of self.old family))))) }

@@ -6,7 +6,7 @@ ghost use Rattle.alt_disk.specs.Disk.{Goes};
 ghost use Rattle.alt_disk.specs.Runs.{Quiet};
 ghost use Rattle.alt_layout.specs.Fresh.{versions_file};
 ghost use Rattle.alt_layout.specs.Layout.{Layout};
-ghost use Rattle.alt_manifest.specs.InHand.{file_of, version_of, Reads as ManifestReads};
+ghost use Rattle.alt_manifest.specs.InHand.{file_of_manifest, version_of, ReadsVersion as ManifestReads};
 ghost use Rattle.alt_hand.specs.Found.{Found};
 ghost use Rattle.alt_hand.specs.InHand.{limits_of};
 ghost use Rattle.alt_hand.specs.Recovery.{ExplainsStore};
@@ -53,11 +53,11 @@ fn read_version<D: Disk>(
     manifest: Manifest,
 ) -> Result<Hand, RecoverFault>
     ensures ok { IfOk result (λ e. IsTrue (D.state disk.old).tells
-        → ManifestReads (D.state disk.old) manifest → file_of manifest ≡ versions_file
+        → ManifestReads (D.state disk.old) manifest → file_of_manifest manifest ≡ versions_file
         → (l : Layout) × Found (D.state disk.new) e l) }
     ensures limits { IfOk result (λ e. limits_of e ≡ limits) }
     ensures damaged { IsTrue (D.state disk.old).tells
-        → ManifestReads (D.state disk.old) manifest → file_of manifest ≡ versions_file
+        → ManifestReads (D.state disk.old) manifest → file_of_manifest manifest ≡ versions_file
         → IfErr result (ExplainsStore (D.state disk.old).file) }
     ensures quiet { IsTrue (D.state disk.old).tells
         → Quiet (D.state disk.old) (D.state disk.new) }

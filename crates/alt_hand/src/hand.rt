@@ -3,7 +3,7 @@
 ghost use Rattle.std.specs.Prelude.{◌≡◌};
 ghost use Rattle.alt_disk.specs.Disk.{DiskState};
 ghost use Rattle.alt_layout.specs.Layout.{Layout};
-ghost use Rattle.alt_hand.specs.InHand.{next_of, Reads};
+ghost use Rattle.alt_hand.specs.InHand.{next_of, HandReadsLayout};
 
 use alt_families::Family;
 use alt_gatelog::GateLog;
@@ -37,7 +37,7 @@ impl Hand {
     /// The number of the next write.
     pub fn next_number(&self) -> u64
         ensures next { result ≡ next_of self.now }
-        ensures layout { (s : DiskState) (l : Layout) → Reads s self.now l
+        ensures layout { (s : DiskState) (l : Layout) → HandReadsLayout s self.now l
             → result ≡ l.next_number }
     {
         self.next

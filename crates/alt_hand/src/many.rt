@@ -1,7 +1,7 @@
 //! Families with many files.
 
 ghost use Rattle.std.specs.Prelude.{◌≡◌, ℕ, false};
-ghost use Rattle.alt_manifest.specs.Rules.{Tells};
+ghost use Rattle.alt_manifest.specs.Rules.{Reflects};
 ghost use Rattle.alt_hand.specs.Merging.{AreMany, FindsMany, HasMany};
 
 use crate::hand::Hand;
@@ -33,7 +33,7 @@ impl Hand {
 
     /// Whether the family's files are so many.
     fn has_many(&self, family: u32) -> bool
-        ensures { Tells result (HasMany self.now family) }
+        ensures { Reflects result (HasMany self.now family) }
     {
         is_many(self.files(family).len(), self.limits.merge)
     }
@@ -41,7 +41,7 @@ impl Hand {
 
 /// Whether so many files are merged, where that many are.
 fn is_many(count: usize, merge: u32) -> bool
-    ensures { Tells result (AreMany merge count) }
+    ensures { Reflects result (AreMany merge count) }
 {
     count != 0 && count as u64 >= merge as u64
 }

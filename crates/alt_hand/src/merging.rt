@@ -8,10 +8,10 @@ ghost use Rattle.alt_layout.specs.Families.{flushed_of};
 ghost use Rattle.alt_layout.specs.Layout.{Layout};
 ghost use Rattle.alt_manifest.specs.Versions.{IsIn};
 ghost use Rattle.alt_rowfile.specs.InHand.{file_of as row_file};
-ghost use Rattle.alt_hand.specs.Adding.{Adds, HasOneOf, LeavesOut, MakesNone};
+ghost use Rattle.alt_hand.specs.Adding.{AddsVersion, HasOneOf, LeavesOut, MakesNone};
 ghost use Rattle.alt_hand.specs.Carrying.{AreStill};
-ghost use Rattle.alt_hand.specs.Drafting.{IsUnspent};
-ghost use Rattle.alt_hand.specs.InHand.{Stands, length_of, limits_of, next_file_of, next_of};
+ghost use Rattle.alt_hand.specs.Drafting.{EngineFaultIsOutside};
+ghost use Rattle.alt_hand.specs.InHand.{HandStandsForLayout, length_of, limits_of, next_file_of, next_of};
 ghost use Rattle.alt_hand.specs.Merging.{IsMadeOf, IsMerging, files_at, memory_at, version_in};
 ghost use Rattle.alt_hand.specs.Working.{Works, WorksIn};
 
@@ -37,12 +37,12 @@ impl Hand {
     pub fn take_file(&mut self) -> Result<u32, EngineFault>
         ensures file { IfOk result (λ f. f ≡ next_file_of self.old) }
         ensures next_file { OnOk result (next_file_of self.new ≡ next_file_of self.old + 1) }
-        ensures stands { OnOk result ((s : DiskState) (l : Layout) → Stands s self.old l
-            → Stands s self.new l) }
-        ensures missing { IfOk result (λ f. (s : DiskState) (l : Layout) → Stands s self.old l
+        ensures stands { OnOk result ((s : DiskState) (l : Layout) → HandStandsForLayout s self.old l
+            → HandStandsForLayout s self.new l) }
+        ensures missing { IfOk result (λ f. (s : DiskState) (l : Layout) → HandStandsForLayout s self.old l
             → s.file f ≡ None) }
         ensures merging { OnOk result ((s : DiskState) (l : Layout) (family : ℕ)
-            → Stands s self.old l → 0 < length (files_at self.old family)
+            → HandStandsForLayout s self.old l → 0 < length (files_at self.old family)
             → IsMerging s self.new family (length (files_at self.old family))
             (flushed_of (version_in self.old).families family) (next_file_of self.old)) }
         ensures files { (family : ℕ) → files_at self.new family ≡ files_at self.old family }
@@ -80,7 +80,7 @@ impl Hand {
         made: RowFile,
     ) -> Result<(), EngineFault>
         requires ready { IsTrusted (D.state disk.old)
-            → (l : Layout) × Stands (D.state disk.old) self.old l }
+            → (l : Layout) × HandStandsForLayout (D.state disk.old) self.old l }
         requires merging { IsTrusted (D.state disk.old) → (number : ℕ)
             × IsMerging (D.state disk.old) self.old family taken number file }
         requires made { IsTrusted (D.state disk.old)
@@ -88,8 +88,8 @@ impl Hand {
         requires file { IsTrusted (D.state disk.old) → row_file made ≡ file }
         requires live { IsIn live.now family }
         ensures ok { OnOk result (IsTrusted (D.state disk.old) → (l : Layout)
-            → Stands (D.state disk.old) self.old l
-            → (m : Layout) × Stands (D.state disk.new) self.new m × Works live.now l m) }
+            → HandStandsForLayout (D.state disk.old) self.old l
+            → (m : Layout) × HandStandsForLayout (D.state disk.new) self.new m × Works live.now l m) }
         ensures files { OnOk result (IsTrusted (D.state disk.old) → files_at self.new family
             ≡ made ∷ drop taken (files_at self.old family)) }
         ensures others { OnOk result ((other : ℕ) → IsIn live.now other → other ≢ family
@@ -100,21 +100,21 @@ impl Hand {
             → memory_at self.new other ≡ memory_at self.old other) }
         ensures leaves_out { OnOk result (LeavesOut live.now self.old self.new) }
         ensures adds { OnOk result (IsTrusted (D.state disk.old)
-            → Adds (D.state disk.new) self.old self.new) }
+            → AddsVersion (D.state disk.new) self.old self.new) }
         ensures missing { OnOk result (IsTrusted (D.state disk.old) → (l : Layout)
-            → Stands (D.state disk.old) self.old l
+            → HandStandsForLayout (D.state disk.old) self.old l
             → MakesNone (D.state disk.old) (D.state disk.new) (next_file_of self.old)) }
         ensures one_version { IsTrusted (D.state disk.old) → (l : Layout)
-            → Stands (D.state disk.old) self.old l → (w : Version)
+            → HandStandsForLayout (D.state disk.old) self.old l → (w : Version)
             × Spans (D.state disk.old) (D.state disk.new) (λ _. ⊤) (HasOneOf (version_in self.old) w) }
 
         // The files of other live families read as they read, and so does the one that was made.
         ensures still { OnOk result (IsTrusted (D.state disk.old) → (l : Layout)
-            → Stands (D.state disk.old) self.old l → (other : ℕ) → IsIn live.now other
+            → HandStandsForLayout (D.state disk.old) self.old l → (other : ℕ) → IsIn live.now other
             → other ≢ family
             → AreStill (D.state disk.old) (D.state disk.new) (files_at self.old other)) }
         ensures made { OnOk result (IsTrusted (D.state disk.old) → (l : Layout)
-            → Stands (D.state disk.old) self.old l
+            → HandStandsForLayout (D.state disk.old) self.old l
             → (D.state disk.new).file (row_file made) ≡ (D.state disk.old).file (row_file made)) }
         ensures next_file { OnOk result (next_file_of self.new ≡ next_file_of self.old) }
         ensures length { length_of self.new ≡ length_of self.old }
@@ -123,9 +123,9 @@ impl Hand {
 
         // A stop at any moment of the call, also one that fails, leaves the rows of live families.
         ensures any_moment { IsTrusted (D.state disk.old) → (l : Layout)
-            → Stands (D.state disk.old) self.old l
+            → HandStandsForLayout (D.state disk.old) self.old l
             → Spans (D.state disk.old) (D.state disk.new) (λ _. ⊤) (WorksIn live.now l) }
-        ensures unspent { IfErr result IsUnspent }
+        ensures unspent { IfErr result EngineFaultIsOutside }
         ensures goes { Goes (D.state disk.old) (D.state disk.new) }
         ensures cause { IsErrOf result EngineFault.Failed
             → Rose (D.state disk.old).faults (D.state disk.new).faults }

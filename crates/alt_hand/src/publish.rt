@@ -9,8 +9,8 @@ ghost use Rattle.alt_layout.specs.Fresh.{versions_file};
 ghost use Rattle.alt_layout.specs.Layout.{Layout};
 ghost use Rattle.alt_layout.specs.Moments.{HasEither};
 ghost use Rattle.alt_hand.specs.Adding.{HasOneOf};
-ghost use Rattle.alt_hand.specs.Drafting.{IsLying, IsReady, IsUnspent};
-ghost use Rattle.alt_hand.specs.InHand.{Stands, limits_of, next_of};
+ghost use Rattle.alt_hand.specs.Drafting.{IsLying, DraftIsReady, EngineFaultIsOutside};
+ghost use Rattle.alt_hand.specs.InHand.{HandStandsForLayout, limits_of, next_of};
 ghost use Rattle.alt_hand.specs.Merging.{version_in};
 
 use crate::hand::Hand;
@@ -28,10 +28,10 @@ impl Hand {
         left: &[u32],
     ) -> Result<(), EngineFault>
         requires ready { IsTrusted (D.state disk.old)
-            → (m : Layout) × IsReady (D.state disk.old) self.old draft m }
+            → (m : Layout) × DraftIsReady (D.state disk.old) self.old draft m }
         ensures ok { OnOk result (IsTrusted (D.state disk.old) → (m : Layout)
-            → IsReady (D.state disk.old) self.old draft m
-            → Stands (D.state disk.new) self.new m) }
+            → DraftIsReady (D.state disk.old) self.old draft m
+            → HandStandsForLayout (D.state disk.new) self.new m) }
         ensures next { next_of self.new ≡ next_of self.old }
         ensures limits { limits_of self.new ≡ limits_of self.old }
         ensures families { self.new.families ≡ self.old.families }
@@ -44,25 +44,25 @@ impl Hand {
         ensures gone { OnOk result (IsTrusted (D.state disk.old) → (f : ℕ)
             → IsLeftOver left.now draft f → (D.state disk.new).file f ≡ None) }
         ensures others { OnOk result (IsTrusted (D.state disk.old) → (m : Layout)
-            → IsReady (D.state disk.old) self.old draft m → (f : ℕ) → f ≢ versions_file
+            → DraftIsReady (D.state disk.old) self.old draft m → (f : ℕ) → f ≢ versions_file
             → (IsLeftOver left.now draft f → ⊥)
             → (D.state disk.new).file f ≡ (D.state disk.old).file f) }
         ensures missing { OnOk result (IsTrusted (D.state disk.old) → (m : Layout)
-            → IsReady (D.state disk.old) self.old draft m → (f : ℕ) → f ≢ versions_file
+            → DraftIsReady (D.state disk.old) self.old draft m → (f : ℕ) → f ≢ versions_file
             → (D.state disk.old).file f ≡ None → (D.state disk.new).file f ≡ None) }
 
         // At each moment the last version is that in hand, or the draft.
         ensures one_version { IsTrusted (D.state disk.old) → (m : Layout)
-            → IsReady (D.state disk.old) self.old draft m
+            → DraftIsReady (D.state disk.old) self.old draft m
             → Spans (D.state disk.old) (D.state disk.new) (λ _. ⊤)
             (HasOneOf (version_in self.old) draft) }
 
         // A stop at any moment of the call, also one that fails, leaves the layout of the last version or that of the draft.
         ensures any_moment { IsTrusted (D.state disk.old) → (l m : Layout)
             → IsLying (D.state disk.old) self.old.manifest l
-            → IsReady (D.state disk.old) self.old draft m
+            → DraftIsReady (D.state disk.old) self.old draft m
             → Spans (D.state disk.old) (D.state disk.new) (λ _. ⊤) (HasEither l m) }
-        ensures unspent { IfErr result IsUnspent }
+        ensures unspent { IfErr result EngineFaultIsOutside }
         ensures goes { Goes (D.state disk.old) (D.state disk.new) }
         ensures cause { IsErrOf result EngineFault.Failed
             → Rose (D.state disk.old).faults (D.state disk.new).faults }

@@ -8,8 +8,8 @@ ghost use Rattle.alt_disk.specs.Runs.{Quiet};
 ghost use Rattle.alt_layout.specs.Layout.{Layout, rows_between, shown};
 ghost use Rattle.alt_families.specs.Families.{files_in};
 ghost use Rattle.alt_families.specs.Reads.{most_reads};
-ghost use Rattle.alt_hand.specs.InHand.{Reads, family_of, file_rows};
-ghost use Rattle.alt_hand.specs.Opened.{IsUndamaged, IsUnspent, StaysOn};
+ghost use Rattle.alt_hand.specs.InHand.{HandReadsLayout, family_of, file_rows};
+ghost use Rattle.alt_hand.specs.Opened.{EngineFaultIsUndamaged, EngineFaultIsUnspent, HandStaysOn};
 
 use crate::hand::Hand;
 use alt_cells::ShownRow;
@@ -28,13 +28,13 @@ impl Hand {
         key: &[u8],
     ) -> Result<Option<ShownRow>, EngineFault>
         ensures row { IsTrue (D.state disk.old).tells → (l : Layout)
-            → Reads (D.state disk.old) self.now l
+            → HandReadsLayout (D.state disk.old) self.now l
             → IfOk result (λ row. row ≡ shown l family key.now) }
         ensures undamaged { IsTrue (D.state disk.old).tells → (l : Layout)
-            → Reads (D.state disk.old) self.now l → IfErr result IsUndamaged }
+            → HandReadsLayout (D.state disk.old) self.now l → IfErr result EngineFaultIsUndamaged }
         ensures same { IsTrue (D.state disk.old).tells
-            → StaysOn (D.state disk.old) (D.state disk.new) self.now self.now }
-        ensures unspent { IfErr result IsUnspent }
+            → HandStaysOn (D.state disk.old) (D.state disk.new) self.now self.now }
+        ensures unspent { IfErr result EngineFaultIsUnspent }
         ensures quiet { IsTrue (D.state disk.old).tells
             → Quiet (D.state disk.old) (D.state disk.new) }
         ensures goes { Goes (D.state disk.old) (D.state disk.new) }
@@ -65,15 +65,15 @@ impl Hand {
         out: &mut Vec<(Bytes, ShownRow)>,
     ) -> Result<(), EngineFault>
         ensures rows { IsTrue (D.state disk.old).tells → (l : Layout)
-            → Reads (D.state disk.old) self.now l
+            → HandReadsLayout (D.state disk.old) self.now l
             → OnOk result (out.new.items ≡ out.old.items
             ++ take most (rows_between l family range.now.from range.now.to forward)) }
         ensures begun { IsPrefix out.old.items out.new.items }
         ensures undamaged { IsTrue (D.state disk.old).tells → (l : Layout)
-            → Reads (D.state disk.old) self.now l → IfErr result IsUndamaged }
+            → HandReadsLayout (D.state disk.old) self.now l → IfErr result EngineFaultIsUndamaged }
         ensures same { IsTrue (D.state disk.old).tells
-            → StaysOn (D.state disk.old) (D.state disk.new) self.now self.now }
-        ensures unspent { IfErr result IsUnspent }
+            → HandStaysOn (D.state disk.old) (D.state disk.new) self.now self.now }
+        ensures unspent { IfErr result EngineFaultIsUnspent }
         ensures quiet { IsTrue (D.state disk.old).tells
             → Quiet (D.state disk.old) (D.state disk.new) }
         ensures goes { Goes (D.state disk.old) (D.state disk.new) }
@@ -84,7 +84,7 @@ impl Hand {
 
         // It reads each row file of the family twice at most, and once more for each version of a row in them that it passes.
         ensures reads { IsTrue (D.state disk.old).tells → (l : Layout)
-            → (reads : Reads (D.state disk.old) self.now l)
+            → (reads : HandReadsLayout (D.state disk.old) self.now l)
             → OnOk result ((D.state disk.new).reads ≤ (D.state disk.old).reads
             + most_reads forward range.now.from range.now.to most
             (rows_between l family range.now.from range.now.to forward)

@@ -2,7 +2,7 @@
 
 ghost use Rattle.std.specs.Prelude.{◌≡◌, ⊤, ℕ, List, None, IfOk, IfErr, OnOk, OnErr, IsErrOf, IsTrue};
 ghost use Rattle.alt_base.specs.Counts.{Rose};
-ghost use Rattle.alt_disk.specs.Disk.{DiskState, IsNames, IsTrusted, Goes};
+ghost use Rattle.alt_disk.specs.Disk.{IsNames, IsTrusted, Goes};
 ghost use Rattle.alt_disk.specs.Runs.{Spans};
 ghost use Rattle.alt_layout.specs.Files.{IsLayout, IsOf};
 ghost use Rattle.alt_layout.specs.Fresh.{versions_file};
@@ -11,7 +11,7 @@ ghost use Rattle.alt_manifest.specs.Versions.{HasVersion};
 ghost use Rattle.alt_manifest.specs.declared.version.Version.{Version};
 ghost use Rattle.alt_recovery.specs.Others.{IsOther, next_past};
 ghost use Rattle.alt_hand.specs.Found.{Found, IsSound, version_in};
-ghost use Rattle.alt_hand.specs.InHand.{Reads, Stands, limits_of, next_file_of};
+ghost use Rattle.alt_hand.specs.InHand.{HandReadsLayout, HandStandsForLayout, limits_of, next_file_of};
 ghost use Rattle.alt_hand.specs.Recovery.{ExplainsStore, HasNoLayout, IsNextFile, LeavesFiles, LeavesStore, LeftLike};
 ghost use Rattle.alt_hand.specs.Syncing.{AllSynced};
 
@@ -111,10 +111,10 @@ impl Hand {
     ) -> Result<Hand, RecoverFault>
         // At Ok the engine is that of the rows that the files held and hold.
         ensures ok { IfOk result (λ e. IsTrue (D.state disk.old).tells → (l : Layout)
-            × IsLayout (D.state disk.old).file l × Reads (D.state disk.new) e l) }
+            × IsLayout (D.state disk.old).file l × HandReadsLayout (D.state disk.new) e l) }
         // Whatever a stop leaves from then on holds these rows.
         ensures stands { IfOk result (λ e. IsTrusted (D.state disk.old) → (l : Layout)
-            → Reads (D.state disk.new) e l → Stands (D.state disk.new) e l) }
+            → HandReadsLayout (D.state disk.new) e l → HandStandsForLayout (D.state disk.new) e l) }
         ensures limits { IfOk result (λ e. limits_of e ≡ limits) }
         // And every file that is there lasts.
         ensures synced { OnOk result (IsTrusted (D.state disk.old)
@@ -164,7 +164,7 @@ impl Hand {
 /// The engine with its next file, once the files are removed that its version doesn't name.
 fn keep_named<D: Disk>(alloc: Global, disk: &mut D, engine: Hand) -> Result<Hand, RecoverFault>
     ensures ok { IfOk result (λ e. IsTrue (D.state disk.old).tells → (l : Layout)
-        → Found (D.state disk.old) engine l → Reads (D.state disk.new) e l) }
+        → Found (D.state disk.old) engine l → HandReadsLayout (D.state disk.new) e l) }
     ensures limits { IfOk result (λ e. limits_of e ≡ limits_of engine) }
     ensures next_file { IfOk result (λ e. IsTrue (D.state disk.old).tells → (names : List ℕ)
         × IsNames names (D.state disk.old).file

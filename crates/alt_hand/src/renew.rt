@@ -12,9 +12,9 @@ ghost use Rattle.alt_layout.specs.Layout.{Layout};
 ghost use Rattle.alt_layout.specs.Moments.{Has};
 ghost use Rattle.alt_manifest.specs.Versions.{version_bytes};
 ghost use Rattle.alt_hand.specs.Adding.{IsBehind, IsSegmentMore};
-ghost use Rattle.alt_hand.specs.Carrying.{Carries};
-ghost use Rattle.alt_hand.specs.Drafting.{IsPrepared, IsSameHand, IsUnspent, with_rows};
-ghost use Rattle.alt_hand.specs.InHand.{Stands, files_made, last_form_of, next_file_of, work_file_of};
+ghost use Rattle.alt_hand.specs.Carrying.{CarriesFamily};
+ghost use Rattle.alt_hand.specs.Drafting.{IsPrepared, IsSameHand, EngineFaultIsOutside, with_memory_rows};
+ghost use Rattle.alt_hand.specs.InHand.{HandStandsForLayout, files_made, last_form_of, next_file_of, work_file_of};
 ghost use Rattle.alt_hand.specs.Merging.{version_in};
 
 use crate::hand::Hand;
@@ -76,11 +76,11 @@ impl Hand {
         requires prepared { IsPrepared self.old renewal }
         requires stands { IsTrusted (D.state disk.old)
             → (families : Families) × (full : Bool) × (l : Layout)
-            × Stands (D.state disk.old) (with_rows self.old families full) l }
+            × HandStandsForLayout (D.state disk.old) (with_memory_rows self.old families full) l }
         ensures ok { OnOk result (IsTrusted (D.state disk.old)
             → (families : Families) (full : Bool) (l : Layout)
-            → Stands (D.state disk.old) (with_rows self.old families full) l
-            → Stands (D.state disk.new) (with_rows self.new families full) l) }
+            → HandStandsForLayout (D.state disk.old) (with_memory_rows self.old families full) l
+            → HandStandsForLayout (D.state disk.new) (with_memory_rows self.new families full) l) }
         ensures room { OnOk result (HasPlace self.new.log) }
         ensures segment { OnOk result (IsBehind (last_form_of self.old) self.old self.new) }
         ensures others { self.new ≡ record self.old {
@@ -96,18 +96,18 @@ impl Hand {
         // A merge of files of a family under way stays one.
         ensures carries { OnOk result (IsTrusted (D.state disk.old)
             → (families : Families) (full : Bool) (l : Layout)
-            → Stands (D.state disk.old) (with_rows self.old families full) l → (family : ℕ)
-            → Carries (D.state disk.old) (D.state disk.new) (with_rows self.old families full)
-            (with_rows self.new families full) family) }
+            → HandStandsForLayout (D.state disk.old) (with_memory_rows self.old families full) l → (family : ℕ)
+            → CarriesFamily (D.state disk.old) (D.state disk.new) (with_memory_rows self.old families full)
+            (with_memory_rows self.new families full) family) }
 
         // A stop at any moment of the call, also one that fails, leaves the rows.
         ensures any_moment { IsTrusted (D.state disk.old)
             → (families : Families) (full : Bool) (l : Layout)
-            → Stands (D.state disk.old) (with_rows self.old families full) l
+            → HandStandsForLayout (D.state disk.old) (with_memory_rows self.old families full) l
             → Spans (D.state disk.old) (D.state disk.new) (λ _. ⊤) (Has l) }
         ensures no_memory { IsErrOf result EngineFault.NoMemory
             → D.state disk.new ≡ D.state disk.old }
-        ensures unspent { IfErr result IsUnspent }
+        ensures unspent { IfErr result EngineFaultIsOutside }
         ensures goes { Goes (D.state disk.old) (D.state disk.new) }
         ensures cause { IsErrOf result EngineFault.Failed
             → Rose (D.state disk.old).faults (D.state disk.new).faults }
@@ -134,11 +134,11 @@ impl Hand {
         requires file { next_file_of self.old < 2 ^ 32 - 1 }
         requires stands { IsTrusted (D.state disk.old)
             → (families : Families) × (full : Bool) × (l : Layout)
-            × Stands (D.state disk.old) (with_rows self.old families full) l }
+            × HandStandsForLayout (D.state disk.old) (with_memory_rows self.old families full) l }
         ensures ok { OnOk result (IsTrusted (D.state disk.old)
             → (families : Families) (full : Bool) (l : Layout)
-            → Stands (D.state disk.old) (with_rows self.old families full) l
-            → Stands (D.state disk.new) (with_rows self.new families full) l) }
+            → HandStandsForLayout (D.state disk.old) (with_memory_rows self.old families full) l
+            → HandStandsForLayout (D.state disk.new) (with_memory_rows self.new families full) l) }
         ensures room { OnOk result (HasPlace self.new.log) }
         ensures segment { OnOk result (IsSegmentMore self.old self.new) }
         ensures others { self.new ≡ record self.old {
@@ -152,16 +152,16 @@ impl Hand {
             → work_file_of self.new ≡ work_file_of self.old }
         ensures carries { OnOk result (IsTrusted (D.state disk.old)
             → (families : Families) (full : Bool) (l : Layout)
-            → Stands (D.state disk.old) (with_rows self.old families full) l → (family : ℕ)
-            → Carries (D.state disk.old) (D.state disk.new) (with_rows self.old families full)
-            (with_rows self.new families full) family) }
+            → HandStandsForLayout (D.state disk.old) (with_memory_rows self.old families full) l → (family : ℕ)
+            → CarriesFamily (D.state disk.old) (D.state disk.new) (with_memory_rows self.old families full)
+            (with_memory_rows self.new families full) family) }
         ensures any_moment { IsTrusted (D.state disk.old)
             → (families : Families) (full : Bool) (l : Layout)
-            → Stands (D.state disk.old) (with_rows self.old families full) l
+            → HandStandsForLayout (D.state disk.old) (with_memory_rows self.old families full) l
             → Spans (D.state disk.old) (D.state disk.new) (λ _. ⊤) (Has l) }
         ensures no_memory { IsErrOf result EngineFault.NoMemory
             → D.state disk.new ≡ D.state disk.old }
-        ensures unspent { IfErr result IsUnspent }
+        ensures unspent { IfErr result EngineFaultIsOutside }
         ensures goes { Goes (D.state disk.old) (D.state disk.new) }
         ensures cause { IsErrOf result EngineFault.Failed
             → Rose (D.state disk.old).faults (D.state disk.new).faults }

@@ -1,7 +1,6 @@
 //! All files of a disk, synced.
 
-ghost use Rattle.std.specs.Prelude.{◌≡◌, ℕ, List, Some, OnOk, OnErr, IsErrOf, IsTrue};
-ghost use Rattle.std.specs.List.{list_any};
+ghost use Rattle.std.specs.Prelude.{◌≡◌, ℕ, OnOk, OnErr, IsErrOf, IsTrue};
 ghost use Rattle.alt_base.specs.Counts.{Rose};
 ghost use Rattle.alt_disk.specs.Fates.{synced};
 ghost use Rattle.alt_disk.specs.Disk.{IsTrusted, Goes, now};

@@ -1,12 +1,11 @@
 -- A call of the shell that failed: outside a talk and in one.
-use Rattle.std.proofs.Common.{◌≡◌, ◌≤◌, ℕ, Bool, true, false, refl, ap, arith}
+use Rattle.std.proofs.Common.{◌≡◌, ◌≤◌, ℕ, Bool, true, false, refl, arith}
 use Rattle.alt_base.specs.Counts.{Rose, next_moment}
-use Rattle.alt_host.specs.Host.{told}
-use Rattle.alt_shell.specs.Calls.{Keeps, ShellCall, StaysIn}
-use Rattle.alt_shell.specs.Log.{talks, talk_faults, takes_missed, says_missed}
+use Rattle.alt_host.specs.Host.{shell_by_counts}
+use Rattle.alt_shell.specs.Calls.{Keeps, ShellCall}
 
 keeps : (m n f g : ℕ) (b c : Bool) (x y t u s v : ℕ) → m ≤ n → f ≤ g
-    → Keeps (told m f b x t s) (told n g c y u v)
+    → Keeps (shell_by_counts m f b x t s) (shell_by_counts n g c y u v)
 keeps m n f g b c x y t u s v later faults = record {
   tells = refl;
   honest = refl;
@@ -27,7 +26,7 @@ not_false e = absurd (let f : ⊥ = cc in f)
 
 -- outside a talk
 pub failed_outside : (m n f g x t s : ℕ) → n ≡ next_moment m → f ≤ g → Rose f g
-    → ShellCall (told m f false x t s) (told n g false x t s) false
+    → ShellCall (shell_by_counts m f false x t s) (shell_by_counts n g false x t s) false
 failed_outside m n f g x t s moment later rose = record {
   keeps = keeps m n f g false false x x t t s s (omega (arith, moment)) later;
   moment = moment;
@@ -42,7 +41,7 @@ failed_outside m n f g x t s moment later rose = record {
 
 -- in a talk
 pub failed_inside : (m n f x y t u s v : ℕ) → n ≡ next_moment m → x ≤ y → Rose x y
-    → ShellCall (told m f true x t s) (told n f true y u v) false
+    → ShellCall (shell_by_counts m f true x t s) (shell_by_counts n f true y u v) false
 failed_inside m n f x y t u s v moment later rose = record {
   keeps = keeps m n f f true true x y t u s v (omega (arith, moment)) (omega arith);
   moment = moment;

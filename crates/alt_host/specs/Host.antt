@@ -21,6 +21,6 @@ untold moment faults talk = record {
 
 -- such a shell by its counts: the moment, the faults, whether it talks, the faults of talks, and those of the takes and of the says of the
 -- talk
-abbrev pub told : ℕ → ℕ → Bool → ℕ → ℕ → ℕ → DiskState
-told moment faults talking talk takes says =
+abbrev pub shell_by_counts : ℕ → ℕ → Bool → ℕ → ℕ → ℕ → DiskState
+shell_by_counts moment faults talking talk takes says =
     untold moment faults (talk_head talking talk takes says)

@@ -1,6 +1,6 @@
 //! The files of the folder as a disk.
 
-ghost use Rattle.alt_host.specs.Host.{told};
+ghost use Rattle.alt_host.specs.Host.{shell_by_counts};
 
 use crate::shell::HostShell;
 use alt_disk::{Disk, DiskFault, Failed};
@@ -15,7 +15,7 @@ const MOST_BYTES: u64 = 1 << 62;
 impl<R: Runtime<File = File> + Net> Disk for HostShell<R> {
     ghost use Rattle.std.proofs.lemmas.Bool.{false≢true};
 
-    ghost state = { λ s. told s.moment s.faults s.talking s.talk_faults s.takes_missed
+    ghost state = { λ s. shell_by_counts s.moment s.faults s.talking s.talk_faults s.takes_missed
         s.says_missed };
 
     ghost reads_as_image = { λ s trusted f. absurd (false≢true trusted) };

@@ -2,7 +2,7 @@
 
 ghost use Rattle.std.specs.Prelude.{◌≡◌, ◌≤◌, true, false, length, IfOk, is_none, is_ok};
 ghost use Rattle.alt_base.specs.Counts.{Rose, next_moment};
-ghost use Rattle.alt_host.specs.Host.{told};
+ghost use Rattle.alt_host.specs.Host.{shell_by_counts};
 ghost use Rattle.alt_shell.specs.Calls.{Accepts, ShellCall, StaysIn};
 ghost use Rattle.alt_shell.specs.Log.{talks, takes_missed, says_missed};
 
@@ -38,14 +38,14 @@ impl<R: Runtime<File = File> + Net> HostShell<R> {
     /// Takes the moment of a take that fails, in a talk where there is one.
     fn take_fails(&mut self) -> Failed
         ensures call { ShellCall
-            (told self.old.moment self.old.faults self.old.talking self.old.talk_faults
+            (shell_by_counts self.old.moment self.old.faults self.old.talking self.old.talk_faults
             self.old.takes_missed self.old.says_missed)
-            (told self.new.moment self.new.faults self.new.talking self.new.talk_faults
+            (shell_by_counts self.new.moment self.new.faults self.new.talking self.new.talk_faults
             self.new.takes_missed self.new.says_missed) false }
         ensures talk { StaysIn
-            (told self.old.moment self.old.faults self.old.talking self.old.talk_faults
+            (shell_by_counts self.old.moment self.old.faults self.old.talking self.old.talk_faults
             self.old.takes_missed self.old.says_missed)
-            (told self.new.moment self.new.faults self.new.talking self.new.talk_faults
+            (shell_by_counts self.new.moment self.new.faults self.new.talking self.new.talk_faults
             self.new.takes_missed self.new.says_missed) false takes_missed says_missed }
     {
         if self.talking {
@@ -58,14 +58,14 @@ impl<R: Runtime<File = File> + Net> HostShell<R> {
     /// Takes the moment of a say that fails, likewise.
     fn say_fails(&mut self) -> Failed
         ensures call { ShellCall
-            (told self.old.moment self.old.faults self.old.talking self.old.talk_faults
+            (shell_by_counts self.old.moment self.old.faults self.old.talking self.old.talk_faults
             self.old.takes_missed self.old.says_missed)
-            (told self.new.moment self.new.faults self.new.talking self.new.talk_faults
+            (shell_by_counts self.new.moment self.new.faults self.new.talking self.new.talk_faults
             self.new.takes_missed self.new.says_missed) false }
         ensures talk { StaysIn
-            (told self.old.moment self.old.faults self.old.talking self.old.talk_faults
+            (shell_by_counts self.old.moment self.old.faults self.old.talking self.old.talk_faults
             self.old.takes_missed self.old.says_missed)
-            (told self.new.moment self.new.faults self.new.talking self.new.talk_faults
+            (shell_by_counts self.new.moment self.new.faults self.new.talking self.new.talk_faults
             self.new.takes_missed self.new.says_missed) false says_missed takes_missed }
     {
         if self.talking {
@@ -136,17 +136,17 @@ impl<R: Runtime<File = File> + Net> Shell for HostShell<R> {
 
     fn accept(&mut self) -> Result<bool, Failed>
         requires { talks
-            (told self.old.moment self.old.faults self.old.talking self.old.talk_faults
+            (shell_by_counts self.old.moment self.old.faults self.old.talking self.old.talk_faults
             self.old.takes_missed self.old.says_missed).beside ≡ false }
         ensures accepted { Accepts
-            (told self.old.moment self.old.faults self.old.talking self.old.talk_faults
+            (shell_by_counts self.old.moment self.old.faults self.old.talking self.old.talk_faults
             self.old.takes_missed self.old.says_missed)
-            (told self.new.moment self.new.faults self.new.talking self.new.talk_faults
+            (shell_by_counts self.new.moment self.new.faults self.new.talking self.new.talk_faults
             self.new.takes_missed self.new.says_missed) result }
         ensures call { ShellCall
-            (told self.old.moment self.old.faults self.old.talking self.old.talk_faults
+            (shell_by_counts self.old.moment self.old.faults self.old.talking self.old.talk_faults
             self.old.takes_missed self.old.says_missed)
-            (told self.new.moment self.new.faults self.new.talking self.new.talk_faults
+            (shell_by_counts self.new.moment self.new.faults self.new.talking self.new.talk_faults
             self.new.takes_missed self.new.says_missed) (is_ok result) }
 
         // Without a listener, so where the port is 0, none comes.

@@ -12,13 +12,14 @@ use Rattle.httparse.proofs.OpenLemmas.{request_may, Completes_first, line_blank,
 use Rattle.httparse.proofs.PieceLemmas.{Never_elim}
 use Rattle.alt_http.specs.Feeds.{IsPlain, IsLastFront}
 use Rattle.alt_http.specs.Heads.{window, most_of_head, CanGoOn}
-use Rattle.alt_http.specs.Judged.{parts_of, judged, IsScan, by_head, by_bad, by_size, by_more}
-use Rattle.alt_http.specs.Reading.{Read, got, short, never, by_read, Lines, head_of, read_head, front_of, scan_of}
+use Rattle.alt_http.specs.Judged.{parts_of, judged_head, IsScan, by_head, by_bad, by_size, by_more}
+use Rattle.alt_http.specs.Reading.{PartRead, got, short, never, by_read, Lines, head_of, read_head, front_to_line_feed, scan_of}
 use Rattle.alt_http.specs.declared.outcome.Scan.{Scan}
 use Rattle.alt_http.specs.declared.outcome.Scan.TheVariants.{More, Refused, Head}
 use Rattle.alt_http.proofs.Fronts.{EndsInFeed, go_on, go_on_plain, bad}
 use Rattle.alt_http.proofs.Laws.{IsScan_unique, IsScan_nothing, IsScan_stays, IsScan_within, IsScan_plain}
-use Rattle.alt_http.proofs.Readers.{blank_cut, Reads, Reads-head, IsTail}
+use Rattle.alt_http.proofs.Readers.{Reads-head}
+use Rattle.alt_http.proofs.LinePieces.{blank_cut, Reads, IsTail}
 
 -- the longest front that ends in a line feed, and the plain bytes behind it
 record IsFrontOf (w front : List ℕ) : Type 0 where
@@ -27,8 +28,8 @@ record IsFrontOf (w front : List ℕ) : Type 0 where
   plain : IsPlain rest
   tail : IsTail front
 
-front_is : (w : List ℕ) → IsFrontOf w (front_of w)
-unfolding front_of
+front_is : (w : List ℕ) → IsFrontOf w (front_to_line_feed w)
+unfolding front_to_line_feed
 front_is [] = record {
   rest = [];
   parts = refl;
@@ -36,7 +37,7 @@ front_is [] = record {
   tail =
       inl refl;
 }
-front_is (b ∷ w) = by_byte (b == 10) refl (front_of w) (front_is w)
+front_is (b ∷ w) = by_byte (b == 10) refl (front_to_line_feed w) (front_is w)
   where
     feed_tail : (front : List ℕ) → IsTail front → (b == 10) ≡ true → IsTail (b ∷ front)
     feed_tail front (inl none) is = let feed : b ≡ 10 = grind arith in
@@ -110,9 +111,9 @@ by_length bytes on true is = by_more on (let few : length bytes < 16384 =
 by_length bytes on false is = by_size on (let many : 16384 ≤ length bytes =
     grind (arith, nat_tests) in many) refl
 
-by_front : (bytes front : List ℕ) (f : IsFrontOf (window bytes) front) (r : Read Lines)
+by_front : (bytes front : List ℕ) (f : IsFrontOf (window bytes) front) (r : PartRead Lines)
     → Reads (Then RequestStart Section) front r
-    → IsScan bytes (by_read r (λ t rest. judged (parts_of (head_of t)))
+    → IsScan bytes (by_read r (λ t rest. judged_head (parts_of (head_of t)))
     (cond (nat_lt (length bytes) most_of_head) More (Refused 2)) (Refused 1))
 by_front bytes front f (got t rest) read =
     let reads : ReadsRequest front (head_of t) rest = request_from_pieces front t rest read in
@@ -141,8 +142,8 @@ by_front bytes front f never read = by_tail f.tail
 -- the answer that the reading gives is the one that the grammar gives
 pub scan_of-is : (bytes : List ℕ) → IsScan bytes (scan_of bytes)
 unfolding scan_of
-scan_of-is bytes = by_front bytes (front_of (window bytes)) (front_is (window bytes))
-    (read_head (front_of (window bytes))) (Reads-head (front_of (window bytes)))
+scan_of-is bytes = by_front bytes (front_to_line_feed (window bytes)) (front_is (window bytes))
+    (read_head (front_to_line_feed (window bytes))) (Reads-head (front_to_line_feed (window bytes)))
 
 -- and the answer that the grammar gives is the one that the reading gives
 pub is-scan_of : (bytes : List ℕ) (scan : Scan) → IsScan bytes scan → scan ≡ scan_of bytes

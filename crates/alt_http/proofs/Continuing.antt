@@ -1,40 +1,40 @@
 -- What is behind bytes that were read so far decides as the whole does: behind whole lines of a head a section, behind empty lines
 -- a head.
-use Rattle.std.proofs.Common.{◌≡◌, ◌≢◌, ◌<◌, ◌≤◌, ◌+◌, ◌-◌, ℕ, suc, List, [], ◌∷◌, ◌++◌, length, take, drop, get_or, true, false, refl, sym, ap, subst, ◌∙◌, append_assoc, append-nil, arith, inl, inr, codes, flat_map}
-use Rattle.std.specs.Prelude.{◌⊎◌, All}
+use Rattle.std.proofs.Common.{◌≡◌, ◌≢◌, ℕ, suc, List, [], ◌∷◌, ◌++◌, length, take, drop, refl, sym, ap, subst, ◌∙◌, append_assoc, arith, inl, inr}
+use Rattle.std.specs.Prelude.{◌⊎◌}
 use Rattle.std.proofs.lemmas.Grind.{flat_map-append}
-use Rattle.std.proofs.lemmas.List.Elements.{All-nil, All-cons, All-tail, All-head}
-use Rattle.std.proofs.lemmas.List.{length-append, length-drop, get_or-append-add, take-append-drop, take_all}
+use Rattle.std.proofs.lemmas.List.Elements.{All-nil}
+use Rattle.std.proofs.lemmas.List.{length-append, length-drop, take-append-drop, take_all}
 use Rattle.std.proofs.Math.Seq.{take-append_seam}
-use Rattle.httparse.specs.Grammar.{is_value_byte, AllPass, LineEnd, crlf, lf, print_end, print_blank, print_version, print_section, Field, print_field, IsField, RequestHead, ReadsRequest, HasNoRequest, NeverHasRequest, MayBecomeRequest, ReadsSection, HasNoSection, NeverHasSection, MayBecomeSection}
-use Rattle.httparse.specs.Pieces.{Then, Begins, Refutes, Completes, is_newline, Blank, FieldLines, Section, RequestStart}
-use Rattle.httparse.proofs.GrammarLemmas.{request_pieces, request_from_pieces, RequestTree, request_head, request_tree, print_request-append, cons-append, ReadsSection-append}
+use Rattle.httparse.specs.Grammar.{LineEnd, print_end, print_blank, print_version, print_section, RequestHead, ReadsRequest, HasNoRequest, NeverHasRequest, MayBecomeRequest, ReadsSection, HasNoSection, NeverHasSection, MayBecomeSection}
+use Rattle.httparse.specs.Pieces.{Then, Begins, Refutes, Completes, Blank, FieldLines, Section, RequestStart}
+use Rattle.httparse.proofs.GrammarLemmas.{request_pieces, request_from_pieces, RequestTree, request_head, request_tree, print_request-append, ReadsSection-append}
 use Rattle.httparse.proofs.HeadLemmas.{request_not_yet, request_never}
 use Rattle.httparse.proofs.OpenLemmas.{request_may, Completes_next, Section_after_lines}
 use Rattle.httparse.proofs.PieceLemmas.{Refutes_by, Refutes_next, Never_intro, NotYet_intro, RequestStart_deterministic, Section_skip, FieldLines-append, newline_not_stopped, print_end_unique}
-use Rattle.std.proofs.lemmas.Bool.Decides.{nat_tests}
 use Rattle.alt_http.specs.Feeds.{IsLastFront}
-use Rattle.alt_http.specs.Heads.{CanGoOn, IsFront}
-use Rattle.alt_http.specs.Judged.{parts_of, refusal_of, IsScan, by_head, by_bad, by_size, by_more}
+use Rattle.alt_http.specs.Heads.{CanGoOn, IsHeadFront}
+use Rattle.alt_http.specs.Judged.{parts_of, head_refusal, IsScan, by_head, by_bad, by_size, by_more}
 use Rattle.alt_http.specs.declared.outcome.Scan.TheVariants.{More, Refused}
-use Rattle.alt_http.specs.SoFar.{IsBlank, IsWithin, IsFilled, IsResumed}
-use Rattle.alt_http.specs.Reading.{Read, got, short, never, Lines, scan_of, read_start, read_fields, read_head}
+use Rattle.alt_http.specs.SoFar.{IsBlank, IsWithinFields, IsResumed}
+use Rattle.alt_http.specs.Reading.{PartRead, got, short, never, Lines, scan_of, read_start, read_fields, read_head}
 use Rattle.alt_http.proofs.Fronts.{EndsInFeed, not_in_target, head_in_window, front_in_front, go_on, bad}
 use Rattle.alt_http.proofs.Laws.{no_more, front_stays}
 use Rattle.alt_http.proofs.Answering.{scan_of-is}
-use Rattle.alt_http.proofs.Readers.{IsTail, Reads, Reads-head, Reads-start, Start_front, tail_behind}
+use Rattle.alt_http.proofs.Readers.{Reads-head, Reads-start, Start_front}
+use Rattle.alt_http.proofs.LinePieces.{IsTail, Reads, tail_behind}
 use Rattle.alt_http.proofs.Shortness.{short_split, start_whole, fields_whole}
 
 -- bytes that end in a line feed, and at which the reading of a head is cut short, are of one of these forms
 pub so_far : (bytes : List ℕ) → EndsInFeed bytes → read_head bytes ≡ short
-    → IsWithin bytes ⊎ IsBlank bytes
+    → IsWithinFields bytes ⊎ IsBlank bytes
 unfolding read_head
 so_far bytes ends is = by_start (short_split (read_start bytes)
     (λ rest. read_fields (suc (length rest)) [] rest) is)
   where
     by_start : ((read_start bytes ≡ short) ⊎ ((a : List LineEnd
         × (List ℕ × (List ℕ × (ℕ × LineEnd)))) × (rest : List ℕ) × (read_start bytes ≡ got a rest)
-        × (read_fields (suc (length rest)) [] rest ≡ short))) → IsWithin bytes ⊎ IsBlank bytes
+        × (read_fields (suc (length rest)) [] rest ≡ short))) → IsWithinFields bytes ⊎ IsBlank bytes
     by_start (inl s) = let blank = start_whole bytes ends s in
         inr (record { ends = blank.0; is = blank.1 })
     by_start (inr x) =
@@ -47,7 +47,7 @@ so_far bytes ends is = by_start (short_split (read_start bytes)
 
 -- ---- behind whole lines of a head
 
-module _ (bytes new : List ℕ) (within : IsWithin bytes) where
+module _ (bytes new : List ℕ) (within : IsWithinFields bytes) where
   start_new : RequestStart within.start (bytes ++ new) (within.middle ++ new)
   start_new = RequestStart_deterministic.append within.start bytes within.middle new within.reads
 
@@ -154,184 +154,28 @@ blank_may es new ends (inl x) =
           (sym (append_assoc (print_blank es) new x.0)) (head_before es (new ++ x.0) x.1 [] x.2),
     )
 
--- ---- the last line of what was read
-
-filled_behind : (p bytes : List ℕ) → IsFilled bytes → IsFilled (p ++ bytes)
-filled_behind p bytes f = record {
-  front = p ++ f.front;
-  byte = f.byte;
-  end = f.end;
-  is = ap (λ (l : List ℕ). p ++ l) f.is ∙ sym
-      (append_assoc p (f.front ++ f.byte ∷ []) (print_end f.end))
-      ∙ ap (λ (l : List ℕ). l ++ print_end f.end) (sym (append_assoc p f.front (f.byte ∷ [])));
-  other = f.other;
-}
-
--- a line of a name and a value
-raw_filled : (name raw : List ℕ) (end : LineEnd) → AllPass is_value_byte raw
-    → IsFilled ((name ++ 58 ∷ raw) ++ print_end end)
-raw_filled name [] end all = record { front = name; byte = 58; end = end; is = refl; other = refl }
-raw_filled name (b ∷ raw) end all =
-    subst IsFilled (ap (λ (l : List ℕ). l ++ print_end end) (append_assoc name (58 ∷ []) (b ∷ raw)))
-    (last_filled (name ++ 58 ∷ []) b raw end all)
-  where
-    value_other : (n : ℕ) → is_value_byte n ≡ true → is_newline n ≡ false
-    value_other n passes = grind (arith, nat_tests)
-
-    last_filled : (front : List ℕ) (c : ℕ) (rest : List ℕ) (e : LineEnd)
-        → AllPass is_value_byte (c ∷ rest) → IsFilled ((front ++ c ∷ rest) ++ print_end e)
-    last_filled front c [] e all' = record {
-      front = front;
-      byte = c;
-      end = e;
-      is = refl;
-      other =
-          value_other c (All-head (λ v. is_value_byte v ≡ true) c [] all');
-    }
-    last_filled front c (d ∷ rest) e all' =
-        subst IsFilled (ap (λ (l : List ℕ). l ++ print_end e)
-        (append_assoc front (c ∷ []) (d ∷ rest)))
-        (last_filled (front ++ c ∷ []) d rest e
-        (All-tail (λ v. is_value_byte v ≡ true) c (d ∷ rest) all'))
-
-fields_filled : (f : Field) (fields : List Field) → All IsField (f ∷ fields)
-    → IsFilled (flat_map print_field (f ∷ fields))
-fields_filled f [] all = subst IsFilled (sym (append-nil (print_field f)))
-    (raw_filled f.name f.raw f.end (All-head IsField f [] all).raw)
-fields_filled f (g ∷ fields) all = filled_behind (print_field f) (flat_map print_field (g ∷ fields))
-    (fields_filled g fields (All-tail IsField f (g ∷ fields) all))
-
--- the last line of the first line and its fields isn't empty
-pub within_filled : (bytes : List ℕ) → IsWithin bytes → IsFilled bytes
-within_filled bytes within = by_fields within.fields within.lines
-  where
-    cut : (p : List ℕ) × (bytes ≡ p ++ within.middle)
-    cut = Start_front within.start bytes within.middle within.reads
-
-    digit : (m : ℕ) → m ≤ 1 → is_newline (48 + m) ≡ false
-    digit m few = grind (arith, nat_tests)
-
-    by_fields : (fields : List Field) → FieldLines fields within.middle [] → IsFilled bytes
-    by_fields (f ∷ fields) lines =
-        subst IsFilled (sym (cut.1 ∙ ap (λ (l : List ℕ). cut.0 ++ l)
-        (lines.1 ∙ append-nil (flat_map print_field (f ∷ fields)))))
-        (filled_behind cut.0 (flat_map print_field (f ∷ fields)) (fields_filled f fields lines.0))
-    by_fields [] lines =
-        let x = within.reads in
-        let version = x.2.2.2.1 in
-        let newline = x.2.2.2.2 in
-        let last : x.2.2.2.0 ≡ print_end within.start.1.1.1.1 =
-        newline ∙ ap (λ (l : List ℕ). print_end within.start.1.1.1.1 ++ l) lines.1
-        ∙ append-nil (print_end within.start.1.1.1.1) in
-        let blank = x.1.0 in
-        let method = x.2.1.2 in
-        let target = x.2.2.1.0.2 in
-        let version_is = version.1 in
-        let front = print_blank within.start.0
-        ++ (within.start.1.0 ++ 32 ∷ (within.start.1.1.0 ++ 32 ∷ codes "HTTP/1.")) in
-        record {
-          front = front;
-          byte = 48 + within.start.1.1.1.0;
-          end = within.start.1.1.1.1;
-          is = simp (append_assoc, cons-append) (cc (blank, method, target, version_is, last));
-          other = digit within.start.1.1.1.0 version.0;
-        }
-
--- ---- the test of the last line, by its last bytes
-
--- where the last byte stands that isn't of the line's end
-pub record FilledAt (bytes : List ℕ) : Type 0 where
-  pub some : 2 ≤ length bytes
-  pub lone : get_or bytes (length bytes - 2) 0 ≢ 13
-      → is_newline (get_or bytes (length bytes - 2) 0) ≡ false
-  pub pair : get_or bytes (length bytes - 2) 0 ≡ 13
-      → (3 ≤ length bytes) × (is_newline (get_or bytes (length bytes - 3) 0) ≡ false)
-
--- a line with a byte before its end is filled
-filled_at : (front : List ℕ) (b : ℕ) (end : LineEnd) → is_newline b ≡ false
-    → FilledAt ((front ++ b ∷ []) ++ print_end end)
-filled_at front b lf other =
-    let n = length-append (front ++ b ∷ []) (10 ∷ []) in
-    let m = length-append front (b ∷ []) in
-    let place : length ((front ++ b ∷ []) ++ 10 ∷ []) - 2 ≡ length front + 0 =
-    omega (arith, n, m) in
-    let here : get_or ((front ++ b ∷ []) ++ 10 ∷ []) (length ((front ++ b ∷ []) ++ 10 ∷ []) - 2) 0
-    ≡ b =
-    ap (λ (k : ℕ). get_or ((front ++ b ∷ []) ++ 10 ∷ []) k 0) place
-    ∙ ap (λ (l : List ℕ). get_or l (length front + 0) 0) (append_assoc front (b ∷ []) (10 ∷ []))
-    ∙ get_or-append-add front (b ∷ 10 ∷ []) 0 0 in record {
-      some = omega (arith, n, m);
-      lone = λ _. subst (λ (k : ℕ). is_newline k ≡ false) (sym here) other;
-      pair = λ cr. let same : b ≡ 13 = sym here ∙ cr in
-          let no_cr : is_newline 13 ≡ false = subst (λ (k : ℕ). is_newline k ≡ false) same other in
-          cc;
-    }
-filled_at front b crlf other =
-    let n = length-append (front ++ b ∷ []) (13 ∷ 10 ∷ []) in
-    let m = length-append front (b ∷ []) in
-    let second : length ((front ++ b ∷ []) ++ 13 ∷ 10 ∷ []) - 2 ≡ length front + 1 =
-    omega (arith, n, m) in
-    let first : length ((front ++ b ∷ []) ++ 13 ∷ 10 ∷ []) - 3 ≡ length front + 0 =
-    omega (arith, n, m) in
-    let cr : get_or ((front ++ b ∷ []) ++ 13 ∷ 10 ∷ [])
-    (length ((front ++ b ∷ []) ++ 13 ∷ 10 ∷ []) - 2) 0 ≡ 13 =
-    ap (λ (k : ℕ). get_or ((front ++ b ∷ []) ++ 13 ∷ 10 ∷ []) k 0) second
-    ∙ ap (λ (l : List ℕ). get_or l (length front + 1) 0)
-    (append_assoc front (b ∷ []) (13 ∷ 10 ∷ []))
-    ∙ get_or-append-add front (b ∷ 13 ∷ 10 ∷ []) 1 0 in
-    let here : get_or ((front ++ b ∷ []) ++ 13 ∷ 10 ∷ [])
-    (length ((front ++ b ∷ []) ++ 13 ∷ 10 ∷ []) - 3) 0 ≡ b =
-    ap (λ (k : ℕ). get_or ((front ++ b ∷ []) ++ 13 ∷ 10 ∷ []) k 0) first
-    ∙ ap (λ (l : List ℕ). get_or l (length front + 0) 0)
-    (append_assoc front (b ∷ []) (13 ∷ 10 ∷ []))
-    ∙ get_or-append-add front (b ∷ 13 ∷ 10 ∷ []) 0 0 in record {
-      some = omega (arith, n, m);
-      lone = λ not_cr. absurd (not_cr cr);
-      pair = λ _. (omega (arith, n, m), subst (λ (k : ℕ). is_newline k ≡ false) (sym here) other);
-    }
-
--- bytes that are filled end so
-pub filled_bytes : (bytes : List ℕ) → IsFilled bytes → FilledAt bytes
-filled_bytes bytes f = subst FilledAt (sym f.is) (filled_at f.front f.byte f.end f.other)
-
--- each byte of empty lines is one of their ends
-pub blank_bytes : (es : List LineEnd) → All (λ b. is_newline b ≡ true) (print_blank es)
-blank_bytes [] = All-nil (λ b. is_newline b ≡ true)
-blank_bytes (crlf ∷ es) = All-cons (λ b. is_newline b ≡ true) 13 (10 ∷ print_blank es) refl
-    (All-cons (λ b. is_newline b ≡ true) 10 (print_blank es) refl (blank_bytes es))
-blank_bytes (lf ∷ es) = All-cons (λ b. is_newline b ≡ true) 10 (print_blank es) refl
-    (blank_bytes es)
-
--- each byte of empty lines is one of a line's end
-pub blank_at : (bytes : List ℕ) (k : ℕ) → IsBlank bytes → k < length bytes
-    → is_newline (get_or bytes k 0) ≡ true
-blank_at bytes k blank below =
-    let all : All (λ b. is_newline b ≡ true) bytes =
-    subst (All (λ b. is_newline b ≡ true)) (sym blank.is) (blank_bytes blank.ends) in
-    all k 0 below
-
 -- ---- a front that needed more
 
 more_goes_on : (bytes : List ℕ) → IsScan bytes More → CanGoOn bytes
-more_goes_on bytes (by_head h x e) = absurd (no_more (parts_of h) (refusal_of (parts_of h)) e)
+more_goes_on bytes (by_head h x e) = absurd (no_more (parts_of h) (head_refusal (parts_of h)) e)
 more_goes_on bytes (by_bad x e) = cc
 more_goes_on bytes (by_size x n e) = cc
 more_goes_on bytes (by_more on n e) = on
 
 -- it has no head, and can be continued to one
-open_none : (bytes front : List ℕ) → CanGoOn bytes → IsFront bytes front → HasNoRequest front
+open_none : (bytes front : List ℕ) → CanGoOn bytes → IsHeadFront bytes front → HasNoRequest front
 open_none bytes front on is_front h rest reads = let head =
     head_in_window bytes front is_front h rest reads in on.none h head.0 head.1
 
-open_may : (bytes front : List ℕ) → CanGoOn bytes → IsFront bytes front → MayBecomeRequest front
+open_may : (bytes front : List ℕ) → CanGoOn bytes → IsHeadFront bytes front → MayBecomeRequest front
 open_may bytes front on is_front = let may = on.each front is_front in
     inl (may.more, may.head, may.reads)
 
 -- so its reading is cut short
-open_short : (bytes front : List ℕ) → CanGoOn bytes → IsFront bytes front → read_head front ≡ short
+open_short : (bytes front : List ℕ) → CanGoOn bytes → IsHeadFront bytes front → read_head front ≡ short
 open_short bytes front on is_front = go (read_head front) (Reads-head front)
   where
-    go : (r : Read Lines) → Reads (Then RequestStart Section) front r → r ≡ short
+    go : (r : PartRead Lines) → Reads (Then RequestStart Section) front r → r ≡ short
     go (got t rest) read = absurd (open_none bytes front on is_front (request_head t) rest
         (request_from_pieces front t rest read))
     go short read = refl
@@ -339,8 +183,8 @@ open_short bytes front on is_front = go (read_head front) (Reads-head front)
         absurd (request_never read may.more may.head [] may.reads)
 
 -- bytes that can go on have a front that is within a head, or blank
-pub resumed_far : (bytes front : List ℕ) → CanGoOn bytes → IsFront bytes front
-    → IsWithin front ⊎ IsBlank front
+pub resumed_far : (bytes front : List ℕ) → CanGoOn bytes → IsHeadFront bytes front
+    → IsWithinFields front ⊎ IsBlank front
 resumed_far bytes front on is_front = so_far front
     (record { line = is_front.line; is = is_front.ends }) (open_short bytes front on is_front)
 
@@ -355,11 +199,11 @@ same_front bytes front before r all =
 
 -- the front of bytes of which some were seen before
 pub resumes : (bytes front old : List ℕ) (seen : ℕ) → IsLastFront bytes front
-    → scan_of (take seen bytes) ≡ More → IsFront (take seen bytes) old
+    → scan_of (take seen bytes) ≡ More → IsHeadFront (take seen bytes) old
     → IsResumed bytes front (length old)
 resumes bytes front old seen last more is_front =
     let whole = take-append-drop seen bytes in
-    let here : IsFront bytes old = subst (λ (l : List ℕ). IsFront l old) whole
+    let here : IsHeadFront bytes old = subst (λ (l : List ℕ). IsHeadFront l old) whole
     (front_stays (take seen bytes) (drop seen bytes) old is_front) in
     let s = front_in_front bytes front old last here in
     let n = ap length s.1 in let m = length-append old s.0 in
@@ -370,7 +214,7 @@ resumes bytes front old seen last more is_front =
       old = take seen bytes;
       on = more_goes_on (take seen bytes) (subst (IsScan (take seen bytes)) more
           (scan_of-is (take seen bytes)));
-      is_front = subst (IsFront (take seen bytes)) (sym cut) is_front;
+      is_front = subst (IsHeadFront (take seen bytes)) (sym cut) is_front;
     }
 
 -- what is new of the front
@@ -387,7 +231,7 @@ new_ends bytes front before r more = by_tail (tail_behind front (take before fro
 
 -- where a section may come behind the lines that were read, more bytes are wanted
 pub fields_on : (bytes front : List ℕ) (before : ℕ) → IsResumed bytes front before
-    → IsWithin (take before front) → HasNoSection (drop before front)
+    → IsWithinFields (take before front) → HasNoSection (drop before front)
     → MayBecomeSection (drop before front) → CanGoOn bytes
 fields_on bytes front before r within none may =
     let whole = take-append-drop before front in
@@ -397,7 +241,7 @@ fields_on bytes front before r within none may =
 
 -- where none can come the bytes are refused
 pub fields_bad : (bytes front : List ℕ) (before : ℕ) → IsResumed bytes front before
-    → IsWithin (take before front) → NeverHasSection (drop before front) → IsScan bytes (Refused 1)
+    → IsWithinFields (take before front) → NeverHasSection (drop before front) → IsScan bytes (Refused 1)
 fields_bad bytes front before r within none =
     by_bad (bad bytes front r.last (subst NeverHasRequest (take-append-drop before front)
     (within_never (take before front) (drop before front) within none))) refl

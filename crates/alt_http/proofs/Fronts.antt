@@ -11,8 +11,8 @@ use Rattle.memchr.specs.Find.{IsLastByte, is_byte}
 use Rattle.httparse.specs.Grammar.{is_uri_byte, LineEnd, crlf, lf, print_end, print_blank, print_version, Field, print_field, IsField, print_section, RequestHead, print_request, ReadsRequest, HasNoRequest, NeverHasRequest, EndsInTarget, MayBecomeRequest}
 use Rattle.httparse.specs.Spans.{RequestExceeds}
 use Rattle.httparse.proofs.GrammarLemmas.{ReadsRequest-append}
-use Rattle.alt_http.specs.Feeds.{IsPlain, EndsAt, IsLastFront}
-use Rattle.alt_http.specs.Heads.{window, HasHead, IsFront, IsBad, CanGoOn}
+use Rattle.alt_http.specs.Feeds.{IsPlain, LastLineFeedStandsAt, IsLastFront}
+use Rattle.alt_http.specs.Heads.{window, HasHead, IsHeadFront, NeverBecomesHead, CanGoOn}
 
 -- two ways to cut one list: one front goes on where the other ends
 pub prefix_split : (p front r rest : List ℕ) → p ++ r ≡ front ++ rest
@@ -100,7 +100,7 @@ head_in_front bytes front last h r reads =
     (inside.0, (reads.0, inside.1))
 
 -- and a head in the front stands in the window
-pub head_in_window : (bytes front : List ℕ) (is_front : IsFront bytes front) (h : RequestHead)
+pub head_in_window : (bytes front : List ℕ) (is_front : IsHeadFront bytes front) (h : RequestHead)
     (r : List ℕ) → ReadsRequest front h r → HasHead bytes h
 head_in_window bytes front is_front h r reads = (
   r ++ is_front.rest,
@@ -128,7 +128,7 @@ not_in_target front line ends x =
 
 -- a front of the bytes is a front of the longest one
 pub front_in_front : (bytes front other : List ℕ) (last : IsLastFront bytes front)
-    (is_front : IsFront bytes other) → (s : List ℕ) × (front ≡ other ++ s)
+    (is_front : IsHeadFront bytes other) → (s : List ℕ) × (front ≡ other ++ s)
 front_in_front bytes front other last is_front =
     let inside = within_front is_front.line other front last.is_front.rest is_front.rest
     is_front.ends last.plain (sym is_front.parts ∙ last.is_front.parts) in
@@ -171,7 +171,7 @@ go_on_plain bytes plain = record {
     nothing_feed (c ∷ p) line s e n = cc
 
 -- where none can come, the bytes are bad
-pub bad : (bytes front : List ℕ) → IsLastFront bytes front → NeverHasRequest front → IsBad bytes
+pub bad : (bytes front : List ℕ) → IsLastFront bytes front → NeverHasRequest front → NeverBecomesHead bytes
 bad bytes front last never = record { front = front; is_front = last.is_front; never = never }
 
 -- ---- how many fields have room
@@ -235,7 +235,7 @@ feed_parts (b ∷ w) (suc k) below is = ap (λ (l : List ℕ). b ∷ l) (feed_pa
 
 -- what a search from the end for a line feed says
 pub last_feed : (w : List ℕ) (found : Option ℕ) → IsLastByte (is_byte 10) w found
-    → MatchOption found (IsPlain w) (EndsAt w)
+    → MatchOption found (IsPlain w) (LastLineFeedStandsAt w)
 last_feed w None none = plain_behind w 0 (λ j low below. none j low below)
 last_feed w (Some k) last = record {
   below = last.0.high;
@@ -244,7 +244,7 @@ last_feed w (Some k) last = record {
 }
 
 -- the front that ends there
-pub last_front : (bytes : List ℕ) (k : ℕ) → EndsAt (window bytes) k
+pub last_front : (bytes : List ℕ) (k : ℕ) → LastLineFeedStandsAt (window bytes) k
     → IsLastFront bytes (take (k + 1) (window bytes))
 last_front bytes k ends =
     let w = window bytes in

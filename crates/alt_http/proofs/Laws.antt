@@ -11,8 +11,8 @@ use Rattle.httparse.specs.Grammar.{RequestHead, print_request, ReadsRequest}
 use Rattle.httparse.specs.Spans.{IsHeaderWithin, IsRequestAt}
 use Rattle.httparse.proofs.GrammarLemmas.{ReadsRequest-append, request_unique}
 use Rattle.alt_http.specs.Feeds.{IsPlain}
-use Rattle.alt_http.specs.Heads.{window, most_of_head, HasHead, IsFront, IsBad, CanGoOn}
-use Rattle.alt_http.specs.Judged.{Parts, parts_of, refusal_of, answered, judged, LiesIn, Stays, IsScan, by_head, by_bad, by_size, by_more}
+use Rattle.alt_http.specs.Heads.{window, most_of_head, HasHead, IsHeadFront, NeverBecomesHead, CanGoOn}
+use Rattle.alt_http.specs.Judged.{Parts, parts_of, head_refusal, answer_to_head, judged_head, LiesIn, ScanStays, IsScan, by_head, by_bad, by_size, by_more}
 use Rattle.alt_http.specs.Spans.{parts_at}
 use Rattle.alt_http.specs.declared.outcome.Scan.{Scan}
 use Rattle.alt_http.specs.declared.outcome.Scan.TheVariants.{More, Refused, Head}
@@ -44,17 +44,17 @@ parts_same buf headers spans h at =
 
 -- where spans tell a head in a front of the bytes, the answer is what is judged of its parts
 pub found_head : (bytes front : List ℕ) (headers : List HeaderSpan) (spans : RequestSpans)
-    (scan : Scan) → IsFront bytes front
+    (scan : Scan) → IsHeadFront bytes front
     → (h : RequestHead) × IsRequestAt front headers spans h
-    → scan ≡ judged (parts_at front (take spans.headers headers) spans) → IsScan bytes scan
+    → scan ≡ judged_head (parts_at front (take spans.headers headers) spans) → IsScan bytes scan
 found_head bytes front headers spans scan is_front found is =
     by_head found.0 (head_in_window bytes front is_front found.0
     (drop spans.len front) found.1.reads)
-    (is ∙ ap judged (parts_same front headers spans found.0 found.1))
+    (is ∙ ap judged_head (parts_same front headers spans found.0 found.1))
 
 -- ---- one answer
 
-bad_no_head : (bytes : List ℕ) (h : RequestHead) → HasHead bytes h → IsBad bytes → ⊥
+bad_no_head : (bytes : List ℕ) (h : RequestHead) → HasHead bytes h → NeverBecomesHead bytes → ⊥
 bad_no_head bytes h head bad =
     let is_front = bad.is_front in
     let print = print_request h in
@@ -63,7 +63,7 @@ bad_no_head bytes h head bad =
       | inr x ↦ bad.never x.0 h [] (head.1.0, sym x.1 ∙ sym (append-nil print))
     ]
 
-bad_no_more : (bytes : List ℕ) → CanGoOn bytes → IsBad bytes → ⊥
+bad_no_more : (bytes : List ℕ) → CanGoOn bytes → NeverBecomesHead bytes → ⊥
 bad_no_more bytes on bad = let may = on.each bad.front bad.is_front in
     bad.never may.more may.head [] may.reads
 
@@ -71,7 +71,7 @@ bad_no_more bytes on bad = let may = on.each bad.front bad.is_front in
 pub IsScan_unique : (bytes : List ℕ) (a b : Scan) → IsScan bytes a → IsScan bytes b → a ≡ b
 IsScan_unique bytes a b (by_head h x e) (by_head k y f) =
     let same = request_unique (window bytes) h k x.0 y.0 x.1 y.1 in
-    e ∙ ap (λ (g : RequestHead). judged (parts_of g)) same.0 ∙ sym f
+    e ∙ ap (λ (g : RequestHead). judged_head (parts_of g)) same.0 ∙ sym f
 IsScan_unique bytes a b (by_head h x e) (by_bad y f) = absurd (bad_no_head bytes h x y)
 IsScan_unique bytes a b (by_head h x e) (by_size y n f) = absurd (y.none h x.0 x.1)
 IsScan_unique bytes a b (by_head h x e) (by_more y n f) = absurd (y.none h x.0 x.1)
@@ -113,7 +113,7 @@ window_full : (bytes more : List ℕ) → most_of_head ≤ length bytes
 window_full bytes more full = take-append-le most_of_head bytes more full
 
 -- a front of the bytes is one of more bytes
-pub front_stays : (bytes more front : List ℕ) → IsFront bytes front → IsFront (bytes ++ more) front
+pub front_stays : (bytes more front : List ℕ) → IsHeadFront bytes front → IsHeadFront (bytes ++ more) front
 front_stays bytes more front is_front =
     let w = window_more bytes more in record {
       line = is_front.line;
@@ -167,7 +167,7 @@ IsScan_nothing = by_more (go_on_plain [] (All-nil (λ b. (b == 10) ≡ false))) 
 -- ---- bytes without a line feed
 
 -- a head isn't answered by More
-pub no_more : (p : Parts) (o : Option ℕ) → More ≡ answered p o → ⊥
+pub no_more : (p : Parts) (o : Option ℕ) → More ≡ answer_to_head p o → ⊥
 no_more p (Some n) e = cc
 no_more p None e = cc
 
@@ -183,7 +183,7 @@ plain_head bytes plain h r is few reads =
     (inside.0, (reads.0, take_all most_of_head bytes (omega (arith, e)) ∙ inside.1))
 
 plain_front : (bytes plain front : List ℕ) → IsPlain plain → length (bytes ++ plain) < most_of_head
-    → IsFront (bytes ++ plain) front → IsFront bytes front
+    → IsHeadFront (bytes ++ plain) front → IsHeadFront bytes front
 plain_front bytes plain front is few is_front =
     let e = length-append bytes plain in
     let inside = within_front is_front.line front bytes plain is_front.rest is_front.ends is
@@ -200,7 +200,7 @@ plain_front bytes plain front is few is_front =
 pub IsScan_plain : (bytes plain : List ℕ) → IsScan bytes More → IsPlain plain
     → length (bytes ++ plain) < most_of_head → IsScan (bytes ++ plain) More
 IsScan_plain bytes plain (by_head h x e) is few =
-    absurd (no_more (parts_of h) (refusal_of (parts_of h)) e)
+    absurd (no_more (parts_of h) (head_refusal (parts_of h)) e)
 IsScan_plain bytes plain (by_bad x e) is few = cc
 IsScan_plain bytes plain (by_size x n e) is few = cc
 IsScan_plain bytes plain (by_more on n e) is few = by_more (record {
@@ -212,7 +212,7 @@ IsScan_plain bytes plain (by_more on n e) is few = by_more (record {
 
 sized : (p : Parts) (o : Option ℕ) (taken : ℕ) (target : Option (List ℕ)) (body : ℕ)
     (expect close : Bool)
-    → Head taken target body expect close ≡ answered p o → taken ≡ p.size
+    → Head taken target body expect close ≡ answer_to_head p o → taken ≡ p.size
 sized p (Some n) taken target body expect close e = cc
 sized p None taken target body expect close e = cc
 
@@ -222,7 +222,7 @@ IsScan_within bytes More is = tt
 IsScan_within bytes (Refused n) is = tt
 IsScan_within bytes (Head taken target body expect close) (by_head h x e) =
     let size : taken ≡ length (print_request h) =
-    sized (parts_of h) (refusal_of (parts_of h)) taken target body expect close e in
+    sized (parts_of h) (head_refusal (parts_of h)) taken target body expect close e in
     let ends = head_ends h in
     let some = ap length ends.is in
     let one = length-append ends.line (10 ∷ []) in
@@ -235,7 +235,7 @@ IsScan_within bytes (Head taken target body expect close) (by_size x n e) = cc
 IsScan_within bytes (Head taken target body expect close) (by_more x n e) = cc
 
 -- what the answer says of more bytes
-pub IsScan_final : (bytes : List ℕ) (scan : Scan) → IsScan bytes scan → Stays bytes scan
+pub IsScan_final : (bytes : List ℕ) (scan : Scan) → IsScan bytes scan → ScanStays bytes scan
 IsScan_final bytes More is = tt
 IsScan_final bytes (Refused n) is = λ more. IsScan_stays bytes more (Refused n) is (λ e. cc)
 IsScan_final bytes (Head taken target body expect close) is =

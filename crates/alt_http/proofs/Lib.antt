@@ -1,8 +1,11 @@
 pub mod Answering
 pub mod Continuing
 pub mod Dating
+pub mod FirstLine
 pub mod Fronts
+pub mod LastLine
 pub mod Laws
+pub mod LinePieces
 pub mod Printing
 pub mod Readers
 pub mod Shortness

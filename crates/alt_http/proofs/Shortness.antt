@@ -11,9 +11,11 @@ use Rattle.httparse.proofs.PieceLemmas.{FieldLines_push, colon_ends_token}
 use Rattle.httparse.proofs.OpenLemmas.{letter_is_token}
 use Rattle.httparse.proofs.ReadLemmas.{blank_more}
 use Rattle.alt_http.specs.Feeds.{IsPlain}
-use Rattle.alt_http.specs.Reading.{Read, got, short, never, by_read, then_read, read_end, read_blank, read_word, read_method, read_target, read_bytes, read_minor, read_version, read_value, read_field, read_fields, read_start}
+use Rattle.alt_http.specs.Reading.{PartRead, got, short, never, by_read, then_read, read_end, read_blank, read_word, read_method, read_target, read_expected_bytes, read_minor, read_version, read_value, read_header_field, read_fields, read_start}
 use Rattle.alt_http.proofs.Fronts.{EndsInFeed, prefix_split}
-use Rattle.alt_http.proofs.Readers.{Reads, ReadsBlank, IsTail, tail_behind, Reads-method, Reads-target, Reads-version, Reads-blank, Reads-field, Reads-word, Reads-bytes, word_short, is_feed, is_cr}
+use Rattle.alt_http.proofs.Readers.{Reads-field}
+use Rattle.alt_http.proofs.LinePieces.{Reads, ReadsBlank, IsTail, tail_behind, Reads-blank, Reads-word, word_short, is_feed, is_cr}
+use Rattle.alt_http.proofs.FirstLine.{Reads-method, Reads-target, Reads-version, Reads-bytes}
 
 last_same : (c : ℕ) (s : List ℕ) → (c == 10) ≡ false → c ∷ [] ≡ s ++ 10 ∷ [] → ⊥
 last_same c [] other e = let feed : c ≡ 10 = cc in let no_feed : c ≢ 10 = grind arith in
@@ -55,11 +57,11 @@ feed_behind text p rest c e other ends = by_tail (tail_behind text (p ++ c ∷ [
         ∙ append-nil (p ++ c ∷ [])) ends))
 
 -- a reading of two parts stops in the first or in the second
-pub short_split : {A B : Type 0} (r : Read A) (f : List ℕ → Read B) → then_read r f ≡ short
+pub short_split : {A B : Type 0} (r : PartRead A) (f : List ℕ → PartRead B) → then_read r f ≡ short
     → (r ≡ short) ⊎ ((a : A) × (rest : List ℕ) × (r ≡ got a rest) × (f rest ≡ short))
 short_split {A} {B} (got a rest) f is = inr (a, rest, refl, second (f rest) is)
   where
-    second : (q : Read B) → by_read {A = B} {B = Read (A × B)} q
+    second : (q : PartRead B) → by_read {A = B} {B = PartRead (A × B)} q
         (λ b behind. got (a, b) behind) short never ≡ short → q ≡ short
     second (got b behind) e = cc
     second short e = refl
@@ -99,7 +101,7 @@ target_whole : (text : List ℕ) → EndsInFeed text → read_target text ≡ sh
 target_whole text ends is = go (read_word is_uri_byte 32 [] text) is
     (word_whole is_uri_byte 32 text refl ends)
   where
-    go : (r : Read (List ℕ)) → by_read r (λ target rest. cond (is_utf8 target)
+    go : (r : PartRead (List ℕ)) → by_read r (λ target rest. cond (is_utf8 target)
         (got target rest) never) short never ≡ short → (r ≡ short → ⊥) → ⊥
     go (got target rest) e no_short = by_test (is_utf8 target) e
       where
@@ -110,8 +112,8 @@ target_whole text ends is = go (read_word is_uri_byte 32 [] text) is
     go never e no_short = cc
 
 bytes_whole : (wanted text : List ℕ) → IsPlain wanted → EndsInFeed text
-    → read_bytes wanted text ≡ short → ⊥
-unfolding read_bytes
+    → read_expected_bytes wanted text ≡ short → ⊥
+unfolding read_expected_bytes
 bytes_whole [] text plain ends is = cc
 bytes_whole (e ∷ wanted) [] plain ends is = no_feed_nothing ends
 bytes_whole (e ∷ wanted) (b ∷ text) plain ends is = by_byte (b == e) refl is
@@ -119,8 +121,8 @@ bytes_whole (e ∷ wanted) (b ∷ text) plain ends is = by_byte (b == e) refl is
     (feed_behind (b ∷ text) [] text b refl (subst (λ (n : ℕ). (n == 10) ≡ false) (sym same)
     (All-head (λ n. (n == 10) ≡ false) e wanted plain)) ends) later)
   where
-    by_byte : (x : Bool) → (b == e) ≡ x → cond x (read_bytes wanted text) never ≡ short
-        → (b ≡ e → read_bytes wanted text ≡ short → ⊥) → ⊥
+    by_byte : (x : Bool) → (b == e) ≡ x → cond x (read_expected_bytes wanted text) never ≡ short
+        → (b ≡ e → read_expected_bytes wanted text ≡ short → ⊥) → ⊥
     by_byte true same s later = let one : b ≡ e = grind arith in later one s
     by_byte false same s later = cc
 
@@ -128,7 +130,7 @@ minor_whole : (rest : List ℕ) → read_minor rest ≡ short → rest ≡ []
 minor_whole [] is = refl
 minor_whole (b ∷ rest) is = by_byte (b == 48) (b == 49) is
   where
-    by_byte : (x y : Bool) → cond {A = Read ℕ} x (got 0 rest) (cond y (got 1 rest) never) ≡ short
+    by_byte : (x y : Bool) → cond {A = PartRead ℕ} x (got 0 rest) (cond y (got 1 rest) never) ≡ short
         → b ∷ rest ≡ []
     by_byte true y e = cc
     by_byte false true e = cc
@@ -144,10 +146,10 @@ version_plain =
 
 version_whole : (text : List ℕ) → EndsInFeed text → read_version text ≡ short → ⊥
 version_whole text ends is =
-    go (read_bytes (codes "HTTP/1.") text) (Reads-bytes (codes "HTTP/1.") text) is
+    go (read_expected_bytes (codes "HTTP/1.") text) (Reads-bytes (codes "HTTP/1.") text) is
     (bytes_whole (codes "HTTP/1.") text version_plain ends)
   where
-    go : (r : Read ⊤) → Reads (Bytes (codes "HTTP/1.")) text r
+    go : (r : PartRead ⊤) → Reads (Bytes (codes "HTTP/1.")) text r
         → by_read r (λ _ rest. read_minor rest) short never ≡ short → (r ≡ short → ⊥) → ⊥
     go (got t rest) read e no_short = not_feed_end (codes "HTTP/1") 46 refl
         (subst EndsInFeed (read ∙ ap (λ (l : List ℕ). codes "HTTP/1." ++ l) (minor_whole rest e))
@@ -165,7 +167,7 @@ value_whole value (b ∷ text) ends is = by_byte (is_value_byte b) refl is
     value_plain : (n : ℕ) → is_value_byte n ≡ true → (n == 10) ≡ false
     value_plain n passes = grind (arith, nat_tests)
 
-    by_end : (r : Read LineEnd) → by_read {B = Read (List ℕ × LineEnd)} r
+    by_end : (r : PartRead LineEnd) → by_read {B = PartRead (List ℕ × LineEnd)} r
         (λ end rest. got (value, end) rest) short never ≡ short → r ≡ short
     by_end (got end rest) e = cc
     by_end short e = refl
@@ -173,7 +175,7 @@ value_whole value (b ∷ text) ends is = by_byte (is_value_byte b) refl is
 
     by_byte : (x : Bool) → is_value_byte b ≡ x
         → cond x (read_value (value ++ b ∷ []) text)
-        (by_read {B = Read (List ℕ × LineEnd)} (read_end (b ∷ text))
+        (by_read {B = PartRead (List ℕ × LineEnd)} (read_end (b ∷ text))
         (λ end rest. got (value, end) rest) short never) ≡ short
         → (is_value_byte b ≡ true → read_value (value ++ b ∷ []) text ≡ short → ⊥) → ⊥
     by_byte true passes e later = later passes e
@@ -289,7 +291,7 @@ start_whole text ends is = by_blank (short_split (read_blank [] text)
 
 -- ---- the fields
 
-field_whole : (text : List ℕ) → EndsInFeed text → read_field text ≡ short → ⊥
+field_whole : (text : List ℕ) → EndsInFeed text → read_header_field text ≡ short → ⊥
 field_whole text ends is = by_field (then_read (read_word is_token_byte 58 [] text) (read_value []))
     is (λ s. by_word (short_split (read_word is_token_byte 58 [] text) (read_value []) s))
   where
@@ -305,8 +307,8 @@ field_whole text ends is = by_field (then_read (read_word is_token_byte 58 [] te
         value_whole [] x.1 (feed_behind text x.0 x.1 58
         (read.2 ∙ sym (append_assoc x.0 (58 ∷ []) x.1)) refl ends) x.3
 
-    by_field : (r : Read (List ℕ × (List ℕ × LineEnd)))
-        → by_read {B = Read Field} r (λ f rest. got
+    by_field : (r : PartRead (List ℕ × (List ℕ × LineEnd)))
+        → by_read {B = PartRead Field} r (λ f rest. got
         (record { name = f.0; raw = f.1.0; end = f.1.1 }) rest) short never ≡ short
         → (r ≡ short → ⊥) → ⊥
     by_field (got f rest) e no_short = cc
@@ -320,7 +322,7 @@ pub fields_whole : (n : ℕ) (fields : List Field) (whole text : List ℕ)
 unfolding read_fields
 fields_whole zero fields whole text lines tail is = cc
 fields_whole (suc n) fields whole text lines tail is =
-    by_end (read_end text) refl (read_field text) (Reads-field text) refl is
+    by_end (read_end text) refl (read_header_field text) (Reads-field text) refl is
     (λ f rest read later. fields_whole n (fields ++ f ∷ []) whole rest
     (FieldLines_push fields f whole text rest lines read)
     (tail_behind text (print_field f) rest read.1 tail) later)
@@ -329,13 +331,13 @@ fields_whole (suc n) fields whole text lines tail is =
     at_end (inl none) s = (fields, subst (FieldLines fields whole) none lines)
     at_end (inr ends) s = absurd (end_whole text ends s)
 
-    no_short_field : IsTail text → read_end text ≡ never → read_field text ≡ short → ⊥
+    no_short_field : IsTail text → read_end text ≡ never → read_header_field text ≡ short → ⊥
     no_short_field (inl none) e s = let nothing : read_end [] ≡ never =
         ap read_end (sym none) ∙ e in cc
     no_short_field (inr ends) e s = field_whole text ends s
 
-    by_field : read_end text ≡ never → (q : Read Field) → Reads FieldLine text q
-        → read_field text ≡ q
+    by_field : read_end text ≡ never → (q : PartRead Field) → Reads FieldLine text q
+        → read_header_field text ≡ q
         → by_read q (λ f rest. read_fields n (fields ++ f ∷ []) rest) short never ≡ short
         → ((f : Field) (rest : List ℕ) → FieldLine f text rest
         → read_fields n (fields ++ f ∷ []) rest ≡ short
@@ -345,8 +347,8 @@ fields_whole (suc n) fields whole text lines tail is =
     by_field e short read same s later = absurd (no_short_field tail e same)
     by_field e never read same s later = cc
 
-    by_end : (r : Read LineEnd) → read_end text ≡ r → (q : Read Field) → Reads FieldLine text q
-        → read_field text ≡ q
+    by_end : (r : PartRead LineEnd) → read_end text ≡ r → (q : PartRead Field) → Reads FieldLine text q
+        → read_header_field text ≡ q
         → by_read r (λ last rest. got (fields, last) rest) short
         (by_read q (λ f rest. read_fields n (fields ++ f ∷ []) rest) short never) ≡ short
         → ((f : Field) (rest : List ℕ) → FieldLine f text rest

@@ -6,7 +6,7 @@ use Rattle.std.proofs.lemmas.List.Folds.{list_all_at}
 use Rattle.std.specs.Prelude.{nat_lt, ◌&&◌, ◌||◌, not}
 use Rattle.std.specs.List.{list_all, list_any}
 use Rattle.std.specs.Str.{bytes_eq}
-use Rattle.alt_http.specs.Fields.{first_of}
+use Rattle.alt_http.specs.Fields.{first_field_value}
 use Rattle.alt_http.specs.Judged.{length_refusal, body_length, most_of_body}
 use Rattle.alt_http.specs.Lengths.{is_length, is_other_length, without_zeros}
 use Rattle.std.specs.Char.{digit_value, is_ascii_digit}
@@ -67,7 +67,7 @@ first_is_length first rest none = go (is_length first)
 -- What the lengths that are given come to, by the first of them.
 
 -- where another length is given, the lengths are refused
-pub length_other : (values : List (List ℕ)) (first : List ℕ) → Some first ≡ first_of values
+pub length_other : (values : List (List ℕ)) (first : List ℕ) → Some first ≡ first_field_value values
     → true ≡ list_any (is_other_length first) values
     → length_refusal values ≡ Some 8
 length_other [] first is other = cc
@@ -90,7 +90,7 @@ same_first v first vs t same is = ap (λ (l : List ℕ). list_any (is_other_leng
     ∙ sym is
 
 -- where the first is past the longest body, the lengths are refused
-pub length_long : (values : List (List ℕ)) (first : List ℕ) → Some first ≡ first_of values
+pub length_long : (values : List (List ℕ)) (first : List ℕ) → Some first ≡ first_field_value values
     → false ≡ list_any (is_other_length first) values
     → 16777216 < min (digits_value 10 first) 16777217 → length_refusal values ≡ Some 9
 length_long [] first is none long = cc
@@ -104,7 +104,7 @@ length_long (v ∷ vs) first is none long =
     above n h = let more : 16777216 < n = omega arith in grind (arith, nat_tests)
 
 -- else they aren't, and the first is the length of the body
-pub length_fits : (values : List (List ℕ)) (first : List ℕ) → Some first ≡ first_of values
+pub length_fits : (values : List (List ℕ)) (first : List ℕ) → Some first ≡ first_field_value values
     → false ≡ list_any (is_other_length first) values
     → min (digits_value 10 first) 16777217 ≤ 16777216
     → (length_refusal values ≡ None) × (min (digits_value 10 first) 16777217 ≡ body_length values)
@@ -125,7 +125,7 @@ length_fits (v ∷ vs) first is none fits =
     uncapped n h = omega arith
 
 -- the number of a value that is the first, where none is another
-pub found_is_length : (values : List (List ℕ)) (first : List ℕ) → Some first ≡ first_of values
+pub found_is_length : (values : List (List ℕ)) (first : List ℕ) → Some first ≡ first_field_value values
     → false ≡ list_any (is_other_length first) values → is_length first ≡ true
 found_is_length [] first is none = cc
 found_is_length (v ∷ vs) first is none =

@@ -7,11 +7,11 @@ use Rattle.alt_http.specs.declared.fields.Test.{Test}
 use Rattle.alt_http.specs.declared.fields.Test.TheVariants.{Any, Is, IsNot, IsOtherLength}
 
 -- whether the value passes
-abbrev pub passes : Test → List ℕ → Bool
-passes Any value = true
-passes (Is word) value = is_word word.now value
-passes (IsNot word) value = not (is_word word.now value)
-passes (IsOtherLength first) value = is_other_length first.now value
+abbrev pub passes_test : Test → List ℕ → Bool
+passes_test Any value = true
+passes_test (Is word) value = is_word word.now value
+passes_test (IsNot word) value = not (is_word word.now value)
+passes_test (IsOtherLength first) value = is_other_length first.now value
 
 -- the bytes of a value that was found
 abbrev pub found_value : Option (Bor (List ℕ)) → Option (List ℕ)

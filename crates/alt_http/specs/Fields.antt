@@ -17,6 +17,6 @@ values_named name (h ∷ hs) =
     if is_word name h.0 then h.1 ∷ values_named name hs else values_named name hs
 
 -- the first of these values
-abbrev pub first_of : List (List ℕ) → Option (List ℕ)
-first_of [] = None
-first_of (v ∷ vs) = Some v
+abbrev pub first_field_value : List (List ℕ) → Option (List ℕ)
+first_field_value [] = None
+first_field_value (v ∷ vs) = Some v

@@ -20,7 +20,7 @@ abbrev pub HasNoHead : List ℕ → Type 0
 HasNoHead bytes = HasNoRequest (window bytes)
 
 -- a front of the bytes that ends in a line feed, within the limit of a head
-pub record IsFront (bytes front : List ℕ) : Type 0 where
+pub record IsHeadFront (bytes front : List ℕ) : Type 0 where
   pub line : List ℕ
   pub ends : front ≡ line ++ 10 ∷ []
   pub rest : List ℕ
@@ -33,12 +33,12 @@ pub record MayBecomeHead (front : List ℕ) : Type 0 where
   pub reads : ReadsRequest (front ++ more) head []
 
 -- a front that ends in a line feed can be continued to no head
-pub record IsBad (bytes : List ℕ) : Type 0 where
+pub record NeverBecomesHead (bytes : List ℕ) : Type 0 where
   pub front : List ℕ
-  pub is_front : IsFront bytes front
+  pub is_front : IsHeadFront bytes front
   pub never : NeverHasRequest front
 
 -- no head stands at the front, and each front that ends in a line feed can be continued to one
 pub record CanGoOn (bytes : List ℕ) : Type 0 where
   pub none : HasNoHead bytes
-  pub each : (front : List ℕ) → IsFront bytes front → MayBecomeHead front
+  pub each : (front : List ℕ) → IsHeadFront bytes front → MayBecomeHead front

@@ -6,8 +6,8 @@ use Rattle.std.specs.Str.{bytes_eq}
 use Rattle.std.specs.Str.Parse.{digits_value}
 use Rattle.httparse.specs.Grammar.{RequestHead, print_request}
 use Rattle.httparse.specs.Spans.{name_and_value}
-use Rattle.alt_http.specs.Fields.{Header, is_word, values_named, first_of}
-use Rattle.alt_http.specs.Heads.{most_of_head, HasHead, IsBad, CanGoOn}
+use Rattle.alt_http.specs.Fields.{Header, is_word, values_named, first_field_value}
+use Rattle.alt_http.specs.Heads.{most_of_head, HasHead, NeverBecomesHead, CanGoOn}
 use Rattle.alt_http.specs.Lengths.{is_other_length}
 use Rattle.alt_http.specs.declared.outcome.Scan.{Scan}
 use Rattle.alt_http.specs.declared.outcome.Scan.TheVariants.{More, Refused, Head}
@@ -48,8 +48,8 @@ length_refusal (v ∷ vs) =
     else (if nat_lt most_of_body (digits_value 10 v) then Some 9 else None)
 
 -- the first refusal of a head that applies
-abbrev pub refusal_of : Parts → Option ℕ
-refusal_of p =
+abbrev pub head_refusal : Parts → Option ℕ
+head_refusal p =
     if has_value (codes "transfer-encoding") (λ v. true) p then Some 3
     else (if not (bytes_eq p.method (codes "POST")) then Some 4
     else (if not (bytes_eq p.target (codes "/")) then Some 5
@@ -69,33 +69,33 @@ is_closing p = p.minor == 0 || has_value (codes "connection") (is_word (codes "c
 -- a head that isn't refused, with a body of this length
 abbrev pub taken_head_of : ℕ → Parts → Scan
 taken_head_of length p =
-    Head p.size (first_of (values_named (codes "x-amz-target") p.fields)) length
+    Head p.size (first_field_value (values_named (codes "x-amz-target") p.fields)) length
     (has_value (codes "expect") (is_word (codes "100-continue")) p) (is_closing p)
 
 -- what is answered for a head that is refused so, or isn't
-abbrev pub answered : Parts → Option ℕ → Scan
-answered p (Some n) = Refused n
-answered p None = taken_head_of (body_length (values_named (codes "content-length") p.fields)) p
+abbrev pub answer_to_head : Parts → Option ℕ → Scan
+answer_to_head p (Some n) = Refused n
+answer_to_head p None = taken_head_of (body_length (values_named (codes "content-length") p.fields)) p
 
 -- what is answered for a head
-abbrev pub judged : Parts → Scan
-judged p = answered p (refusal_of p)
+abbrev pub judged_head : Parts → Scan
+judged_head p = answer_to_head p (head_refusal p)
 
 -- What is answered for bytes: by the head at their front; else 1 where they are bad, 2 where a
 -- head would have too many bytes, and else that more are needed.
 pub data IsScan (bytes : List ℕ) (scan : Scan) : Type 0 where
-  by_head : (h : RequestHead) → HasHead bytes h → scan ≡ judged (parts_of h)
+  by_head : (h : RequestHead) → HasHead bytes h → scan ≡ judged_head (parts_of h)
       → IsScan bytes scan
-  by_bad : IsBad bytes → scan ≡ Refused 1 → IsScan bytes scan
+  by_bad : NeverBecomesHead bytes → scan ≡ Refused 1 → IsScan bytes scan
   by_size : CanGoOn bytes → most_of_head ≤ length bytes → scan ≡ Refused 2
       → IsScan bytes scan
   by_more : CanGoOn bytes → length bytes < most_of_head → scan ≡ More → IsScan bytes scan
 
 -- a refusal and a head stay the answer, whatever bytes come behind
-abbrev pub Stays : List ℕ → Scan → Type 0
-Stays bytes More = Unit {0}
-Stays bytes (Refused n) = (more : List ℕ) → IsScan (bytes ++ more) (Refused n)
-Stays bytes (Head taken target body expect close) =
+abbrev pub ScanStays : List ℕ → Scan → Type 0
+ScanStays bytes More = Unit {0}
+ScanStays bytes (Refused n) = (more : List ℕ) → IsScan (bytes ++ more) (Refused n)
+ScanStays bytes (Head taken target body expect close) =
     (more : List ℕ) → IsScan (bytes ++ more) (Head taken target body expect close)
 
 -- a head has a byte or more, and all of them are there

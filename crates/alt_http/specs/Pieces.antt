@@ -12,5 +12,5 @@ piece_text (Number n) = decimal n
 piece_text (Date date) = date
 
 -- all of them
-abbrev pub printed : List Piece → List ℕ
-printed pieces = joined (map piece_text pieces)
+abbrev pub pieces_text : List Piece → List ℕ
+pieces_text pieces = joined (map piece_text pieces)

@@ -4,7 +4,7 @@ use Rattle.std.specs.Prelude.{◌≡◌, ◌≤◌, ℕ, false, List, [], ◌∷
 use Rattle.httparse.specs.Grammar.{LineEnd, print_end, print_blank, Field}
 use Rattle.httparse.specs.Pieces.{is_newline, FieldLines, RequestStart}
 use Rattle.alt_http.specs.Feeds.{IsLastFront}
-use Rattle.alt_http.specs.Heads.{CanGoOn, IsFront}
+use Rattle.alt_http.specs.Heads.{CanGoOn, IsHeadFront}
 
 -- they are empty lines
 pub record IsBlank (bytes : List ℕ) : Type 0 where
@@ -12,7 +12,7 @@ pub record IsBlank (bytes : List ℕ) : Type 0 where
   pub is : bytes ≡ print_blank ends
 
 -- they are empty lines, a first line, and whole lines of fields
-pub record IsWithin (bytes : List ℕ) : Type 0 where
+pub record IsWithinFields (bytes : List ℕ) : Type 0 where
   pub start : List LineEnd × (List ℕ × (List ℕ × (ℕ × LineEnd)))
   pub middle : List ℕ
   pub reads : RequestStart start bytes middle
@@ -20,7 +20,7 @@ pub record IsWithin (bytes : List ℕ) : Type 0 where
   pub lines : FieldLines fields middle []
 
 -- their last line has a byte beside its end
-pub record IsFilled (bytes : List ℕ) : Type 0 where
+pub record LastLineIsFilled (bytes : List ℕ) : Type 0 where
   pub front : List ℕ
   pub byte : ℕ
   pub end : LineEnd
@@ -33,4 +33,4 @@ pub record IsResumed (bytes front : List ℕ) (before : ℕ) : Type 0 where
   pub within : before ≤ length front
   pub old : List ℕ
   pub on : CanGoOn old
-  pub is_front : IsFront old (take before front)
+  pub is_front : IsHeadFront old (take before front)

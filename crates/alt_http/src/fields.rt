@@ -1,11 +1,10 @@
 //! The header fields of a head, where spans tell them.
 
-ghost use Rattle.std.specs.Prelude.{◌≡◌, length, All, IfSome, IsTrue};
-ghost use Rattle.std.specs.Option.{option_map};
+ghost use Rattle.std.specs.Prelude.{◌≡◌, length, All};
 ghost use Rattle.std.specs.List.{list_any};
-ghost use Rattle.httparse.specs.Spans.{IsHeaderWithin, span_bytes};
-ghost use Rattle.alt_http.specs.Fields.{is_word, values_named, first_of};
-ghost use Rattle.alt_http.specs.Asked.{passes, found_value};
+ghost use Rattle.httparse.specs.Spans.{IsHeaderWithin};
+ghost use Rattle.alt_http.specs.Fields.{is_word, values_named, first_field_value};
+ghost use Rattle.alt_http.specs.Asked.{passes_test, found_value};
 ghost use Rattle.alt_http.specs.Spans.{fields_at};
 
 use crate::lengths::is_other_length;
@@ -21,7 +20,7 @@ pub(crate) enum Test<'a> {
 }
 
 fn value_passes(test: Test, value: &[u8]) -> bool
-    ensures { result ≡ passes test.entry value.now }
+    ensures { result ≡ passes_test test.entry value.now }
 {
     match test {
         Test::Any => true,
@@ -40,7 +39,7 @@ fn is_word(word: &[u8], text: &[u8]) -> bool
 /// Whether some field with this name has a value that passes.
 pub(crate) fn has_value(buf: &[u8], headers: &[HeaderSpan], name: &[u8], test: Test) -> bool
     requires { All (IsHeaderWithin (length buf.now)) headers.now }
-    ensures { result ≡ list_any (passes test.entry)
+    ensures { result ≡ list_any (passes_test test.entry)
         (values_named name.now (fields_at buf.now headers.now)) }
 {
     for header in headers {
@@ -58,7 +57,7 @@ pub(crate) fn first_value<'b>(
     name: &[u8],
 ) -> Option<&'b [u8]>
     requires { All (IsHeaderWithin (length buf.now)) headers.now }
-    ensures { found_value result ≡ first_of (values_named name.now
+    ensures { found_value result ≡ first_field_value (values_named name.now
         (fields_at buf.now headers.now)) }
 {
     for header in headers {

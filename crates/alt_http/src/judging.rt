@@ -3,7 +3,7 @@
 ghost use Rattle.std.specs.Prelude.{◌≡◌, length, All, IfOk, MatchResult, Some, None, codes};
 ghost use Rattle.httparse.specs.Spans.{IsHeaderWithin, IsWithin};
 ghost use Rattle.alt_http.specs.Fields.{values_named};
-ghost use Rattle.alt_http.specs.Judged.{body_length, judged, refusal_of, length_refusal, taken_head_of};
+ghost use Rattle.alt_http.specs.Judged.{body_length, judged_head, head_refusal, length_refusal, taken_head_of};
 ghost use Rattle.alt_http.specs.Spans.{fields_at, parts_at};
 
 use crate::fields::{Test, first_value, has_value};
@@ -24,7 +24,7 @@ pub(crate) fn judge(
     requires fields_in { All (IsHeaderWithin (length buf.now)) fields.now }
     requires method_in { IsWithin (length buf.now) head.method }
     requires path_in { IsWithin (length buf.now) head.path }
-    ensures { IfOk result (λ scan. scan ≡ judged (parts_at buf.now fields.now head)) }
+    ensures { IfOk result (λ scan. scan ≡ judged_head (parts_at buf.now fields.now head)) }
 {
     match checked(buf, fields, head) {
         Ok(length) => taken_head(alloc, buf, fields, head, length),
@@ -38,9 +38,9 @@ fn checked(buf: &[u8], fields: &[HeaderSpan], head: RequestSpans) -> Result<u64,
     requires method_in { IsWithin (length buf.now) head.method }
     requires path_in { IsWithin (length buf.now) head.path }
     ensures { MatchResult result
-        (λ n. (refusal_of (parts_at buf.now fields.now head) ≡ None)
+        (λ n. (head_refusal (parts_at buf.now fields.now head) ≡ None)
         × (n ≡ body_length (values_named (codes "content-length") (fields_at buf.now fields.now))))
-        (λ k. refusal_of (parts_at buf.now fields.now head) ≡ Some k) }
+        (λ k. head_refusal (parts_at buf.now fields.now head) ≡ Some k) }
 {
     if has_value(buf, fields, b"transfer-encoding", Test::Any) {
         return Err(3);

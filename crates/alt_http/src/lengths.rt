@@ -1,6 +1,6 @@
 //! Numbers that are written in digits.
 
-ghost use Rattle.std.specs.Prelude.{◌≡◌, ◌<◌, min, true, IsTrue};
+ghost use Rattle.std.specs.Prelude.{◌≡◌, min, true};
 ghost use Rattle.std.specs.Char.{is_ascii_digit};
 ghost use Rattle.std.specs.List.{list_all};
 ghost use Rattle.std.specs.Str.Parse.{digits_value};

@@ -6,7 +6,7 @@ ghost use Rattle.httparse.specs.Spans.{IsRequestOf, IsRequestWithin};
 ghost use Rattle.alt_http.specs.Feeds.{IsLastFront, IsPlain};
 ghost use Rattle.alt_http.specs.Heads.{CanGoOn};
 ghost use Rattle.alt_http.specs.Heads as heads;
-ghost use Rattle.alt_http.specs.Judged.{IsScan, LiesIn, Stays};
+ghost use Rattle.alt_http.specs.Judged.{IsScan, LiesIn, ScanStays};
 ghost use Rattle.alt_http.specs.Reading.{scan_of};
 
 use crate::judging::judge;
@@ -32,7 +32,7 @@ pub fn scan(alloc: Global, bytes: &[u8]) -> Result<Scan, NoMemory>
 
     // What a server stands on.
     ensures nothing { bytes.now ≡ [] → IfOk result (λ scan. scan ≡ Scan.More) }
-    ensures stays { IfOk result (Stays bytes.now) }
+    ensures stays { IfOk result (ScanStays bytes.now) }
     ensures within { IfOk result (LiesIn bytes.now) }
 {
     answer(alloc, bytes)

@@ -2,7 +2,7 @@
 
 ghost use Rattle.std.specs.Prelude.{◌≡◌, ◌<◌, ◌≤◌, ◌++◌, OnOk, OnErr, IsTrue};
 ghost use Rattle.alt_http.specs.Dates.{date_at};
-ghost use Rattle.alt_http.specs.Pieces.{piece_text, printed};
+ghost use Rattle.alt_http.specs.Pieces.{piece_text, pieces_text};
 ghost use Rattle.alt_http.specs.Replies as replies;
 
 use alt_base::NoMemory;
@@ -113,7 +113,7 @@ fn date(moment: u64) -> [u8; 29]
 
 /// Appends all of the pieces, or nothing.
 fn put_all(out: &mut Vec<u8>, pieces: &[Piece]) -> Result<(), NoMemory>
-    ensures ok { OnOk result (out.new.items ≡ out.old.items ++ printed pieces.now) }
+    ensures ok { OnOk result (out.new.items ≡ out.old.items ++ pieces_text pieces.now) }
     ensures err { OnErr result (out.new.items ≡ out.old.items) }
 {
     let before = out.len();

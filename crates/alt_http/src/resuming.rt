@@ -4,7 +4,7 @@ ghost use Rattle.std.specs.Prelude.{◌≡◌, ◌≢◌, ◌≤◌, length, tak
 ghost use Rattle.httparse.specs.Pieces.{is_newline};
 ghost use Rattle.alt_http.specs.Judged.{IsScan};
 ghost use Rattle.alt_http.specs.Reading.{scan_of};
-ghost use Rattle.alt_http.specs.SoFar.{IsResumed, IsWithin, IsBlank, IsFilled};
+ghost use Rattle.alt_http.specs.SoFar.{IsResumed, IsWithinFields, IsBlank, LastLineIsFilled};
 
 use crate::outcome::Scan;
 use crate::reading::{is_still_more, last_front, read, without_head};
@@ -61,7 +61,7 @@ fn resume(alloc: Global, bytes: &[u8], front: &[u8], before: usize) -> Result<Sc
 /// Behind a first line and fields come fields.
 fn resume_fields(alloc: Global, bytes: &[u8], front: &[u8], before: usize) -> Result<Scan, NoMemory>
     requires resumed { IsResumed bytes.now front.now before }
-    requires within { IsWithin (take before front.now) }
+    requires within { IsWithinFields (take before front.now) }
     ensures { IfOk result (IsScan bytes.now) }
 {
     let mut headers = [EMPTY_HEADER_SPAN; NEW_FIELDS];
@@ -91,7 +91,7 @@ fn resume_start(alloc: Global, bytes: &[u8], front: &[u8], before: usize) -> Res
 
 /// Whether the last line has a byte beside its end.
 fn is_filled(lines: &[u8]) -> bool
-    ensures filled { IsFilled lines.now → result ≡ true }
+    ensures filled { LastLineIsFilled lines.now → result ≡ true }
     ensures blank { IsBlank lines.now → result ≡ false }
 {
     let size = lines.len();

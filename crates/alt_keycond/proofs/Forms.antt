@@ -5,7 +5,7 @@ use Rattle.alt_base.specs.Prefix.{IsPrefix}
 use Rattle.alt_value.specs.declared.attr.Attr.{Attr}
 use Rattle.alt_value.specs.Stands.{tree_of}
 use Rattle.alt_keyorder.specs.KeyBytes.{key_bytes}
-use Rattle.alt_keyorder.specs.Range.{AreBytes, IsInRange}
+use Rattle.alt_keyorder.specs.Range.{IsByteString, IsInRange}
 use Rattle.alt_keycond.specs.KeysAsked.{IsRangeOf, IsRangeUnder, Meets, front_bytes}
 use Rattle.alt_keycond.specs.declared.ask.RangeAsk.TheVariants as r
 use Rattle.alt_keycond.proofs.Under.{Ends, part_behind, below_part, from_part, to_part, from_to, behind_part, behind_all}
@@ -62,9 +62,9 @@ module _ (p : List ℕ) where
         subst (λ f. IsInRange f end key ↔ ((y : List ℕ) × (key ≡ p ++ y) × Meets (r.Ge v) y))
         (sym ef) (from_part p end ends key bytes part)
 
-    module _ (q : List ℕ) (is : q ≡ p ++ key_bytes (tree_of v)) (q_bytes : AreBytes q) where
-      part_bytes : AreBytes (p ++ key_bytes (tree_of v))
-      part_bytes = subst AreBytes is q_bytes
+    module _ (q : List ℕ) (is : q ≡ p ++ key_bytes (tree_of v)) (q_bytes : IsByteString q) where
+      part_bytes : IsByteString (p ++ key_bytes (tree_of v))
+      part_bytes = subst IsByteString is q_bytes
 
       ends_there : (end : Option (List ℕ)) → Ends q end → Ends (p ++ key_bytes (tree_of v)) end
       ends_there end h = subst (λ z. Ends z end) is h
@@ -109,6 +109,6 @@ ok_on P Q f (Ok t) h = f t h
 ok_on P Q f (Err e) h = tt
 
 -- numbers that fit a byte are bytes
-pub are_bytes : (bs : List ℕ) → ((i : ℕ) → get_or bs i 0 < 256) → AreBytes bs
+pub are_bytes : (bs : List ℕ) → ((i : ℕ) → get_or bs i 0 < 256) → IsByteString bs
 are_bytes [] h = tt
 are_bytes (b ∷ bs) h = (h 0, are_bytes bs (λ i. h (suc i)))

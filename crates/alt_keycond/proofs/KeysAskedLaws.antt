@@ -18,7 +18,7 @@ use Rattle.alt_expr.specs.KeyForm as f
 use Rattle.alt_expr.specs.KeyForm.{Key, Ask, RangeTest, ask_of}
 use Rattle.alt_expr.proofs.Seen.{some_pair}
 use Rattle.alt_keyorder.specs.KeyBytes.{IsKey}
-use Rattle.alt_keycond.specs.Asked.{test_of, asks}
+use Rattle.alt_keycond.specs.Asked.{test_of, answer_asks}
 use Rattle.alt_keycond.specs.KeysAsked.{HasFront, AsksKeys}
 use Rattle.alt_keycond.specs.declared.ask.KeyAsk.{KeyAsk}
 use Rattle.alt_keycond.specs.declared.ask.RangeAsk.{RangeAsk}
@@ -57,25 +57,25 @@ found_key : (key : Key) (x : Operand) (v : Attr) → f.value_for key x ≡ Some 
 found_key key x v e = kind_key key.kind v (found_kind key x v e)
 
 pub valued : (by : Comparison) (w : Option Attr) (c : Comparison) (v : Attr)
-    → f.with_value by w ≡ Some (c, v) → w ≡ Some v
+    → f.comparison_with_value by w ≡ Some (c, v) → w ≡ Some v
 valued by None c v e = cc
 valued by (Some u) c v e = ap Some (some_pair (by, u) (c, v) e).1
 
 tested_key : (key : Key) (by : Comparison) (x y : Operand) (c : Comparison) (v : Attr)
     → f.key_test key by x y ≡ Some (c, v) → IsKey (tree_of v)
-tested_key key by x y c v e = at (f.is_key key x) e
+tested_key key by x y c v e = at (f.is_key_operand key x) e
   where
-    behind : (b : Bool) → (if b then f.with_value (f.mirrored by) (f.value_for key x) else None)
+    behind : (b : Bool) → (if b then f.comparison_with_value (f.mirrored by) (f.value_for key x) else None)
         ≡ Some (c, v) → IsKey (tree_of v)
     behind true e = found_key key x v (valued (f.mirrored by) (f.value_for key x) c v e)
     behind false e = cc
 
     at : (b : Bool)
-        → (if b then f.with_value by (f.value_for key y)
-        else (if f.is_key key y then f.with_value (f.mirrored by) (f.value_for key x) else None))
+        → (if b then f.comparison_with_value by (f.value_for key y)
+        else (if f.is_key_operand key y then f.comparison_with_value (f.mirrored by) (f.value_for key x) else None))
         ≡ Some (c, v) → IsKey (tree_of v)
     at true e = found_key key y v (valued by (f.value_for key y) c v e)
-    at false e = behind (f.is_key key y) e
+    at false e = behind (f.is_key_operand key y) e
 
 pub equal_is : (t : Option (Comparison × Attr)) (v : Attr) → f.equal_value t ≡ Some v
     → t ≡ Some (c.Equal, v)
@@ -171,16 +171,16 @@ range_keys key (Cond-F.Compare by x y) ask e =
     comparison_keys key by x y ask (f.key_test key by x y) refl e
 range_keys key (Cond-F.Between x low high) ask e =
     bound_keys key low high ask (f.value_for key low) (f.value_for key high) refl refl
-    (some_of_if (f.is_key key x) (f.range_between (f.value_for key low) (f.value_for key high))
+    (some_of_if (f.is_key_operand key x) (f.range_between (f.value_for key low) (f.value_for key high))
     (test_of ask) e)
 range_keys key (Cond-F.BeginsWith x y) ask e =
     front_keys key y ask key.kind (f.value_for key y) refl refl
-    (some_of_if (f.is_key key x) (f.range_front key.kind (f.value_for key y)) (test_of ask) e)
+    (some_of_if (f.is_key_operand key x) (f.range_front key.kind (f.value_for key y)) (test_of ask) e)
 range_keys key _ ask e = cc
 
 -- ---- the whole
 
-pub both_parts : (v : Option Attr) (t : Option RangeTest) (ask : Ask) → f.asked v t ≡ Some ask
+pub both_parts : (v : Option Attr) (t : Option RangeTest) (ask : Ask) → f.ask_of_parts v t ≡ Some ask
     → (v ≡ Some ask.hash) × (t ≡ Some ask.range)
 both_parts (Some v) (Some t) ask e = let is = same_Some _ ask e in
     (ap (λ q. Some q.hash) is, ap (λ q. Some q.range) is)
@@ -188,18 +188,18 @@ both_parts None t ask e = cc
 both_parts (Some v) None ask e = cc
 
 pair_keys : (hash : Key) (range : Option Key) (x y : Cond) (ask : KeyAsk)
-    → f.both_asked hash range x y ≡ Some (asks ask) → IsKey (tree_of ask.hash) × AsksKeys ask.range
+    → f.both_asked hash range x y ≡ Some (answer_asks ask) → IsKey (tree_of ask.hash) × AsksKeys ask.range
 pair_keys hash (Some range) x y ask e =
-    let parts = both_parts (f.hash_value hash x) (f.range_test range y) (asks ask) e in
+    let parts = both_parts (f.hash_value hash x) (f.range_test range y) (answer_asks ask) e in
     (hash_key hash (out-Cond x) ask.hash parts.0, range_keys range (out-Cond y) ask.range parts.1)
 pair_keys hash None x y ask e = cc
 
 joined_keys : (hash : Key) (range : Option Key) (xs : List Cond) (ask : KeyAsk)
-    → f.joined_ask hash range xs ≡ Some (asks ask) → IsKey (tree_of ask.hash) × AsksKeys ask.range
+    → f.joined_ask hash range xs ≡ Some (answer_asks ask) → IsKey (tree_of ask.hash) × AsksKeys ask.range
 joined_keys hash range (x ∷ y ∷ []) ask e = at (f.both_asked hash range x y) refl e
   where
     at : (q : Option Ask) → f.both_asked hash range x y ≡ q
-        → f.or_else q (f.both_asked hash range y x) ≡ Some (asks ask)
+        → f.or_else q (f.both_asked hash range y x) ≡ Some (answer_asks ask)
         → IsKey (tree_of ask.hash) × AsksKeys ask.range
     at (Some q) is e = pair_keys hash range x y ask (is ∙ e)
     at None is e = pair_keys hash range y x ask e
@@ -218,11 +218,11 @@ nothing_keys (r.Between low high) e = cc
 nothing_keys (r.Begins w) e = cc
 
 top_keys : (hash : Key) (range : Option Key) (top : Cond-F Cond) (ask : KeyAsk)
-    → f.ask_at hash range top ≡ Some (asks ask) → IsKey (tree_of ask.hash) × AsksKeys ask.range
+    → f.ask_at hash range top ≡ Some (answer_asks ask) → IsKey (tree_of ask.hash) × AsksKeys ask.range
 top_keys hash range (Cond-F.All xs) ask e = joined_keys hash range xs ask e
 top_keys hash range (Cond-F.Compare by x y) ask e =
     let parts = both_parts (f.hash_at hash (Cond-F.Compare by x y)) (Some f.anything)
-    (asks ask) e in (
+    (answer_asks ask) e in (
       hash_key hash (Cond-F.Compare by x y) ask.hash parts.0,
       nothing_keys ask.range
           (same_Some _ _ parts.1),
@@ -231,6 +231,6 @@ top_keys hash range _ ask e = cc
 
 -- the values of an ask are keys
 pub asks_keys : (hash : Key) (range : Option Key) (x : Cond) (ask : KeyAsk)
-    → ask_of hash range x ≡ Some (asks ask) → IsKey (tree_of ask.hash) × AsksKeys ask.range
+    → ask_of hash range x ≡ Some (answer_asks ask) → IsKey (tree_of ask.hash) × AsksKeys ask.range
 unfolding ask_of
 asks_keys hash range x ask e = top_keys hash range (out-Cond x) ask e

@@ -11,7 +11,7 @@ use Rattle.std.proofs.lemmas.List.{append-nil, append_cancel_left}
 use Rattle.alt_base.specs.Prefix.{IsPrefix}
 use Rattle.alt_base.proofs.Orderings.{nat_cmp-equal, nat_cmp-greater, is_gt-false}
 use Rattle.alt_value.specs.Members.{text_order}
-use Rattle.alt_keyorder.specs.Range.{AreBytes, IsBelow, IsBelowEnd, IsInRange, IsUpTo}
+use Rattle.alt_keyorder.specs.Range.{IsByteString, IsBelow, IsBelowEnd, IsInRange, IsUpTo}
 use Rattle.alt_keyorder.proofs.Bounds.{text_order-front, up_to_append, up_to_not_above, less-not_greater, never_below_nothing}
 use Rattle.alt_keycond.specs.KeysAsked.{IsUpToPart}
 
@@ -88,7 +88,7 @@ as_key p part y key e h = up_behind p part y (subst (λ k. IsUpTo (p ++ part) k)
 
 -- the keys under a prefix end there
 abbrev pub Ends : List ℕ → Option (List ℕ) → Type 0
-Ends prefix end = (key : List ℕ) → AreBytes key → IsPrefix prefix key ↔ IsInRange prefix end key
+Ends prefix end = (key : List ℕ) → IsByteString key → IsPrefix prefix key ↔ IsInRange prefix end key
 
 module _ (p : List ℕ) (key : List ℕ) where
   -- below a part
@@ -100,7 +100,7 @@ module _ (p : List ℕ) (key : List ℕ) where
   )
 
 module _ (p : List ℕ) (end : Option (List ℕ)) (ends : Ends p end) (key : List ℕ)
-    (bytes : AreBytes key) where
+    (bytes : IsByteString key) where
   -- a key at or above the front and below its end begins with it
   under_end : IsUpTo p key → IsBelowEnd key end → IsPrefix p key
   under_end up below = (ends key bytes).1 (up, below)
@@ -114,9 +114,9 @@ module _ (p : List ℕ) (end : Option (List ℕ)) (ends : Ends p end) (key : Lis
     (λ h. (subst (λ k. IsUpTo (p ++ part) k) (sym h.1) (up_before p part h.0 h.2), ((ends key bytes).0 (h.0, h.1)).1)),
   )
 
-module _ (p : List ℕ) (key : List ℕ) (bytes : AreBytes key) (part : List ℕ)
+module _ (p : List ℕ) (key : List ℕ) (bytes : IsByteString key) (part : List ℕ)
     (part_end : Option (List ℕ)) (part_ends : Ends (p ++ part) part_end)
-    (part_bytes : AreBytes (p ++ part)) where
+    (part_bytes : IsByteString (p ++ part)) where
   -- a key at or above the front and below the end of a part goes on behind it, up to that part
   to_part_front : IsUpTo p key → IsBelowEnd key part_end
       → (y : List ℕ) × (key ≡ p ++ y) × IsUpToPart y part
@@ -176,9 +176,9 @@ module _ (p : List ℕ) (key : List ℕ) (bytes : AreBytes key) (part : List ℕ
 
 -- the keys from the end of a part on are those that are above it and don't begin with it
 module _ (p : List ℕ) (end : Option (List ℕ)) (ends : Ends p end) (key : List ℕ)
-    (bytes : AreBytes key)
+    (bytes : IsByteString key)
     (part : List ℕ) (part_end : Option (List ℕ)) (part_ends : Ends (p ++ part) part_end)
-    (part_bytes : AreBytes (p ++ part)) (b : List ℕ) (is : part_end ≡ Some b) where
+    (part_bytes : IsByteString (p ++ part)) (b : List ℕ) (is : part_end ≡ Some b) where
   behind_up : IsInRange b end key → (y : List ℕ) × (key ≡ p ++ y)
       × (IsUpTo part y × (IsPrefix part y → ⊥))
   behind_up h =

@@ -22,5 +22,5 @@ test_of (r.Between low high) = between low high
 test_of (r.Begins v) = fronted v
 
 -- what an answer asks
-abbrev pub asks : KeyAsk → Ask
-asks a = record { hash = a.hash; range = test_of a.range }
+abbrev pub answer_asks : KeyAsk → Ask
+answer_asks a = record { hash = a.hash; range = test_of a.range }

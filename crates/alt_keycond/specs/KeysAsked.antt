@@ -8,7 +8,7 @@ use Rattle.alt_expr.specs.KeyForm.{in_range}
 use Rattle.alt_keyorder.specs.KeyBytes.{key_bytes, escaped, IsKey}
 use Rattle.alt_keyorder.specs.Kinds.{IsOfKind, IsKeyFor}
 use Rattle.alt_keyorder.specs.Place.{place_bytes, place_in_table}
-use Rattle.alt_keyorder.specs.Range.{AreBytes, IsBelow, IsInRange, IsUpTo}
+use Rattle.alt_keyorder.specs.Range.{IsByteString, IsBelow, IsInRange, IsUpTo}
 use Rattle.alt_keycond.specs.Asked.{test_of}
 use Rattle.alt_keycond.specs.declared.ask.KeyAsk.{KeyAsk}
 use Rattle.alt_keycond.specs.declared.ask.RangeAsk.{RangeAsk}
@@ -49,7 +49,7 @@ unfoldable pub HoldsAsked : KeyAsk → List ℕ → Option (List ℕ) → Type 0
 HoldsAsked ask from to =
     (h : KeyKind) (k : Option KeyKind) → IsOfKind h (tree_of ask.hash) → AsksOfKind k ask.range
     → (hash : Tree) (range : Option Tree) (more : List ℕ) → IsKeyFor h k hash range
-    → AreBytes (place_bytes (place_in_table hash range) ++ more)
+    → IsByteString (place_bytes (place_in_table hash range) ++ more)
     → IsInRange from to (place_bytes (place_in_table hash range) ++ more)
     ↔ ((hash ≡ tree_of ask.hash) × (in_range (test_of ask.range) range ≡ true))
 
@@ -80,10 +80,10 @@ Meets (r.Begins v) y = IsPrefix (front_bytes (tree_of v)) y
 -- the keys of a range are those that begin with the front and go on with what meets the ask
 unfoldable pub IsRangeUnder : List ℕ → RangeAsk → List ℕ → Option (List ℕ) → Type 0
 IsRangeUnder front range from to =
-    (key : List ℕ) → AreBytes key → IsInRange from to key
+    (key : List ℕ) → IsByteString key → IsInRange from to key
     ↔ ((y : List ℕ) × (key ≡ front ++ y) × Meets range y)
 
 -- the keys of a range are those that begin with the prefix
 unfoldable pub IsRangeOf : List ℕ → List ℕ → Option (List ℕ) → Type 0
-IsRangeOf prefix from to = (key : List ℕ) → AreBytes key → IsPrefix prefix key
+IsRangeOf prefix from to = (key : List ℕ) → IsByteString key → IsPrefix prefix key
     ↔ IsInRange from to key

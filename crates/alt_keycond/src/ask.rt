@@ -7,7 +7,7 @@ ghost use Rattle.alt_keycond.specs.KeysAsked.{AsksKeys};
 ghost use Rattle.alt_expr.specs.KeyForm as form;
 ghost use Rattle.alt_expr.specs.Holds.{holds};
 ghost use Rattle.alt_expr.specs.Located.{View};
-ghost use Rattle.alt_keycond.specs.Asked.{key_of, test_of, asks};
+ghost use Rattle.alt_keycond.specs.Asked.{key_of, answer_asks};
 
 use crate::key_test::{hash_value, range_value};
 use alt_base::NoMemory;
@@ -57,11 +57,11 @@ impl From<NoMemory> for KeyCondFault {
 pub fn key_ask(cond: &Cond, hash: &KeyAttr, range: Option<&KeyAttr>) -> Result<KeyAsk, KeyCondFault>
     ensures ask { IfOk result
         (λ a. form.ask_of (key_of hash.now) (option_map (λ r. key_of r.now) range.entry) cond.now
-        ≡ Some (asks a)) }
+        ≡ Some (answer_asks a)) }
     // The condition holds exactly of the items that meet the ask.
     ensures holds { IfOk result (λ a. (item : View) →
         holds item cond.now ≡ form.meets (key_of hash.now)
-        (option_map (λ r. key_of r.now) range.entry) (asks a) item) }
+        (option_map (λ r. key_of r.now) range.entry) (answer_asks a) item) }
     // So it is an ask that `key_range` takes.
     ensures keys { IfOk result (λ a. IsKey (tree_of a.hash) × AsksKeys a.range) }
     ensures cause { IfErr result (λ f. f ≢ KeyCondFault.NoMemory → (f ≡ KeyCondFault.NotKey)
@@ -76,7 +76,7 @@ pub fn key_ask(cond: &Cond, hash: &KeyAttr, range: Option<&KeyAttr>) -> Result<K
 fn asked(cond: &Cond, hash: &KeyAttr, range: Option<&KeyAttr>) -> Result<KeyAsk, KeyCondFault>
     ensures ask { IfOk result
         (λ a. form.ask_of (key_of hash.now) (option_map (λ r. key_of r.now) range.entry) cond.now
-        ≡ Some (asks a)) }
+        ≡ Some (answer_asks a)) }
     ensures cause { IfErr result (λ f. f ≢ KeyCondFault.NoMemory → (f ≡ KeyCondFault.NotKey)
         × (form.ask_of (key_of hash.now) (option_map (λ r. key_of r.now) range.entry) cond.now
         ≡ None)) }
@@ -90,10 +90,10 @@ fn asked(cond: &Cond, hash: &KeyAttr, range: Option<&KeyAttr>) -> Result<KeyAsk,
 /// The HASH attribute alone.
 fn alone(cond: &Cond, hash: &KeyAttr) -> Result<KeyAsk, KeyCondFault>
     ensures ask { IfOk result
-        (λ a. form.asked (form.hash_value (key_of hash.now) cond.now) (Some form.anything)
-        ≡ Some (asks a)) }
+        (λ a. form.ask_of_parts (form.hash_value (key_of hash.now) cond.now) (Some form.anything)
+        ≡ Some (answer_asks a)) }
     ensures cause { IfErr result (λ f. f ≢ KeyCondFault.NoMemory → (f ≡ KeyCondFault.NotKey)
-        × (form.asked (form.hash_value (key_of hash.now) cond.now) (Some form.anything) ≡ None)) }
+        × (form.ask_of_parts (form.hash_value (key_of hash.now) cond.now) (Some form.anything) ≡ None)) }
 {
     let Some(value) = hash_value(cond, hash) else {
         return Err(KeyCondFault::NotKey);
@@ -109,7 +109,7 @@ fn alone(cond: &Cond, hash: &KeyAttr) -> Result<KeyAsk, KeyCondFault>
 fn joined(members: &[Cond], hash: &KeyAttr, range: Option<&KeyAttr>) -> Result<KeyAsk, KeyCondFault>
     ensures ask { IfOk result
         (λ a. form.joined_ask (key_of hash.now)
-        (option_map (λ r. key_of r.now) range.entry) members.now ≡ Some (asks a)) }
+        (option_map (λ r. key_of r.now) range.entry) members.now ≡ Some (answer_asks a)) }
     ensures cause { IfErr result (λ f. f ≢ KeyCondFault.NoMemory → (f ≡ KeyCondFault.NotKey)
         × (form.joined_ask (key_of hash.now) (option_map (λ r. key_of r.now) range.entry)
         members.now ≡ None)) }
@@ -136,8 +136,8 @@ fn both(
     hash: &KeyAttr,
     range: &KeyAttr,
 ) -> Result<Option<KeyAsk>, NoMemory>
-    ensures { IfOk result (λ o. option_map asks o
-        ≡ form.asked (form.hash_value (key_of hash.now) first.now)
+    ensures { IfOk result (λ o. option_map answer_asks o
+        ≡ form.ask_of_parts (form.hash_value (key_of hash.now) first.now)
         (form.range_test (key_of range.now) second.now)) }
 {
     let Some(value) = hash_value(first, hash) else {

@@ -126,7 +126,7 @@ fn front_of(kind: KeyKind, front: Option<&Attr>) -> Result<Option<RangeAsk>, NoM
 
 /// Whether the operand is the key attribute itself.
 fn is_key(operand: &Operand, key: &KeyAttr) -> bool
-    ensures { result ≡ form.is_key (key_of key.now) operand.now }
+    ensures { result ≡ form.is_key_operand (key_of key.now) operand.now }
 {
     match operand {
         Operand::At(path) => match path.as_slice() {

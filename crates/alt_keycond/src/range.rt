@@ -1,11 +1,11 @@
 //! What a key condition asks, as a range of keys in bytes (docs/formats/key-bytes.md).
 
-ghost use Rattle.std.specs.Prelude.{◌≡◌, ◌↔◌, ◌++◌, List, ℕ, Some, None, IfOk, option_map};
+ghost use Rattle.std.specs.Prelude.{◌≡◌, ◌↔◌, ◌++◌, List, ℕ, Some, None, IfOk};
 ghost use Rattle.alt_base.specs.Prefix.{IsPrefix};
 ghost use Rattle.alt_value.specs.Stands.{tree_of};
 ghost use Rattle.alt_keyorder.specs.KeyBytes.{IsKey, key_bytes};
 ghost use Rattle.alt_keyorder.specs.Place.{place_bytes, place_in_table};
-ghost use Rattle.alt_keyorder.specs.Range.{AreBytes, IsInRange};
+ghost use Rattle.alt_keyorder.specs.Range.{IsByteString, IsInRange};
 ghost use Rattle.alt_keycond.specs.KeysAsked.{AsksKeys, HasFront, HoldsAsked, IsRangeOf, IsRangeUnder, front_bytes};
 ghost use Rattle.alt_keycond.specs.declared.ask.RangeAsk.TheVariants as asks;
 
@@ -76,9 +76,9 @@ fn with_front(alloc: Global, front: &[u8], value: &Attr) -> Result<Vec<u8>, NoMe
 
 /// The end of the keys that begin with a prefix, None where they have no end.
 fn end_of(alloc: Global, prefix: &[u8]) -> Result<Option<Bytes>, NoMemory>
-    ensures ends { IfOk result (λ end. (key : List ℕ) → AreBytes key
+    ensures ends { IfOk result (λ end. (key : List ℕ) → IsByteString key
         → IsPrefix prefix.now key ↔ IsInRange prefix.now end key) }
-    ensures bytes { AreBytes prefix.now }
+    ensures bytes { IsByteString prefix.now }
 {
     after_all(alloc, prefix)
 }

@@ -8,7 +8,7 @@ use Rattle.std.proofs.lemmas.List.{append-nil}
 use Rattle.alt_base.specs.Prefix.{IsPrefix}
 use Rattle.alt_base.proofs.Orderings.{nat_cmp-equal, nat_cmp-greater, nat_cmp-less}
 use Rattle.alt_value.specs.Members.{text_order}
-use Rattle.alt_keyorder.specs.Range.{AreBytes, IsBelow, IsBoundOf, IsFull, IsUpTo}
+use Rattle.alt_keyorder.specs.Range.{IsByteString, IsBelow, IsBoundOf, AreHighestBytes, IsUpTo}
 use Rattle.alt_keyorder.proofs.Parts.{text_order-refl}
 
 -- bytes up to some that are below others are below these
@@ -28,7 +28,7 @@ up_to_not_above a b p q = p (nat_list_cmp_total.antisymm a b ∙ ap ordering_rev
 pub record IsEnd (front prefix : List ℕ) : Type 0 where
   pub behind : List ℕ
   pub is : prefix ≡ front ++ behind
-  pub full : IsFull behind
+  pub full : AreHighestBytes behind
 
 -- bytes up to the bound, where it is at the front, and behind it
 pub end_at_first : (s : List ℕ) → IsEnd s s
@@ -54,7 +54,7 @@ bound_here front before prefix last e low h = record {
 }
 
 -- bytes of which each is 255
-pub all_full : (prefix : List ℕ) → IsEnd [] prefix → IsFull prefix
+pub all_full : (prefix : List ℕ) → IsEnd [] prefix → AreHighestBytes prefix
 all_full prefix h = rw h.is h.full
 
 -- less isn't greater
@@ -79,7 +79,7 @@ up_to_append [] (x ∷ r) = less-greater
 up_to_append (x ∷ s) r = rw (nat_cmp-equal x x refl) (up_to_append s r)
 
 -- what is not below bytes 255 begins with them
-pub above_full : (t k : List ℕ) → IsFull t → AreBytes k → IsUpTo t k → IsPrefix t k
+pub above_full : (t k : List ℕ) → AreHighestBytes t → IsByteString k → IsUpTo t k → IsPrefix t k
 above_full [] k full bytes h = (k, refl)
 above_full (x ∷ t) [] full bytes h = absurd (h refl)
 above_full (x ∷ t) (y ∷ k) full bytes h = elim (cases_order x y) [
@@ -98,7 +98,7 @@ never_below_nothing [] h = let e : Equal ≡ Less = h in absurd (cc)
 never_below_nothing (x ∷ k) h = greater-less h
 
 -- what lies between a prefix and its bound begins with the prefix
-pub between : (f : List ℕ) (x : ℕ) (t k : List ℕ) → IsFull t → AreBytes k → IsUpTo (f ++ x ∷ t) k
+pub between : (f : List ℕ) (x : ℕ) (t k : List ℕ) → AreHighestBytes t → IsByteString k → IsUpTo (f ++ x ∷ t) k
     → IsBelow k (f ++ (x + 1) ∷ []) → IsPrefix (f ++ x ∷ t) k
 between [] x t [] full bytes h below = absurd (h refl)
 between [] x t (y ∷ k) full bytes h below = elim (cases_order x y) [
@@ -137,21 +137,21 @@ below_bound f x t r =
     ∙ rw (nat_cmp-less x (x + 1) (omega arith)) refl
 
 -- each byte of a full prefix is 255
-full-last : (f : List ℕ) (x : ℕ) (t : List ℕ) → IsFull (f ++ x ∷ t) → x ≡ 255
+full-last : (f : List ℕ) (x : ℕ) (t : List ℕ) → AreHighestBytes (f ++ x ∷ t) → x ≡ 255
 full-last [] x t full = full.0
 full-last (y ∷ f) x t full = full-last f x t full.1
 
 -- a prefix with a bound isn't full
-pub bound-not_full : (f : List ℕ) (x : ℕ) (p : List ℕ) → IsBoundOf f x p → IsFull p → ⊥
+pub bound-not_full : (f : List ℕ) (x : ℕ) (p : List ℕ) → IsBoundOf f x p → AreHighestBytes p → ⊥
 bound-not_full f x p h full =
     let e : x ≡ 255 = full-last f x h.behind (let P : List ℕ
-    → Type 0 = λ s. IsFull s in subst P h.is full) in
+    → Type 0 = λ s. AreHighestBytes s in subst P h.is full) in
     let low = h.below in
     omega (arith, e, low)
 
 -- the keys under a prefix lie from it on and below its bound
 pub under_from_range : (f : List ℕ) (x : ℕ) (p b k : List ℕ) → IsBoundOf f x p
-    → b ≡ f ++ (x + 1) ∷ [] → AreBytes k
+    → b ≡ f ++ (x + 1) ∷ [] → IsByteString k
     → IsUpTo p k → IsBelow k b → IsPrefix p k
 under_from_range f x p b k h e bytes low high =
     let P : List ℕ → Type 0 = λ s. IsUpTo s k in
@@ -181,7 +181,7 @@ less-not_greater s t h = λ g. less-greater (sym h ∙ g)
 
 -- no bytes below the bound are above all keys under the prefix
 pub bound_least : (f : List ℕ) (x : ℕ) (p b c : List ℕ) → IsBoundOf f x p → b ≡ f ++ (x + 1) ∷ []
-    → AreBytes c
+    → IsByteString c
     → ((k : List ℕ) → IsPrefix p k → IsBelow k c) → IsUpTo b c
 bound_least f x p b c h e bytes above = λ greater.
     let lower : IsBelow c b = nat_list_cmp_total.antisymm c b ∙ ap ordering_reverse greater in

@@ -6,7 +6,7 @@ use Rattle.std.specs.Ordering.{int_cmp, ordering_then}
 use Rattle.std.specs.declared.cmp.Ordering.{Ordering}
 use Rattle.std.specs.declared.cmp.Ordering.TheVariants.{Equal}
 use Rattle.std.proofs.lemmas.List.{append_cancel_left}
-use Rattle.alt_decimal.specs.Number.{Fits}
+use Rattle.alt_decimal.specs.Number.{FitsDecimal}
 use Rattle.alt_decimal.proofs.Normals.{spelled_apart}
 use Rattle.alt_value.specs.declared.kind.KeyKind.{KeyKind}
 use Rattle.alt_value.specs.declared.kind.KeyKind.TheVariants.{S, N, B}
@@ -25,7 +25,7 @@ text_of : (t : Tree) → IsOfKind S t → (s : List ℕ) × (t ≡ S_tree s)
 text_of (S_tree s) h = (s, refl)
 text_of t h = absurd h
 
-number_of : (t : Tree) → IsOfKind N t → (z : ℤ) × (t ≡ N_tree z) × Fits z
+number_of : (t : Tree) → IsOfKind N t → (z : ℤ) × (t ≡ N_tree z) × FitsDecimal z
 number_of (N_tree z) h = (z, refl, h)
 number_of t h = absurd h
 

@@ -11,7 +11,7 @@ use Rattle.alt_base.proofs.Orderings.{nat_cmp-equal, nat_cmp-greater, nat_cmp-le
 use Rattle.alt_value.specs.Members.{text_order}
 use Rattle.alt_value.specs.Order.{tree_order}
 use Rattle.alt_value.specs.Tree.{Tree, S_tree, B_tree}
-use Rattle.alt_keyorder.specs.KeyBytes.{closed, IsPartOrder, AreApart}
+use Rattle.alt_keyorder.specs.KeyBytes.{closed, IsPartOrder, KeyBytesAreApart}
 
 -- one order after another
 pub then-assoc : (o p q : Ordering) → ordering_then (ordering_then o p) q
@@ -71,11 +71,11 @@ pub text_parts : (s t : List ℕ) → IsPartOrder (S_tree s) (S_tree t) (text_or
 text_parts s t = λ x y. closed-order s t x y
 
 -- parts of texts and of binaries are apart
-pub text_apart : (s t : List ℕ) → AreApart (S_tree s) (S_tree t)
+pub text_apart : (s t : List ℕ) → KeyBytesAreApart (S_tree s) (S_tree t)
 text_apart s t = λ x y e. ap S_tree (closed-apart s t x y e)
 
 -- the parts of two binaries end at one place, whatever follows them
-pub binary_apart : (s t : List ℕ) → AreApart (B_tree s) (B_tree t)
+pub binary_apart : (s t : List ℕ) → KeyBytesAreApart (B_tree s) (B_tree t)
 binary_apart s t = λ x y e. ap B_tree (closed-apart s t x y e)
 
 -- two texts or two binaries
@@ -91,13 +91,13 @@ binary_law s u = tt
 
 -- the same of two that have an order
 pub text_apart_law : (s : List ℕ) (u : Tree) → IfSome (tree_order (S_tree s) u)
-    (λ o. AreApart (S_tree s) u)
+    (λ o. KeyBytesAreApart (S_tree s) u)
 text_apart_law s (S_tree t) = text_apart s t
 text_apart_law s u = tt
 
 -- the part of a binary and of what can be compared with it end at one place
 pub binary_apart_law : (s : List ℕ) (u : Tree)
-    → IfSome (tree_order (B_tree s) u) (λ o. AreApart (B_tree s) u)
+    → IfSome (tree_order (B_tree s) u) (λ o. KeyBytesAreApart (B_tree s) u)
 binary_apart_law s (B_tree t) = binary_apart s t
 binary_apart_law s u = tt
 
@@ -113,10 +113,10 @@ from_binaries r a b s e is = rw (e, is) (binary_law s b)
 
 -- that parts end at one place, where the first value is a text
 pub apart_from_texts : (r : Option Ordering) (a b : Tree) (s : List ℕ) → r ≡ tree_order a b
-    → a ≡ S_tree s → IfSome r (λ o. AreApart a b)
+    → a ≡ S_tree s → IfSome r (λ o. KeyBytesAreApart a b)
 apart_from_texts r a b s e is = rw (e, is) (text_apart_law s b)
 
 -- that parts end at one place, where the first value is a binary
 pub apart_from_binaries : (r : Option Ordering) (a b : Tree) (s : List ℕ) → r ≡ tree_order a b
-    → a ≡ B_tree s → IfSome r (λ o. AreApart a b)
+    → a ≡ B_tree s → IfSome r (λ o. KeyBytesAreApart a b)
 apart_from_binaries r a b s e is = rw (e, is) (binary_apart_law s b)

@@ -10,7 +10,7 @@ use Rattle.std.proofs.Math.Nat.{mul-le-mul_right}
 use Rattle.std.proofs.lemmas.Bool.{cases_order}
 use Rattle.std.proofs.lemmas.Map.Lookups.{exact_bytes, exact_signed}
 use Rattle.alt_base.proofs.Orderings.{nat_cmp-equal, nat_cmp-greater, nat_cmp-less, then-equal, then-equal_both}
-use Rattle.alt_decimal.specs.Number.{Fits}
+use Rattle.alt_decimal.specs.Number.{FitsDecimal}
 use Rattle.alt_decimal.specs.Spelled.{spelled}
 use Rattle.alt_decimal.proofs.Normals.{spelled_apart, spelled_order}
 use Rattle.alt_value.specs.Members.{text_order}
@@ -109,7 +109,7 @@ token-order m n x y hm hn =
 -- ---- numbers that fit, spelled
 
 -- numbers lie as their parts do
-pub number_parts : (u v : ℤ) → Fits u → Fits v → IsPartOrder (N_tree u) (N_tree v) (int_cmp u v)
+pub number_parts : (u v : ℤ) → FitsDecimal u → FitsDecimal v → IsPartOrder (N_tree u) (N_tree v) (int_cmp u v)
 number_parts u v fu fv x y =
     apart-order (spelled u) (spelled v) x y (λ r s e. ap spelled (spelled_apart u v r s fu fv e).0)
     ∙ ap (λ o. ordering_then o (text_order x y)) (sym (spelled_order u v fu fv))
@@ -117,7 +117,7 @@ number_parts u v fu fv x y =
 -- ---- parts
 
 -- a number beside another key value, and any two key values
-number_law : (z : ℤ) (u : Tree) → Fits z → IsKeyValue u
+number_law : (z : ℤ) (u : Tree) → FitsDecimal z → IsKeyValue u
     → IfSome (tree_order (N_tree z) u) (IsPartOrder (N_tree z) u)
 number_law z (N_tree v) h k = number_parts z v h k
 number_law z u h k = tt

@@ -1,6 +1,6 @@
 -- Where closed bytes stand, and where they don't.
 use Rattle.std.proofs.Common.{◌≡◌, ℕ, zero, suc, ◌-◌, ◌<◌, ◌≤◌, ◌==◌, ◌⊎◌, inl, inr, Bool, List, [], ◌∷◌, ◌++◌, length, take, drop, get_or, subst, if◌then◌else◌, true, false, Option, Some, None, sym, ap, ◌∙◌, append_assoc, length-append, arith}
-use Rattle.alt_keyorder.specs.KeyBytes.{escaped, closed, IsClean, IsClosedAt, IsCut, IsUnclosed, IsPart, NoPart}
+use Rattle.alt_keyorder.specs.KeyBytes.{escaped, closed, IsClean, IsClosedAt, IsCutAtZero, IsUnclosed, IsPart, NoPart}
 use Rattle.alt_keyorder.proofs.Escaping.{escaped-append, escaped-clean}
 use Rattle.alt_keyorder.proofs.Parts.{closed-apart}
 use Rattle.std.specs.Prelude.{ℤ, nat_abs}
@@ -8,7 +8,7 @@ use Rattle.std.specs.Int.{is_negative}
 use Rattle.std.specs.Str.{IsUtf8}
 use Rattle.std.proofs.lemmas.List.{take-append-drop}
 use Rattle.alt_base.proofs.Lists.{cons_rest, cons_first}
-use Rattle.alt_decimal.specs.Number.{Fits}
+use Rattle.alt_decimal.specs.Number.{FitsDecimal}
 use Rattle.alt_decimal.specs.Spelled.{spelled, complement, magnitude_bytes}
 use Rattle.alt_value.specs.declared.kind.KeyKind.{KeyKind}
 use Rattle.alt_value.specs.declared.kind.KeyKind.TheVariants.{S, N, B}
@@ -129,7 +129,7 @@ unmarked_at s front (x ∷ behind) is clean some no_escape no_end =
 
 -- a step of reading, by the mark behind the 0
 pub read_on : (bytes c rest front after : List ℕ) (g : Bool) → bytes ≡ escaped c ++ rest
-    → IsCut rest front g after → g ≡ true
+    → IsCutAtZero rest front g after → g ≡ true
     → bytes ≡ escaped ((c ++ front) ++ 0 ∷ []) ++ after
 read_on bytes c rest front after g is cut e =
     read_step bytes c rest front after is (cut.is
@@ -137,7 +137,7 @@ read_on bytes c rest front after g is cut e =
 
 -- a step of reading whose mark is 0 is the end of closed bytes
 pub read_whole : (bytes c rest front after : List ℕ) (g : Bool) (len : ℕ)
-    → bytes ≡ escaped c ++ rest → IsCut rest front g after → g ≡ false
+    → bytes ≡ escaped c ++ rest → IsCutAtZero rest front g after → g ≡ false
     → len ≡ length bytes - length after → IsClosedAt bytes (c ++ front) len
 read_whole bytes c rest front after g len is cut e count =
     read_end bytes c rest front after len is (cut.is
@@ -158,8 +158,8 @@ unfolding count_found
 second z y m n e = ap count_found e
 
 -- a number that was read is the part at the front
-pub number_part : (bytes : List ℕ) (z : ℤ) (len : ℕ) → take len bytes ≡ spelled z → Fits z
-    → ((y : ℤ) (rest : List ℕ) → Fits y → bytes ≡ spelled y ++ rest
+pub number_part : (bytes : List ℕ) (z : ℤ) (len : ℕ) → take len bytes ≡ spelled z → FitsDecimal z
+    → ((y : ℤ) (rest : List ℕ) → FitsDecimal y → bytes ≡ spelled y ++ rest
     → found z len ≡ found y (length (spelled y))) → IsPart N bytes (N_tree z) len
 number_part bytes z len e fits every =
     let whole : bytes ≡ spelled z ++ drop len bytes =

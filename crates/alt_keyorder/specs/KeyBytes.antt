@@ -3,7 +3,7 @@ use Rattle.std.specs.Prelude.{◌≡◌, ℕ, zero, suc, Bool, if◌then◌else�
 use Rattle.std.specs.Str.{IsUtf8}
 use Rattle.std.specs.Ordering.{ordering_then}
 use Rattle.std.specs.declared.cmp.Ordering.{Ordering}
-use Rattle.alt_decimal.specs.Number.{Fits}
+use Rattle.alt_decimal.specs.Number.{FitsDecimal}
 use Rattle.alt_decimal.specs.Spelled.{spelled}
 use Rattle.alt_value.specs.declared.kind.KeyKind.{KeyKind}
 use Rattle.alt_value.specs.declared.kind.KeyKind.TheVariants.{S, N, B}
@@ -36,7 +36,7 @@ key_bytes _ = []
 -- a value that can be a key attribute of that kind: a text in UTF-8, a number that fits, a binary
 abbrev pub IsKeyOf : KeyKind → Tree → Type 0
 IsKeyOf S (S_tree s) = IsUtf8 s
-IsKeyOf N (N_tree z) = Fits z
+IsKeyOf N (N_tree z) = FitsDecimal z
 IsKeyOf B (B_tree b) = Unit {0}
 IsKeyOf _ _ = ⊥
 
@@ -53,8 +53,8 @@ IsPartOrder t u o = (x y : List ℕ) → text_order (key_bytes t ++ x) (key_byte
     ≡ ordering_then o (text_order x y)
 
 -- the key part of one value begins bytes that the part of the other begins only where they are one value
-abbrev pub AreApart : Tree → Tree → Type 0
-AreApart t u = (x y : List ℕ) → key_bytes t ++ x ≡ key_bytes u ++ y → t ≡ u
+abbrev pub KeyBytesAreApart : Tree → Tree → Type 0
+KeyBytesAreApart t u = (x y : List ℕ) → key_bytes t ++ x ≡ key_bytes u ++ y → t ≡ u
 
 -- the key part of a value of that kind stands at the front, and has so many bytes
 pub record IsPart (kind : KeyKind) (bytes : List ℕ) (t : Tree) (len : ℕ) : Type 0 where
@@ -79,6 +79,6 @@ pub record IsClosedAt (bytes s : List ℕ) (len : ℕ) : Type 0 where
   pub count : len ≡ length (closed s)
 
 -- before the first 0 stands the front, and behind it the mark: 255, or else 0
-pub record IsCut (bytes front : List ℕ) (goes_on : Bool) (after : List ℕ) : Type 0 where
+pub record IsCutAtZero (bytes front : List ℕ) (goes_on : Bool) (after : List ℕ) : Type 0 where
   pub is : bytes ≡ front ++ 0 ∷ (if goes_on then 255 else 0) ∷ after
   pub clean : IsClean front

@@ -1,6 +1,6 @@
 -- Keys by their kinds: values of one table or of one index.
 use Rattle.std.specs.Prelude.{◌<◌, ◌^◌, List, [], ◌∷◌, Option, Some, None}
-use Rattle.alt_decimal.specs.Number.{Fits}
+use Rattle.alt_decimal.specs.Number.{FitsDecimal}
 use Rattle.alt_value.specs.declared.kind.KeyKind.{KeyKind}
 use Rattle.alt_value.specs.declared.kind.KeyKind.TheVariants.{S, N, B}
 use Rattle.alt_value.specs.Tree.{Tree, S_tree, N_tree, B_tree}
@@ -9,7 +9,7 @@ use Rattle.alt_keyorder.specs.Place.{Place}
 -- a value of that kind that a key can have
 abbrev pub IsOfKind : KeyKind → Tree → Type 0
 IsOfKind S (S_tree s) = Unit {0}
-IsOfKind N (N_tree z) = Fits z
+IsOfKind N (N_tree z) = FitsDecimal z
 IsOfKind B (B_tree b) = Unit {0}
 IsOfKind _ _ = ⊥
 

@@ -5,7 +5,7 @@ use Rattle.std.specs.List.{AllByRecursion, flat_map}
 use Rattle.std.specs.Ordering.{nat_cmp, ordering_then}
 use Rattle.std.specs.declared.cmp.Ordering.{Ordering}
 use Rattle.std.specs.declared.cmp.Ordering.TheVariants.{Equal}
-use Rattle.alt_decimal.specs.Number.{Fits}
+use Rattle.alt_decimal.specs.Number.{FitsDecimal}
 use Rattle.alt_value.specs.Order.{tree_order}
 use Rattle.alt_value.specs.Tree.{Tree, S_tree, N_tree, B_tree}
 use Rattle.alt_keyorder.specs.KeyBytes.{key_bytes}
@@ -54,7 +54,7 @@ place_bytes p = to_be_bytes w64 p.token ++ flat_map key_bytes p.parts
 -- a value that a key can have: a number that a `Decimal` holds, a text or a binary
 abbrev pub IsKeyValue : Tree → Type 0
 IsKeyValue (S_tree s) = Unit {0}
-IsKeyValue (N_tree z) = Fits z
+IsKeyValue (N_tree z) = FitsDecimal z
 IsKeyValue (B_tree b) = Unit {0}
 IsKeyValue _ = ⊥
 

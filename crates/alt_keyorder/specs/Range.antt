@@ -21,18 +21,18 @@ abbrev pub IsInRange : List ℕ → Option (List ℕ) → List ℕ → Type 0
 IsInRange from to k = IsUpTo from k × IsBelowEnd k to
 
 -- numbers below 256
-abbrev pub AreBytes : List ℕ → Type 0
-AreBytes [] = Unit {0}
-AreBytes (b ∷ bytes) = (b < 256) × AreBytes bytes
+abbrev pub IsByteString : List ℕ → Type 0
+IsByteString [] = Unit {0}
+IsByteString (b ∷ bytes) = (b < 256) × IsByteString bytes
 
 -- each byte is 255
-abbrev pub IsFull : List ℕ → Type 0
-IsFull [] = Unit {0}
-IsFull (b ∷ bytes) = (b ≡ 255) × IsFull bytes
+abbrev pub AreHighestBytes : List ℕ → Type 0
+AreHighestBytes [] = Unit {0}
+AreHighestBytes (b ∷ bytes) = (b ≡ 255) × AreHighestBytes bytes
 
 -- the last byte below 255 and what stands before it
 pub record IsBoundOf (front : List ℕ) (last : ℕ) (prefix : List ℕ) : Type 0 where
   pub behind : List ℕ
   pub is : prefix ≡ front ++ last ∷ behind
-  pub full : IsFull behind
+  pub full : AreHighestBytes behind
   pub below : last < 255

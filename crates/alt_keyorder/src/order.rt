@@ -4,7 +4,7 @@ ghost use Rattle.std.specs.Prelude.{◌≡◌, IfSome};
 ghost use Rattle.alt_value.specs.Order.{tree_order};
 ghost use Rattle.alt_value.specs.Stands.{tree_of};
 ghost use Rattle.alt_value.specs.Tree.{N_tree};
-ghost use Rattle.alt_keyorder.specs.KeyBytes.{IsPartOrder, AreApart};
+ghost use Rattle.alt_keyorder.specs.KeyBytes.{IsPartOrder, KeyBytesAreApart};
 ghost use Rattle.alt_keyorder.specs.Laws.{OnePart, PartsLie, TokensFit, KeysLieAsPlaces, KeysTellPlaces, PlacesLie, OnePlace};
 ghost use Rattle.alt_keyorder.specs.Laws.{TableKeysTell, TableKeysLie, HashKeysBegin, IndexKeysTell, IndexKeysLie};
 
@@ -19,7 +19,7 @@ pub fn part_order(a: &Attr, b: &Attr) -> Option<Ordering>
     // The bytes that follow decide exactly where the values are equal.
     ensures parts { IfSome result (IsPartOrder (tree_of a.now) (tree_of b.now)) }
     // No part of a kind is a prefix of another of that kind.
-    ensures apart { IfSome result (λ o. AreApart (tree_of a.now) (tree_of b.now)) }
+    ensures apart { IfSome result (λ o. KeyBytesAreApart (tree_of a.now) (tree_of b.now)) }
 {
     match a {
         Attr::N(number) => order_of_numbers(number, b),
@@ -58,7 +58,7 @@ pub fn key_laws()
 fn order_of_numbers(number: &Decimal, b: &Attr) -> Option<Ordering>
     ensures values { result ≡ tree_order (N_tree number.now) (tree_of b.now) }
     ensures parts { IfSome result (IsPartOrder (N_tree number.now) (tree_of b.now)) }
-    ensures apart { IfSome result (λ o. AreApart (N_tree number.now) (tree_of b.now)) }
+    ensures apart { IfSome result (λ o. KeyBytesAreApart (N_tree number.now) (tree_of b.now)) }
 {
     match b {
         Attr::N(other) => Some(spelling_order(number, other)),

@@ -2,7 +2,7 @@
 
 ghost use Rattle.std.specs.Prelude.{◌↔◌, List, ℕ, IfOk, IfSome, IsTrue, IsNone, MatchOption};
 ghost use Rattle.alt_base.specs.Prefix.{IsPrefix};
-ghost use Rattle.alt_keyorder.specs.Range.{AreBytes, IsBelow, IsBoundOf, IsFull, IsInRange, IsUpTo};
+ghost use Rattle.alt_keyorder.specs.Range.{IsByteString, IsBelow, IsBoundOf, AreHighestBytes, IsInRange, IsUpTo};
 
 use alt_base::NoMemory;
 use alt_fields::Bytes;
@@ -32,11 +32,11 @@ impl KeyRange {
 
 /// The least bytes above all that begin with the prefix, None exactly where all its bytes are 255.
 pub fn after_all(alloc: Global, prefix: &[u8]) -> Result<Option<Bytes>, NoMemory>
-    ensures none { IfOk result (λ r. IsNone r ↔ IsFull prefix.now) }
+    ensures none { IfOk result (λ r. IsNone r ↔ AreHighestBytes prefix.now) }
     // The keys under the prefix are those from the prefix on and, where there is a bound, below it.
-    ensures keys { IfOk result (λ r. (k : List ℕ) → AreBytes k
+    ensures keys { IfOk result (λ r. (k : List ℕ) → IsByteString k
         → IsPrefix prefix.now k ↔ IsInRange prefix.now r k) }
-    ensures least { IfOk result (λ r. IfSome r (λ b. (c : List ℕ) → AreBytes c
+    ensures least { IfOk result (λ r. IfSome r (λ b. (c : List ℕ) → IsByteString c
         → ((k : List ℕ) → IsPrefix prefix.now k → IsBelow k c) → IsUpTo b c)) }
 {
     match bound_of(prefix) {
@@ -51,7 +51,7 @@ pub fn after_all(alloc: Global, prefix: &[u8]) -> Result<Option<Bytes>, NoMemory
 
 /// The last byte below 255 and what stands before it.
 fn bound_of(prefix: &[u8]) -> Option<(&[u8], u8)>
-    ensures { MatchOption result (IsFull prefix.now) (λ p. IsBoundOf p.0.now p.1 prefix.now) }
+    ensures { MatchOption result (AreHighestBytes prefix.now) (λ p. IsBoundOf p.0.now p.1 prefix.now) }
 {
     let mut front = prefix;
     while let Some((last, before)) = front.split_last() {

@@ -3,7 +3,7 @@
 ghost use Rattle.std.specs.Prelude.{◌≡◌, ◌+◌, ◌-◌, ◌++◌, ℕ, List, length, drop, IfOk, MatchOption};
 ghost use Rattle.alt_value.specs.Stands.{tree_of};
 ghost use Rattle.alt_value.specs.Tree.{Tree};
-ghost use Rattle.alt_keyorder.specs.KeyBytes.{IsClosedAt, IsCut, IsKeyOf, IsPart, IsUnclosed, NoPart, key_bytes};
+ghost use Rattle.alt_keyorder.specs.KeyBytes.{IsClosedAt, IsCutAtZero, IsKeyOf, IsPart, IsUnclosed, NoPart, key_bytes};
 
 use crate::part::cut_at_zero;
 use alt_base::NoMemory;
@@ -106,7 +106,7 @@ fn read_closed(alloc: Global, bytes: &[u8]) -> Result<Option<(Vec<u8>, usize)>, 
 /// What stands before the first 0, whether 255 or 0 is behind it, and what follows that.
 fn cut_at_mark(bytes: &[u8]) -> Option<(&[u8], bool, &[u8])>
     ensures { MatchOption result (IsUnclosed bytes.now)
-        (λ p. IsCut bytes.now p.0.now p.1 p.2.now) }
+        (λ p. IsCutAtZero bytes.now p.0.now p.1 p.2.now) }
 {
     match cut_at_zero(bytes) {
         Some((front, behind)) => match behind {

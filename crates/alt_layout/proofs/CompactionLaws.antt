@@ -9,7 +9,7 @@ use Rattle.alt_base.proofs.Bools.{both_hold, first_holds, second_holds}
 use Rattle.alt_base.proofs.Orderings.{is_eq-holds}
 use Rattle.alt_cells.specs.declared.cell.Cell.{Cell}
 use Rattle.alt_cells.specs.declared.row.RowCells.{RowCells}
-use Rattle.alt_cells.specs.Changes.{IsBelow}
+use Rattle.alt_cells.specs.Changes.{IsRowBelow}
 use Rattle.alt_cells.specs.Compacted.{compacted, compacted_row, is_bare, is_kept}
 use Rattle.alt_cells.specs.Keys.{key_cmp}
 use Rattle.alt_cells.specs.Shown.{is_hidden, value_shown}
@@ -20,7 +20,7 @@ use Rattle.alt_cells.proofs.Entries.{find_below}
 use Rattle.alt_layout.specs.Families.{IsMapBelow}
 use Rattle.alt_layout.specs.Layout.{RowMap}
 use Rattle.alt_layout.specs.Merged.{IsCompaction}
-use Rattle.alt_layout.specs.Merges.{IsPurged, IsPurgedMap, PurgedTo, kept}
+use Rattle.alt_layout.specs.Merges.{IsPurged, IsPurgedMap, PurgedTo, kept_cell}
 
 -- ---- one row
 
@@ -30,7 +30,7 @@ left_of row = if is_bare (compacted_row true row) then None else Some (compacted
 
 -- a cell is kept exactly where it shows a value
 same_kept : (gone : Option ℕ) (c : Cell)
-    → (if is_kept true gone c then Some c else None) ≡ kept gone c
+    → (if is_kept true gone c then Some c else None) ≡ kept_cell gone c
 same_kept gone c = by_test (is_hidden gone c) c.value
   where
     by_test : (b : Bool) (v : Option (List ℕ))
@@ -42,13 +42,13 @@ same_kept gone c = by_test (is_hidden gone c) c.value
 
 same_cells : (gone : Option ℕ) (o : Option Cell)
     → option_and_then (λ c. if is_kept true gone c then Some c else None) o
-    ≡ option_and_then (kept gone) o
+    ≡ option_and_then (kept_cell gone) o
 same_cells gone None = refl
 same_cells gone (Some c) = same_kept gone c
 
 -- a cell of it is one that was kept
 cells_purged : (row : RowCells) (q : List ℕ)
-    → get (compacted_row true row).cells q ≡ option_and_then (kept row.gone) (get row.cells q)
+    → get (compacted_row true row).cells q ≡ option_and_then (kept_cell row.gone) (get row.cells q)
 cells_purged row q = get-compacted true row q ∙ same_cells row.gone (get row.cells q)
 
 gone_purged : (row : RowCells) → (compacted_row true row).gone ≡ None
@@ -161,15 +161,15 @@ entries-compaction m =
     (sorted-compacted (entries m) (entries_sorted m))
 
 -- a purged row has no other timestamps
-purged_below : (number : ℕ) (row purged : RowCells) → IsPurged row purged → IsBelow number row
-    → IsBelow number purged
+purged_below : (number : ℕ) (row purged : RowCells) → IsPurged row purged → IsRowBelow number row
+    → IsRowBelow number purged
 purged_below number row purged is below = record {
   gone = λ g e. let no : None ≡ Some g = sym is.gone ∙ e in cc no;
   cells = λ q c e. kept_one (get row.cells q) (below.cells q) c (sym (is.cells q) ∙ e);
 }
   where
     kept_one : (o : Option Cell) → ((c : Cell) → o ≡ Some c → c.at < number) → (d : Cell)
-        → option_and_then (kept row.gone) o ≡ Some d → d.at < number
+        → option_and_then (kept_cell row.gone) o ≡ Some d → d.at < number
     kept_one None below d e = let no : None ≡ Some d = e in cc no
     kept_one (Some c) below d e = by_test (is_some (value_shown row.gone c)) e
       where
@@ -184,12 +184,12 @@ purged_map_below number m p purged below key row e =
     by_row (get m key) (get p key) (purged key) (below key) row e
   where
     by_row : (o l : Option RowCells) → PurgedTo o l
-        → ((row : RowCells) → o ≡ Some row → IsBelow number row) → (row : RowCells)
-        → l ≡ Some row → IsBelow number row
+        → ((row : RowCells) → o ≡ Some row → IsRowBelow number row) → (row : RowCells)
+        → l ≡ Some row → IsRowBelow number row
     by_row o None is below row e = let no : None ≡ Some row = e in cc no
     by_row None (Some p) is below row e = absurd is
     by_row (Some r) (Some p) is below row e =
-        subst (IsBelow number) (ap (λ o. unwrap_or o row) e)
+        subst (IsRowBelow number) (ap (λ o. unwrap_or o row) e)
         (purged_below number r p is (below r refl))
 
 -- What a compaction leaves of a map is a map of its rows, purged.

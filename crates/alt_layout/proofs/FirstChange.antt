@@ -1,11 +1,11 @@
 -- What rows show after a write of which the first change of a row alone counts.
-use Rattle.std.proofs.Common.{◌≡◌, ◌≤◌, ◌+◌, ℕ, Bool, true, false, cond, List, [], ◌∷◌, Option, Some, None, refl, sym, ap, subst, ◌∙◌}
-use Rattle.std.specs.Prelude.{if◌then◌else◌, ◌==◌, option_and_then, option_map, unwrap_or}
+use Rattle.std.proofs.Common.{◌≡◌, ◌≤◌, ◌+◌, ℕ, Bool, true, false, cond, List, [], ◌∷◌, Option, Some, None, refl, sym, ap, ◌∙◌}
+use Rattle.std.specs.Prelude.{if◌then◌else◌, ◌==◌, option_and_then, option_map}
 use Rattle.std.specs.Ordering.{eq_by_cmp}
 use Rattle.std.specs.FinMap.{empty, insert, get, get-insert, get-empty}
 use Rattle.alt_cells.specs.declared.batch.RowChange.{RowChange}
 use Rattle.alt_cells.specs.declared.row.RowCells.{RowCells}
-use Rattle.alt_cells.specs.Changes.{row_of_change, written, IsBelow}
+use Rattle.alt_cells.specs.Changes.{row_of_change, written, IsRowBelow}
 use Rattle.alt_cells.specs.Joined.{either, joined_map}
 use Rattle.alt_cells.specs.Keys.{key_cmp}
 use Rattle.alt_cells.specs.Rows.{join_row}
@@ -13,7 +13,7 @@ use Rattle.alt_cells.specs.Shown.{row_shown}
 use Rattle.alt_cells.proofs.AfterLaws.{bare_below, bare_shown}
 use Rattle.alt_cells.proofs.CellLaws.{key_total}
 use Rattle.alt_cells.proofs.RowLaws.{get-joined_map, join_row-empty}
-use Rattle.alt_cells.proofs.ChangeLaws.{row_shown-written, IsBelow-join}
+use Rattle.alt_cells.proofs.ChangeLaws.{row_shown-written}
 use Rattle.alt_writes.specs.Writes.{Write}
 use Rattle.alt_layout.specs.Layout.{Layout, RowMap, IsPast, change_of, shown, shown_by}
 use Rattle.alt_layout.proofs.PastLaws.{row_later}
@@ -77,7 +77,7 @@ bare = record { gone = None; cells = empty }
 
 -- one row, of which there is a change or not
 one_row : (number : ℕ) (o : Option RowCells) (c : Option RowChange)
-    → ((row : RowCells) → o ≡ Some row → IsBelow number row)
+    → ((row : RowCells) → o ≡ Some row → IsRowBelow number row)
     → option_and_then row_shown (either join_row o (option_map (row_of_change number) c))
     ≡ shown_by c (option_and_then row_shown o)
 one_row number None None below = refl

@@ -5,12 +5,16 @@ pub mod RowLaws
 pub mod EntryLaws
 pub mod FamilyLaws
 pub mod FlushLaws
+pub mod FlushedFiles
+pub mod FlushedLayout
 pub mod PastLaws
 pub mod MergeLaws
+pub mod LaterWrites
 pub mod OneLayout
 pub mod FileLaws
 pub mod MomentLaws
 pub mod ShownLaws
 pub mod SizeLaws
 pub mod MergedLaws
+pub mod SwappedFiles
 pub mod CompactionLaws

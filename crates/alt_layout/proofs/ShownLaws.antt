@@ -1,31 +1,21 @@
 -- The rows that are shown, in the order of their keys.
-use Rattle.std.proofs.Common.{◌≡◌, ◌<◌, ◌-◌, ◌==◌, ◌∷◌, ◌++◌, ℕ, zero, suc, Bool, true, false, cond, T, List, [], map, reverse, take, Option, Some, None, refl, sym, ap, subst, ◌∙◌, arith, append_assoc}
-use Rattle.std.proofs.lemmas.Bool.{false≢true}
+use Rattle.std.proofs.Common.{◌≡◌, ◌-◌, ◌∷◌, ◌++◌, ℕ, Bool, true, false, cond, T, List, [], reverse, Option, Some, None, refl, sym, ap, subst, ◌∙◌, arith}
 use Rattle.std.proofs.lemmas.List.{append-nil, reverse-append}
 use Rattle.std.proofs.lemmas.List.Elements.{filter_map-append}
-use Rattle.std.specs.Prelude.{if◌then◌else◌, option_and_then, option_map, not, ◌&&◌}
-use Rattle.std.specs.BTreeMap.{is_at}
-use Rattle.std.specs.BTreeMap.Range.{entries_between, range_contains}
-use Rattle.std.specs.Cmp.{eq_by_cmp_equiv, upto}
-use Rattle.std.specs.FinMap.{entries, entries_sorted, get, get-entries, get-from_sorted, len}
-use Rattle.std.specs.FinMap.Entries.{find, is_sorted, below_all, same_entries}
-use Rattle.std.specs.List.{AllByRecursion, filter, cons_option}
-use Rattle.std.specs.List.Sorted.{IsStrictlySortedBy}
-use Rattle.std.specs.Map.{lookup}
-use Rattle.std.specs.Ordering.{eq_by_cmp, is_eq, is_le, is_lt, is_gt, ordering_reverse}
-use Rattle.std.specs.declared.cmp.Ordering.{Ordering}
-use Rattle.std.specs.declared.cmp.Ordering.TheVariants.{Less, Equal, Greater}
-use Rattle.std.specs.declared.ops.Bound.{Bound}
-use Rattle.std.specs.declared.ops.Bound.TheVariants.{Included, Excluded, Unbounded}
+use Rattle.std.specs.Prelude.{if◌then◌else◌, option_and_then, option_map}
+use Rattle.std.specs.FinMap.{entries, entries_sorted, get, get-entries, get-from_sorted}
+use Rattle.std.specs.FinMap.Entries.{find, is_sorted, below_all}
+use Rattle.std.specs.List.{filter, cons_option}
+use Rattle.std.specs.Ordering.{eq_by_cmp, is_eq}
 use Rattle.alt_base.proofs.Bools.{both_hold, first_holds, second_holds}
 use Rattle.alt_base.proofs.Orderings.{is_eq-holds}
-use Rattle.alt_cells.specs.Changes.{Columns, as_shown}
+use Rattle.alt_cells.specs.Changes.{Columns}
 use Rattle.alt_cells.specs.Keys.{key_cmp}
 use Rattle.alt_cells.specs.Shown.{row_shown}
 use Rattle.alt_cells.specs.Walks.{turned}
 use Rattle.alt_cells.proofs.CellLaws.{key_total, key_exact}
-use Rattle.alt_cells.proofs.Entries.{below_less, find_below}
-use Rattle.alt_layout.specs.Layout.{Layout, entry_by, shown_of, end_bound, rows_between, shown, shown_rows}
+use Rattle.alt_cells.proofs.Entries.{find_below}
+use Rattle.alt_layout.specs.Layout.{Layout, entry_by, shown_of, shown, shown_rows}
 
 -- ---- entries whose rows show something
 

@@ -10,7 +10,7 @@ use Rattle.alt_writes.specs.Bytes.{changes_bytes, group_bytes, write_bytes, writ
 use Rattle.alt_writes.specs.Writes.{Write}
 use Rattle.alt_layout.specs.Entries.{AreEntries, IsEntry}
 use Rattle.alt_layout.specs.Files.{AreSegments, Image, IsSegment, all_of}
-use Rattle.alt_layout.specs.Sizes.{AreSized, IsSized, bytes_in}
+use Rattle.alt_layout.specs.Sizes.{SegmentsAreSized, LogIsSized, bytes_in}
 
 -- the bytes of several entries, and of one more
 pub bytes_in-push : (entries : List (List ℕ)) (entry : List ℕ)
@@ -20,15 +20,15 @@ bytes_in-push (e ∷ entries) entry =
     let rest = bytes_in-push entries entry in omega (arith, rest)
 
 -- a log has one number of them
-pub one_size : (m n : ℕ) (file : Option (List ℕ)) → IsSized m file → IsSized n file → m ≡ n
+pub one_size : (m n : ℕ) (file : Option (List ℕ)) → LogIsSized m file → LogIsSized n file → m ≡ n
 one_size m n file a b =
     let form : a.form ≡ b.form = one_form a.form b.form file a.entries b.entries a.log b.log in
     a.is ∙ ap bytes_in (one_list b.form file a.entries b.entries
     (subst (λ (x : Form). IsLog x a.entries file) form a.log) b.log) ∙ sym b.is
 
 -- and so have segments
-pub one_size_of : (image : Image) (fs : List ℕ) (m n : ℕ) → AreSized image fs m
-    → AreSized image fs n → m ≡ n
+pub one_size_of : (image : Image) (fs : List ℕ) (m n : ℕ) → SegmentsAreSized image fs m
+    → SegmentsAreSized image fs n → m ≡ n
 one_size_of image [] m n a b = a ∙ sym b
 one_size_of image (f ∷ fs) m n a b =
     let first = one_size a.0 b.0 (image f) a.2 b.2 in
@@ -37,19 +37,19 @@ one_size_of image (f ∷ fs) m n a b =
 
 -- it stays where the files do
 pub sized_on : (image other : Image) (fs : List ℕ) (n : ℕ)
-    → ((g : ℕ) → IsIn fs g → other g ≡ image g) → AreSized image fs n → AreSized other fs n
+    → ((g : ℕ) → IsIn fs g → other g ≡ image g) → SegmentsAreSized image fs n → SegmentsAreSized other fs n
 sized_on image other [] n same are = are
 sized_on image other (f ∷ fs) n same are = (
   are.0,
   are.1,
-  subst (IsSized are.0) (sym (same f (inl refl))) are.2,
+  subst (LogIsSized are.0) (sym (same f (inl refl))) are.2,
   sized_on image other fs are.1 (λ g there. same g (inr there)) are.3,
   are.4,
 )
 
 -- the last segment of several
-pub sized_last : (image : Image) (firsts : List ℕ) (f n : ℕ) → AreSized image (firsts ++ f ∷ []) n
-    → (own : ℕ) × (rest : ℕ) × IsSized own (image f) × AreSized image firsts rest
+pub sized_last : (image : Image) (firsts : List ℕ) (f n : ℕ) → SegmentsAreSized image (firsts ++ f ∷ []) n
+    → (own : ℕ) × (rest : ℕ) × LogIsSized own (image f) × SegmentsAreSized image firsts rest
     × (n ≡ rest + own)
 sized_last image [] f n are =
     let none = are.3 in let sum = are.4 in
@@ -65,8 +65,8 @@ sized_last image (g ∷ firsts) f n are =
     )
 
 -- and put behind the others
-pub sized_with : (image : Image) (firsts : List ℕ) (f rest own : ℕ) → AreSized image firsts rest
-    → IsSized own (image f) → AreSized image (firsts ++ f ∷ []) (rest + own)
+pub sized_with : (image : Image) (firsts : List ℕ) (f rest own : ℕ) → SegmentsAreSized image firsts rest
+    → LogIsSized own (image f) → SegmentsAreSized image (firsts ++ f ∷ []) (rest + own)
 sized_with image [] f rest own are last =
     (own, 0, last, refl, (let none = are in omega (arith, none)))
 sized_with image (g ∷ firsts) f rest own are last =
@@ -107,7 +107,7 @@ none_held form (e ∷ entries) (g ∷ groups) each none =
 
 -- and neither do segments
 pub none_in : (image : Image) (fs : List ℕ) (parts : List (List Write)) (n : ℕ)
-    → AreSegments image fs parts → AreSized image fs n → n ≡ 0 → all_of parts ≡ []
+    → AreSegments image fs parts → SegmentsAreSized image fs n → n ≡ 0 → all_of parts ≡ []
 none_in image [] [] n are sized none = refl
 none_in image [] (ws ∷ parts) n are sized none = absurd are
 none_in image (f ∷ fs) [] n are sized none = absurd are

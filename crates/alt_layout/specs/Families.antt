@@ -2,7 +2,7 @@
 use Rattle.std.specs.Prelude.{◌≡◌, ◌+◌, ◌==◌, ℕ, List, [], ◌∷◌, if◌then◌else◌, Some, max, nat_lt}
 use Rattle.std.specs.FinMap.{empty, get}
 use Rattle.alt_cells.specs.declared.row.RowCells.{RowCells}
-use Rattle.alt_cells.specs.Changes.{IsBelow}
+use Rattle.alt_cells.specs.Changes.{IsRowBelow}
 use Rattle.alt_cells.specs.Joined.{joined_map}
 use Rattle.alt_cells.specs.Rows.{join_row}
 use Rattle.alt_layout.specs.Layout.{Layout, RowMap}
@@ -35,15 +35,15 @@ joined_files held [] = empty
 joined_files held (g ∷ gs) = joined_map join_row (held g) (joined_files held gs)
 
 -- A write is joined to the rows of a family where its number is above the family's flushed one; else it counts for nothing.
-abbrev pub with_one : ℕ → ℕ → RowMap → Write → RowMap
-with_one flushed family m w =
+abbrev pub with_one_write : ℕ → ℕ → RowMap → Write → RowMap
+with_one_write flushed family m w =
     if nat_lt flushed w.number
     then joined_map join_row m (changes_in w.number family w.changes) else m
 
 -- The rows of a family with all writes joined to them, one after another, whose numbers are above the flushed one.
 abbrev pub with_later : ℕ → ℕ → RowMap → List Write → RowMap
 with_later flushed family m [] = m
-with_later flushed family m (w ∷ ws) = with_later flushed family (with_one flushed family m w) ws
+with_later flushed family m (w ∷ ws) = with_later flushed family (with_one_write flushed family m w) ws
 
 -- The least number that is above those of all writes and isn't below `next`.
 abbrev pub next_after : ℕ → List Write → ℕ
@@ -66,4 +66,4 @@ layout_of v held writes = record {
 
 -- Each timestamp of these rows is below the number.
 abbrev pub IsMapBelow : ℕ → RowMap → Type 0
-IsMapBelow number m = (key : List ℕ) (row : RowCells) → get m key ≡ Some row → IsBelow number row
+IsMapBelow number m = (key : List ℕ) (row : RowCells) → get m key ≡ Some row → IsRowBelow number row

@@ -18,7 +18,7 @@ pub record IsFlushed (fs gs : List FamilyVersion) (held more : Held) (ws : List 
   pub new : joined_files more file ≡ with_later (flushed_of fs family) family empty ws
 
 -- Nothing of the family changed.
-pub record IsLeft (fs gs : List FamilyVersion) (held more : Held) (family : ℕ) : Type 0 where
+pub record FamilyIsUnchanged (fs gs : List FamilyVersion) (held more : Held) (family : ℕ) : Type 0 where
   pub files : files_of gs family ≡ files_of fs family
   pub rows : AllByRecursion (λ g. more g ≡ held g) (files_of fs family)
   pub flushed : flushed_of gs family ≡ flushed_of fs family

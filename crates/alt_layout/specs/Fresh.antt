@@ -28,5 +28,5 @@ pub record IsFresh (s : DiskState) : Type 0 where
   pub entries_last : IsSettled s entries_file
 
 -- the files that a store is made of
-abbrev pub IsMade : ℕ → Type 0
-IsMade f = (f ≡ versions_file) ⊎ (f ≡ entries_file)
+abbrev pub IsFreshStoreFile : ℕ → Type 0
+IsFreshStoreFile f = (f ≡ versions_file) ⊎ (f ≡ entries_file)

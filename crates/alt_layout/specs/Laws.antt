@@ -122,8 +122,8 @@ InEachImage = (s : DiskState) (v : Version) (held : Held) (parts : List (List Wr
     → IsLayout image (layout_of v held (all_of parts))
 
 -- Calls on a file that isn't one of the store's leave its layout, then and at each moment.
-abbrev pub StaysElsewhere : Type 0
-StaysElsewhere = (a b : DiskState) (f : ℕ) (v : Version) (held : Held)
+abbrev pub LayoutStaysElsewhere : Type 0
+LayoutStaysElsewhere = (a b : DiskState) (f : ℕ) (v : Version) (held : Held)
     (parts : List (List Write)) → Lies a v held parts → Run a b f (λ t left. Unit {0})
     → (IsOf v f → ⊥)
     → Lies b v held parts × Spans a b (IsIt f) (Has (layout_of v held (all_of parts)))

@@ -1,7 +1,7 @@
 -- The rows of all families, as cells and as they are shown.
-use Rattle.std.specs.Prelude.{◌≡◌, ◌≢◌, ◌<◌, ◌≤◌, ◌+◌, ◌==◌, ℕ, List, [], ◌∷◌, Bool, if◌then◌else◌, Option, Some, None, option_and_then, option_map}
+use Rattle.std.specs.Prelude.{◌≡◌, ◌≢◌, ◌<◌, ◌≤◌, ◌==◌, ℕ, List, [], ◌∷◌, Bool, if◌then◌else◌, Option, Some, None, option_and_then, option_map}
 use Rattle.std.specs.BTreeMap.Range.{entries_between}
-use Rattle.std.specs.FinMap.{FinMap, empty, entries, from_sorted, insert, get}
+use Rattle.std.specs.FinMap.{FinMap, empty, entries, from_sorted, get}
 use Rattle.std.specs.List.{filter_map}
 use Rattle.std.specs.Ordering.{eq_by_cmp}
 use Rattle.std.specs.declared.cmp.Ordering.TheVariants.{Less}
@@ -9,10 +9,8 @@ use Rattle.std.specs.declared.ops.Bound.{Bound}
 use Rattle.std.specs.declared.ops.Bound.TheVariants.{Included, Excluded, Unbounded}
 use Rattle.alt_cells.specs.declared.batch.RowChange.{RowChange}
 use Rattle.alt_cells.specs.declared.row.RowCells.{RowCells}
-use Rattle.alt_cells.specs.Changes.{Columns, row_of_change, written, IsBelow}
-use Rattle.alt_cells.specs.Joined.{joined_map}
+use Rattle.alt_cells.specs.Changes.{Columns, written, IsRowBelow}
 use Rattle.alt_cells.specs.Keys.{key_cmp}
-use Rattle.alt_cells.specs.Rows.{join_row}
 use Rattle.alt_cells.specs.Shown.{row_shown}
 use Rattle.alt_cells.specs.Walks.{turned}
 
@@ -34,7 +32,7 @@ no_rows = record { rows = λ _. empty; next_number = 1 }
 -- each cell and each row tombstone is of a write before the next number
 abbrev pub IsPast : Layout → Type 0
 IsPast l = (family : ℕ) (key : List ℕ) (row : RowCells) → get (l.rows family) key ≡ Some row
-    → IsBelow l.next_number row
+    → IsRowBelow l.next_number row
 
 -- ---- as they are shown
 

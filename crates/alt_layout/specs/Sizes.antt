@@ -10,14 +10,14 @@ bytes_in [] = 0
 bytes_in (entry ∷ entries) = length entry + bytes_in entries
 
 -- So many the entries of the log have that the file is.
-pub record IsSized (n : ℕ) (file : Option (List ℕ)) : Type 0 where
+pub record LogIsSized (n : ℕ) (file : Option (List ℕ)) : Type 0 where
   pub form : Form
   pub entries : List (List ℕ)
   pub log : IsLog form entries file
   pub is : n ≡ bytes_in entries
 
 -- And so many those of all these segments.
-abbrev pub AreSized : Image → List ℕ → ℕ → Type 0
-AreSized image [] n = n ≡ 0
-AreSized image (f ∷ fs) n =
-    (own : ℕ) × (rest : ℕ) × IsSized own (image f) × AreSized image fs rest × (n ≡ own + rest)
+abbrev pub SegmentsAreSized : Image → List ℕ → ℕ → Type 0
+SegmentsAreSized image [] n = n ≡ 0
+SegmentsAreSized image (f ∷ fs) n =
+    (own : ℕ) × (rest : ℕ) × LogIsSized own (image f) × SegmentsAreSized image fs rest × (n ≡ own + rest)

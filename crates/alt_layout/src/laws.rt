@@ -1,6 +1,6 @@
 //! What follows of layouts from their definitions, for the callers' proofs.
 
-ghost use Rattle.alt_layout.specs.Laws.{OneLayout, ImagesArePast, SameAfter, ShowsBatch, FindsShown, FreshHasNone, Flushes, FlushesAll, FlushesOne, Merges, MergesOne, NamesMade, Compacts, InEachImage, StaysElsewhere, StaysByRemoval, TakesVersion, TakesWrites};
+ghost use Rattle.alt_layout.specs.Laws.{OneLayout, ImagesArePast, SameAfter, ShowsBatch, FindsShown, FreshHasNone, Flushes, FlushesAll, FlushesOne, Merges, MergesOne, NamesMade, Compacts, InEachImage, LayoutStaysElsewhere, StaysByRemoval, TakesVersion, TakesWrites};
 
 /// An image has one layout, past all its numbers. What is shown alike stays alike after later writes. A family that is flushed has the
 /// rows that it had, and one that is merged shows what it showed.
@@ -24,7 +24,7 @@ pub fn layout_laws()
 /// is there or isn't in each image.
 pub fn moment_laws()
     ensures in_each_image { InEachImage }
-    ensures elsewhere { StaysElsewhere }
+    ensures elsewhere { LayoutStaysElsewhere }
     ensures removal { StaysByRemoval }
     ensures version { TakesVersion }
     ensures writes { TakesWrites }

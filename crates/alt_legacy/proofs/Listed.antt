@@ -5,8 +5,8 @@ use Rattle.serde_json.specs.Data.{Data, Items}
 use Rattle.serde_json.specs.Find.{as_array}
 use Rattle.alt_value.specs.Members.{text_order, set_of, are_apart, gathered}
 use Rattle.alt_expr.specs.declared.path.PathPart.{PathPart}
-use Rattle.alt_legacy.specs.Names.{if_apart, names_in, texts_in}
-use Rattle.alt_legacy.specs.Trees.{path}
+use Rattle.alt_legacy.specs.Names.{if_apart, names_of_member, element_names}
+use Rattle.alt_legacy.specs.Trees.{attribute_path}
 
 -- names make a set exactly where they differ
 apart_so : (ns : List (List ℕ)) (b : Bool) → is_some (set_of text_order ns) ≡ b
@@ -32,21 +32,21 @@ repeated (n ∷ ns) e =
     ap (λ (b : Bool). if b then Some (n ∷ ns) else None) (apart_so (n ∷ ns) false e)
 
 module _ (d : Data) (ds : Items) (ns : List (List ℕ)) (is : Some ds ≡ as_array d)
-    (read : texts_in ds ≡ Some ns) where
+    (read : element_names ds ≡ Some ns) where
   -- the names of a member are those of its list
-  listed : names_in d ≡ if_apart ns
-  listed = ap (λ (o : Option Items). option_and_then if_apart (option_and_then texts_in o)) (sym is)
+  listed : names_of_member d ≡ if_apart ns
+  listed = ap (λ (o : Option Items). option_and_then if_apart (option_and_then element_names o)) (sym is)
       ∙ ap (option_and_then if_apart) read
 
   -- their paths
   pub listed_paths : (ps : List (List PathPart)) → 0 < length ns
-      → is_some (set_of text_order ns) ≡ true → ps ≡ map path ns
-      → option_map (map path) (names_in d) ≡ Some ps
-  listed_paths ps some apart made = ap (option_map (map path)) (listed ∙ apart_names ns some apart)
+      → is_some (set_of text_order ns) ≡ true → ps ≡ map attribute_path ns
+      → option_map (map attribute_path) (names_of_member d) ≡ Some ps
+  listed_paths ps some apart made = ap (option_map (map attribute_path)) (listed ∙ apart_names ns some apart)
       ∙ ap (λ (qs : List (List PathPart)). Some qs) (sym made)
 
   -- no member may stand twice
-  pub listed_twice : is_some (set_of text_order ns) ≡ false → names_in d ≡ None
+  pub listed_twice : is_some (set_of text_order ns) ≡ false → names_of_member d ≡ None
   listed_twice twice = listed ∙ repeated ns twice
 
 -- a count that isn't 0

@@ -18,7 +18,7 @@ use Rattle.alt_legacy.specs.declared.entry.Entry.{Entry}
 use Rattle.alt_legacy.specs.declared.entry.Test.{Test}
 use Rattle.alt_legacy.specs.declared.entry.Test.TheVariants as t
 use Rattle.alt_legacy.specs.Meets.{is_equal, in_order, satisfies, holds_for}
-use Rattle.alt_legacy.specs.Trees.{path, at, given, has, has_not, tree_for}
+use Rattle.alt_legacy.specs.Trees.{attribute_path, attribute_operand, given_operand, contains_value, tree_for}
 use Rattle.alt_legacy.specs.Trees as tree
 
 -- a path of one part leads to the attribute of its name
@@ -44,7 +44,7 @@ compared c.GreaterEqual (Some s) v = refl
 
 -- one of several values
 among : (item : View) (x : Option Tree) (vs : List Attr)
-    → list_any (λ y. equal x (denoted item y)) (map given vs) ≡ list_any (λ v. is_equal x v) vs
+    → list_any (λ y. equal x (denoted item y)) (map given_operand vs) ≡ list_any (λ v. is_equal x v) vs
 among item x [] = refl
 among item x (v ∷ vs) = λ i. compared c.Equal x v i || among item x vs i
 
@@ -62,42 +62,42 @@ outside None v = refl
 outside (Some s) v = and-true (not (h.has s (tree_of v)))
 
 module _ (item : View) (name : List ℕ) where
-  top : located item (path name) ≡ item name
+  top : located item (attribute_path name) ≡ item name
   top = whole (item name)
 
-  has_holds : (v : Attr) → holds item (has name v)
+  has_holds : (v : Attr) → holds item (contains_value name v)
       ≡ option_map_or (λ s. h.has s (tree_of v)) (item name) false
-  has_holds v = holds-Contains item (at name) (given v)
+  has_holds v = holds-Contains item (attribute_operand name) (given_operand v)
       ∙ ap (λ (x : Option Tree). contains x (Some (tree_of v))) top ∙ contained (item name) v
 
-  exists_holds : holds item (cond.Exists (path name)) ≡ is_some (item name)
-  exists_holds = holds-Exists item (path name) ∙ ap (λ (x : Option Tree). is_some x) top
+  exists_holds : holds item (cond.Exists (attribute_path name)) ≡ is_some (item name)
+  exists_holds = holds-Exists item (attribute_path name) ∙ ap (λ (x : Option Tree). is_some x) top
 
-  not_holds : (v : Attr) → holds item (cond.Not (has name v))
+  not_holds : (v : Attr) → holds item (cond.Not (contains_value name v))
       ≡ not (option_map_or (λ s. h.has s (tree_of v)) (item name) false)
-  not_holds v = holds-Not item (has name v) ∙ ap not (has_holds v)
+  not_holds v = holds-Not item (contains_value name v) ∙ ap not (has_holds v)
 
   -- the tree of a test holds where the attribute meets it
   pub tree_holds : (test : Test) → holds item (tree_for name test) ≡ satisfies test (item name)
-  tree_holds (t.Compares by v) = holds-Compare item by (at name) (given v)
+  tree_holds (t.Compares by v) = holds-Compare item by (attribute_operand name) (given_operand v)
       ∙ ap (λ (x : Option Tree). compares by x (Some (tree_of v))) top ∙ compared by (item name) v
-  tree_holds (t.Between low high) = holds-Between item (at name) (given low) (given high)
+  tree_holds (t.Between low high) = holds-Between item (attribute_operand name) (given_operand low) (given_operand high)
       ∙ ap (λ (x : Option Tree). compares c.GreaterEqual x (Some (tree_of low))
       && compares c.LessEqual x (Some (tree_of high))) top
       ∙ (λ i. compared c.GreaterEqual (item name) low i && compared c.LessEqual (item name) high i)
-  tree_holds (t.Among vs) = holds-Among item (at name) (map given vs)
-      ∙ ap (λ (x : Option Tree). list_any (λ y. equal x (denoted item y)) (map given vs)) top
+  tree_holds (t.Among vs) = holds-Among item (attribute_operand name) (map given_operand vs)
+      ∙ ap (λ (x : Option Tree). list_any (λ y. equal x (denoted item y)) (map given_operand vs)) top
       ∙ among item (item name) vs
   tree_holds t.There = exists_holds
-  tree_holds t.Missing = holds-NotExists item (path name)
+  tree_holds t.Missing = holds-NotExists item (attribute_path name)
       ∙ ap (λ (x : Option Tree). not (is_some x)) top
   tree_holds (t.Has v) = has_holds v
   tree_holds (t.HasNot v) =
-      holds-All item (cond.Exists (path name) ∷ cond.Not (has name v) ∷ [])
+      holds-All item (cond.Exists (attribute_path name) ∷ cond.Not (contains_value name v) ∷ [])
       ∙ (λ i. exists_holds i && (not_holds v i && true)) ∙ outside (item name) v
-  tree_holds (t.Begins v) = holds-BeginsWith item (at name) (given v)
+  tree_holds (t.Begins v) = holds-BeginsWith item (attribute_operand name) (given_operand v)
       ∙ ap (λ (x : Option Tree). begins x (Some (tree_of v))) top
 
 -- and so does that of an entry
-pub entry_holds : (item : View) (e : Entry) → holds item (tree.tree_of e) ≡ holds_for item e
+pub entry_holds : (item : View) (e : Entry) → holds item (tree.condition_of_entry e) ≡ holds_for item e
 entry_holds item e = tree_holds item e.name e.test

@@ -10,35 +10,35 @@ use Rattle.alt_value.specs.Tree.{Tree}
 use Rattle.alt_value.specs.declared.attr.Attr.{Attr}
 use Rattle.alt_value.specs.declared.attr.Attr.TheVariants as a
 use Rattle.alt_expr.specs.Located.{View}
-use Rattle.alt_expr.specs.Updated.{Fault, ◌>>=◌, added, taken, updated}
+use Rattle.alt_expr.specs.Updated.{ActionFault, ◌>>=◌, added, taken_from_set, updated}
 use Rattle.alt_expr.specs.UpdateLanguage.{target}
 use Rattle.alt_expr.specs.declared.path.PathPart.TheVariants.{Name}
 use Rattle.alt_expr.specs.declared.update.Action.{Action}
 use Rattle.alt_expr.specs.declared.update.Action.TheVariants as action
-use Rattle.alt_legacy.specs.Values.{value_of}
+use Rattle.alt_legacy.specs.Values.{json_value}
 use Rattle.alt_shape.specs.Shape.{given}
 
 -- what an entry makes of its attribute: it puts a value, adds to a number or unites a set, removes it, or takes members out of a set
-pub data Change : Type 0 where
-  put : Attr → Change
-  add : Attr → Change
-  remove : Change
-  take : Attr → Change
+pub data AttributeChange : Type 0 where
+  put : Attr → AttributeChange
+  add : Attr → AttributeChange
+  remove : AttributeChange
+  take : Attr → AttributeChange
 
 -- an attribute's name, and what is made of it
 pub record NamedChange : Type 0 where
   pub name : List ℕ
-  pub change : Change
+  pub change : AttributeChange
 
 -- ---- entries
 
 -- PUT puts its value
-abbrev pub put_of : Option Data → Option Change
-put_of value = option_map put (option_and_then value_of value)
+abbrev pub put_of : Option Data → Option AttributeChange
+put_of value = option_map put (option_and_then json_value value)
 
 -- ADD adds its value
-abbrev pub add_of : Option Data → Option Change
-add_of value = option_map add (option_and_then value_of value)
+abbrev pub add_of : Option Data → Option AttributeChange
+add_of value = option_map add (option_and_then json_value value)
 
 -- the value is a set
 abbrev pub is_set : Attr → Bool
@@ -48,16 +48,16 @@ is_set (a.Bs bs) = true
 is_set _ = false
 
 -- members to be taken out are those of a set
-abbrev pub if_set : Attr → Option Change
+abbrev pub if_set : Attr → Option AttributeChange
 if_set v = if is_set v then Some (take v) else None
 
 -- DELETE without a value removes the attribute, and with a set takes its members out
-abbrev pub delete_of : Option Data → Option Change
+abbrev pub delete_of : Option Data → Option AttributeChange
 delete_of None = Some remove
-delete_of (Some d) = option_and_then if_set (value_of d)
+delete_of (Some d) = option_and_then if_set (json_value d)
 
 -- by the word of the action
-abbrev pub change_named : List ℕ → Option Data → Option Change
+abbrev pub change_named : List ℕ → Option Data → Option AttributeChange
 change_named word value =
     if bytes_eq word (codes "PUT") then put_of value
     else if bytes_eq word (codes "ADD") then add_of value
@@ -65,20 +65,20 @@ change_named word value =
     else None
 
 -- without Action it is PUT
-abbrev pub change_by : Option (List ℕ) → Option Data → Option Change
+abbrev pub change_by : Option (List ℕ) → Option Data → Option AttributeChange
 change_by None value = put_of value
 change_by (Some word) value = change_named word value
 
 -- what an entry makes of its attribute
-abbrev pub change_of : Members → Option Change
-change_of ms = change_by (option_and_then as_str (given (codes "Action") ms))
+abbrev pub entry_change : Members → Option AttributeChange
+entry_change ms = change_by (option_and_then as_str (given (codes "Action") ms))
     (given (codes "Value") ms)
 
 -- the change of the attribute of a name, which isn't empty
 abbrev pub named_change : List ℕ → Data → Option NamedChange
 named_change [] d = None
 named_change (b ∷ bs) d = option_map (λ change. record { name = b ∷ bs; change = change })
-    (option_and_then change_of (as_object d))
+    (option_and_then entry_change (as_object d))
 
 -- a change in front of others
 abbrev pub change_then : Option NamedChange → Option (List NamedChange)
@@ -92,41 +92,41 @@ each_change no_members = Some []
 each_change (member name d ms) = change_then (named_change name d) (each_change ms)
 
 -- the changes of a member
-abbrev pub changes_in : Data → Option (List NamedChange)
-changes_in d = option_and_then each_change (as_object d)
+abbrev pub changes_of_member : Data → Option (List NamedChange)
+changes_of_member d = option_and_then each_change (as_object d)
 
 -- ---- what they make of an item
 
 -- what a change makes of an attribute, or why it can't
-abbrev pub changed_by : Change → Option Tree → Result (Option Tree) Fault
-changed_by (put v) old = Ok (Some (tree_of v))
-changed_by (add v) old = added old (tree_of v) >>= (λ t. Ok (Some t))
-changed_by remove old = Ok None
-changed_by (take v) old = taken old (tree_of v)
+abbrev pub changed_attribute : AttributeChange → Option Tree → Result (Option Tree) ActionFault
+changed_attribute (put v) old = Ok (Some (tree_of v))
+changed_attribute (add v) old = added old (tree_of v) >>= (λ t. Ok (Some t))
+changed_attribute remove old = Ok None
+changed_attribute (take v) old = taken_from_set old (tree_of v)
 
 -- the item with that at a name
-abbrev pub with_attribute : List ℕ → Option Tree → View → View
-with_attribute name x item = λ other. if bytes_eq other name then x else item other
+abbrev pub view_with_attribute : List ℕ → Option Tree → View → View
+view_with_attribute name x item = λ other. if bytes_eq other name then x else item other
 
 -- The item after all changes; the first that can't be made, by name, says why it is none.
-abbrev pub legacy_updated : View → List NamedChange → Result View Fault
+abbrev pub legacy_updated : View → List NamedChange → Result View ActionFault
 legacy_updated item [] = Ok item
 legacy_updated item (c ∷ cs) = do
-  x ← changed_by c.change (item c.name)
+  x ← changed_attribute c.change (item c.name)
   new ← legacy_updated item cs
-  Ok (with_attribute c.name x new)
+  Ok (view_with_attribute c.name x new)
 
 -- a change that only takes away
-abbrev pub takes_away : Change → Bool
-takes_away (put v) = false
-takes_away (add v) = false
-takes_away remove = true
-takes_away (take v) = true
+abbrev pub change_takes_away : AttributeChange → Bool
+change_takes_away (put v) = false
+change_takes_away (add v) = false
+change_takes_away remove = true
+change_takes_away (take v) = true
 
 -- Entries make an item where none is, unless there are some and all only take away.
 abbrev pub makes_item : List NamedChange → Bool
 makes_item [] = true
-makes_item (c ∷ cs) = not (list_all (λ d. takes_away d.change) (c ∷ cs))
+makes_item (c ∷ cs) = not (list_all (λ d. change_takes_away d.change) (c ∷ cs))
 
 -- an action that only takes away
 abbrev pub is_taking : Action → Bool
@@ -136,22 +136,22 @@ is_taking (action.Add name v) = false
 is_taking (action.Delete name v) = true
 
 -- An update makes of each item what the entries do; its actions come in their order, each of the attribute of a name alone.
-pub record Makes (changes : List NamedChange) (update : List Action) : Type 0 where
+pub record UpdateMakes (changes : List NamedChange) (update : List Action) : Type 0 where
   pub same_items : (item : View) → updated item update ≡ legacy_updated item changes
   pub targets : map target update ≡ map (λ c. Name c.name ∷ []) changes
-  pub takings : map is_taking update ≡ map (λ c. takes_away c.change) changes
+  pub takings : map is_taking update ≡ map (λ c. change_takes_away c.change) changes
 
 -- the entries have a meaning, and this is their update
 abbrev pub IsUpdate : Option (List NamedChange) → List Action → Type 0
 IsUpdate meaning update = (changes : List NamedChange) × (meaning ≡ Some changes)
-    × Makes changes update
+    × UpdateMakes changes update
 
 -- ---- names
 
 -- the names of an object, as bytes
-abbrev pub names_in : Members → List (List ℕ)
-names_in no_members = []
-names_in (member name d ms) = name ∷ names_in ms
+abbrev pub names_of_object : Members → List (List ℕ)
+names_of_object no_members = []
+names_of_object (member name d ms) = name ∷ names_of_object ms
 
 -- each differs from those behind it
 abbrev pub Differ : List (List ℕ) → Type 0
@@ -159,5 +159,5 @@ Differ [] = Unit {0}
 Differ (n ∷ ns) = AllByRecursion (λ m. bytes_eq n m ≡ false) ns × Differ ns
 
 -- no name of an object stands twice
-abbrev pub AreApart : Members → Type 0
-AreApart ms = Differ (names_in ms)
+abbrev pub HasDistinctNames : Members → Type 0
+HasDistinctNames ms = Differ (names_of_object ms)

@@ -10,8 +10,8 @@ use Rattle.alt_legacy.specs.declared.entry.Test.{Test}
 use Rattle.alt_legacy.specs.declared.entry.Test.TheVariants as t
 use Rattle.alt_legacy.specs.declared.reading.Form.{Form}
 use Rattle.alt_legacy.specs.declared.reading.Form.TheVariants as form
-use Rattle.alt_legacy.specs.Operators.{operator_of, test_of}
-use Rattle.alt_legacy.specs.Values.{value_of}
+use Rattle.alt_legacy.specs.Operators.{operator_of, test_of_operator}
+use Rattle.alt_legacy.specs.Values.{json_value}
 use Rattle.alt_shape.specs.Shape.{given}
 
 -- the operator that an entry names
@@ -19,8 +19,8 @@ abbrev pub operator_in : Members → Option (List ℕ)
 operator_in ms = option_and_then as_str (given (codes "ComparisonOperator") ms)
 
 -- the values of its operator, none where it has no list
-abbrev pub values_in : Members → Items
-values_in ms = option_map_or (λ ds. ds)
+abbrev pub operator_values : Members → Items
+operator_values ms = option_map_or (λ ds. ds)
     (option_and_then as_array (given (codes "AttributeValueList") ms)) no_items
 
 -- whether the attribute is to be there, where the entry says so
@@ -29,12 +29,12 @@ exists_in ms = option_and_then as_bool (given (codes "Exists") ms)
 
 -- what an operator asks with its values
 abbrev pub operator_test : Members → Option Test
-operator_test ms = option_and_then (λ operator. test_of operator (values_in ms))
+operator_test ms = option_and_then (λ operator. test_of_operator operator (operator_values ms))
     (option_and_then operator_of (operator_in ms))
 
 -- the attribute is to equal a value
 abbrev pub equals : Data → Option Test
-equals d = option_map (λ v. t.Compares c.Equal v) (value_of d)
+equals d = option_map (λ v. t.Compares c.Equal v) (json_value d)
 
 -- without an operator: a value alone or with Exists true, or Exists false alone
 abbrev pub plain_test : Option Data → Option Bool → Option Test

@@ -52,10 +52,10 @@ is_nothing [] = true
 is_nothing (e ∷ es) = false
 
 -- An item meets entries where each holds of it, or with OR some. No entries ask nothing.
-abbrev pub meets : Bool → List Entry → View → Bool
-meets any [] item = true
-meets true (e ∷ es) item = list_any (holds_for item) (e ∷ es)
-meets false (e ∷ es) item = list_all (holds_for item) (e ∷ es)
+abbrev pub meets_entries : Bool → List Entry → View → Bool
+meets_entries any [] item = true
+meets_entries true (e ∷ es) item = list_any (holds_for item) (e ∷ es)
+meets_entries false (e ∷ es) item = list_all (holds_for item) (e ∷ es)
 
 -- a condition holds of an item; where there is none, nothing is asked
 abbrev pub holds_of : Option Cond → View → Bool

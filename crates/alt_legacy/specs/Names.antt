@@ -10,8 +10,8 @@ if_name [] = None
 if_name (b ∷ bs) = Some (b ∷ bs)
 
 -- the name that an element is
-abbrev pub text_in : Data → Option (List ℕ)
-text_in d = option_and_then if_name (as_str d)
+abbrev pub element_name : Data → Option (List ℕ)
+element_name d = option_and_then if_name (as_str d)
 
 -- a name in front of others
 abbrev pub name_then : Option (List ℕ) → Option (List (List ℕ)) → Option (List (List ℕ))
@@ -19,9 +19,9 @@ name_then (Some n) more = option_map (λ ns. n ∷ ns) more
 name_then None more = None
 
 -- the names of a list
-abbrev pub texts_in : Items → Option (List (List ℕ))
-texts_in no_items = Some []
-texts_in (item d ds) = name_then (text_in d) (texts_in ds)
+abbrev pub element_names : Items → Option (List (List ℕ))
+element_names no_items = Some []
+element_names (item d ds) = name_then (element_name d) (element_names ds)
 
 -- one at least, and none twice
 abbrev pub if_apart : List (List ℕ) → Option (List (List ℕ))
@@ -29,5 +29,5 @@ if_apart [] = None
 if_apart (n ∷ ns) = if are_apart text_order (n ∷ ns) then Some (n ∷ ns) else None
 
 -- the names of a member
-abbrev pub names_in : Data → Option (List (List ℕ))
-names_in d = option_and_then if_apart (option_and_then texts_in (as_array d))
+abbrev pub names_of_member : Data → Option (List (List ℕ))
+names_of_member d = option_and_then if_apart (option_and_then element_names (as_array d))

@@ -28,12 +28,12 @@ operator_of word =
     else None
 
 -- the test that an operator makes of its values; none where they aren't as many as it has
-abbrev pub test_of : Operator → Items → Option Test
-test_of (op.Compares by) ds = option_map (λ v. t.Compares by v) (one_value ds)
-test_of op.Between ds = option_map (λ vs. t.Between vs.0 vs.1) (two_values ds)
-test_of op.In ds = option_map (λ vs. t.Among vs) (some_values ds)
-test_of op.NotNull ds = option_map (λ _. t.There) (no_value ds)
-test_of op.Null ds = option_map (λ _. t.Missing) (no_value ds)
-test_of op.Contains ds = option_map (λ v. t.Has v) (one_value ds)
-test_of op.NotContains ds = option_map (λ v. t.HasNot v) (one_value ds)
-test_of op.BeginsWith ds = option_map (λ v. t.Begins v) (one_value ds)
+abbrev pub test_of_operator : Operator → Items → Option Test
+test_of_operator (op.Compares by) ds = option_map (λ v. t.Compares by v) (one_value ds)
+test_of_operator op.Between ds = option_map (λ vs. t.Between vs.0 vs.1) (two_values ds)
+test_of_operator op.In ds = option_map (λ vs. t.Among vs) (some_values ds)
+test_of_operator op.NotNull ds = option_map (λ _. t.There) (no_value ds)
+test_of_operator op.Null ds = option_map (λ _. t.Missing) (no_value ds)
+test_of_operator op.Contains ds = option_map (λ v. t.Has v) (one_value ds)
+test_of_operator op.NotContains ds = option_map (λ v. t.HasNot v) (one_value ds)
+test_of_operator op.BeginsWith ds = option_map (λ v. t.Begins v) (one_value ds)

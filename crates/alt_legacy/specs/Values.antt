@@ -1,18 +1,18 @@
 -- The values of an entry, by how many its operator has (API Reference, "Condition", AttributeValueList).
 use Rattle.std.specs.Prelude.{◌&&◌, nat_lt, nat_le, List, [], ◌∷◌, length, Option, Some, None, option_map, option_and_then, Ok, Err, if◌then◌else◌}
 use Rattle.serde_json.specs.Data.{Data, Items, no_items, item}
-use Rattle.alt_codec.specs.Reading.{Answer, value_in}
+use Rattle.alt_codec.specs.Reading.{ValueOrFault, value_in}
 use Rattle.alt_expr.specs.Given.{attr_of}
 use Rattle.alt_value.specs.declared.attr.Attr.{Attr}
 
 -- a value that was read; nothing of a faulty one
-abbrev pub sound : Answer → Option Attr
+abbrev pub sound : ValueOrFault → Option Attr
 sound (Ok t) = Some (attr_of t)
 sound (Err f) = None
 
 -- the value that a JSON tree stands for
-abbrev pub value_of : Data → Option Attr
-value_of d = sound (value_in 32 d)
+abbrev pub json_value : Data → Option Attr
+json_value d = sound (value_in 32 d)
 
 -- no value
 abbrev pub no_value : Items → Option (Unit {0})
@@ -21,7 +21,7 @@ no_value (item d ds) = None
 
 -- one value
 abbrev pub one_value : Items → Option Attr
-one_value (item d no_items) = value_of d
+one_value (item d no_items) = json_value d
 one_value _ = None
 
 -- both, where both are there
@@ -31,7 +31,7 @@ both _ _ = None
 
 -- two values
 abbrev pub two_values : Items → Option (Attr × Attr)
-two_values (item d (item e no_items)) = both (value_of d) (value_of e)
+two_values (item d (item e no_items)) = both (json_value d) (json_value e)
 two_values _ = None
 
 -- a value in front of others
@@ -42,7 +42,7 @@ value_then None more = None
 -- the values of a list
 abbrev pub all_values : Items → Option (List Attr)
 all_values no_items = Some []
-all_values (item d ds) = value_then (value_of d) (all_values ds)
+all_values (item d ds) = value_then (json_value d) (all_values ds)
 
 -- IN has from 1 to 100 values
 abbrev pub if_some : List Attr → Option (List Attr)

@@ -46,7 +46,7 @@ pub fn key_of(
 
 /// Whether entries are a key condition.
 fn are_key(entries: &[Entry], hash: &KeyAttr, range: Option<&KeyAttr>) -> bool
-    ensures { result ≡ is_some (spec.asked_by (key_of hash.now)
+    ensures { result ≡ is_some (spec.asked_by_entries (key_of hash.now)
         (option_map (λ r. key_of r.now) range.entry) entries.now) }
 {
     match entries {
@@ -62,20 +62,20 @@ fn are_key(entries: &[Entry], hash: &KeyAttr, range: Option<&KeyAttr>) -> bool
 
 /// Whether the first is on the HASH attribute, and the second on the RANGE attribute.
 fn are_both(first: &Entry, second: &Entry, hash: &KeyAttr, range: &KeyAttr) -> bool
-    ensures { result ≡ is_some (form.asked (spec.hash_value (key_of hash.now) first.now)
-        (spec.range_test (key_of range.now) second.now)) }
+    ensures { result ≡ is_some (form.ask_of_parts (spec.entry_hash_value (key_of hash.now) first.now)
+        (spec.entry_range_test (key_of range.now) second.now)) }
 {
     is_hash(first, hash) && is_range(second, range)
 }
 
 fn is_hash(entry: &Entry, key: &KeyAttr) -> bool
-    ensures { result ≡ is_some (spec.hash_value (key_of key.now) entry.now) }
+    ensures { result ≡ is_some (spec.entry_hash_value (key_of key.now) entry.now) }
 {
     entry.name.as_str() == key.name.as_str() && asks_value(&entry.test, key.kind)
 }
 
 fn asks_value(test: &Test, kind: KeyKind) -> bool
-    ensures { result ≡ is_some (spec.equal_value kind test.now) }
+    ensures { result ≡ is_some (spec.equal_value_of_kind kind test.now) }
 {
     match test {
         Test::Compares(Comparison::Equal, value) => has_kind(value, kind),
@@ -84,13 +84,13 @@ fn asks_value(test: &Test, kind: KeyKind) -> bool
 }
 
 fn is_range(entry: &Entry, key: &KeyAttr) -> bool
-    ensures { result ≡ is_some (spec.range_test (key_of key.now) entry.now) }
+    ensures { result ≡ is_some (spec.entry_range_test (key_of key.now) entry.now) }
 {
     entry.name.as_str() == key.name.as_str() && asks_range(&entry.test, key.kind)
 }
 
 fn asks_range(test: &Test, kind: KeyKind) -> bool
-    ensures { result ≡ is_some (spec.range_of kind test.now) }
+    ensures { result ≡ is_some (spec.range_test_of_kind kind test.now) }
 {
     match test {
         Test::Compares(Comparison::NotEqual, _) => false,

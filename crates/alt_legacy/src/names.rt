@@ -1,6 +1,6 @@
 //! The paths of AttributesToGet.
 
-ghost use Rattle.std.specs.Prelude.{◌≡◌, Some, map, option_map, IfOk, IfErr};
+ghost use Rattle.std.specs.Prelude.{◌≡◌, Some, map, IfOk, IfErr};
 ghost use Rattle.serde_json.specs.View.{view, items_view};
 ghost use Rattle.alt_legacy.specs.Answered.{IsBad};
 ghost use Rattle.alt_legacy.specs.Names as spec;
@@ -17,7 +17,7 @@ use std::alloc::Global;
 /// The names of a member AttributesToGet as paths, in order. A dot is a part of a name.
 pub fn names_of(alloc: Global, names: &Value) -> Result<Paths, LegacyFault>
     ensures paths { IfOk result (λ ps. trees.paths_in (view names.now) ≡ Some ps) }
-    ensures cause { IfErr result (IsBad (spec.names_in (view names.now))) }
+    ensures cause { IfErr result (IsBad (spec.names_of_member (view names.now))) }
 {
     let Some(items) = names.as_array() else {
         return Err(LegacyFault::Bad);
@@ -35,8 +35,8 @@ pub fn names_of(alloc: Global, names: &Value) -> Result<Paths, LegacyFault>
 
 /// The names, of which none is empty.
 fn texts_of(alloc: Global, items: &[Value]) -> Result<Vec<Text>, LegacyFault>
-    ensures ok { IfOk result (λ ts. spec.texts_in (items_view items.now) ≡ Some ts.items) }
-    ensures err { IfErr result (IsBad (spec.texts_in (items_view items.now))) }
+    ensures ok { IfOk result (λ ts. spec.element_names (items_view items.now) ≡ Some ts.items) }
+    ensures err { IfErr result (IsBad (spec.element_names (items_view items.now))) }
 {
     let mut found = Vec::new(alloc);
     for v in items {
@@ -47,8 +47,8 @@ fn texts_of(alloc: Global, items: &[Value]) -> Result<Vec<Text>, LegacyFault>
 }
 
 fn text_of(alloc: Global, v: &Value) -> Result<Text, LegacyFault>
-    ensures ok { IfOk result (λ t. spec.text_in (view v.now) ≡ Some t) }
-    ensures err { IfErr result (IsBad (spec.text_in (view v.now))) }
+    ensures ok { IfOk result (λ t. spec.element_name (view v.now) ≡ Some t) }
+    ensures err { IfErr result (IsBad (spec.element_name (view v.now))) }
 {
     let Some(name) = v.as_str() else {
         return Err(LegacyFault::Bad);
@@ -63,7 +63,7 @@ fn text_of(alloc: Global, v: &Value) -> Result<Text, LegacyFault>
 }
 
 fn paths_of(alloc: Global, names: &[Text]) -> Result<Paths, NoMemory>
-    ensures { IfOk result (λ ps. ps ≡ map trees.path names.now) }
+    ensures { IfOk result (λ ps. ps ≡ map trees.attribute_path names.now) }
 {
     let mut found = Items::new(alloc);
     for name in names {

@@ -1,7 +1,6 @@
 //! Entries, read from JSON.
 
 ghost use Rattle.std.specs.Prelude.{◌≡◌, Some, IfOk, IfErr, option_map};
-ghost use Rattle.std.specs.Option.{option_map_or};
 ghost use Rattle.serde_json.specs.View.{view, items_view, members_view};
 ghost use Rattle.alt_legacy.specs.Answered.{IsBad};
 ghost use Rattle.alt_legacy.specs.Operators as operators;
@@ -148,8 +147,8 @@ fn operator_test(alloc: Global, entry: &Map<String, Value>) -> Result<Test, Lega
 
 fn test_of(alloc: Global, operator: Operator, values: &[Value]) -> Result<Test, LegacyFault>
     ensures ok { IfOk result
-        (λ t. operators.test_of operator (items_view values.now) ≡ Some t) }
-    ensures err { IfErr result (IsBad (operators.test_of operator (items_view values.now))) }
+        (λ t. operators.test_of_operator operator (items_view values.now) ≡ Some t) }
+    ensures err { IfErr result (IsBad (operators.test_of_operator operator (items_view values.now))) }
 {
     match operator {
         Operator::Compares(by) => Ok(Test::Compares(by, one_value(alloc, values)?)),

@@ -15,14 +15,14 @@ pub(crate) fn condition_of(
     entries: Vec<Entry>,
     any: bool,
 ) -> Result<Option<Cond>, NoMemory>
-    ensures { IfOk result (λ o. o ≡ spec.joined any (map spec.tree_of entries.items)) }
+    ensures { IfOk result (λ o. o ≡ spec.joined_condition any (map spec.condition_of_entry entries.items)) }
 {
     let conditions = trees(alloc, entries)?;
     Ok(joined(any, conditions))
 }
 
 fn joined(any: bool, conditions: CondList) -> Option<Cond>
-    ensures { result ≡ spec.joined any conditions }
+    ensures { result ≡ spec.joined_condition any conditions }
 {
     match conditions.len() {
         0 => None,
@@ -42,7 +42,7 @@ fn several(any: bool, conditions: CondList) -> Cond
 }
 
 fn trees(alloc: Global, entries: Vec<Entry>) -> Result<CondList, NoMemory>
-    ensures { IfOk result (λ cs. cs ≡ map spec.tree_of entries.items) }
+    ensures { IfOk result (λ cs. cs ≡ map spec.condition_of_entry entries.items) }
 {
     let mut found = Items::new(alloc);
     for entry in entries {
@@ -53,7 +53,7 @@ fn trees(alloc: Global, entries: Vec<Entry>) -> Result<CondList, NoMemory>
 }
 
 fn tree_of(alloc: Global, entry: Entry) -> Result<Cond, NoMemory>
-    ensures { IfOk result (λ c. c ≡ spec.tree_of entry) }
+    ensures { IfOk result (λ c. c ≡ spec.condition_of_entry entry) }
 {
     let Entry { name, test } = entry;
     let name = Shared::new(alloc, name)?;
@@ -76,7 +76,7 @@ fn tree_of(alloc: Global, entry: Entry) -> Result<Cond, NoMemory>
 }
 
 fn has(alloc: Global, name: &Shared<Text>, value: Attr) -> Result<Cond, NoMemory>
-    ensures { IfOk result (λ c. c ≡ spec.has name.now value) }
+    ensures { IfOk result (λ c. c ≡ spec.contains_value name.now value) }
 {
     Ok(Cond::Contains(at(alloc, name)?, given(alloc, value)?))
 }
@@ -93,7 +93,7 @@ fn has_not(alloc: Global, name: &Shared<Text>, value: Attr) -> Result<Cond, NoMe
 }
 
 fn operands(alloc: Global, values: Items<Attr>) -> Result<OperandList, NoMemory>
-    ensures { IfOk result (λ os. os ≡ map spec.given values) }
+    ensures { IfOk result (λ os. os ≡ map spec.given_operand values) }
 {
     let mut found = Items::new(alloc);
     for value in values.into_vec() {
@@ -104,20 +104,20 @@ fn operands(alloc: Global, values: Items<Attr>) -> Result<OperandList, NoMemory>
 }
 
 fn at(alloc: Global, name: &Shared<Text>) -> Result<Operand, NoMemory>
-    ensures { IfOk result (λ o. o ≡ spec.at name.now) }
+    ensures { IfOk result (λ o. o ≡ spec.attribute_operand name.now) }
 {
     Ok(Operand::At(path(alloc, name)?))
 }
 
 fn given(alloc: Global, value: Attr) -> Result<Operand, NoMemory>
-    ensures { IfOk result (λ o. o ≡ spec.given value) }
+    ensures { IfOk result (λ o. o ≡ spec.given_operand value) }
 {
     Ok(Operand::Value(Shared::new(alloc, value)?))
 }
 
 /// The path of one part that leads to an attribute.
 pub(crate) fn path(alloc: Global, name: &Shared<Text>) -> Result<Path, NoMemory>
-    ensures { IfOk result (λ p. p ≡ spec.path name.now) }
+    ensures { IfOk result (λ p. p ≡ spec.attribute_path name.now) }
 {
     let mut path = Items::new(alloc);
     path.push(PathPart::Name(name.share()?))?;

@@ -5,7 +5,7 @@ ghost use Rattle.serde_json.specs.View.{view, members_view};
 ghost use Rattle.alt_expr.specs.UpdateLanguage.{begin_with_names};
 ghost use Rattle.alt_legacy.specs.Answered.{IsBad};
 ghost use Rattle.alt_legacy.specs.Changes as spec;
-ghost use Rattle.alt_legacy.specs.Changes.{IsUpdate, changes_in, each_change, AreApart};
+ghost use Rattle.alt_legacy.specs.Changes.{IsUpdate, changes_of_member, each_change, HasDistinctNames};
 ghost use Rattle.alt_legacy.specs.Trees.{action_of, action_for, update_in};
 
 use crate::fault::LegacyFault;
@@ -20,10 +20,10 @@ use std::alloc::Global;
 /// The update of a member AttributeUpdates, with its actions by name in byte order.
 pub fn update_of(alloc: Global, entries: &Value) -> Result<Update, LegacyFault>
     // It makes of each item what the entries do, or is refused for the same fault.
-    ensures updates { IfOk result (IsUpdate (changes_in (view entries.now))) }
+    ensures updates { IfOk result (IsUpdate (changes_of_member (view entries.now))) }
     ensures tree { IfOk result (λ u. update_in (view entries.now) ≡ Some u) }
     ensures begins { IfOk result (λ u. begin_with_names u ≡ true) }
-    ensures cause { IfErr result (IsBad (changes_in (view entries.now))) }
+    ensures cause { IfErr result (IsBad (changes_of_member (view entries.now))) }
 {
     match entries.as_object() {
         Some(members) => {
@@ -36,7 +36,7 @@ pub fn update_of(alloc: Global, entries: &Value) -> Result<Update, LegacyFault>
 
 /// Each name stands once in an object. The call does nothing: it is made where a proof needs the fact.
 fn names_apart(members: &Map<String, Value>)
-    ensures { AreApart (members_view members.now.entries) }
+    ensures { HasDistinctNames (members_view members.now.entries) }
 {
     let _names = members.keys();
 }

@@ -17,8 +17,8 @@ const MOST: usize = 100;
 
 /// The value that a JSON tree stands for.
 pub(crate) fn value_of(alloc: Global, v: &Value) -> Result<Attr, LegacyFault>
-    ensures ok { IfOk result (λ a. spec.value_of (view v.now) ≡ Some a) }
-    ensures err { IfErr result (IsBad (spec.value_of (view v.now))) }
+    ensures ok { IfOk result (λ a. spec.json_value (view v.now) ≡ Some a) }
+    ensures err { IfErr result (IsBad (spec.json_value (view v.now))) }
 {
     match attr_of_json(alloc, v) {
         Ok(value) => Ok(value),

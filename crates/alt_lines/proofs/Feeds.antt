@@ -9,8 +9,8 @@ use Rattle.std.proofs.Math.Seq.{take-add}
 use Rattle.std.proofs.lemmas.List.Elements.{All-append, All-nil, All-cons, All-from_get_or}
 use Rattle.std.proofs.lemmas.List.Splits.{slice_split_at, slice_split_none}
 use Rattle.std.proofs.lemmas.Bool.{false_from_ne_true}
-use Rattle.alt_lines.specs.Feeds.{AllPlain, EndsAt}
-use Rattle.alt_lines.specs.Lines.{is_line_feed, pieces, but_last, last_piece, unless_empty, raw_lines, Line, whole, too_long, read_line, lines_of}
+use Rattle.alt_lines.specs.Feeds.{AllPlain, FirstLineFeedStandsAt}
+use Rattle.alt_lines.specs.Lines.{is_line_feed, split_at_line_feeds, but_last, last_piece, unless_empty, raw_lines, Line, whole, too_long, read_line, lines_of}
 
 -- there is always a piece
 record SomePiece (ps : List (List ℕ)) : Type 0 where
@@ -24,12 +24,12 @@ some_onto b [] = record { head = b ∷ []; tail = []; is = refl }
 some_onto b (p ∷ ps) = record { head = b ∷ p; tail = ps; is = refl }
 
 -- bytes have a piece
-some_piece : (bytes : List ℕ) → SomePiece (pieces bytes)
+some_piece : (bytes : List ℕ) → SomePiece (split_at_line_feeds bytes)
 some_piece [] = record { head = []; tail = []; is = refl }
 some_piece (b ∷ bytes) =
-    elim (b == 10) as (λ t. SomePiece (cond t ([] ∷ pieces bytes) (onto_first b (pieces bytes)))) [
-      | true ↦ record { head = []; tail = pieces bytes; is = refl }
-      | false ↦ some_onto b (pieces bytes)
+    elim (b == 10) as (λ t. SomePiece (cond t ([] ∷ split_at_line_feeds bytes) (onto_first b (split_at_line_feeds bytes)))) [
+      | true ↦ record { head = []; tail = split_at_line_feeds bytes; is = refl }
+      | false ↦ some_onto b (split_at_line_feeds bytes)
     ]
 
 -- one piece more before others changes neither which is the last nor what the others are
@@ -51,8 +51,8 @@ raw_lines-feed ended line rest plain =
     let some = some_piece rest in
     ap (λ (ps : List (List ℕ)). but_last ps ++ cond ended (unless_empty (last_piece ps)) [])
     (slice_split_at is_line_feed line 10 rest plain refl)
-    ∙ (λ i. but_last-cons line (pieces rest) some i
-    ++ cond ended (unless_empty (last_piece-cons line (pieces rest) some i)) [])
+    ∙ (λ i. but_last-cons line (split_at_line_feeds rest) some i
+    ++ cond ended (unless_empty (last_piece-cons line (split_at_line_feeds rest) some i)) [])
 
 -- bytes without a line feed are at most one line
 pub raw_lines-plain : (ended : Bool) (line : List ℕ) → AllPlain line
@@ -182,7 +182,7 @@ feed_parts (b ∷ bytes) (suc k) below is =
 
 -- what a search for a line feed says
 pub first_feed : (bytes : List ℕ) (found : Option ℕ) → IsFirstByte (is_byte 10) bytes found
-    → MatchOption found (AllPlain bytes) (EndsAt bytes)
+    → MatchOption found (AllPlain bytes) (FirstLineFeedStandsAt bytes)
 first_feed bytes None none = plain_before bytes none
 first_feed bytes (Some k) first = record {
   below = first.0.high;
@@ -192,7 +192,7 @@ first_feed bytes (Some k) first = record {
 
 -- the first line feed behind bytes that have none
 pub EndsAt-behind : (bytes : List ℕ) (n place : ℕ) → n ≤ length bytes → AllPlain (take n bytes)
-    → EndsAt (drop n bytes) place → EndsAt bytes (n + place)
+    → FirstLineFeedStandsAt (drop n bytes) place → FirstLineFeedStandsAt bytes (n + place)
 EndsAt-behind bytes n place within plain ends =
     let same : take n bytes ++ drop n bytes ≡ bytes = take-append-drop n bytes in
     let rest : drop (suc (n + place)) bytes ≡ drop (suc place) (drop n bytes) =

@@ -4,23 +4,23 @@ use Rattle.std.proofs.Math.Seq.{take-suc}
 use Rattle.std.proofs.lemmas.Bool.Decides.{nat_tests}
 use Rattle.alt_lines.specs.declared.pieces.Piece.{Piece}
 use Rattle.alt_lines.specs.TrialTexts.{Draws, line_of_kind, put_item_line, update_item_line, query_index_line}
-use Rattle.alt_lines.specs.Printed.{piece_text, printed}
+use Rattle.alt_lines.specs.Printed.{line_piece_text, line_pieces_text}
 
 -- one more piece
 pub printed-append : (pieces : List Piece) (piece : Piece)
-    → printed (pieces ++ piece ∷ []) ≡ printed pieces ++ piece_text piece
-printed-append [] piece = append-nil (piece_text piece)
+    → line_pieces_text (pieces ++ piece ∷ []) ≡ line_pieces_text pieces ++ line_piece_text piece
+printed-append [] piece = append-nil (line_piece_text piece)
 printed-append (first ∷ pieces) piece =
-    ap (λ (l : List ℕ). piece_text first ++ l) (printed-append pieces piece)
-    ∙ sym (append_assoc (piece_text first) (printed pieces) (piece_text piece))
+    ap (λ (l : List ℕ). line_piece_text first ++ l) (printed-append pieces piece)
+    ∙ sym (append_assoc (line_piece_text first) (line_pieces_text pieces) (line_piece_text piece))
 
 -- one more of the pieces of a list
 pub printed-take : (pieces : List Piece) (k : ℕ) (piece : Piece) → k < length pieces
     → get_or pieces k piece ≡ piece
-    → printed (take (k + 1) pieces) ≡ printed (take k pieces) ++ piece_text piece
+    → line_pieces_text (take (k + 1) pieces) ≡ line_pieces_text (take k pieces) ++ line_piece_text piece
 printed-take pieces k piece below is =
-    ap (λ (n : ℕ). printed (take n pieces)) (add-one k)
-    ∙ ap printed (take-suc pieces k piece below
+    ap (λ (n : ℕ). line_pieces_text (take n pieces)) (add-one k)
+    ∙ ap line_pieces_text (take-suc pieces k piece below
     ∙ ap (λ (p : Piece). take k pieces ++ p ∷ []) is)
     ∙ printed-append (take k pieces) piece
 

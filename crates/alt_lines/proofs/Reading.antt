@@ -9,7 +9,7 @@ use Rattle.std.proofs.Math.Seq.{take-append_seam}
 use Rattle.std.proofs.lemmas.List.Elements.{All-append, All-replicate}
 use Rattle.alt_base.proofs.Lists.{length-none}
 use Rattle.alt_lines.specs.Lines.{is_line_feed, Line, too_long, read_line, lines_of}
-use Rattle.alt_lines.specs.Unread.{Unread, too_many, TakesLine, HasNone, Tells}
+use Rattle.alt_lines.specs.Unread.{Unread, too_many, TakesLine, HasNone, TellsLine}
 use Rattle.alt_lines.specs.declared.feed.Cut.{Cut}
 use Rattle.alt_lines.specs.Feeds.{AllPlain}
 use Rattle.alt_lines.proofs.Feeds.{lines_of-feed, lines_of-open, lines_of-last, lines_of-empty, lines_of-long, read_line-long}
@@ -161,9 +161,9 @@ waits most false false line plain going not_past short = has_none most line plai
 -- a line that was read and taken is one that the call may tell of
 pub line_told : {E : Type 0} (r : Result (Option Cut) E) (line : Line) (old new next : Unread)
     (before after : List ℕ)
-    → IfOk r (λ found. IsSomeAnd found (λ cut. Tells line cut before after)) → OnOk r (new ≡ next)
+    → IfOk r (λ found. IsSomeAnd found (λ cut. TellsLine line cut before after)) → OnOk r (new ≡ next)
     → TakesLine line old next
-    → IfOk r (λ found. IfSome found (λ cut. (l : Line) × Tells l cut before after
+    → IfOk r (λ found. IfSome found (λ cut. (l : Line) × TellsLine l cut before after
     × TakesLine l old new))
 line_told (Ok (Some cut)) line old new next before after told moved taken =
     (line, told, subst (λ (u : Unread). TakesLine line old u) (sym moved) taken)

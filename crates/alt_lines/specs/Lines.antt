@@ -8,8 +8,8 @@ abbrev pub is_line_feed : ℕ → Bool
 is_line_feed b = b == 10
 
 -- the pieces that the line feeds part; there is always one
-abbrev pub pieces : List ℕ → List (List ℕ)
-pieces bytes = slice_split is_line_feed bytes
+abbrev pub split_at_line_feeds : List ℕ → List (List ℕ)
+split_at_line_feeds bytes = slice_split is_line_feed bytes
 
 -- all pieces but the last, each of which a line feed ended
 abbrev pub but_last : List (List ℕ) → List (List ℕ)
@@ -32,7 +32,7 @@ unless_empty (b ∷ bytes) = (b ∷ bytes) ∷ []
 -- was taken, since more might follow.
 unfoldable pub raw_lines : Bool → List ℕ → List (List ℕ)
 raw_lines ended bytes =
-    but_last (pieces bytes) ++ (if ended then unless_empty (last_piece (pieces bytes)) else [])
+    but_last (split_at_line_feeds bytes) ++ (if ended then unless_empty (last_piece (split_at_line_feeds bytes)) else [])
 
 -- a line as it is read: its bytes, or that it had too many
 pub data Line : Type 0 where

@@ -5,10 +5,10 @@ use Rattle.alt_lines.specs.declared.pieces.Piece.{Piece}
 use Rattle.alt_lines.specs.declared.pieces.Piece.TheVariants.{Text, Number}
 
 -- a text as it is, a number in decimal digits
-abbrev pub piece_text : Piece → List ℕ
-piece_text (Text text) = text.now
-piece_text (Number n) = decimal n
+abbrev pub line_piece_text : Piece → List ℕ
+line_piece_text (Text text) = text.now
+line_piece_text (Number n) = decimal n
 
 -- the pieces one behind the other
-abbrev pub printed : List Piece → List ℕ
-printed pieces = joined (map piece_text pieces)
+abbrev pub line_pieces_text : List Piece → List ℕ
+line_pieces_text pieces = joined (map line_piece_text pieces)

@@ -41,6 +41,6 @@ pub record TakesLine (line : Line) (old new : Unread) : Type 0 where
       → lines_later old more ended ≡ line ∷ lines_later new more ended
 
 -- A line that is whole is appended, and `Whole` tells of it. Of one that is too long nothing is appended.
-abbrev pub Tells : Line → Cut → List ℕ → List ℕ → Type 0
-Tells (whole text) cut before after = (cut ≡ Whole) × (after ≡ before ++ text)
-Tells too_long cut before after = (cut ≡ TooLong) × (after ≡ before)
+abbrev pub TellsLine : Line → Cut → List ℕ → List ℕ → Type 0
+TellsLine (whole text) cut before after = (cut ≡ Whole) × (after ≡ before ++ text)
+TellsLine too_long cut before after = (cut ≡ TooLong) × (after ≡ before)

@@ -3,8 +3,8 @@
 ghost use Rattle.std.specs.Prelude.{◌≡◌, MatchOption, OnErr, IfOk, if◌then◌else◌};
 ghost use Rattle.std.specs.Str.Lines.{strip_carriage_return};
 ghost use Rattle.alt_lines.specs.Lines.{too_long, read_line};
-ghost use Rattle.alt_lines.specs.Unread.{Tells};
-ghost use Rattle.alt_lines.specs.Feeds.{AllPlain, EndsAt};
+ghost use Rattle.alt_lines.specs.Unread.{TellsLine};
+ghost use Rattle.alt_lines.specs.Feeds.{AllPlain, FirstLineFeedStandsAt};
 
 use alt_base::NoMemory;
 use memchr::memchr;
@@ -20,7 +20,7 @@ pub enum Cut {
 
 /// Where the first line feed stands.
 pub(crate) fn line_feed(bytes: &[u8]) -> Option<usize>
-    ensures { MatchOption result (AllPlain bytes.now) (EndsAt bytes.now) }
+    ensures { MatchOption result (AllPlain bytes.now) (FirstLineFeedStandsAt bytes.now) }
 {
     memchr(b'\n', bytes)
 }
@@ -39,7 +39,7 @@ fn stripped(line: &[u8]) -> &[u8]
 /// Appends a line, unless it is too long. It is where it has more than `most` bytes, or where so many of it were passed over.
 pub(crate) fn read(past: bool, most: usize, line: &[u8], out: &mut Vec<u8>) -> Result<Cut, NoMemory>
     ensures told { IfOk result (λ cut.
-        Tells (if past then too_long else read_line most line.now) cut
+        TellsLine (if past then too_long else read_line most line.now) cut
         out.old.items out.new.items) }
     ensures err { OnErr result (out.new.items ≡ out.old.items) }
 {

@@ -1,14 +1,14 @@
 //! Lines that are put together from texts and numbers.
 
 ghost use Rattle.std.specs.Prelude.{◌≡◌, ◌++◌, OnOk, OnErr};
-ghost use Rattle.alt_lines.specs.Printed.{piece_text, printed};
+ghost use Rattle.alt_lines.specs.Printed.{line_piece_text, line_pieces_text};
 
 use crate::pieces::Piece;
 use alt_base::NoMemory;
 use itoa::Buffer;
 
 fn put_piece(out: &mut Vec<u8>, piece: Piece) -> Result<(), NoMemory>
-    ensures ok { OnOk result (out.new.items ≡ out.old.items ++ piece_text piece.entry) }
+    ensures ok { OnOk result (out.new.items ≡ out.old.items ++ line_piece_text piece.entry) }
     ensures err { OnErr result (out.new.items ≡ out.old.items) }
 {
     let added = match piece {
@@ -23,7 +23,7 @@ fn put_piece(out: &mut Vec<u8>, piece: Piece) -> Result<(), NoMemory>
 
 /// Appends all of the pieces, or nothing.
 pub(crate) fn put(out: &mut Vec<u8>, pieces: &[Piece]) -> Result<(), NoMemory>
-    ensures ok { OnOk result (out.new.items ≡ out.old.items ++ printed pieces.now) }
+    ensures ok { OnOk result (out.new.items ≡ out.old.items ++ line_pieces_text pieces.now) }
     ensures err { OnErr result (out.new.items ≡ out.old.items) }
 {
     let before = out.len();

@@ -31,7 +31,7 @@ impl Lines {
     ghost use Rattle.alt_lines.specs.Feeds.{AllPlain};
     ghost use Rattle.alt_lines.specs.Lines.{Line, too_long, read_line};
     ghost use Rattle.alt_lines.specs.Reader.{held_by, unread};
-    ghost use Rattle.alt_lines.specs.Unread.{HasNone, TakesLine, Tells};
+    ghost use Rattle.alt_lines.specs.Unread.{HasNone, TakesLine, TellsLine};
 
     /// Nothing was given yet. A line may have `most` bytes before its line feed.
     pub fn new(alloc: Global, most: usize) -> Lines
@@ -90,7 +90,7 @@ impl Lines {
     /// Takes the next line. It answers `None` where no further line is whole, and appends nothing then.
     pub fn line(&mut self, out: &mut Vec<u8>) -> Result<Option<Cut>, NoMemory>
         ensures some { IfOk result (λ found. IfSome found (λ cut. (line : Line)
-            × Tells line cut out.old.items out.new.items
+            × TellsLine line cut out.old.items out.new.items
             × TakesLine line (unread self.old) (unread self.new))) }
         ensures none { IfOk result (λ found. IfNone found
             ((out.new.items ≡ out.old.items) × HasNone (unread self.old) (unread self.new))) }
@@ -115,7 +115,7 @@ impl Lines {
     fn rest(&mut self, out: &mut Vec<u8>) -> Result<Option<Cut>, NoMemory>
         requires { AllPlain (drop self.old.start self.old.held.items) }
         ensures some { IfOk result (λ found. IfSome found (λ cut. (line : Line)
-            × Tells line cut out.old.items out.new.items
+            × TellsLine line cut out.old.items out.new.items
             × TakesLine line (unread self.old) (unread self.new))) }
         ensures none { IfOk result (λ found. IfNone found
             ((out.new.items ≡ out.old.items) × HasNone (unread self.old) (unread self.new))) }
@@ -161,7 +161,7 @@ impl Lines {
         requires behind { end ≤ next }
         requires within { next ≤ length self.old.held.items }
         ensures told { IfOk result (λ found. IsSomeAnd found (λ cut.
-            Tells (if self.old.past then too_long
+            TellsLine (if self.old.past then too_long
             else read_line self.old.most (slice_range self.old.held.items self.old.start end))
             cut out.old.items out.new.items)) }
         ensures moved { OnOk result (unread self.new ≡ record {

@@ -18,7 +18,7 @@ use Rattle.alt_schema.specs.declared.schema.TableSchema.{TableSchema}
 use Rattle.alt_schema.specs.declared.stated.Stated.{Stated}
 use Rattle.alt_schema.specs.declared.stated.StatedIndex.{StatedIndex}
 use Rattle.alt_schema.proofs.NewDescriptions.{keys_found}
-use Rattle.alt_schema.specs.Altered.{definitions_with, elements_of, index_added, indexes_fit_with, keys_fit_with, stated_index, stated_with, with_index}
+use Rattle.alt_schema.specs.Altered.{definitions_with, key_schema_elements, index_added, indexes_fit_with, keys_fit_with, stated_index, stated_with, with_index}
 use Rattle.alt_machine.specs.Building.{IsBuilt, building_in, is_building, is_built_to}
 use Rattle.alt_machine.specs.State.{families_of}
 use Rattle.alt_machine.specs.Valid.{IsMade, is_pair, names_few}
@@ -91,7 +91,7 @@ module _ (d : TableSchema) (more : List KeyAttr) (family : ℕ) (i : StatedIndex
 
   -- elements of a key use the names of the key
   of_elements : (hash : KeyAttr) (range : Option KeyAttr) (name : List ℕ)
-      → rules.is_used_in name (elements_of hash range) ≡ is_key hash range name
+      → rules.is_used_in name (key_schema_elements hash range) ≡ is_key hash range name
   of_elements hash None name = refl
   of_elements hash (Some r) name = ap (λ c. bytes_eq hash.name name || c)
       (or-false (bytes_eq r.name name))
@@ -166,7 +166,7 @@ module _ (d : TableSchema) (more : List KeyAttr) (family : ℕ) (i : StatedIndex
     once : all_differ (λ (a : KeyAttr). a.name) ds ≡ true
     once = first_so (all_differ (λ (a : KeyAttr). a.name) ds) _ exactly
 
-    used_and_defined : (list_all (λ a. rules.is_used b a.name) ds
+    used_and_defined : (list_all (λ a. rules.is_used_in_any_schema b a.name) ds
         && rules.in_each_schema (list_all (λ x. rules.is_defined ds x.name)) b) ≡ true
     used_and_defined = second_so (all_differ (λ (a : KeyAttr). a.name) ds) _ exactly
 
@@ -174,10 +174,10 @@ module _ (d : TableSchema) (more : List KeyAttr) (family : ℕ) (i : StatedIndex
     defined = last_passes (λ (x : StatedIndex). list_all (λ y. rules.is_defined ds y.name) x.keys)
         (map stated_index d.locals) (map stated_index d.globals) i
         (second_so (list_all (λ x. rules.is_defined ds x.name) b.keys) _
-        (second_so (list_all (λ a. rules.is_used b a.name) ds) _ used_and_defined))
+        (second_so (list_all (λ a. rules.is_used_in_any_schema b a.name) ds) _ used_and_defined))
 
     -- a name is used as it is stated
-    used_alike : (name : List ℕ) → rules.is_used b name ≡ is_used e name
+    used_alike : (name : List ℕ) → rules.is_used_in_any_schema b name ≡ is_used e name
     used_alike name = λ j. of_elements d.hash d.range name j
         || any_stated name d.locals (map stated_index d.globals ++ i ∷ [])
         (d.globals ++ new ∷ []) (any_stated name d.globals (i ∷ []) (new ∷ [])
@@ -226,8 +226,8 @@ module _ (d : TableSchema) (more : List KeyAttr) (family : ℕ) (i : StatedIndex
       keys = made.keys;
       index_keys = push_passes (λ (x : IndexSchema). is_pair x.hash x.range) d.locals d.globals new
           made.index_keys (pair_kept ds i.keys schema);
-      used = sym (tests_alike (rules.is_used b) (is_used e) ds used_alike)
-          ∙ first_so (list_all (λ a. rules.is_used b a.name) ds) _ used_and_defined;
+      used = sym (tests_alike (rules.is_used_in_any_schema b) (is_used e) ds used_alike)
+          ∙ first_so (list_all (λ a. rules.is_used_in_any_schema b a.name) ds) _ used_and_defined;
       locals = made.locals;
       projections = push_passes (λ (x : IndexSchema). names_few x.projection) d.locals d.globals new
           made.projections (projection_kept i.projects i.includes projected);

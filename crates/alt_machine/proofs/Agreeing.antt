@@ -18,14 +18,14 @@ use Rattle.alt_value.specs.Members.{text_order}
 use Rattle.alt_value.specs.Tree.{Pair}
 use Rattle.alt_value.proofs.Texts.{text_total, text_apart}
 use Rattle.alt_machine.specs.Changes.{change_left, with_change}
-use Rattle.alt_machine.specs.Conditional.{meets, asked, failed, if_met}
+use Rattle.alt_machine.specs.Conditional.{meets_condition, asked, failed, if_met}
 use Rattle.alt_machine.specs.declared.Expressions.{Expressions}
 use Rattle.alt_machine.specs.declared.Sought.{Sought}
 use Rattle.alt_machine.specs.Expressions.{Texts, words_given, expressions, given_at}
 use Rattle.alt_machine.specs.Laws.{items_of, changes_of}
 use Rattle.alt_machine.specs.Lists.{on_list, start_given}
 use Rattle.alt_machine.specs.Members.{item_at, table_at, table_name}
-use Rattle.alt_machine.specs.Ops.BatchWriteItem.{Written, writes_of_by, writes_of_all_by}
+use Rattle.alt_machine.specs.Ops.BatchWriteItem.{PlacedWrite, writes_of_by, writes_of_all_by}
 use Rattle.alt_machine.specs.Outcomes.{Outcome, says, answer_or, unless_refused, with_found, last_state}
 use Rattle.alt_machine.specs.Refusals.{first_answer, or_refused}
 use Rattle.alt_machine.specs.Same.{is_same}
@@ -160,7 +160,7 @@ module _ (s : State) where
   of_found a name t all there = subst
       (λ (o : Option Table). All (Was name) (option_map_or (λ x. x.changes) o [])) there all
 
-  one_agrees : (a b : State) (m n : ℕ) (w : Written) → Agree a b
+  one_agrees : (a b : State) (m n : ℕ) (w : PlacedWrite) → Agree a b
       → Agree (last_state a (writes_of_by a m User w)) (last_state b (writes_of_by b n User w))
   one_agrees a b m n w agree = at (finite.get a.tables w.table) (finite.get b.tables w.table) refl
       (agree.items w.table)
@@ -177,7 +177,7 @@ module _ (s : State) where
       at None (Some u) there e = absurd (let f : ⊥ = cc in f)
       at (Some t) None there e = absurd (let f : ⊥ = cc in f)
 
-  pub all_agree : (a b : State) (m n : ℕ) (ws : List Written) → Agree a b
+  pub all_agree : (a b : State) (m n : ℕ) (ws : List PlacedWrite) → Agree a b
       → Agree (last_state a (writes_of_all_by a m User ws)) (last_state b (writes_of_all_by b n User ws))
   all_agree a b m n [] agree = agree
   all_agree a b m n (w ∷ ws) agree =
@@ -213,7 +213,7 @@ module _ (s : State) where
 
   pub leave-met : (condition : Option Cond) (ms : Members) (old : Option (List Pair)) (o p : Outcome)
       → Leave o p → Leave (if_met condition ms old o) (if_met condition ms old p)
-  leave-met condition ms old o p h = by (meets condition old)
+  leave-met condition ms old o p h = by (meets_condition condition old)
     where
       refusal : Outcome
       refusal = says (failed (asked (codes "ReturnValuesOnConditionCheckFailure") ms old))

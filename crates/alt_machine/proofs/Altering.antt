@@ -17,7 +17,7 @@ use Rattle.alt_machine.specs.declared.TheConstants.{NUMBERS_END, FAMILIES_END}
 use Rattle.alt_schema.specs.Altered.{definitions_fit, indexes_fit_with, is_none_of, keys_fit_with, with_index, without_index}
 use Rattle.alt_machine.specs.Building.{building_in}
 use Rattle.alt_machine.specs.Members.{may_name, table_name}
-use Rattle.alt_machine.specs.Ops.UpdateTable.{acts, altered, altered_by, alters, are_keys_good, are_single, changes, comes_early, coming, described, family_after, going, names_fit, of_body, of_indexes, state_altered, update_table, wanted_for, with_description}
+use Rattle.alt_machine.specs.Ops.UpdateTable.{acts, altered, altered_by, alters, are_keys_good, are_single, changes, comes_early, coming, described, family_after, going, changed_index_names_fit, of_body, of_indexes, state_altered, update_table, wanted_for, with_description}
 use Rattle.alt_machine.specs.Body.{of_shape}
 use Rattle.alt_machine.specs.Outcomes.{says}
 use Rattle.alt_machine.specs.Refusals.{first_answer, refuse_if, refuse_unless}
@@ -96,12 +96,12 @@ module _ (s : State) (name : List ℕ) (t : Table) (v : IsValid s)
   altered_valid [] [] named good fit early enough = same_valid (number_room s enough)
 
 -- what a body that isn't refused names has good names
-names_good : (ms : Members) → first_answer (of_body ms) ≡ None → names_fit ms ≡ true
+names_good : (ms : Members) → first_answer (of_body ms) ≡ None → changed_index_names_fit ms ≡ true
 names_good ms free =
     let shaped = rest_none (of_shape (bodies.update_table ms)) _ free in
     let single = unless_holds (are_single ms) bad_index_update _ shaped.1 in
     second_so (may_name ms (codes "TableName")) _
-    (unless_holds (may_name ms (codes "TableName") && names_fit ms) bad_name [] single.1).0
+    (unless_holds (may_name ms (codes "TableName") && changed_index_names_fit ms) bad_name [] single.1).0
 
 module _ (s : State) (ms : Members) (t : Table) (target : IsTarget (of_body ms) s ms t)
     (free : first_answer (of_indexes t.description ms) ≡ None) where

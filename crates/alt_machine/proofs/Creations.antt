@@ -15,7 +15,7 @@ use Rattle.alt_machine.proofs.Made.{made_number, made_family, made_new, made_is}
 use Rattle.alt_machine.proofs.States.{with_table_valid}
 use Rattle.alt_machine.proofs.Tests.{rest_none, if_fails}
 use Rattle.alt_schema.specs.Described.{description_of}
-use Rattle.alt_schema.specs.Rules.{refusal_of}
+use Rattle.alt_schema.specs.Rules.{create_table_refusal}
 use Rattle.alt_shape.specs.Refusals.{table_exists, too_many_tables}
 use Rattle.alt_shape.specs.declared.refusal.Refusal.{Refusal}
 
@@ -26,14 +26,14 @@ not_refused (Some r) e = absurd (let f : ⊥ = cc in f)
 
 module _ (s : State) (ms : Members) (free : first_answer (of_tables s ms) ≡ None) where
   -- what holds where the tables refuse nothing
-  schema_taken : (refusal_of ms ≡ None) × (first_answer
+  schema_taken : (create_table_refusal ms ≡ None) × (first_answer
       (refuse_if (map.contains_key s.tables (table_name ms))
       table_exists ∷ refuse_if (nat_le MOST_TABLES (map.len s.tables)) too_many_tables ∷ []) ≡ None)
-  schema_taken = let front = rest_none (refuse_by (refusal_of ms)) _ free in
-      (not_refused (refusal_of ms) front.0, front.1)
+  schema_taken = let front = rest_none (refuse_by (create_table_refusal ms)) _ free in
+      (not_refused (create_table_refusal ms) front.0, front.1)
 
   -- nothing of names, keys and indexes is refused
-  pub is_taken : refusal_of ms ≡ None
+  pub is_taken : create_table_refusal ms ≡ None
   is_taken = schema_taken.0
 
   -- what the tests of a CreateTable tell: the name is free, and there is room for a table

@@ -10,7 +10,7 @@ use Rattle.alt_value.proofs.Texts.{text_total}
 use Rattle.std.specs.FinMap as finite
 use Rattle.std.specs.Option.{option_map_or}
 use Rattle.alt_machine.specs.declared.Standing.{Standing}
-use Rattle.alt_machine.specs.Expiry.{DeletesExpired, deletions, expiring, gone_at, is_at, item_in}
+use Rattle.alt_machine.specs.Expiry.{DeletesExpired, deletions, expiring, gone_at, is_at, item_at_place}
 use Rattle.alt_machine.specs.Ops.BatchWriteItem.{writes_of_by, writes_of_all_by}
 use Rattle.alt_machine.specs.Ops.ExpireItems.{expire_items}
 use Rattle.alt_machine.specs.Outcomes.{a_number, last_state}
@@ -103,8 +103,8 @@ both_none false b x = refl
 module _ (moment : ℕ) (name place : List ℕ) where
   -- one deletion takes the item at its place, and leaves the others
   one_gone : (s : State) (e : Standing)
-      → item_in (last_state s (writes_of_by s moment Expiry (gone_at e))) name place
-      ≡ (if is_at name place e then None else item_in s name place)
+      → item_at_place (last_state s (writes_of_by s moment Expiry (gone_at e))) name place
+      ≡ (if is_at name place e then None else item_at_place s name place)
   one_gone s e = at (finite.get s.tables e.table) refl
     where
       made : Option Table → List State
@@ -113,18 +113,18 @@ module _ (moment : ℕ) (name place : List ℕ) where
       -- where nothing stands at its place, nothing stood there
       stays : (o : Option Table) → finite.get s.tables e.table ≡ o
           → option_and_then (λ (t : Table). finite.get t.items e.place) o ≡ None
-          → item_in s name place ≡ (if is_at name place e then None else item_in s name place)
-      stays o there none = none_where (is_at name place e) (item_in s name place) (λ both.
+          → item_at_place s name place ≡ (if is_at name place e then None else item_at_place s name place)
+      stays o there none = none_where (is_at name place e) (item_at_place s name place) (λ both.
           let same : eq_by_cmp text_order name e.table ≡ true =
           first_so (eq_by_cmp text_order name e.table) _ both in
           let also : eq_by_cmp text_order place e.place ≡ true =
           second_so (eq_by_cmp text_order name e.table) _ both in
-          (λ j. item_in s (one_text name e.table same j) (one_text place e.place also j))
+          (λ j. item_at_place s (one_text name e.table same j) (one_text place e.place also j))
           ∙ ap (option_and_then (λ (t : Table). finite.get t.items e.place)) there ∙ none)
 
       at : (o : Option Table) → finite.get s.tables e.table ≡ o
-          → item_in (last_state s (made o)) name place
-          ≡ (if is_at name place e then None else item_in s name place)
+          → item_at_place (last_state s (made o)) name place
+          ≡ (if is_at name place e then None else item_at_place s name place)
       at None there = stays None there refl
       at (Some t) there = by (is_same (finite.get t.items e.place) None) refl
         where
@@ -137,7 +137,7 @@ module _ (moment : ℕ) (name place : List ℕ) where
           by_name : (b : Bool) → eq_by_cmp text_order name e.table ≡ b
               → option_and_then (λ (u : Table). finite.get u.items place)
               (cond b (Some left_items) (finite.get s.tables name))
-              ≡ (if b && eq_by_cmp text_order place e.place then None else item_in s name place)
+              ≡ (if b && eq_by_cmp text_order place e.place then None else item_at_place s name place)
           by_name true same = finite.get-remove text_total t.items e.place place
               ∙ ap (cond (eq_by_cmp text_order place e.place) None)
               (sym (ap (λ n. option_and_then (λ (u : Table). finite.get u.items place)
@@ -146,8 +146,8 @@ module _ (moment : ℕ) (name place : List ℕ) where
           by_name false other = refl
 
           by : (b : Bool) → is_same (finite.get t.items e.place) None ≡ b
-              → item_in (last_state s (if b then [] else after ∷ [])) name place
-              ≡ (if is_at name place e then None else item_in s name place)
+              → item_at_place (last_state s (if b then [] else after ∷ [])) name place
+              ≡ (if is_at name place e then None else item_at_place s name place)
           by true same = stays (Some t) there (same_is (finite.get t.items e.place) None same)
           by false differ =
               ap (option_and_then (λ (u : Table). finite.get u.items place))
@@ -156,16 +156,16 @@ module _ (moment : ℕ) (name place : List ℕ) where
 
   -- so do several
   all_gone : (s : State) (es : List Standing)
-      → item_in (last_state s (writes_of_all_by s moment Expiry (map gone_at es))) name place
-      ≡ (if list_any (is_at name place) es then None else item_in s name place)
+      → item_at_place (last_state s (writes_of_all_by s moment Expiry (map gone_at es))) name place
+      ≡ (if list_any (is_at name place) es then None else item_at_place s name place)
   all_gone s [] = refl
   all_gone s (e ∷ es) =
       let next : State = last_state s (writes_of_by s moment Expiry (gone_at e)) in
-      ap (λ r. item_in r name place) (last_behind s (writes_of_by s moment Expiry (gone_at e))
+      ap (λ r. item_at_place r name place) (last_behind s (writes_of_by s moment Expiry (gone_at e))
       (writes_of_all_by next moment Expiry (map gone_at es)))
       ∙ all_gone next es
       ∙ ap (λ x. if list_any (is_at name place) es then None else x) (one_gone s e)
-      ∙ both_none (is_at name place e) (list_any (is_at name place) es) (item_in s name place)
+      ∙ both_none (is_at name place e) (list_any (is_at name place) es) (item_at_place s name place)
 
 -- an ExpireItems deletes exactly the items that it names
 pub deletes_expired : DeletesExpired

@@ -7,14 +7,14 @@ use Rattle.std.specs.declared.cmp.Ordering.TheVariants.{Less, Equal, Greater}
 use Rattle.std.specs.FinMap.Entries.{by_order}
 use Rattle.alt_base.proofs.Bools.{both_hold, first_holds, second_holds}
 use Rattle.alt_expr.specs.Given.{attr_of, value_of}
-use Rattle.alt_expr.specs.Located.{View, step, part, located}
+use Rattle.alt_expr.specs.Located.{View, step_into, part, located}
 use Rattle.alt_expr.specs.declared.path.PathPart.{PathPart}
 use Rattle.alt_expr.specs.declared.path.PathPart.TheVariants.{Name, Index}
 use Rattle.alt_value.specs.Item.{at_name, with_pair}
 use Rattle.alt_value.specs.Members.{text_order, with_member, with_members}
 use Rattle.alt_value.specs.Stands.{tree_of}
 use Rattle.alt_value.specs.Tree.{Tree, NULL_tree, L_tree, M_tree, Trees, no_trees, tree_then, Fields, no_fields, field_then, Pair, trees_of, fields_of, elements, pairs}
-use Rattle.alt_value.specs.Values.{is_full, sets_full, elements_full, fields_full}
+use Rattle.alt_value.specs.Values.{is_nonempty_set, sets_full, elements_full, fields_full}
 
 -- no set in the value is empty, if there is one
 abbrev pub MayFull : Option Tree → Type 0
@@ -62,7 +62,7 @@ full-slice_get (tree_then t ts) zero h = first_holds (sets_full t) _ h
 full-slice_get (tree_then t ts) (suc i) h = full-slice_get ts i (second_holds (sets_full t) _ h)
 
 -- where a step leads
-full-step : (s : PathPart) (t : Tree) → T (sets_full t) → MayFull (step s t)
+full-step : (s : PathPart) (t : Tree) → T (sets_full t) → MayFull (step_into s t)
 full-step (Name name) (M_tree fs) h = full-at_name name (pairs fs) (full-pairs fs h)
 full-step (Index i) (L_tree ts) h = full-slice_get ts i h
 full-step _ _ h = tt
@@ -70,7 +70,7 @@ full-step _ _ h = tt
 -- where steps lead, one after another
 full-part : (ss : List PathPart) (t : Tree) → T (sets_full t) → MayFull (part ss t)
 full-part [] t h = h
-full-part (s ∷ ss) t h = (elim (step s t) as
+full-part (s ∷ ss) t h = (elim (step_into s t) as
     (λ o. MayFull o → MayFull (option_and_then (part ss) o)) [
       | None ↦ λ u. tt
       | Some u ↦ λ f. full-part ss u f
@@ -114,17 +114,17 @@ full-with_pair name t (q ∷ qs) h f =
 
 module _ {K : Type 0} (R : K → K → Ordering) where
   -- a member more
-  full-with_member : (x : K) (ys : List K) → T (is_full (with_member R x ys))
+  full-with_member : (x : K) (ys : List K) → T (is_nonempty_set (with_member R x ys))
   full-with_member x [] = tt
   full-with_member x (y ∷ ys) = elim (R x y) as
-      (λ o. T (is_full (by_order o (x ∷ y ∷ ys) (y ∷ ys) (y ∷ with_member R x ys)))) [
+      (λ o. T (is_nonempty_set (by_order o (x ∷ y ∷ ys) (y ∷ ys) (y ∷ with_member R x ys)))) [
         | Less ↦ tt
         | Equal ↦ tt
         | Greater ↦ tt
       ]
 
   -- many members more
-  pub full-with_members : (xs ys : List K) → T (is_full ys) → T (is_full (with_members R xs ys))
+  pub full-with_members : (xs ys : List K) → T (is_nonempty_set ys) → T (is_nonempty_set (with_members R xs ys))
   full-with_members [] ys h = h
   full-with_members (x ∷ xs) ys h = full-with_member x (with_members R xs ys)
 

@@ -7,7 +7,7 @@ use Rattle.alt_expr.specs.Given.{Given, value_of}
 use Rattle.alt_expr.specs.Located.{View}
 use Rattle.alt_expr.specs.PathGrammar.{PathPhrase, path_tree, name_text}
 use Rattle.alt_expr.specs.UpdateGrammar.{SetPhrase, set, PairPhrase, pair, ClausePhrase, sets, removes, adds, deletes, UpdatePhrase, clauses, sum_tree, set_tree, remove_tree, add_tree, delete_tree, clause_tree, clauses_tree, update_tree}
-use Rattle.alt_expr.specs.Updated.{Edit, ◌>>=◌, sum_of, parent, added, left, taken, edit, edits}
+use Rattle.alt_expr.specs.Updated.{Edit, ◌>>=◌, sum_of, parent, added, left, taken_from_set, edit, edits}
 use Rattle.alt_expr.specs.declared.path.PathPart.{PathPart}
 use Rattle.alt_expr.specs.declared.path.PathPart.TheVariants.{Name}
 use Rattle.alt_expr.specs.declared.update.Action.{Action}
@@ -52,7 +52,7 @@ full-left kind h [] = tt
 full-left kind h (x ∷ xs) = h x xs
 
 -- what DELETE puts, if anything
-pub full-taken : (o : Option Tree) (t : Tree) → IfOk (taken o t) MayFull
+pub full-taken : (o : Option Tree) (t : Tree) → IfOk (taken_from_set o t) MayFull
 full-taken None (SS_tree ss) = tt
 full-taken None (NS_tree zs) = tt
 full-taken None (BS_tree bs) = tt
@@ -122,7 +122,7 @@ module _ (view : View) (g : Given) (full : ViewFull view) (given : PairsFull g.v
   full-delete (pair n w) =
       let name = name_text g.names n in
       let t = tree_of (value_of g.values w) in
-      behind MayFull EditFull (taken (view name) t) (λ o. Ok (Name name ∷ [], o))
+      behind MayFull EditFull (taken_from_set (view name) t) (λ o. Ok (Name name ∷ [], o))
       (full-taken (view name) t) (λ o k. k)
 
   full-clause : (c : ClausePhrase) → ActionsFull view (clause_tree g c)

@@ -8,11 +8,11 @@ use Rattle.std.specs.FinMap.Entries as entries
 use Rattle.alt_base.proofs.Bools.{both_hold, first_holds, second_holds}
 use Rattle.alt_expr.specs.Located.{View}
 use Rattle.alt_expr.specs.Projected.{same_step, element_then, pair_then}
-use Rattle.alt_expr.specs.Updated.{Edit, edits, behind, under, put_here, is_taken, past, put_name, put_names, outcome, changed, changed_elements, changed_fields, after, updated}
+use Rattle.alt_expr.specs.Updated.{Edit, edits, edits_behind, under, put_here, is_taken, elements_past_end, put_name, put_names, outcome, changed, changed_elements, changed_fields, place_after, updated}
 use Rattle.alt_expr.specs.declared.path.PathPart.{PathPart}
 use Rattle.alt_expr.specs.declared.path.PathPart.TheVariants.{Name, Index}
 use Rattle.alt_expr.specs.declared.update.Action.{Action}
-use Rattle.alt_machine.specs.Ops.UpdateItem.{pairs_of, with_key}
+use Rattle.alt_machine.specs.Ops.UpdateItem.{pairs_of, with_key_attributes}
 use Rattle.alt_machine.proofs.Full.{MayFull, PairsFull, ViewFull, full-pairs, full-elements, full-append, full-with_pair}
 use Rattle.alt_machine.proofs.FullActions.{EditFull, EditsFull, ActionsFull, full-edits}
 use Rattle.alt_machine.proofs.FullTerms as term
@@ -21,7 +21,7 @@ use Rattle.alt_value.specs.Values.{sets_full, elements_full, fields_full}
 
 -- ---- edits that go on from a step
 
-full-behind : (s : PathPart) (e : Edit) → EditFull e → EditsFull (behind s e)
+full-behind : (s : PathPart) (e : Edit) → EditFull e → EditsFull (edits_behind s e)
 full-behind s ([], v) h = tt
 full-behind s (p ∷ ps, v) h = elim (same_step s p) as (λ b. EditsFull (cond b ((ps, v) ∷ []) [])) [
   | true ↦ (h, tt)
@@ -35,7 +35,7 @@ edits-append (d ∷ ds) es h k = (h.0, edits-append ds es h.1 k)
 full-under : (s : PathPart) (es : List Edit) → EditsFull es → EditsFull (under s es)
 full-under s [] h = tt
 full-under s (e ∷ es) h =
-    edits-append (behind s e) (under s es) (full-behind s e h.0) (full-under s es h.1)
+    edits-append (edits_behind s e) (under s es) (full-behind s e h.0) (full-under s es h.1)
 
 -- ---- what is put
 
@@ -64,16 +64,16 @@ full-put i t (e ∷ es) h f =
     ]
 
 -- past the end of a list
-full-past : (n : ℕ) (es : List Edit) → EditsFull es → EntriesFull (past n es)
+full-past : (n : ℕ) (es : List Edit) → EditsFull es → EntriesFull (elements_past_end n es)
 full-past n [] h = tt
 full-past n (([], v) ∷ es) h = full-past n es h.1
 full-past n ((Name name ∷ ps, v) ∷ es) h = full-past n es h.1
 full-past n ((Index i ∷ [], None) ∷ es) h = full-past n es h.1
 full-past n ((Index i ∷ [], Some t) ∷ es) h =
-    let rest : EntriesFull (past n es) = full-past n es h.1 in
+    let rest : EntriesFull (elements_past_end n es) = full-past n es h.1 in
     elim (nat_le n i) as
-    (λ b. EntriesFull (cond b (entries.put nat_cmp i t (past n es)) (past n es))) [
-      | true ↦ full-put i t (past n es) h.0 rest
+    (λ b. EntriesFull (cond b (entries.put nat_cmp i t (elements_past_end n es)) (elements_past_end n es))) [
+      | true ↦ full-put i t (elements_past_end n es) h.0 rest
       | false ↦ rest
     ]
 full-past n ((Index i ∷ q ∷ qs, v) ∷ es) h = full-past n es h.1
@@ -117,7 +117,7 @@ mutual
       → MayFull (changed es t)
   full-changed es (L_tree ts) h f =
       let kept : List Tree = elements (changed_elements es 0 ts) in
-      let new : List Tree = map (λ (p : ℕ × Tree). p.1) (past (length (elements ts)) es) in
+      let new : List Tree = map (λ (p : ℕ × Tree). p.1) (elements_past_end (length (elements ts)) es) in
       full-outcome (put_here es) (is_taken es) (L_tree (trees_of (kept ++ new)))
       (full-put_here es h) (full-append kept new (full-elements (changed_elements es 0 ts)
       (full-changed_elements es 0 ts h f)) (full-past (length (elements ts)) es h))
@@ -146,7 +146,7 @@ mutual
       (first_holds (sets_full t) _ f))
       (full-changed_fields es fs h (second_holds (sets_full t) _ f))
 
-full-after : (es : List Edit) (o : Option Tree) → EditsFull es → MayFull o → MayFull (after es o)
+full-after : (es : List Edit) (o : Option Tree) → EditsFull es → MayFull o → MayFull (place_after es o)
 full-after es None h f = full-put_here es h
 full-after es (Some t) h f = full-changed es t h f
 
@@ -156,7 +156,7 @@ full-after es (Some t) h f = full-changed es t h f
 pub full-updated : (view : View) (actions : List Action) → ViewFull view
     → ActionsFull view actions → IfOk (updated view actions) ViewFull
 full-updated view actions full h = term.behind EditsFull ViewFull (edits view actions)
-    (λ es. Ok (λ name. after (under (Name name) es) (view name))) (full-edits view actions h)
+    (λ es. Ok (λ name. place_after (under (Name name) es) (view name))) (full-edits view actions h)
     (λ es k name. full-after (under (Name name) es) (view name) (full-under (Name name) es k)
     (full name))
 
@@ -175,8 +175,8 @@ full-pairs_of view (name ∷ names) h =
 
 -- an item with the attributes of its key
 pub full-with_key : (key item : List Pair) → PairsFull key → PairsFull item
-    → PairsFull (with_key key item)
+    → PairsFull (with_key_attributes key item)
 full-with_key [] item h f = f
 full-with_key ((name, t) ∷ key) item h f =
-    full-with_pair name t (with_key key item) (first_holds (sets_full t) _ h)
+    full-with_pair name t (with_key_attributes key item) (first_holds (sets_full t) _ h)
     (full-with_key key item (second_holds (sets_full t) _ h) f)

@@ -7,7 +7,7 @@ use Rattle.alt_expr.specs.Located.{View, located}
 use Rattle.alt_expr.specs.PathGrammar.{path_tree}
 use Rattle.alt_expr.specs.UpdateGrammar.{TermPhrase, at, value, if_not_exists, list_append, SumPhrase, one, plus, minus, term_tree, sum_tree}
 use Rattle.alt_expr.specs.Updated as u
-use Rattle.alt_expr.specs.Updated.{Fault, ◌>>=◌, there, or_else, joined, as_number, term, sum_of}
+use Rattle.alt_expr.specs.Updated.{ActionFault, ◌>>=◌, there, or_else, appended_list, as_number, term, sum_of}
 use Rattle.alt_expr.specs.declared.path.PathPart.{PathPart}
 use Rattle.alt_expr.specs.declared.update.Term.{Term, the_lemmas}
 use Rattle.alt_expr.specs.declared.update.Term.TheVariants as t
@@ -17,18 +17,18 @@ use Rattle.alt_value.specs.Values.{sets_full}
 use Rattle.alt_machine.proofs.Full.{MayFull, PairsFull, ViewFull, full-located, full-elements, full-append, full-value_of}
 
 -- no set in the value is empty, where there was no fault
-abbrev pub FullOk : Result Tree Fault → Type 0
+abbrev pub FullOk : Result Tree ActionFault → Type 0
 FullOk r = IfOk r (λ t. T (sets_full t))
 
 -- what holds behind a step that was made
-pub behind : {A B : Type 0} (P : A → Type 0) (Q : B → Type 0) (r : Result A Fault)
-    (next : A → Result B Fault) → IfOk r P → ((x : A) → P x → IfOk (next x) Q)
+pub behind : {A B : Type 0} (P : A → Type 0) (Q : B → Type 0) (r : Result A ActionFault)
+    (next : A → Result B ActionFault) → IfOk r P → ((x : A) → P x → IfOk (next x) Q)
     → IfOk (r >>= next) Q
 behind P Q (Ok x) next h f = f x h
 behind P Q (Err e) next h f = tt
 
 -- of any answer nothing
-pub anything : {A : Type 0} (r : Result A Fault) → IfOk r (λ _. Unit {0})
+pub anything : {A : Type 0} (r : Result A ActionFault) → IfOk r (λ _. Unit {0})
 anything (Ok x) = tt
 anything (Err e) = tt
 
@@ -38,12 +38,12 @@ full-there : (o : Option Tree) → MayFull o → FullOk (there o)
 full-there None h = tt
 full-there (Some t) h = h
 
-full-or_else : (o : Option Tree) (r : Result Tree Fault) → MayFull o → FullOk r
+full-or_else : (o : Option Tree) (r : Result Tree ActionFault) → MayFull o → FullOk r
     → FullOk (or_else o r)
 full-or_else None r h f = f
 full-or_else (Some t) r h f = h
 
-full-joined : (s t : Tree) → T (sets_full s) → T (sets_full t) → FullOk (joined s t)
+full-joined : (s t : Tree) → T (sets_full s) → T (sets_full t) → FullOk (appended_list s t)
 full-joined (L_tree ss) (L_tree ts) h f =
     full-append (elements ss) (elements ts) (full-elements ss h) (full-elements ts f)
 full-joined (L_tree ss) _ h f = tt
@@ -95,10 +95,10 @@ module _ (view : View) (g : Given) (full : ViewFull view) (given : PairsFull g.v
   unfolding term
   full-ListAppend x y h f =
       let is : term view (t.ListAppend x y)
-      ≡ (term view x >>= (λ s. term view y >>= (λ r. joined s r))) = search (rules, the_lemmas) in
+      ≡ (term view x >>= (λ s. term view y >>= (λ r. appended_list s r))) = search (rules, the_lemmas) in
       subst FullOk (sym is) (behind (λ s. T (sets_full s)) (λ s. T (sets_full s)) (term view x)
-      (λ s. term view y >>= (λ r. joined s r)) h (λ s k.
-      behind (λ r. T (sets_full r)) (λ r. T (sets_full r)) (term view y) (joined s) f
+      (λ s. term view y >>= (λ r. appended_list s r)) h (λ s k.
+      behind (λ r. T (sets_full r)) (λ r. T (sets_full r)) (term view y) (appended_list s) f
       (λ r i. full-joined s r k i)))
 
   -- what a term stands for

@@ -4,7 +4,7 @@ use Rattle.std.specs.Option.{option_map_or}
 use Rattle.std.proofs.Math.Bool.{or-true}
 use Rattle.alt_base.proofs.Lists.{bytes_eq-itself}
 use Rattle.alt_keyorder.specs.Place.{place_in_table, place_bytes}
-use Rattle.alt_machine.specs.Keys.{if_key, key_value, place_beside, key_place, place_of, byte_count, is_within, key_fits}
+use Rattle.alt_machine.specs.Keys.{if_key, key_value, place_beside, key_place, place_of, byte_count, is_key_value_within, key_fits}
 use Rattle.alt_schema.specs.Indexes.{is_key, has_key_name, of_range, longest_hash, longest_range}
 use Rattle.alt_schema.specs.declared.schema.KeyAttr.{KeyAttr}
 use Rattle.alt_schema.specs.declared.schema.TableSchema.{TableSchema}
@@ -96,8 +96,8 @@ module _ (d : TableSchema) (old new : List Pair) (keeps : KeepsKey d old new) (p
 
   -- the test of a RANGE value's length answers the same of both items
   within_same : (range : Option KeyAttr) → d.range ≡ range
-      → of_range (is_within longest_range new) true range
-      ≡ of_range (is_within longest_range old) true range
+      → of_range (is_key_value_within longest_range new) true range
+      ≡ of_range (is_key_value_within longest_range old) true range
   within_same None e = refl
   within_same (Some r) e =
       ap (λ o. option_map_or (λ t. nat_le (byte_count t) longest_range) o true) (range_same r e)
@@ -106,5 +106,5 @@ module _ (d : TableSchema) (old new : List Pair) (keeps : KeepsKey d old new) (p
   pub still_fits : key_fits d old ≡ true → key_fits d new ≡ true
   still_fits fits =
       ap (λ o. option_map_or (λ t. nat_le (byte_count t) longest_hash) o true
-      && of_range (is_within longest_range new) true d.range) hash_same
-      ∙ ap (λ b. is_within longest_hash old d.hash && b) (within_same d.range refl) ∙ fits
+      && of_range (is_key_value_within longest_range new) true d.range) hash_same
+      ∙ ap (λ b. is_key_value_within longest_hash old d.hash && b) (within_same d.range refl) ∙ fits

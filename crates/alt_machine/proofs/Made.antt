@@ -8,7 +8,7 @@ use Rattle.std.specs.List.{list_all, list_any}
 use Rattle.std.specs.Str.{bytes_eq}
 use Rattle.serde_json.specs.Data.{Members}
 use Rattle.alt_machine.specs.Valid.{is_pair, are_two, is_local, names_few, IsMade}
-use Rattle.alt_schema.specs.Described.{description_of, described_by, hash_of, range_of, index_for, indexes_from, projection_for, IsNew}
+use Rattle.alt_schema.specs.Described.{description_of, described_by, hash_of_key_schema, range_of_key_schema, index_for, indexes_from, projection_for, IsNew}
 use Rattle.alt_schema.specs.Indexes.{is_key, is_used}
 use Rattle.alt_schema.specs.Rules as rules
 use Rattle.alt_schema.specs.Rules.{is_name}
@@ -43,7 +43,7 @@ module _ (ds : List KeyAttr) (p : StatedIndex → Bool) (q : IndexSchema → Boo
 
 -- the key attributes of a good key schema are a pair: their names differ and have bytes
 pub pair_kept : (ds : List KeyAttr) (keys : List Element) → rules.is_key_schema keys ≡ true
-    → is_pair (hash_of ds keys) (range_of ds keys) ≡ true
+    → is_pair (hash_of_key_schema ds keys) (range_of_key_schema ds keys) ≡ true
 pair_kept ds [] e = cc
 pair_kept ds (h ∷ []) e = and_from (nat_lt 0 (length h.name)) true
     (second_so (bytes_eq h.role (codes "HASH")) _ e) refl
@@ -59,8 +59,8 @@ pair_kept ds (h ∷ r ∷ x ∷ xs) e = cc
 
 -- a local index with good keys has the HASH key of its table and another RANGE key
 local_kept : (ds : List KeyAttr) (table index : List Element) → rules.is_local_to table index ≡ true
-    → (bytes_eq (hash_of ds index).name (hash_of ds table).name && are_two (range_of ds table)
-    (range_of ds index)) ≡ true
+    → (bytes_eq (hash_of_key_schema ds index).name (hash_of_key_schema ds table).name && are_two (range_of_key_schema ds table)
+    (range_of_key_schema ds index)) ≡ true
 local_kept ds [] index e = cc
 local_kept ds (h ∷ []) index e = cc
 local_kept ds (h ∷ r ∷ []) [] e = cc
@@ -72,7 +72,7 @@ local_kept ds (h ∷ r ∷ y ∷ ys) index e = cc
 -- an attribute is used in a key schema where it is one of the key
 pub used_kept : (ds : List KeyAttr) (keys : List Element) (name : List ℕ)
     → rules.is_key_schema keys ≡ true
-    → rules.is_used_in name keys ≡ is_key (hash_of ds keys) (range_of ds keys) name
+    → rules.is_used_in name keys ≡ is_key (hash_of_key_schema ds keys) (range_of_key_schema ds keys) name
 used_kept ds [] name e = cc
 used_kept ds (h ∷ []) name e = refl
 used_kept ds (h ∷ r ∷ []) name e = ap (λ b. bytes_eq h.name name || b)
@@ -123,13 +123,13 @@ module _ (ms : Members) (moment number family : ℕ) where
   unfolding description_of described_by
   made_family = refl
 
-  module _ (taken : rules.refusal_of ms ≡ None) where
+  module _ (taken : rules.create_table_refusal ms ≡ None) where
     names : rules.names_fit (stated ms) ≡ true
-    unfolding rules.refusal_of
+    unfolding rules.create_table_refusal
     names = names_hold (stated ms) taken
 
     schemas : rules.in_each_schema rules.is_key_schema (stated ms) ≡ true
-    unfolding rules.refusal_of
+    unfolding rules.create_table_refusal
     schemas = first_so (rules.in_each_schema rules.is_key_schema (stated ms)) _
         (keys_hold (stated ms) taken)
 
@@ -137,7 +137,7 @@ module _ (ms : Members) (moment number family : ℕ) where
     index_tests : (list_all (λ i. rules.is_local_to (stated ms).keys i.keys) (stated ms).locals
         && list_all (λ i. rules.is_projection i.projects i.includes)
         (rules.stated_indexes (stated ms))) ≡ true
-    unfolding rules.refusal_of
+    unfolding rules.create_table_refusal
     index_tests =
         second_so (rules.all_differ (λ i. i.name) (rules.stated_indexes (stated ms))) _
         (second_so (nat_le (length (stated ms).globals) rules.most_globals) _
@@ -145,22 +145,22 @@ module _ (ms : Members) (moment number family : ℕ) where
         (indexes_hold (stated ms) taken)))
 
     -- each attribute that is defined is used
-    all_used : list_all (λ a. rules.is_used (stated ms) a.name) (stated ms).definitions ≡ true
-    unfolding rules.refusal_of
+    all_used : list_all (λ a. rules.is_used_in_any_schema (stated ms) a.name) (stated ms).definitions ≡ true
+    unfolding rules.create_table_refusal
     all_used =
-        first_so (list_all (λ a. rules.is_used (stated ms) a.name) (stated ms).definitions) _
+        first_so (list_all (λ a. rules.is_used_in_any_schema (stated ms) a.name) (stated ms).definitions) _
         (second_so (rules.all_differ (λ a. a.name) (stated ms).definitions) _
         (second_so (rules.in_each_schema rules.is_key_schema (stated ms)) _
         (keys_hold (stated ms) taken)))
 
     -- as alt_schema has it
     pub made_new : IsNew (description_of ms moment number family)
-    unfolding description_of rules.refusal_of
+    unfolding description_of rules.create_table_refusal
     made_new = new_description (stated ms) taken moment number family
 
     -- it is as the description of a table in a state has to be
     pub made_is : IsMade (description_of ms moment number family)
-    unfolding description_of described_by rules.refusal_of
+    unfolding description_of described_by rules.create_table_refusal
     made_is =
         let ds : List KeyAttr = (stated ms).definitions in
         let ls : List StatedIndex = (stated ms).locals in
@@ -176,7 +176,7 @@ module _ (ms : Members) (moment number family : ℕ) where
               (λ f i e. pair_kept ds i.keys e) _ _ ls gs
               (second_so (rules.is_key_schema (stated ms).keys) _ schemas);
           used =
-              sym (tests_alike (rules.is_used (stated ms))
+              sym (tests_alike (rules.is_used_in_any_schema (stated ms))
               (is_used (described_by (stated ms) moment number family)) ds (λ name j.
               used_kept ds (stated ms).keys name
               (first_so (rules.is_key_schema (stated ms).keys) _ schemas) j
@@ -185,7 +185,7 @@ module _ (ms : Members) (moment number family : ℕ) where
               ∙ all_used;
           locals =
               kept ds (λ i. rules.is_local_to (stated ms).keys i.keys)
-              (is_local (hash_of ds (stated ms).keys) (range_of ds (stated ms).keys))
+              (is_local (hash_of_key_schema ds (stated ms).keys) (range_of_key_schema ds (stated ms).keys))
               (λ f i e. local_kept ds (stated ms).keys i.keys e) _ ls
               (first_so (list_all (λ i. rules.is_local_to (stated ms).keys i.keys) ls) _
               index_tests);

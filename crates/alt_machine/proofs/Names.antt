@@ -10,7 +10,7 @@ use Rattle.alt_base.proofs.Orderings.{is_eq-true}
 use Rattle.alt_expr.specs.Located.{View}
 use Rattle.alt_expr.specs.Updated.{put_name}
 use Rattle.alt_expr.specs.declared.update.Action.{Action}
-use Rattle.alt_machine.specs.Ops.UpdateItem.{pairs_of, names_of, name_of, with_key}
+use Rattle.alt_machine.specs.Ops.UpdateItem.{pairs_of, names_of, attribute_of_path, with_key_attributes}
 use Rattle.alt_expr.specs.UpdateLanguage.{target}
 use Rattle.alt_value.specs.Item.{IsItem, at_name}
 use Rattle.alt_value.specs.Members.{text_order}
@@ -54,10 +54,10 @@ IsItem-pairs_of view (name ∷ names) =
 
 -- an item with the attributes of its key
 pub IsItem-with_key : (key item : List Pair) → T (below_all text_order [] key) → IsItem item
-    → IsItem (with_key key item)
+    → IsItem (with_key_attributes key item)
 IsItem-with_key [] item h f = f
 IsItem-with_key ((name, t) ∷ key) item h f =
-    IsItem-with_pair name t (with_key key item) (above_empty_holds name (first_holds _ _ h))
+    IsItem-with_pair name t (with_key_attributes key item) (above_empty_holds name (first_holds _ _ h))
     (IsItem-with_key key item (second_holds _ _ h) f)
 
 -- ---- what stands at a name
@@ -111,19 +111,19 @@ pub was_among : (update : List Action) (old : List Pair) (n : List ℕ) (t : Tre
     → at_name n old ≡ Some t
     → list_any (eq_by_cmp text_order n) (names_of update (Some old)) ≡ true
 was_among update old n t e =
-    let changed : List (List ℕ) = map (λ (a : Action). name_of (target a)) update in
+    let changed : List (List ℕ) = map (λ (a : Action). attribute_of_path (target a)) update in
     list_any-append (eq_by_cmp text_order n) (map (λ (p : Pair). p.0) old) changed
     ∙ ap (λ b. b || list_any (eq_by_cmp text_order n) changed)
     (sym (is_some-find text_order n old) ∙ ap is_some e)
 
 -- an attribute of the key is there
 pub at_name-with_key : (n : List ℕ) (t : Tree) (key item : List Pair) → at_name n key ≡ Some t
-    → at_name n (with_key key item) ≡ Some t
+    → at_name n (with_key_attributes key item) ≡ Some t
 at_name-with_key n t [] item e = absurd (let f : ⊥ = cc in f)
 at_name-with_key n t ((name, u) ∷ key) item e =
-    find-put text_order text_total n name u (with_key key item)
+    find-put text_order text_total n name u (with_key_attributes key item)
     ∙ (elim (eq_by_cmp text_order n name) as (λ b. cond b (Some u) (at_name n key) ≡ Some t
-    → cond b (Some u) (at_name n (with_key key item)) ≡ Some t) [
+    → cond b (Some u) (at_name n (with_key_attributes key item)) ≡ Some t) [
       | true ↦ λ f. f
       | false ↦ λ f. at_name-with_key n t key item f
     ]) e

@@ -4,20 +4,20 @@ use Rattle.std.specs.Prelude.{unwrap_or, option_map, option_and_then, codes}
 use Rattle.std.specs.Str.{bytes_eq}
 use Rattle.serde_json.specs.Data.{Data, Members, no_members, member}
 use Rattle.serde_json.specs.Find.{as_object, as_str}
-use Rattle.alt_codec.specs.Reading.{Answer as ValueAnswer, value_in}
+use Rattle.alt_codec.specs.Reading.{ValueOrFault as ValueAnswer, value_in}
 use Rattle.alt_codec.proofs.Fits.{Fits, value_fits}
 use Rattle.alt_expr.specs.Given.{Given}
 use Rattle.alt_expr.specs.Located.{View}
 use Rattle.alt_expr.specs.UpdateLanguage.{begin_with_names}
-use Rattle.alt_expr.specs.Updated.{Fault, parent, added, taken}
+use Rattle.alt_expr.specs.Updated.{ActionFault, parent, added, taken_from_set}
 use Rattle.alt_expr.specs.Updated as update
 use Rattle.alt_expr.specs.declared.cond.Cond.{Cond}
 use Rattle.alt_expr.specs.declared.path.PathPart.{PathPart}
 use Rattle.alt_expr.specs.declared.path.PathPart.TheVariants.{Name}
 use Rattle.alt_expr.specs.declared.update.Action.{Action}
-use Rattle.alt_legacy.specs.Changes.{Change, put, add, take, NamedChange, put_of, add_of, delete_of, is_set, if_set, change_named, change_by, change_of, named_change, change_then, each_change, changes_in}
-use Rattle.alt_legacy.specs.Trees.{condition_in, paths_in, path, action_for, action_of, update_in}
-use Rattle.alt_legacy.specs.Values.{sound, value_of}
+use Rattle.alt_legacy.specs.Changes.{AttributeChange, put, add, take, NamedChange, put_of, add_of, delete_of, is_set, if_set, change_named, change_by, entry_change, named_change, change_then, each_change, changes_of_member}
+use Rattle.alt_legacy.specs.Trees.{condition_in, paths_in, attribute_path, action_for, action_of, update_in}
+use Rattle.alt_legacy.specs.Values.{sound, json_value}
 use Rattle.alt_legacy.specs.declared.reading.Form.TheVariants.{Filter}
 use Rattle.alt_legacy.proofs.Named.{names_first}
 use Rattle.alt_legacy.proofs.Updating.{given_term}
@@ -180,7 +180,7 @@ module _ (older : Older) (ms : Members) where
 
   -- what holds of the actions of entries holds of those of the update
   module _ (P : List Action → Type 0) (nothing : P [])
-      (holds : (d : Data) (cs : List NamedChange) → changes_in d ≡ Some cs → P (map action_of cs))
+      (holds : (d : Data) (cs : List NamedChange) → changes_of_member d ≡ Some cs → P (map action_of cs))
     where
       some_has : (actions : List Action) → P actions → P (unwrap_or (some_actions actions) [])
       some_has [] h = h
@@ -190,9 +190,9 @@ module _ (older : Older) (ms : Members) where
           → P (unwrap_or update [])
       update_has None update e =
           subst (λ (u : Option (List Action)). P (unwrap_or u [])) (same_Ok None update e) nothing
-      update_has (Some d) update e = by (changes_in d) refl e
+      update_has (Some d) update e = by (changes_of_member d) refl e
         where
-          by : (o : Option (List NamedChange)) → changes_in d ≡ o
+          by : (o : Option (List NamedChange)) → changes_of_member d ≡ o
               → or_refused bad_legacy_parameter
               (option_map some_actions (option_map (map action_of) o)) ≡ Ok update
               → P (unwrap_or update [])
@@ -207,7 +207,7 @@ module _ (older : Older) (ms : Members) where
 -- ---- what entries put
 
 -- no set in a value that was read is empty
-value_full : (d : Data) → IfSome (value_of d) (λ v. T (sets_full (tree_of v)))
+value_full : (d : Data) → IfSome (json_value d) (λ v. T (sets_full (tree_of v)))
 value_full d = by (value_in 32 d) (value_fits 32 d)
   where
     by : (r : ValueAnswer) → IfOk r (Fits 32) → IfSome (sound r) (λ v. T (sets_full (tree_of v)))
@@ -217,28 +217,28 @@ value_full d = by (value_in 32 d) (value_fits 32 d)
 module _ (view : View) (full : ViewFull view) where
   module _ (name : List ℕ) where
     -- what a change puts has no empty set, if there is a change
-    abbrev MayPut : Option Change → Type 0
+    abbrev MayPut : Option AttributeChange → Type 0
     MayPut o = IfSome o (λ c. ActionFull view (action_for name c))
 
-    chosen : (b : Bool) (x y : Option Change) → MayPut x → MayPut y → MayPut (cond b x y)
+    chosen : (b : Bool) (x y : Option AttributeChange) → MayPut x → MayPut y → MayPut (cond b x y)
     chosen true x y h k = h
     chosen false x y h k = k
 
     put_full : (value : Option Data) → MayPut (put_of value)
     put_full None = tt
-    put_full (Some d) = by (value_of d) (value_full d)
+    put_full (Some d) = by (json_value d) (value_full d)
       where
         by : (o : Option Attr) → IfSome o (λ v. T (sets_full (tree_of v)))
             → MayPut (option_map put o)
         by None h = tt
-        by (Some v) h = subst (λ (r : Result Tree Fault). IfOk
-            (update.◌>>=◌ r (λ t. update.◌>>=◌ (parent view (path name))
-            (λ _. Ok (path name, Some t)))) EditFull)
+        by (Some v) h = subst (λ (r : Result Tree ActionFault). IfOk
+            (update.◌>>=◌ r (λ t. update.◌>>=◌ (parent view (attribute_path name))
+            (λ _. Ok (attribute_path name, Some t)))) EditFull)
             (sym (given_term view v)) h
 
     add_full : (value : Option Data) → MayPut (add_of value)
     add_full None = tt
-    add_full (Some d) = by (value_of d) (value_full d)
+    add_full (Some d) = by (json_value d) (value_full d)
       where
         by : (o : Option Attr) → IfSome o (λ v. T (sets_full (tree_of v)))
             → MayPut (option_map add o)
@@ -248,12 +248,12 @@ module _ (view : View) (full : ViewFull view) where
             (full-added (view name) (tree_of v) (full name) h) (λ s k. k)
 
     take_full : (v : Attr) → MayPut (Some (take v))
-    take_full v = behind MayFull EditFull (taken (view name) (tree_of v))
+    take_full v = behind MayFull EditFull (taken_from_set (view name) (tree_of v))
         (λ o. Ok (Name name ∷ [], o)) (full-taken (view name) (tree_of v)) (λ o k. k)
 
     delete_full : (value : Option Data) → MayPut (delete_of value)
     delete_full None = tt
-    delete_full (Some d) = by (value_of d)
+    delete_full (Some d) = by (json_value d)
       where
         by : (o : Option Attr) → MayPut (option_and_then if_set o)
         by None = tt
@@ -278,15 +278,15 @@ module _ (view : View) (full : ViewFull view) where
   named_full [] d = tt
   named_full (b ∷ bs) d = of_object (as_object d)
     where
-      mapped : (o : Option Change) → MayPut (b ∷ bs) o
+      mapped : (o : Option AttributeChange) → MayPut (b ∷ bs) o
           → MayName (option_map (λ change. record { name = b ∷ bs; change = change }) o)
       mapped None h = tt
       mapped (Some c) h = h
 
       of_object : (o : Option Members) → MayName (option_map
-          (λ change. record { name = b ∷ bs; change = change }) (option_and_then change_of o))
+          (λ change. record { name = b ∷ bs; change = change }) (option_and_then entry_change o))
       of_object None = tt
-      of_object (Some ms) = mapped (change_of ms) (by_full (b ∷ bs)
+      of_object (Some ms) = mapped (entry_change ms) (by_full (b ∷ bs)
           (option_and_then as_str (given (codes "Action") ms)) (given (codes "Value") ms))
 
   -- and are all of them
@@ -304,7 +304,7 @@ module _ (view : View) (full : ViewFull view) where
   each_full (member name d ms) =
       both_full (named_change name d) (each_change ms) (named_full name d) (each_full ms)
 
-  changes_full : (d : Data) (cs : List NamedChange) → changes_in d ≡ Some cs
+  changes_full : (d : Data) (cs : List NamedChange) → changes_of_member d ≡ Some cs
       → ActionsFull view (map action_of cs)
   changes_full d cs = of_object (as_object d)
     where

@@ -3,7 +3,7 @@ use Rattle.std.proofs.Common.{◌≡◌, refl, ◌∙◌, ℕ, Bool, true, false
 use Rattle.std.specs.Prelude.{not}
 use Rattle.std.specs.List.{list_all}
 use Rattle.alt_legacy.specs.Changes as entries
-use Rattle.alt_legacy.specs.Changes.{Change, put, add, remove, take, NamedChange, makes_item}
+use Rattle.alt_legacy.specs.Changes.{AttributeChange, put, add, remove, take, NamedChange, makes_item}
 use Rattle.alt_legacy.specs.Trees.{action_for, action_of}
 use Rattle.alt_legacy.proofs.Joined.{joined_holds}
 use Rattle.alt_legacy.proofs.Updating.{updated_so, targets}
@@ -20,7 +20,7 @@ older_conditions = record {
 }
 
 -- an action takes away alone where its change does
-taking : (name : List ℕ) (c : Change) → takes_away (action_for name c) ≡ entries.takes_away c
+taking : (name : List ℕ) (c : AttributeChange) → takes_away (action_for name c) ≡ entries.change_takes_away c
 taking name (put v) = refl
 taking name (add v) = refl
 taking name remove = refl
@@ -28,7 +28,7 @@ taking name (take v) = refl
 
 -- all of them do
 all_taking : (cs : List NamedChange)
-    → list_all takes_away (map action_of cs) ≡ list_all (λ d. entries.takes_away d.change) cs
+    → list_all takes_away (map action_of cs) ≡ list_all (λ d. entries.change_takes_away d.change) cs
 all_taking [] = refl
 all_taking (c ∷ cs) = λ i. taking c.name c.change i && all_taking cs i
 
@@ -41,7 +41,7 @@ makes_so : (cs : List NamedChange)
     → makes_none (some_actions (map action_of cs)) ≡ not (makes_item cs)
 makes_so [] = refl
 makes_so (c ∷ cs) = all_taking (c ∷ cs)
-    ∙ twice (list_all (λ d. entries.takes_away d.change) (c ∷ cs))
+    ∙ twice (list_all (λ d. entries.change_takes_away d.change) (c ∷ cs))
 
 pub older_updates : OlderUpdates
 older_updates = record {

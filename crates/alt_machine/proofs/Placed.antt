@@ -1,14 +1,14 @@
 -- Items of one table lie by their keys.
 use Rattle.std.proofs.Common.{◌≡◌, refl, sym, subst, List, Option, Some, None, option_map}
 use Rattle.std.proofs.lemmas.Option.{same_Some}
-use Rattle.std.specs.Prelude.{if◌then◌else◌, option_and_then}
+use Rattle.std.specs.Prelude.{option_and_then}
 use Rattle.alt_base.proofs.Options.{some_if}
 use Rattle.alt_keyorder.specs.Kinds.{IsOfKind, IsKeyFor}
 use Rattle.alt_keyorder.specs.Laws.{Lie}
 use Rattle.alt_keyorder.specs.Place.{Place, place_in_table}
 use Rattle.alt_keyorder.proofs.PlaceLaws.{table_lie}
 use Rattle.alt_machine.specs.Keys.{can_be_key, if_key, key_value, place_beside, key_place}
-use Rattle.alt_machine.specs.Laws.{PlacesLie}
+use Rattle.alt_machine.specs.Laws.{ItemsLieByKeys}
 use Rattle.alt_schema.specs.declared.schema.KeyAttr.{KeyAttr}
 use Rattle.alt_schema.specs.declared.schema.TableSchema.{TableSchema}
 use Rattle.alt_value.specs.Item.{at_name}
@@ -79,7 +79,7 @@ key_of_place d item p h e = by (key_value item d.hash) refl e
     by (Some hash) at f = beside d item p hash d.range refl h (part_kind item d.hash hash h at) f
 
 -- the items of a table lie by their keys
-pub places_lie : PlacesLie
+pub places_lie : ItemsLieByKeys
 places_lie d i j p q hi hj ei ej =
     let a = key_of_place d i p hi.fields ei in
     let b = key_of_place d j q hj.fields ej in

@@ -11,7 +11,7 @@ use Rattle.alt_codec.specs.declared.writer.Writer.TheVariants.{User}
 use Rattle.alt_machine.specs.declared.TheConstants.{LARGEST_ITEM}
 use Rattle.alt_expr.specs.declared.cond.Cond.{Cond}
 use Rattle.alt_machine.specs.declared.Sought.TheVariants.{Item, Key}
-use Rattle.alt_machine.specs.Conditional.{meets, asked, failed, if_met, writes_if}
+use Rattle.alt_machine.specs.Conditional.{meets_condition, asked, failed, if_met, writes_if}
 use Rattle.alt_machine.specs.Expressions.{conditional}
 use Rattle.alt_machine.specs.Keys.{key_fits, place_of}
 use Rattle.alt_machine.specs.Members.{table_name, item_at, item_of, unless_fault}
@@ -99,7 +99,7 @@ writes_steps s moment name t place new there put = by (is_same (map.get t.items 
 -- what is done where a condition holds
 pub steps-met : (s : State) (condition : Option Cond) (ms : Members) (old : Option (List Pair))
     (go : Outcome) → Steps s go → Steps s (if_met condition ms old go)
-steps-met s condition ms old go h = by (meets condition old)
+steps-met s condition ms old go h = by (meets_condition condition old)
   where
     by : (b : Bool) → Steps s (if b then go
         else says (failed (asked (codes "ReturnValuesOnConditionCheckFailure") ms old)))

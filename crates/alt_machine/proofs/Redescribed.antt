@@ -21,7 +21,7 @@ use Rattle.alt_value.specs.Tree.{Pair}
 use Rattle.alt_value.proofs.Texts.{text_total}
 use Rattle.alt_machine.specs.declared.TheConstants.{NUMBERS_END, FAMILIES_END}
 use Rattle.alt_machine.specs.Building.{built_part, built_place, is_built_to, reaches}
-use Rattle.alt_machine.specs.Keys.{is_within, key_fits, key_value, place_beside, place_of}
+use Rattle.alt_machine.specs.Keys.{is_key_value_within, key_fits, key_value, place_beside, place_of}
 use Rattle.alt_machine.specs.Lists.{start_beside, start_value}
 use Rattle.alt_machine.specs.Ops.UpdateTable.{redescribed, with_description}
 use Rattle.alt_machine.specs.State.{State, Table, Texts, Change, families_of}
@@ -45,8 +45,8 @@ module _ (d e : TableSchema) (alike : IsAlike d e) where
       (option_and_then (place_beside item (alike.range j)) (key_value item (alike.hash j)))
 
   fits_alike : (item : List Pair) → key_fits e item ≡ key_fits d item
-  fits_alike item = λ j. is_within longest_hash item (alike.hash j)
-      && of_range (is_within longest_range item) true (alike.range j)
+  fits_alike item = λ j. is_key_value_within longest_hash item (alike.hash j)
+      && of_range (is_key_value_within longest_range item) true (alike.range j)
 
   -- so has a key
   built_place-alike : (key : List Pair) → built_place e key ≡ built_place d key

@@ -17,7 +17,7 @@ use Rattle.alt_expr.specs.declared.path.PathPart.{PathPart}
 use Rattle.alt_expr.specs.declared.update.Action.{Action}
 use Rattle.alt_expr.proofs.UpdateTexts.{update_of}
 use Rattle.alt_machine.specs.declared.Expressions.{Expressions}
-use Rattle.alt_machine.specs.Expressions.{Texts, values_in, values_at, names_at, given_at, stated, read_or_refused, words_at, changes_key, is_unused, of_texts, entries_read, words_given, texts_say}
+use Rattle.alt_machine.specs.Expressions.{Texts, values_in, values_at, names_at, given_at, stated_by_text, read_or_refused, words_at, changes_key, is_unused, of_texts, entries_read, words_given, texts_say}
 use Rattle.alt_machine.specs.Members.{unless_fault}
 use Rattle.alt_machine.specs.Older.{of_entries}
 use Rattle.alt_machine.specs.Refusals.{first_answer, refuse_if, unless_answer, ◌>>=◌}
@@ -152,7 +152,7 @@ module _ (view : View) (g : Given) (full : ViewFull view) (values : PairsFull g.
 
   -- what an update that is stated puts has no empty set
   pub stated_full : (text : Option (List ℕ)) (update : Option (List Action))
-      → stated update_of g text ≡ Ok update → ActionsFull view (unwrap_or update [])
+      → stated_by_text update_of g text ≡ Ok update → ActionsFull view (unwrap_or update [])
   stated_full None update e =
       subst (λ o. ActionsFull view (unwrap_or o [])) (same_Ok None update e) tt
   stated_full (Some text) update e =

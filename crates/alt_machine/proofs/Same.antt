@@ -2,15 +2,15 @@
 use Rattle.std.proofs.Common.{◌≡◌, List, Bool, true, false, Option, refl, sym}
 use Rattle.std.specs.Prelude.{◌↔◌, IsTrue}
 use Rattle.alt_value.specs.Tree.{Pair}
-use Rattle.alt_machine.specs.Same.{holds, is_same, equality}
+use Rattle.alt_machine.specs.Same.{decision_holds, is_same, equality}
 
 -- what a decision says holds
-holds_so : {A : Type 0} (d : Dec A) → holds d ≡ true → A
+holds_so : {A : Type 0} (d : Dec A) → decision_holds d ≡ true → A
 holds_so (yes x) e = x
 holds_so (no f) e = absurd (let g : ⊥ = cc in g)
 
 -- and it says so of what holds
-so_holds : {A : Type 0} (d : Dec A) → A → holds d ≡ true
+so_holds : {A : Type 0} (d : Dec A) → A → decision_holds d ≡ true
 so_holds (yes x) a = refl
 so_holds (no f) a = absurd (f a)
 

@@ -23,7 +23,7 @@ use Rattle.alt_expr.proofs.PathsTexts.{paths_of}
 use Rattle.alt_expr.proofs.TextTokens.{tokens_of}
 use Rattle.alt_expr.proofs.UpdateTexts.{update_of}
 use Rattle.alt_machine.specs.declared.Expressions.{Expressions}
-use Rattle.alt_machine.specs.Expressions.{Texts, stated, read_or_refused, text_at, words_of, words_at, changes_key, is_unused, of_texts, texts_say, of_names}
+use Rattle.alt_machine.specs.Expressions.{Texts, stated_by_text, read_or_refused, text_at, words_of, words_at, changes_key, is_unused, of_texts, texts_say, of_names}
 use Rattle.alt_machine.specs.Refusals.{first_answer, refuse_if, unless_answer, ◌>>=◌}
 use Rattle.alt_schema.specs.declared.schema.TableSchema.{TableSchema}
 use Rattle.alt_shape.specs.Refusals.{Answer, refused, key_update, unused_name}
@@ -35,7 +35,7 @@ pub stated_is : {D A : Type 0} (L : Language D A)
     (told : (g : Given) (text : List ℕ) → Told L g text)
     (g : Given) → ((d e : D) → L.toks d ≡ L.toks e → L.tree g d ≡ L.tree g e) → (text : List ℕ)
     (r : Result A ExprFault) → Parsed L g text r → IsTold r
-    → stated told g (Some text) ≡ read_or_refused r
+    → stated_by_text told g (Some text) ≡ read_or_refused r
 stated_is L told g one_tree text r parsed is_told =
     let of_text = told g text in
     ap read_or_refused (one_answer L g one_tree text of_text.result r of_text.parsed parsed
@@ -68,19 +68,19 @@ colons_noted text old new a h = h.2
 module _ (texts : Texts) (d : TableSchema) (ms : Members) (g : Given) where
   -- what the texts of this operation state
   abbrev pub keys_said : Result (Option Cond) Answer
-  keys_said = stated condition_of g (text_at texts.key_condition ms)
+  keys_said = stated_by_text condition_of g (text_at texts.key_condition ms)
 
   -- what the condition's text states
   abbrev pub condition_said : Result (Option Cond) Answer
-  condition_said = stated condition_of g (text_at texts.condition ms)
+  condition_said = stated_by_text condition_of g (text_at texts.condition ms)
 
   -- what the update's text states
   abbrev pub update_said : Result (Option (List Action)) Answer
-  update_said = stated update_of g (text_at texts.update ms)
+  update_said = stated_by_text update_of g (text_at texts.update ms)
 
   -- what the projection's text states
   abbrev pub paths_said : Result (Option (List (List PathPart))) Answer
-  paths_said = stated paths_of (names_alone g.names) (text_at texts.projection ms)
+  paths_said = stated_by_text paths_of (names_alone g.names) (text_at texts.projection ms)
 
   -- behind each of the texts
   abbrev pub with_paths : Option Cond → Option Cond → Option (List Action)

@@ -13,7 +13,7 @@ use Rattle.alt_schema.specs.Described.{described_by, description_of}
 use Rattle.alt_schema.specs.Stated.{text_of}
 use Rattle.alt_schema.specs.declared.schema.TableSchema.{TableSchema}
 use Rattle.alt_shape.specs.Bodies as bodies
-use Rattle.alt_shape.specs.Refusals.{bad_stream_argument, trimmed}
+use Rattle.alt_shape.specs.Refusals.{bad_stream_argument, change_records_trimmed}
 use Rattle.alt_value.specs.Members.{text_order}
 use Rattle.alt_value.specs.Tree.{Pair}
 use Rattle.alt_value.proofs.Texts.{text_total}
@@ -152,8 +152,8 @@ module _ (s : State) where
       let old : Option (List Pair) = finite.get t.items place in
       leave-met s said.condition ms old _ _ (
       leave-found s (update.item_after (unwrap_or said.update []) old) _ _ (λ item e.
-      leave-unless s (update.of_left t.description (update.left said key old item)) _ _
-      (own_write m n (table_name ms) t place (update.left said key old item) there))))
+      leave-unless s (update.of_left t.description (update.left_by_update said key old item)) _ _
+      (own_write m n (table_name ms) t place (update.left_by_update said key old item) there))))
 
   batch_leaves : (m n : ℕ) (ms : Members)
       → Leave s (batch_write_item s m ms) (batch_write_item s n ms)
@@ -221,7 +221,7 @@ module _ (s : State) where
   unfolding iterator.get_shard_iterator
   shard_iterator_leaves ms = leave-unless s (iterator.of_body ms) _ _
       (leave-found s (stream_at s (arn_in ms)) _ _ (λ t there.
-      leave-unless s (refuse_if (is_trimmed t.trimmed (iterator.starts s ms)) trimmed ∷ []) _ _ (own s)))
+      leave-unless s (refuse_if (is_trimmed t.trimmed (iterator.starts s ms)) change_records_trimmed ∷ []) _ _ (own s)))
 
   records_leave : (ms : Members) → Leave s (records.get_records s ms) (records.get_records s ms)
   unfolding records.get_records
@@ -229,7 +229,7 @@ module _ (s : State) where
       (leave-found s (or_refused bad_stream_argument
       (iterator_of (text_of (codes "ShardIterator") ms))) _ _ (λ i reads.
       leave-found s (stream_at s i.arn) _ _ (λ t there.
-      leave-unless s (refuse_if (is_trimmed t.trimmed i.from) trimmed ∷ []) _ _ (own s))))
+      leave-unless s (refuse_if (is_trimmed t.trimmed i.from) change_records_trimmed ∷ []) _ _ (own s))))
 
   -- ---- any of them
 

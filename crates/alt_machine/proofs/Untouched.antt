@@ -6,7 +6,7 @@ use Rattle.std.proofs.lemmas.Bool.{or_parts}
 use Rattle.alt_expr.specs.Located.{View}
 use Rattle.alt_expr.specs.Projected.{element_then, pair_then}
 use Rattle.alt_expr.specs.UpdateLanguage.{target}
-use Rattle.alt_expr.specs.Updated.{Edit, ◌>>=◌, sum_of, parent, added, taken, edit, edits, behind, under, changed, changed_elements, changed_fields, after, updated}
+use Rattle.alt_expr.specs.Updated.{Edit, ◌>>=◌, sum_of, parent, added, taken_from_set, edit, edits, edits_behind, under, changed, changed_elements, changed_fields, place_after, updated}
 use Rattle.alt_expr.specs.declared.path.PathPart.{PathPart}
 use Rattle.alt_expr.specs.declared.path.PathPart.TheVariants.{Name, Index}
 use Rattle.alt_expr.specs.declared.update.Action.{Action}
@@ -60,13 +60,13 @@ edit_at view (Add name a) = term.behind (λ _. Unit {0}) (λ (e : Edit). e.0 ≡
     (added (view name) (tree_of a)) (λ t. Ok (Name name ∷ [], Some t))
     (term.anything (added (view name) (tree_of a))) (λ _ _. refl)
 edit_at view (Delete name a) = term.behind (λ _. Unit {0}) (λ (e : Edit). e.0 ≡ Name name ∷ [])
-    (taken (view name) (tree_of a)) (λ o. Ok (Name name ∷ [], o))
-    (term.anything (taken (view name) (tree_of a))) (λ _ _. refl)
+    (taken_from_set (view name) (tree_of a)) (λ o. Ok (Name name ∷ [], o))
+    (term.anything (taken_from_set (view name) (tree_of a))) (λ _ _. refl)
 
 module _ (d : TableSchema) (n : List ℕ) (is : is_key d.hash d.range n ≡ true) where
   -- an edit whose path doesn't begin with a key's name doesn't go on from one
   none_behind : (path : List PathPart) (v : Option Tree) → begins_with_key d path ≡ false
-      → behind (Name n) (path, v) ≡ []
+      → edits_behind (Name n) (path, v) ≡ []
   none_behind [] v e = refl
   none_behind (Index i ∷ ps) v e = refl
   none_behind (Name m ∷ ps) v e = (elim (bytes_eq n m) as
@@ -91,7 +91,7 @@ module _ (d : TableSchema) (n : List ℕ) (is : is_key d.hash d.range n ≡ true
       (λ (es : List Edit). under (Name n) es ≡ [])
       (edits view more) (λ es. Ok (e ∷ es)) (none_under view more other.1) (λ es none.
       ap (λ (l : List Edit). l ++ under (Name n) es)
-      (ap (λ path. behind (Name n) (path, e.1)) at ∙ none_behind (target a) e.1 other.0) ∙ none))
+      (ap (λ path. edits_behind (Name n) (path, e.1)) at ∙ none_behind (target a) e.1 other.0) ∙ none))
 
   -- so what stands at the name stays
   pub key_stays : (view : View) (actions : List Action)
@@ -99,6 +99,6 @@ module _ (d : TableSchema) (n : List ℕ) (is : is_key d.hash d.range n ≡ true
       → IfOk (updated view actions) (λ new. new n ≡ view n)
   key_stays view actions h = term.behind (λ (es : List Edit). under (Name n) es ≡ [])
       (λ (new : View). new n ≡ view n) (edits view actions)
-      (λ es. Ok (λ name. after (under (Name name) es) (view name)))
+      (λ es. Ok (λ name. place_after (under (Name name) es) (view name)))
       (none_under view actions h) (λ es none.
-      ap (λ us. after us (view n)) none ∙ after-none (view n))
+      ap (λ us. place_after us (view n)) none ∙ after-none (view n))

@@ -8,7 +8,7 @@ use Rattle.std.proofs.lemmas.Option.{same_Some}
 use Rattle.serde_json.specs.Data.{Members}
 use Rattle.alt_expr.specs.Located.{View}
 use Rattle.alt_expr.specs.UpdateLanguage.{target}
-use Rattle.alt_expr.specs.Updated.{Fault, updated}
+use Rattle.alt_expr.specs.Updated.{ActionFault, updated}
 use Rattle.alt_expr.specs.declared.update.Action.{Action}
 use Rattle.alt_machine.specs.declared.Expressions.{Expressions}
 use Rattle.alt_machine.specs.declared.Sought.TheVariants.{Key}
@@ -18,7 +18,7 @@ use Rattle.alt_machine.specs.Keys.{key_fits, place_of, key_count, place_of_key}
 use Rattle.alt_machine.specs.Members.{table_name}
 use Rattle.alt_machine.specs.Ops.PutItem.{of_item}
 use Rattle.alt_machine.specs.Ops.UpdateItem as update
-use Rattle.alt_machine.specs.Ops.UpdateItem.{or_update_refusal, names_of, pairs_of, item_after, makes_none, with_key, left, of_left, not_empty, returned, leaves, update_item}
+use Rattle.alt_machine.specs.Ops.UpdateItem.{or_update_refusal, names_of, pairs_of, item_after, makes_none, with_key_attributes, left_by_update, of_left, not_empty, returned, leaves, update_item}
 use Rattle.alt_machine.specs.Outcomes.{writes}
 use Rattle.alt_machine.specs.Refusals.{first_answer, ◌>>=◌}
 use Rattle.alt_machine.specs.Replies.{item_answer}
@@ -82,7 +82,7 @@ worked_out : (actions : List Action) (old : Option (List Pair)) (item : List Pai
     × (pairs_of view (names_of actions old) ≡ item)
 worked_out actions old item e = by (updated (seen old) actions) refl e
   where
-    by : (r : Result View Fault) → updated (seen old) actions ≡ r
+    by : (r : Result View ActionFault) → updated (seen old) actions ≡ r
         → (or_update_refusal r >>= (λ view. Ok (pairs_of view (names_of actions old)))) ≡ Ok item
         → (view : View) × (updated (seen old) actions ≡ Ok view)
         × (pairs_of view (names_of actions old) ≡ item)
@@ -138,14 +138,14 @@ of_old d place actions old item was keeps h e =
 of_new : (d : TableSchema) (place : List ℕ) (actions : List Action) (key item : List Pair)
     → IsSound key → place_of d key ≡ Some place → key_fits d key ≡ true
     → ActionsFull (seen None) actions → item_after actions None ≡ Ok item
-    → IsLeft d place (with_key key item)
+    → IsLeft d place (with_key_attributes key item)
 of_new d place actions key item read stands fits h e =
-    let kept : KeepsKey d key (with_key key item) = λ n t is there.
+    let kept : KeepsKey d key (with_key_attributes key item) = λ n t is there.
     at_name-with_key n t key item there in
     let sound = after_sound actions None item (λ name. tt) h e in
     record {
-      stands = still_stands d key (with_key key item) kept place stands;
-      fits = still_fits d key (with_key key item) kept place stands fits;
+      stands = still_stands d key (with_key_attributes key item) kept place stands;
+      fits = still_fits d key (with_key_attributes key item) kept place stands fits;
       names = IsItem-with_key key item read.names.1 sound.0;
       full = full-with_key key item read.full sound.1;
     }
@@ -187,8 +187,8 @@ module _ (s : State) (ms : Members) (said : Expressions) (key : List Pair) (t : 
   pub may_be_left : (old : Option (List Pair))
       → ((was : List Pair) → old ≡ Some was → IsStored t.description place was)
       → (item : List Pair) → item_after actions old ≡ Ok item
-      → first_answer (of_left t.description (left said key old item)) ≡ None
-      → (new : List Pair) → left said key old item ≡ Some new
+      → first_answer (of_left t.description (left_by_update said key old item)) ≡ None
+      → (new : List Pair) → left_by_update said key old item ≡ Some new
       → IsStored t.description place new
   may_be_left (Some was) h item e free new is =
       subst (IsStored t.description place) (same_Some item new is)
@@ -198,7 +198,7 @@ module _ (s : State) (ms : Members) (said : Expressions) (key : List Pair) (t : 
   may_be_left None h item e free new is = by (makes_none said.update) free is
     where
       made : List Pair
-      made = with_key key item
+      made = with_key_attributes key item
 
       by : (b : Bool) → first_answer (of_left t.description (cond b None (Some made))) ≡ None
           → cond b None (Some made) ≡ Some new → IsStored t.description place new
@@ -214,10 +214,10 @@ module _ (s : State) (ms : Members) (said : Expressions) (key : List Pair) (t : 
       → map.get s.tables (table_name ms) ≡ Some t
       → item_after actions (map.get t.items place) ≡ Ok item
       → Steps s (leaves s moment ms actions t place
-      (left said key (map.get t.items place) item))
+      (left_by_update said key (map.get t.items place) item))
   leave_steps moment item there e =
       let old : Option (List Pair) = map.get t.items place in
-      let new : Option (List Pair) = left said key old item in
+      let new : Option (List Pair) = left_by_update said key old item in
       steps-unless s (of_left t.description new)
       (writes (item_writes s moment (table_name ms) t place new)
       (item_answer (codes "Attributes") (not_empty (returned ms actions old new)))) (λ free.

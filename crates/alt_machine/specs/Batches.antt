@@ -30,18 +30,18 @@ abbrev pub object_in : List ℕ → Data → Option Members
 object_in name d = option_and_then as_object (given name (members_in d))
 
 -- the elements of an array
-abbrev pub elements : Items → List Data
-elements no_items = []
-elements (item d ds) = d ∷ elements ds
+abbrev pub array_elements : Items → List Data
+array_elements no_items = []
+array_elements (item d ds) = d ∷ array_elements ds
 
 -- those of an array, none where there is no array
-abbrev pub elements_of : Option Items → List Data
-elements_of None = []
-elements_of (Some ds) = elements ds
+abbrev pub elements_if_array : Option Items → List Data
+elements_if_array None = []
+elements_if_array (Some ds) = array_elements ds
 
 -- those of a value, none where it is no array
 abbrev pub elements_in : Data → List Data
-elements_in d = elements_of (as_array d)
+elements_in d = elements_if_array (as_array d)
 
 -- the members of an object as pairs, which rise by their names
 abbrev pub pairs_in : Members → List (List ℕ × Data)

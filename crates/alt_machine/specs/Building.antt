@@ -33,8 +33,8 @@ reaches d (UpTo (Some key)) place =
     option_map_or (λ last. is_le (text_order place last)) (built_place d key) false
 
 -- it is built of an item of the table
-abbrev pub is_reached : TableSchema → Built → List Pair → Bool
-is_reached d built item = option_map_or (reaches d built) (place_of d item) (is_whole built)
+abbrev pub is_built_of_item : TableSchema → Built → List Pair → Bool
+is_built_of_item d built item = option_map_or (reaches d built) (place_of d item) (is_whole built)
 
 -- the items of a table of which an index is built
 abbrev pub built_part : TableSchema → Built → Texts (List Pair) → Texts (List Pair)

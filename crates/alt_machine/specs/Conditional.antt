@@ -10,10 +10,10 @@ use Rattle.alt_expr.specs.Located.{View}
 use Rattle.alt_expr.specs.declared.cond.Cond.{Cond}
 use Rattle.alt_machine.specs.Members.{table_name}
 use Rattle.alt_machine.specs.Outcomes.{Outcome, says, writes}
-use Rattle.alt_machine.specs.Replies.{asks, item_answer}
+use Rattle.alt_machine.specs.Replies.{member_is_word, item_answer}
 use Rattle.alt_machine.specs.State.{State, Table}
 use Rattle.alt_machine.specs.Writes.{item_writes}
-use Rattle.alt_shape.specs.Refusals.{Answer, refused, refused_with, condition_failed}
+use Rattle.alt_shape.specs.Refusals.{Answer, refused, refused_showing_item, condition_failed}
 use Rattle.alt_value.specs.Item.{at_name}
 use Rattle.alt_value.specs.Tree.{Pair}
 
@@ -22,23 +22,23 @@ abbrev pub seen : Option (List Pair) → View
 seen old = λ name. option_and_then (at_name name) old
 
 -- the condition holds of what is there, or there is no condition
-abbrev pub meets : Option Cond → Option (List Pair) → Bool
-meets condition old = option_map_or (holds (seen old)) condition true
+abbrev pub meets_condition : Option Cond → Option (List Pair) → Bool
+meets_condition condition old = option_map_or (holds (seen old)) condition true
 
 -- the item that was there, where a member asks for it
 abbrev pub asked : List ℕ → Members → Option (List Pair) → Option (List Pair)
-asked name ms old = if asks name (codes "ALL_OLD") ms then old else None
+asked name ms old = if member_is_word name (codes "ALL_OLD") ms then old else None
 
 -- the refusal, and in it the item, if there is one to show
 abbrev pub failed : Option (List Pair) → Answer
 failed None = refused condition_failed
-failed (Some item) = refused_with (json_of_pairs item) condition_failed
+failed (Some item) = refused_showing_item (json_of_pairs item) condition_failed
 
 -- It goes on where the condition holds of what is there. Else nothing is written, and the refusal shows what is there where that is
 -- asked for.
 abbrev pub if_met : Option Cond → Members → Option (List Pair) → Outcome → Outcome
 if_met condition ms old go =
-    if meets condition old then go
+    if meets_condition condition old then go
     else says (failed (asked (codes "ReturnValuesOnConditionCheckFailure") ms old))
 
 -- Where the condition holds of what is at the place, `new` is left there, or nothing, and the answer shows what was there where it is

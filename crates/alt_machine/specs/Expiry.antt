@@ -12,7 +12,7 @@ use Rattle.alt_value.specs.Members.{text_order}
 use Rattle.alt_value.specs.Tree.{Pair, Tree, N_tree}
 use Rattle.alt_machine.specs.declared.Standing.{Standing}
 use Rattle.alt_machine.specs.declared.TheConstants.{FIVE_YEARS, MOST_EXPIRED}
-use Rattle.alt_machine.specs.Ops.BatchWriteItem.{Written, writes_of_all_by}
+use Rattle.alt_machine.specs.Ops.BatchWriteItem.{PlacedWrite, writes_of_all_by}
 use Rattle.alt_machine.specs.Outcomes.{last_state}
 use Rattle.alt_machine.specs.State.{State, Table}
 
@@ -41,7 +41,7 @@ abbrev pub expiring : State → ℕ → List Standing
 expiring s moment = take MOST_EXPIRED (all_expired s moment)
 
 -- nothing is to be left there
-abbrev pub gone_at : Standing → Written
+abbrev pub gone_at : Standing → PlacedWrite
 gone_at e = record { table = e.table; place = e.place; new = None }
 
 -- the writes that delete them, of which a stream tells that time to live made them
@@ -51,8 +51,8 @@ deletions s moment = writes_of_all_by s moment Expiry (map gone_at (expiring s m
 -- ---- what is left
 
 -- the item at a place of a table, where both are there
-abbrev pub item_in : State → List ℕ → List ℕ → Option (List Pair)
-item_in s name place = option_and_then (λ t. finite.get t.items place) (finite.get s.tables name)
+abbrev pub item_at_place : State → List ℕ → List ℕ → Option (List Pair)
+item_at_place s name place = option_and_then (λ t. finite.get t.items place) (finite.get s.tables name)
 
 -- that is where it stands
 abbrev pub is_at : List ℕ → List ℕ → Standing → Bool
@@ -61,5 +61,5 @@ is_at name place e = eq_by_cmp text_order name e.table && eq_by_cmp text_order p
 -- An ExpireItems deletes exactly the items that it names: it leaves none of them, and every other as it was.
 abbrev pub DeletesExpired : Type 0
 DeletesExpired = (s : State) (moment : ℕ) (name place : List ℕ)
-    → item_in (last_state s (deletions s moment)) name place
-    ≡ (if list_any (is_at name place) (expiring s moment) then None else item_in s name place)
+    → item_at_place (last_state s (deletions s moment)) name place
+    ≡ (if list_any (is_at name place) (expiring s moment) then None else item_at_place s name place)

@@ -150,11 +150,11 @@ read_or_refused (Ok tree) = Ok (Some tree)
 read_or_refused (Err fault) = Err (refused (expression_refusal fault))
 
 -- What a text states over what is given, if there is a text. What a text is of a grammar is one (`Told`).
-abbrev pub stated : {D A : Type 0} {L : Language D A}
+abbrev pub stated_by_text : {D A : Type 0} {L : Language D A}
     → ((g : Given) (text : List ℕ) → Told L g text)
     → Given → Option (List ℕ) → Result (Option A) Answer
-stated told g None = Ok None
-stated told g (Some text) = let of_text = told g text in read_or_refused of_text.result
+stated_by_text told g None = Ok None
+stated_by_text told g (Some text) = let of_text = told g text in read_or_refused of_text.result
 
 -- the text at a member, where an operation takes one there
 abbrev pub text_at : Option (List ℕ) → Members → Option (List ℕ)
@@ -200,10 +200,10 @@ of_texts texts d ms g update =
 -- for a value.
 unfoldable pub texts_say : Texts → TableSchema → Members → Given → Result Expressions Answer
 texts_say texts d ms g = do
-  keys ← stated condition_of g (text_at texts.key_condition ms)
-  condition ← stated condition_of g (text_at texts.condition ms)
-  update ← stated update_of g (text_at texts.update ms)
-  projection ← stated paths_of (names_alone g.names) (text_at texts.projection ms)
+  keys ← stated_by_text condition_of g (text_at texts.key_condition ms)
+  condition ← stated_by_text condition_of g (text_at texts.condition ms)
+  update ← stated_by_text update_of g (text_at texts.update ms)
+  projection ← stated_by_text paths_of (names_alone g.names) (text_at texts.projection ms)
   unless_answer (first_answer (of_texts texts d ms g update))
       (record {
         key_condition = keys;

@@ -60,11 +60,11 @@ byte_count (B_tree b) = length b
 byte_count other = 0
 
 -- the value of a key attribute has at most so many bytes
-abbrev pub is_within : ℕ → List Pair → KeyAttr → Bool
-is_within most item key = option_map_or (λ t. nat_le (byte_count t) most)
+abbrev pub is_key_value_within : ℕ → List Pair → KeyAttr → Bool
+is_key_value_within most item key = option_map_or (λ t. nat_le (byte_count t) most)
     (at_name key.name item) true
 
 -- HASH has 2,048 bytes at most, RANGE 1,024 (Developer Guide, "Service, account, and table quotas")
 abbrev pub key_fits : TableSchema → List Pair → Bool
-key_fits d item = is_within longest_hash item d.hash && of_range
-    (is_within longest_range item) true d.range
+key_fits d item = is_key_value_within longest_hash item d.hash && of_range
+    (is_key_value_within longest_range item) true d.range

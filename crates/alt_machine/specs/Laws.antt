@@ -10,9 +10,9 @@ use Rattle.alt_expr.specs.Updated.{updated}
 use Rattle.alt_keyorder.specs.Laws.{Lie}
 use Rattle.alt_keyorder.specs.Place.{Place}
 use Rattle.alt_legacy.specs.Changes.{NamedChange, legacy_updated, makes_item, Differ}
-use Rattle.alt_legacy.specs.Keys.{asked_by}
+use Rattle.alt_legacy.specs.Keys.{asked_by_entries}
 use Rattle.alt_legacy.specs.Meets as older
-use Rattle.alt_legacy.specs.Trees.{path, action_of, condition_of}
+use Rattle.alt_legacy.specs.Trees.{attribute_path, action_of, condition_of}
 use Rattle.alt_legacy.specs.declared.entry.Entry.{Entry}
 use Rattle.alt_machine.specs.Building.{build}
 use Rattle.alt_machine.specs.Conditional as conditional
@@ -55,8 +55,8 @@ BuildsKeepValid = (s : State) → (length (build s) ≤ 1)
 
 -- The items of a table lie by their keys: their places have an order (the token, then the HASH value, then the RANGE value), in which
 -- only places of equal keys tie, and the bytes of places lie so.
-abbrev pub PlacesLie : Type 0
-PlacesLie = (d : TableSchema) (i j : List Pair) (p q : Place) → IsItemOfValues i → IsItemOfValues j
+abbrev pub ItemsLieByKeys : Type 0
+ItemsLieByKeys = (d : TableSchema) (i j : List Pair) (p q : Place) → IsItemOfValues i → IsItemOfValues j
     → key_place d i ≡ Some p → key_place d j ≡ Some q → Lie p q
 
 -- Those of an index lie so too, by the keys of the index and then by those of the table.
@@ -116,16 +116,16 @@ BuildsLeaveItems = (s : State) (name : List ℕ)
 -- The condition of entries holds of what is there, and as a filter of an item, exactly where that meets the entries.
 pub record OlderConditions : Type 0 where
   pub meets : (any : Bool) (entries : List Entry) (old : Option (List Pair))
-      → conditional.meets (condition_of any entries) old ≡ older.meets any entries (seen old)
+      → conditional.meets_condition (condition_of any entries) old ≡ older.meets_entries any entries (seen old)
   pub passes : (any : Bool) (entries : List Entry) (item : List Pair)
       → passes (condition_of any entries) item
-      ≡ older.meets any entries (λ name. at_name name item)
+      ≡ older.meets_entries any entries (λ name. at_name name item)
 
 -- As a condition on keys it asks what the entries do, and nothing where they aren't one.
 abbrev pub OlderKeys : Type 0
 OlderKeys = (hash : Key) (range : Option Key) (entries : List Entry)
     → option_and_then (ask_of hash range) (condition_of false entries)
-    ≡ asked_by hash range entries
+    ≡ asked_by_entries hash range entries
 
 -- The update of changes of different names makes of what is there what they do, or is refused for the same fault; it makes no item exactly
 -- where they don't, and its parts are the attributes of their names.
@@ -136,4 +136,4 @@ pub record OlderUpdates : Type 0 where
   pub makes : (changes : List NamedChange)
       → makes_none (some_actions (each action_of changes)) ≡ not (makes_item changes)
   pub parts : (changes : List NamedChange)
-      → each target (each action_of changes) ≡ each (λ c. path c.name) changes
+      → each target (each action_of changes) ≡ each (λ c. attribute_path c.name) changes

@@ -64,13 +64,13 @@ is_mismatched ms = is_projection_odd ms || is_select_odd ms
 -- ---- where a page starts
 
 -- the key that a member is, if there is one
-abbrev pub start_of : Option Data → Result (Option (List Pair)) Answer
-start_of None = Ok None
-start_of (Some d) = unless_fault (item_in 32 d) >>= (λ key. Ok (Some key))
+abbrev pub start_key : Option Data → Result (Option (List Pair)) Answer
+start_key None = Ok None
+start_key (Some d) = unless_fault (item_in 32 d) >>= (λ key. Ok (Some key))
 
 -- the key to start after, if one is given
 abbrev pub start_at : Members → Result (Option (List Pair)) Answer
-start_at ms = start_of (given (codes "ExclusiveStartKey") ms)
+start_at ms = start_key (given (codes "ExclusiveStartKey") ms)
 
 -- that key, and behind it the entries of members of the older interface
 abbrev pub start_given : Texts → Members → Result (Option (List Pair)) Answer

@@ -8,8 +8,8 @@ use Rattle.alt_legacy.specs.Trees.{condition_in, update_in, paths_in}
 use Rattle.alt_legacy.specs.declared.reading.Form.{Form}
 use Rattle.alt_legacy.specs.declared.reading.Form.TheVariants.{Expected, Filter}
 use Rattle.alt_machine.specs.declared.Expressions.{Expressions}
-use Rattle.alt_machine.specs.Refusals.{or_refused, refuse_by, value_refusal, ◌>>=◌}
-use Rattle.alt_machine.specs.Replies.{asks}
+use Rattle.alt_machine.specs.Refusals.{◌>>=◌, or_refused, refuse_by, value_refusal}
+use Rattle.alt_machine.specs.Replies.{member_is_word}
 use Rattle.alt_shape.specs.Refusals.{Answer, bad_legacy_parameter}
 use Rattle.alt_shape.specs.Shape.{given}
 
@@ -77,7 +77,7 @@ of_entries older ms =
 
 -- the entries of a condition are joined by OR
 abbrev pub is_any : Members → Bool
-is_any = asks (codes "ConditionalOperator") (codes "OR")
+is_any = member_is_word (codes "ConditionalOperator") (codes "OR")
 
 -- what a member says, if it is there; one that isn't of its form is refused
 abbrev pub said_by : {A : Type 0} → (Data → Option (Option A)) → Option Data

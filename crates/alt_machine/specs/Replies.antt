@@ -23,6 +23,6 @@ item_answer name None = done
 item_answer name (Some item) = answers name (json_of_pairs item)
 
 -- a member of a request is that word
-abbrev pub asks : List ℕ → List ℕ → Members → Bool
-asks name word ms = option_map_or (λ text. bytes_eq text word)
+abbrev pub member_is_word : List ℕ → List ℕ → Members → Bool
+member_is_word name word ms = option_map_or (λ text. bytes_eq text word)
     (option_and_then as_str (given name ms)) false

@@ -9,10 +9,10 @@ use Rattle.alt_value.specs.TreeCode.{coded_pair}
 use Rattle.alt_value.specs.Tree.{Pair}
 
 -- the first half of a code that is a pair
-first_of : Gv → Gv
-first_of gnil = gnil
-first_of (gnum n) = gnil
-first_of (gcons a b) = a
+code_first_half : Gv → Gv
+code_first_half gnil = gnil
+code_first_half (gnum n) = gnil
+code_first_half (gcons a b) = a
 
 -- and the second half
 second_of : Gv → Gv
@@ -22,7 +22,7 @@ second_of (gcons a b) = b
 
 -- the codes of data are equal or they aren't
 code_equal : (a b : Gv) → Dec (a ≡ b)
-unfolding first_of second_of
+unfolding code_first_half second_of
 code_equal gnil gnil = yes (λ i. gnil)
 code_equal gnil (gnum n) = no (λ e. let f : ⊥ = cc in f)
 code_equal gnil (gcons c d) = no (λ e. let f : ⊥ = cc in f)
@@ -35,22 +35,22 @@ code_equal (gcons a b) (gnum n) = no (λ e. let f : ⊥ = cc in f)
 code_equal (gcons a b) (gcons c d) = dite (code_equal a c)
     (λ e. dite (code_equal b d) (λ f. yes (λ i. gcons (e i) (f i)))
     (λ differ. no (λ g. differ (ap second_of g))))
-    (λ differ. no (λ g. differ (ap first_of g)))
+    (λ differ. no (λ g. differ (ap code_first_half g)))
 
 -- data that has codes is equal or it isn't
-decision : {A : Type 0} (c : Coded A) (x y : A) → Dec (x ≡ y)
-decision c x y = dite (code_equal (c.code x) (c.code y)) (λ e. yes (c.inj x y e))
+equality_decision : {A : Type 0} (c : Coded A) (x y : A) → Dec (x ≡ y)
+equality_decision c x y = dite (code_equal (c.code x) (c.code y)) (λ e. yes (c.inj x y e))
     (λ differ. no (λ e. differ (ap c.code e)))
 
 -- what is at a place and what is to be there are equal, or they aren't
 pub equality : (old new : Option (List Pair)) → Dec (old ≡ new)
-equality old new = decision (coded_option (coded_list coded_pair)) old new
+equality old new = equality_decision (coded_option (coded_list coded_pair)) old new
 
 -- which of the two it is
-abbrev pub holds : {A : Type 0} → Dec A → Bool
-holds (yes fact) = true
-holds (no differ) = false
+abbrev pub decision_holds : {A : Type 0} → Dec A → Bool
+decision_holds (yes fact) = true
+decision_holds (no differ) = false
 
 -- whether what is at a place is what is to be there: one item, or none
 abbrev pub is_same : Option (List Pair) → Option (List Pair) → Bool
-is_same old new = holds (equality old new)
+is_same old new = decision_holds (equality old new)

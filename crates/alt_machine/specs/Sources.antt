@@ -16,7 +16,7 @@ use Rattle.alt_shape.specs.Shape.{given}
 use Rattle.alt_value.specs.Tree.{Pair}
 use Rattle.alt_machine.specs.Indexed.{index_items}
 use Rattle.alt_machine.specs.Refusals.{first_answer, or_refused, refuse_if, unless_answer, ◌>>=◌}
-use Rattle.alt_machine.specs.Replies.{asks}
+use Rattle.alt_machine.specs.Replies.{member_is_word}
 use Rattle.alt_machine.specs.State.{Table, Texts}
 
 -- ---- a table or an index
@@ -49,7 +49,7 @@ is_key_there d (Some i) name = is_key d.hash d.range name || is_key i.hash i.ran
 
 -- Select is that word
 abbrev pub selects : List ℕ → Members → Bool
-selects = asks (codes "Select")
+selects = member_is_word (codes "Select")
 
 -- the last state is to be read
 abbrev pub is_consistent : Members → Bool

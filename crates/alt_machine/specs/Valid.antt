@@ -123,8 +123,8 @@ pub record IsValid (s : State) : Type 0 where
   pub next_family : (1 ≤ s.next_family) × (s.next_family ≤ FAMILIES_END)
 
 -- both items of a change, where they are there, are such that a program can hold them
-abbrev pub IsHeldChange : Change → Type 0
-IsHeldChange c = IfSome c.old IsItemOfValues × IfSome c.new IsItemOfValues
+abbrev pub IsChangeOfValues : Change → Type 0
+IsChangeOfValues c = IfSome c.old IsItemOfValues × IfSome c.new IsItemOfValues
 
 -- Each item of the state and of its changes is one that a program can hold: its texts are UTF-8, its numbers fit, and so on at every
 -- level. What is read from memory is such, and what is read from JSON as data need not be, so it is told beside what is valid.
@@ -133,4 +133,4 @@ pub record IsHeldState (s : State) : Type 0 where
       → map.get t.items place ≡ Some item
       → IsItemOfValues item
   pub changes : (name : List ℕ) (t : Table) → map.get s.tables name ≡ Some t
-      → All IsHeldChange t.changes
+      → All IsChangeOfValues t.changes

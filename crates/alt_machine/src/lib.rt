@@ -5,7 +5,7 @@
 #![tactic(auto)]
 
 ghost use Rattle.alt_machine.specs.Expiry.{DeletesExpired};
-ghost use Rattle.alt_machine.specs.Laws.{StepsKeepValid, OneAtom, BuildsKeepValid, BuildsLeaveItems, PlacesLie, IndexPlacesLie, AllIndex, OthersExpireNone, OlderConditions, OlderKeys, OlderUpdates};
+ghost use Rattle.alt_machine.specs.Laws.{StepsKeepValid, OneAtom, BuildsKeepValid, BuildsLeaveItems, ItemsLieByKeys, IndexPlacesLie, AllIndex, OthersExpireNone, OlderConditions, OlderKeys, OlderUpdates};
 ghost use Rattle.alt_machine.specs.State.{start};
 ghost use Rattle.alt_machine.specs.Valid.{IsValid};
 
@@ -128,7 +128,7 @@ pub fn laws()
     ensures steps { StepsKeepValid }
     ensures one_atom { OneAtom }
     ensures builds { BuildsKeepValid }
-    ensures places { PlacesLie }
+    ensures places { ItemsLieByKeys }
     ensures index_places { IndexPlacesLie }
     ensures indexes { AllIndex }
     ensures expiry { DeletesExpired }

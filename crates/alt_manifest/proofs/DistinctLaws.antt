@@ -8,7 +8,7 @@ use Rattle.std.specs.List.Sorted.{IsNonDecreasing, IsPermutation, IsSorted}
 use Rattle.std.specs.Ordering.{nat_cmp}
 use Rattle.alt_fields.proofs.Apart.{all_map}
 use Rattle.alt_manifest.specs.Versions.{AreDistinct, IsIn, RiseFrom}
-use Rattle.alt_manifest.specs.Rules.{Tells}
+use Rattle.alt_manifest.specs.Rules.{Reflects}
 use Rattle.alt_manifest.proofs.Among.{rise_distinct}
 use Rattle.alt_manifest.proofs.RuleLaws.{tells_both}
 
@@ -90,7 +90,7 @@ from_zero (n ∷ ns) = (omega arith, from_zero ns)
 
 -- whether the same numbers rise once they are in order tells whether they differ
 pub sorted_tells : (b : Bool) (xs ys : List ℕ) → IsPermutation xs ys → IsSorted nat_cmp ys
-    → Tells b (RiseFrom 0 ys) → Tells b (AreDistinct xs)
+    → Reflects b (RiseFrom 0 ys) → Reflects b (AreDistinct xs)
 sorted_tells b xs ys same sorted =
     tells_both b (RiseFrom 0 ys) (AreDistinct xs)
     (λ rise. moved ys xs (IsPermutation-sym xs ys same) (rise_distinct 0 ys rise))

@@ -10,9 +10,9 @@ use Rattle.alt_manifest.specs.declared.version.FamilyVersion.{FamilyVersion}
 use Rattle.alt_manifest.specs.declared.version.Version.{Version}
 
 -- Bad is answered where this holds.
-abbrev pub IsNone : Type 0 → Stop → Type 0
-IsNone P Bad = P
-IsNone P NoMemory = Unit {0}
+abbrev pub BadMeans : Type 0 → Stop → Type 0
+BadMeans P Bad = P
+BadMeans P NoMemory = Unit {0}
 
 -- The bytes don't begin with a number of eight bytes.
 abbrev pub NoNumber : List ℕ → Type 0

@@ -1,7 +1,7 @@
 -- Why a log of versions isn't recovered.
 use Rattle.std.specs.Prelude.{◌≡◌, ℕ, List, [], ◌∷◌, ◌++◌, length, Option}
 use Rattle.alt_disk.specs.Disk.{bytes_or_none}
-use Rattle.alt_gatelog.specs.Log.{IsLog, IsDamaged, gate_place}
+use Rattle.alt_gatelog.specs.Log.{IsLog, LogIsDamagedAt, gate_place}
 use Rattle.alt_gatelog.specs.declared.fault.LogFault.{LogFault}
 use Rattle.alt_gatelog.specs.declared.fault.LogFault.TheVariants.{Damaged, Failed, NoMemory}
 use Rattle.alt_gatelog.specs.declared.form.Form.TheVariants.{One, Two}
@@ -30,7 +30,7 @@ ExplainsLast f entries NoMemory = Unit {0}
 
 -- A file is no log of versions at a place: it is no log there, or a log of the second form, or its entries end with no version.
 pub data IsNoVersions (file : Option (List ℕ)) (at : ℕ) : Type 0 where
-  no_log : IsDamaged at (bytes_or_none file) → IsNoVersions file at
+  no_log : LogIsDamagedAt at (bytes_or_none file) → IsNoVersions file at
   other_form : at ≡ 0 → (entries : List (List ℕ)) → IsLog Two entries file → IsNoVersions file at
   no_last : (entries : List (List ℕ)) → IsLog One entries file → IsBadLast entries at
       → IsNoVersions file at

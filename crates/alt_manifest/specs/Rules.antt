@@ -4,9 +4,9 @@ use Rattle.alt_manifest.specs.Versions.{IsFamily}
 use Rattle.alt_manifest.specs.declared.version.FamilyVersion.{FamilyVersion}
 
 -- The test is true exactly where this holds.
-abbrev pub Tells : Bool → Type 0 → Type 0
-Tells true P = P
-Tells false P = P → ⊥
+abbrev pub Reflects : Bool → Type 0 → Type 0
+Reflects true P = P
+Reflects false P = P → ⊥
 
 -- The families are those of a version whose next write has this number, and their numbers rise from `least` on.
 abbrev pub AreFamilies : ℕ → ℕ → List FamilyVersion → Type 0

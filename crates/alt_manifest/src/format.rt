@@ -1,6 +1,6 @@
 //! Writing a version: its bytes (docs/formats/versions.md).
 
-ghost use Rattle.std.specs.Prelude.{◌≡◌, ◌++◌, IfOk, OnOk, length};
+ghost use Rattle.std.specs.Prelude.{◌≡◌, ◌++◌, IfOk, OnOk};
 ghost use Rattle.std.specs.List.{flat_map};
 ghost use Rattle.alt_manifest.specs.Versions.{file_bytes, files_bytes, family_bytes, version_bytes};
 

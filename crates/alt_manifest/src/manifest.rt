@@ -4,7 +4,7 @@ ghost use Rattle.std.specs.Prelude.{◌≡◌, ℕ, List, IfOk, IfErr, IsErrOf, 
 ghost use Rattle.alt_base.specs.Counts.{Rose};
 ghost use Rattle.alt_disk.specs.Disk.{Goes};
 ghost use Rattle.alt_disk.specs.Runs.{Quiet};
-ghost use Rattle.alt_gatelog.specs.InHand.{Reads as LogReads};
+ghost use Rattle.alt_gatelog.specs.InHand.{ReadsEntries as LogReads};
 ghost use Rattle.alt_manifest.specs.InHand.{version_of};
 ghost use Rattle.alt_manifest.specs.Recovery.{EndsWithVersion, ExplainsLast};
 
@@ -28,11 +28,11 @@ impl Manifest {
     ghost use Rattle.std.specs.Prelude.{◌≡◌, None, IfErr, IfOk, OnOk, OnErr, IsErrOf, IsTrue, ⊤};
     ghost use Rattle.alt_gatelog.specs.InHand.{HasPlace, IsFramed};
     ghost use Rattle.alt_base.specs.Counts.{Rose};
-    ghost use Rattle.alt_disk.specs.Disk.{DiskState, IsTrusted, Goes};
+    ghost use Rattle.alt_disk.specs.Disk.{IsTrusted, Goes};
     ghost use Rattle.alt_disk.specs.Runs.{Run, Quiet};
     ghost use Rattle.alt_manifest.specs.Recovery.{ExplainsVersions};
     ghost use Rattle.alt_manifest.specs.Versions.{IsVersion, version_bytes};
-    ghost use Rattle.alt_manifest.specs.InHand.{file_of, version_of, Reads, Stands, SameManifest, OldOrNew};
+    ghost use Rattle.alt_manifest.specs.InHand.{file_of_manifest, version_of, ReadsVersion, StandsForVersion, SameManifest, OldOrNew};
 
     /// Makes a log in a missing file, with this version as its first. An Err leaves a file that may be anything.
     pub fn make<D: Disk>(
@@ -43,10 +43,10 @@ impl Manifest {
     ) -> Result<Manifest, DiskFault>
         requires missing { IsTrusted (D.state disk.old) → (D.state disk.old).file f ≡ None }
         requires version { IsVersion version }
-        ensures file { IfOk result (λ m. file_of m ≡ f) }
+        ensures file { IfOk result (λ m. file_of_manifest m ≡ f) }
         ensures version { IfOk result (λ m. version_of m ≡ version) }
         ensures made { IfOk result (λ m. IsTrusted (D.state disk.old)
-            → Stands (D.state disk.new) m) }
+            → StandsForVersion (D.state disk.new) m) }
         ensures any_moment { IsTrusted (D.state disk.old)
             → Run (D.state disk.old) (D.state disk.new) f (λ _ _. ⊤) }
         ensures goes { Goes (D.state disk.old) (D.state disk.new) }
@@ -76,19 +76,19 @@ impl Manifest {
 
     /// Adds a version, which then is the last. At Failed recover the log again before the next one.
     pub fn append<D: Disk>(&mut self, disk: &mut D, version: Version) -> Result<(), DiskFault>
-        requires reads { IsTrusted (D.state disk.old) → Reads (D.state disk.old) self.old }
+        requires reads { IsTrusted (D.state disk.old) → ReadsVersion (D.state disk.old) self.old }
         requires version { IsTrusted (D.state disk.old) → IsVersion version }
-        ensures file { file_of self.new ≡ file_of self.old }
+        ensures file { file_of_manifest self.new ≡ file_of_manifest self.old }
         ensures version { OnOk result (version_of self.new ≡ version) }
-        ensures ok { OnOk result (IsTrusted (D.state disk.old) → Stands (D.state disk.new) self.new) }
+        ensures ok { OnOk result (IsTrusted (D.state disk.old) → StandsForVersion (D.state disk.new) self.new) }
         ensures err { OnErr result (SameManifest self.old self.new) }
 
         // Where a stop left the log so before, at any moment of the call the last version is the one before or the new one.
-        ensures any_moment { IsTrusted (D.state disk.old) → Stands (D.state disk.old) self.old
-            → Run (D.state disk.old) (D.state disk.new) (file_of self.old)
+        ensures any_moment { IsTrusted (D.state disk.old) → StandsForVersion (D.state disk.old) self.old
+            → Run (D.state disk.old) (D.state disk.new) (file_of_manifest self.old)
             (OldOrNew (version_of self.old) version) }
         ensures others { IsTrusted (D.state disk.old)
-            → Run (D.state disk.old) (D.state disk.new) (file_of self.old) (λ _ _. ⊤) }
+            → Run (D.state disk.old) (D.state disk.new) (file_of_manifest self.old) (λ _ _. ⊤) }
         ensures no_memory { IsErrOf result DiskFault.NoMemory
             → D.state disk.new ≡ D.state disk.old }
         ensures goes { Goes (D.state disk.old) (D.state disk.new) }
@@ -123,19 +123,19 @@ impl Manifest {
         version: Version,
         block: &[u8],
     ) -> Result<(), Failed>
-        requires reads { IsTrusted (D.state disk.old) → Reads (D.state disk.old) self.old }
+        requires reads { IsTrusted (D.state disk.old) → ReadsVersion (D.state disk.old) self.old }
         requires version { IsTrusted (D.state disk.old) → IsVersion version }
         requires framed { IsFramed block.now (version_bytes version) }
         requires room { HasPlace self.old.log }
-        ensures file { file_of self.new ≡ file_of self.old }
+        ensures file { file_of_manifest self.new ≡ file_of_manifest self.old }
         ensures version { OnOk result (version_of self.new ≡ version) }
-        ensures ok { OnOk result (IsTrusted (D.state disk.old) → Stands (D.state disk.new) self.new) }
+        ensures ok { OnOk result (IsTrusted (D.state disk.old) → StandsForVersion (D.state disk.new) self.new) }
         ensures err { OnErr result (SameManifest self.old self.new) }
-        ensures any_moment { IsTrusted (D.state disk.old) → Stands (D.state disk.old) self.old
-            → Run (D.state disk.old) (D.state disk.new) (file_of self.old)
+        ensures any_moment { IsTrusted (D.state disk.old) → StandsForVersion (D.state disk.old) self.old
+            → Run (D.state disk.old) (D.state disk.new) (file_of_manifest self.old)
             (OldOrNew (version_of self.old) version) }
         ensures others { IsTrusted (D.state disk.old)
-            → Run (D.state disk.old) (D.state disk.new) (file_of self.old) (λ _ _. ⊤) }
+            → Run (D.state disk.old) (D.state disk.new) (file_of_manifest self.old) (λ _ _. ⊤) }
         ensures goes { Goes (D.state disk.old) (D.state disk.new) }
         ensures cause { OnErr result (Rose (D.state disk.old).faults (D.state disk.new).faults) }
         ensures well { OnOk result ((D.state disk.new).faults ≡ (D.state disk.old).faults) }
@@ -147,9 +147,9 @@ impl Manifest {
 
     /// Reads the log of a file and its last entry, which is to be a version.
     pub fn recover<D: Disk>(alloc: Global, disk: &mut D, f: u32) -> Result<Manifest, LogFault>
-        ensures file { IfOk result (λ m. file_of m ≡ f) }
+        ensures file { IfOk result (λ m. file_of_manifest m ≡ f) }
         ensures reads { IfOk result (λ m. IsTrue (D.state disk.old).tells
-            → Reads (D.state disk.new) m) }
+            → ReadsVersion (D.state disk.new) m) }
         ensures explained { IsTrue (D.state disk.old).tells
             → IfErr result (ExplainsVersions f ((D.state disk.old).file f)) }
         ensures quiet { IsTrue (D.state disk.old).tells

@@ -1,11 +1,11 @@
 //! Reading a version back from its bytes: first its numbers, whatever they say, then whether they are a version.
 
-ghost use Rattle.std.specs.Prelude.{◌≡◌, ◌<◌, ◌^◌, ◌++◌, ℕ, List, IfOk, IfErr, length};
+ghost use Rattle.std.specs.Prelude.{◌≡◌, ◌<◌, ◌^◌, ◌++◌, IfOk, IfErr, length};
 ghost use Rattle.std.specs.List.{AllByRecursion, flat_map};
 ghost use Rattle.std.specs.Int.{w64, to_be_bytes};
 ghost use Rattle.alt_fields.specs.Bytes.{IsShort};
 ghost use Rattle.alt_manifest.specs.Versions.{IsFile, IsHeldFamily, IsHeldVersion, IsVersion, file_bytes, files_bytes, family_bytes, version_bytes};
-ghost use Rattle.alt_manifest.specs.Reading.{IsNone, NoNumber, NoFile, NoFiles, NoList, NoFamily, NoFamilies, NoHeld, NoVersion};
+ghost use Rattle.alt_manifest.specs.Reading.{BadMeans, NoNumber, NoFile, NoFiles, NoList, NoFamily, NoFamilies, NoHeld, NoVersion};
 
 use crate::rules::is_version;
 use crate::version::{FamilyList, FamilyVersion, FileList, Version};
@@ -35,7 +35,7 @@ impl From<NoMemory> for Stop {
 pub(crate) fn version_of_bytes(alloc: Global, bytes: &[u8]) -> Result<Version, Stop>
     ensures is { IfOk result (λ v. IsVersion v) }
     ensures bytes { IfOk result (λ v. bytes.now ≡ version_bytes v) }
-    ensures none { IfErr result (IsNone (NoVersion bytes.now)) }
+    ensures none { IfErr result (BadMeans (NoVersion bytes.now)) }
 {
     match take_version(alloc, bytes) {
         Ok(version) => {
@@ -53,7 +53,7 @@ pub(crate) fn version_of_bytes(alloc: Global, bytes: &[u8]) -> Result<Version, S
 fn take_version(alloc: Global, bytes: &[u8]) -> Result<Version, Stop>
     ensures held { IfOk result (λ v. IsHeldVersion v) }
     ensures bytes { IfOk result (λ v. bytes.now ≡ version_bytes v) }
-    ensures none { IfErr result (IsNone (NoHeld bytes.now)) }
+    ensures none { IfErr result (BadMeans (NoHeld bytes.now)) }
 {
     let (next_file, numbered) = take_file(bytes)?;
     let (next_number, listed) = take_number(numbered)?;
@@ -80,7 +80,7 @@ fn take_version(alloc: Global, bytes: &[u8]) -> Result<Version, Stop>
 fn take_families(alloc: Global, count: u64, bytes: &[u8]) -> Result<(FamilyList, &[u8]), Stop>
     ensures families { IfOk result (λ p. (length p.0 ≡ count) × AllByRecursion IsHeldFamily p.0
         × (bytes.now ≡ flat_map family_bytes p.0 ++ p.1.now)) }
-    ensures none { IfErr result (IsNone (NoFamilies count bytes.now)) }
+    ensures none { IfErr result (BadMeans (NoFamilies count bytes.now)) }
 {
     let mut families = FamilyList::new(alloc);
     let mut rest = bytes;
@@ -100,7 +100,7 @@ fn take_families(alloc: Global, count: u64, bytes: &[u8]) -> Result<(FamilyList,
 fn take_family(alloc: Global, bytes: &[u8]) -> Result<(FamilyVersion, &[u8]), Stop>
     ensures family { IfOk result (λ p. IsHeldFamily p.0
         × (bytes.now ≡ family_bytes p.0 ++ p.1.now)) }
-    ensures none { IfErr result (IsNone (NoFamily bytes.now)) }
+    ensures none { IfErr result (BadMeans (NoFamily bytes.now)) }
 {
     let (family, numbered) = take_file(bytes)?;
     let (flushed, listed) = take_number(numbered)?;
@@ -121,7 +121,7 @@ fn take_family(alloc: Global, bytes: &[u8]) -> Result<(FamilyVersion, &[u8]), St
 fn take_files(alloc: Global, bytes: &[u8]) -> Result<(FileList, &[u8]), Stop>
     ensures files { IfOk result (λ p. IsShort p.0 × AllByRecursion IsFile p.0
         × (bytes.now ≡ files_bytes p.0 ++ p.1.now)) }
-    ensures none { IfErr result (IsNone (NoList bytes.now)) }
+    ensures none { IfErr result (BadMeans (NoList bytes.now)) }
 {
     let (count, rest) = take_number(bytes)?;
     take_so_many(alloc, count, rest)
@@ -131,7 +131,7 @@ fn take_files(alloc: Global, bytes: &[u8]) -> Result<(FileList, &[u8]), Stop>
 fn take_so_many(alloc: Global, count: u64, bytes: &[u8]) -> Result<(FileList, &[u8]), Stop>
     ensures files { IfOk result (λ p. (length p.0 ≡ count) × AllByRecursion IsFile p.0
         × (bytes.now ≡ flat_map file_bytes p.0 ++ p.1.now)) }
-    ensures none { IfErr result (IsNone (NoFiles count bytes.now)) }
+    ensures none { IfErr result (BadMeans (NoFiles count bytes.now)) }
 {
     let mut files = FileList::new(alloc);
     let mut rest = bytes;
@@ -150,7 +150,7 @@ fn take_so_many(alloc: Global, count: u64, bytes: &[u8]) -> Result<(FileList, &[
 /// A number of four bytes, and what follows it.
 fn take_file(bytes: &[u8]) -> Result<(u32, &[u8]), Stop>
     ensures file { IfOk result (λ p. IsFile p.0 × (bytes.now ≡ file_bytes p.0 ++ p.1.now)) }
-    ensures none { IfErr result (IsNone (NoFile bytes.now)) }
+    ensures none { IfErr result (BadMeans (NoFile bytes.now)) }
 {
     match take_u32(bytes, 0) {
         Ok((number, end)) => {
@@ -165,7 +165,7 @@ fn take_file(bytes: &[u8]) -> Result<(u32, &[u8]), Stop>
 fn take_number(bytes: &[u8]) -> Result<(u64, &[u8]), Stop>
     ensures number { IfOk result (λ p. (p.0 < 2 ^ 64)
         × (bytes.now ≡ to_be_bytes w64 p.0 ++ p.1.now)) }
-    ensures none { IfErr result (IsNone (NoNumber bytes.now)) }
+    ensures none { IfErr result (BadMeans (NoNumber bytes.now)) }
 {
     match take_u64(bytes, 0) {
         Ok((number, end)) => {

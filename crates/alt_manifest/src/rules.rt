@@ -1,9 +1,9 @@
 //! Whether numbers that were read are a version (docs/formats/versions.md): what rises, what differs, what is below what.
 
-ghost use Rattle.std.specs.Prelude.{◌≡◌, ◌<◌, ◌≤◌, ◌++◌, true, IfOk, OnOk};
-ghost use Rattle.std.specs.List.{AllByRecursion, flat_map};
+ghost use Rattle.std.specs.Prelude.{◌≡◌, ◌<◌, ◌++◌, true, IfOk, OnOk};
+ghost use Rattle.std.specs.List.{AllByRecursion};
 ghost use Rattle.alt_manifest.specs.Versions.{AreDistinct, IsFamily, IsHeldFamily, IsHeldVersion, IsVersion, RiseFrom, row_files};
-ghost use Rattle.alt_manifest.specs.Rules.{Tells, AreFamilies};
+ghost use Rattle.alt_manifest.specs.Rules.{Reflects, AreFamilies};
 
 use crate::version::{FamilyVersion, Version};
 use alt_base::NoMemory;
@@ -15,7 +15,7 @@ const LAST_NUMBER: u64 = 4_611_686_018_427_387_903;
 /// Whether what was read is a version.
 pub(crate) fn is_version(alloc: Global, version: &Version) -> Result<bool, NoMemory>
     requires { IsHeldVersion version.now }
-    ensures { IfOk result (λ b. Tells b (IsVersion version.now)) }
+    ensures { IfOk result (λ b. Reflects b (IsVersion version.now)) }
 {
     let segments = version.segments.as_slice();
     let families = version.families.as_slice();
@@ -61,7 +61,7 @@ fn put_row_files(out: &mut Vec<u32>, families: &[FamilyVersion]) -> Result<(), N
 
 /// Whether numbers rise strictly, and the first one is at least `least`.
 fn rises(numbers: &[u32], least: u64) -> bool
-    ensures { Tells result (RiseFrom least numbers.now) }
+    ensures { Reflects result (RiseFrom least numbers.now) }
 {
     let mut next = least;
     for n in numbers {
@@ -76,7 +76,7 @@ fn rises(numbers: &[u32], least: u64) -> bool
 /// Whether these are the families of a version whose next write has this number.
 fn are_families(families: &[FamilyVersion], next: u64) -> bool
     requires { AllByRecursion IsHeldFamily families.now }
-    ensures { Tells result (AreFamilies next 0 families.now) }
+    ensures { Reflects result (AreFamilies next 0 families.now) }
 {
     let mut least = 0;
     for family in families {
@@ -91,14 +91,14 @@ fn are_families(families: &[FamilyVersion], next: u64) -> bool
 /// Whether this is a family of such a version.
 fn is_family(family: &FamilyVersion, next: u64) -> bool
     requires { IsHeldFamily family.now }
-    ensures { Tells result (IsFamily next family.now) }
+    ensures { Reflects result (IsFamily next family.now) }
 {
     family.flushed < next && rises(family.files.as_slice(), 2)
 }
 
 /// Whether all numbers are below a bound.
 fn are_below(numbers: &[u32], bound: u32) -> bool
-    ensures { Tells result (AllByRecursion (λ n. n < bound) numbers.now) }
+    ensures { Reflects result (AllByRecursion (λ n. n < bound) numbers.now) }
 {
     for n in numbers {
         if *n >= bound {
@@ -110,7 +110,7 @@ fn are_below(numbers: &[u32], bound: u32) -> bool
 
 /// Whether no number stands twice. They are put in order first: a version that was made up may name many files.
 fn are_distinct(numbers: Vec<u32>) -> Result<bool, NoMemory>
-    ensures { IfOk result (λ b. Tells b (AreDistinct numbers.items)) }
+    ensures { IfOk result (λ b. Reflects b (AreDistinct numbers.items)) }
 {
     let mut sorted = numbers;
     sorted.sort()?;

@@ -1,6 +1,6 @@
 //! A version of a store: which files hold its rows, and up to which write.
 
-ghost use Rattle.std.specs.Prelude.{◌≡◌, ◌++◌, ◌∷◌, [], IfOk, OnOk, OnErr};
+ghost use Rattle.std.specs.Prelude.{◌≡◌, ◌++◌, ◌∷◌, [], OnOk, OnErr};
 
 use alt_base::NoMemory;
 use std::alloc::Global;

@@ -1,8 +1,7 @@
 //! How many bytes a row takes, counted up to 2^62.
 
-ghost use Rattle.std.specs.Prelude.{◌≡◌, ◌+◌, ◌≤◌, ◌^◌, List, ℕ, length, min};
+ghost use Rattle.std.specs.Prelude.{◌≡◌, ◌+◌, ◌≤◌, length};
 ghost use Rattle.std.specs.List.{flat_map};
-ghost use Rattle.alt_cells.specs.declared.cell.Cell.{Cell as CellData};
 ghost use Rattle.alt_cells.specs.Format.{bytes_of_row, cell_bytes};
 ghost use Rattle.alt_memtable.specs.Rows.{most_bytes, more_bytes};
 

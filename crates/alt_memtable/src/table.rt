@@ -1,6 +1,6 @@
 //! Rows that were put, joined by key.
 
-ghost use Rattle.std.specs.Prelude.{◌≡◌, ◌+◌, ℕ, [], ◌∷◌, OnOk, OnErr, IfOk, Some, length, option_map};
+ghost use Rattle.std.specs.Prelude.{◌≡◌, ◌+◌, ℕ, [], ◌∷◌, OnOk, OnErr, length, option_map};
 ghost use Rattle.std.specs.BTreeMap.{IsOrdered, IsUnchanged, get as tree_get, insert_entry};
 ghost use Rattle.std.specs.FinMap as map;
 ghost use Rattle.alt_disk.specs.Disk.{DiskState};
@@ -9,7 +9,7 @@ ghost use Rattle.alt_cells.specs.Joined.{joined_map};
 ghost use Rattle.alt_cells.specs.Keys.{key_cmp};
 ghost use Rattle.alt_cells.specs.Rows.{join_row};
 ghost use Rattle.alt_memtable.specs.Rows.{joined_with, more_bytes};
-ghost use Rattle.alt_memtable.specs.Walk.{walk_holds};
+ghost use Rattle.alt_memtable.specs.Walk.{memory_walk_holds};
 
 use crate::MemWalk;
 use crate::size::{with_more, with_row};
@@ -105,7 +105,7 @@ impl Memtable {
 
     /// A walk over the rows, as they stand while it lasts.
     pub fn walk(&self) -> MemWalk<'_>
-        ensures { (s : DiskState) → walk_holds s result self.now.0 }
+        ensures { (s : DiskState) → memory_walk_holds s result self.now.0 }
     {
         MemWalk {
             alloc: self.alloc,

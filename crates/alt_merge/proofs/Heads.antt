@@ -7,7 +7,7 @@ use Rattle.std.specs.Ordering.{is_lt}
 use Rattle.std.specs.FinMap.Entries.{is_sorted, below_all}
 use Rattle.alt_base.proofs.Bools.{both_hold, first_holds, second_holds}
 use Rattle.alt_base.proofs.Orderings.{less-holds}
-use Rattle.alt_cells.specs.Joined.{all_joined, joined}
+use Rattle.alt_cells.specs.Joined.{all_joined, joined_entries}
 use Rattle.alt_cells.specs.declared.row.RowCells.{RowCells}
 use Rattle.alt_cells.specs.Rows.{join_row}
 use Rattle.alt_cells.specs.Walks.{RowList, walk_cmp}
@@ -53,7 +53,7 @@ module _ (forward : Bool) where
       (row : RowCells) → length heads ≡ length tails → i < length heads
       → get_or heads i d ≡ Held key row → AllSorted forward (with_heads heads tails)
       → all_joined (walk_cmp forward) join_row (with_heads heads tails)
-      ≡ joined (walk_cmp forward) join_row ((key, row) ∷ [])
+      ≡ joined_entries (walk_cmp forward) join_row ((key, row) ∷ [])
       (all_joined (walk_cmp forward) join_row (with_heads (set heads i Due) tails))
   take_head [] tails i d key row len lt e s = absurd (omega arith)
   take_head (h ∷ heads) [] i d key row len lt e s = absurd (omega arith)
@@ -64,8 +64,8 @@ module _ (forward : Bool) where
       let s0 = sorted_tail h key row t e s.0 in
       let below = first_holds (below_all R key t) (is_sorted R t) s0 in
       let st = second_holds (below_all R key t) (is_sorted R t) s0 in
-      ap (λ x. joined R join_row (with_head x t) rest) e
-      ∙ ap (λ l. joined R join_row l rest) (sym
+      ap (λ x. joined_entries R join_row (with_head x t) rest) e
+      ∙ ap (λ l. joined_entries R join_row l rest) (sym
       (joined-one R o join_row (walk_exact forward) IsJoin-join_row (key, row) t below))
       ∙ joined-assoc R o join_row (walk_exact forward) IsJoin-join_row
       ((key, row) ∷ []) t rest tt st (sorted_all (with_heads heads tails) s.1)
@@ -78,9 +78,9 @@ module _ (forward : Bool) where
       let rest = all_joined R join_row (with_heads (set heads i Due) tails) in
       let sr = sorted_all (with_heads (set heads i Due) tails)
       (sorted_due heads tails i d key row (omega arith) e s.1) in
-      ap (joined R join_row l) (take_head heads tails i d key row (omega arith) (omega arith) e s.1)
+      ap (joined_entries R join_row l) (take_head heads tails i d key row (omega arith) (omega arith) e s.1)
       ∙ sym (joined-assoc R o join_row x j l ((key, row) ∷ []) rest s.0 tt sr)
-      ∙ ap (λ z. joined R join_row z rest) (joined-comm R o join_row x j l ((key, row) ∷ []) s.0 tt)
+      ∙ ap (λ z. joined_entries R join_row z rest) (joined-comm R o join_row x j l ((key, row) ∷ []) s.0 tt)
       ∙ joined-assoc R o join_row x j ((key, row) ∷ []) l rest tt s.0 sr
 
   -- all that a source still gives is behind the key, and rises
@@ -157,7 +157,7 @@ module _ (forward : Bool) where
   -- once all lists are behind it, the row comes first
   pub gathered : (key : List ℕ) (row : RowCells) (heads : List Head) (tails : List RowList)
       → ReadyFrom key (length heads) heads tails
-      → joined (walk_cmp forward) join_row ((key, row) ∷ [])
+      → joined_entries (walk_cmp forward) join_row ((key, row) ∷ [])
       (all_joined (walk_cmp forward) join_row (with_heads heads tails))
       ≡ (key, row) ∷ all_joined (walk_cmp forward) join_row (with_heads heads tails)
   gathered key row heads tails r = joined-one (walk_cmp forward) (walk_total forward) join_row
@@ -168,9 +168,9 @@ module _ (forward : Bool) where
   pub joins_head : (key : List ℕ) (row more : RowCells) (n : ℕ) (heads : List Head)
       (tails : List RowList) (d : Head) → ReadyFrom key n heads tails → n < length heads
       → get_or heads n d ≡ Held key more
-      → joined (walk_cmp forward) join_row ((key, join_row row more) ∷ [])
+      → joined_entries (walk_cmp forward) join_row ((key, join_row row more) ∷ [])
       (all_joined (walk_cmp forward) join_row (with_heads (set heads n Due) tails))
-      ≡ joined (walk_cmp forward) join_row ((key, row) ∷ [])
+      ≡ joined_entries (walk_cmp forward) join_row ((key, row) ∷ [])
       (all_joined (walk_cmp forward) join_row (with_heads heads tails))
   joins_head key row more n heads tails d r lt e =
       let R = walk_cmp forward in
@@ -180,11 +180,11 @@ module _ (forward : Bool) where
       let rest = all_joined R join_row (with_heads (set heads n Due) tails) in
       let sr = sorted_all (with_heads (set heads n Due) tails)
       (sorted_due heads tails n d key more lt e s) in
-      sym (ap (joined R join_row ((key, row) ∷ []))
+      sym (ap (joined_entries R join_row ((key, row) ∷ []))
       (take_head heads tails n d key more (length_of key n heads tails r) lt e s)
       ∙ sym (joined-assoc R o join_row x IsJoin-join_row ((key, row) ∷ [])
       ((key, more) ∷ []) rest tt tt sr)
-      ∙ ap (λ z. joined R join_row z rest) (joined-tied R o join_row x IsJoin-join_row key row
+      ∙ ap (λ z. joined_entries R join_row z rest) (joined-tied R o join_row x IsJoin-join_row key row
       more))
 
   -- a head that isn't above its key is ready for it
@@ -223,7 +223,7 @@ module _ (forward : Bool) where
   -- where nothing is in hand, nothing is left
   pub none_left : (heads : List Head) (tails : List RowList) → AllFilled heads → NoneHeld heads
       → all_joined (walk_cmp forward) join_row (with_heads heads tails) ≡ []
-  unfolding joined
+  unfolding joined_entries
   none_left [] tails f n = refl
   none_left (h ∷ heads) [] f n = refl
   none_left (Due ∷ heads) (t ∷ tails) f n = absurd f.0

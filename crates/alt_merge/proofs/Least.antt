@@ -12,8 +12,8 @@ use Rattle.alt_cells.proofs.CellLaws.{key_exact}
 use Rattle.alt_cells.proofs.WalkLaws.{walk_total, walk_exact}
 use Rattle.alt_merge.specs.declared.head.Head.{Head}
 use Rattle.alt_merge.specs.declared.head.Head.TheVariants.{Due, Held, End}
-use Rattle.alt_merge.specs.Merges.{NotAbove, AllNotAbove, IsLeast, IsHeld, NoneHeld}
-use Rattle.alt_merge.specs.Tied.{tied, comes_before, BestTo}
+use Rattle.alt_merge.specs.Merges.{NotAbove, AllNotAbove, IsLeast, HeadHoldsRow, NoneHeld}
+use Rattle.alt_merge.specs.Tied.{is_head_tied, comes_before, BestTo}
 
 -- an order is one of three
 not_both : (o : Ordering) → o ≡ Less → o ≡ Greater → ⊥
@@ -29,12 +29,12 @@ module _ (forward : Bool) where
   above_more key (h ∷ heads) (suc i) lt a n = (a.0, above_more key heads i (omega arith) a.1 n)
 
   none_more : (heads : List Head) (i : ℕ) → i < length heads → NoneHeld (take i heads)
-      → (IsHeld (get_or heads i Due) → ⊥) → NoneHeld (take (suc i) heads)
+      → (HeadHoldsRow (get_or heads i Due) → ⊥) → NoneHeld (take (suc i) heads)
   none_more [] i lt a n = absurd (omega arith)
   none_more (h ∷ heads) zero lt a n = (n, tt)
   none_more (h ∷ heads) (suc i) lt a n = (a.0, none_more heads i (omega arith) a.1 n)
 
-  not_held_above : (key : List ℕ) (h : Head) → (IsHeld h → ⊥) → NotAbove forward key h
+  not_held_above : (key : List ℕ) (h : Head) → (HeadHoldsRow h → ⊥) → NotAbove forward key h
   not_held_above key Due n = tt
   not_held_above key (Held other row) n = absurd (n tt)
   not_held_above key End n = tt
@@ -75,7 +75,7 @@ module _ (forward : Bool) where
 
   -- the head isn't held
   pub best_same : (heads : List Head) (best : Option ℕ) (i : ℕ) → i < length heads
-      → (IsHeld (get_or heads i Due) → ⊥) → BestTo forward heads i best
+      → (HeadHoldsRow (get_or heads i Due) → ⊥) → BestTo forward heads i best
       → BestTo forward heads (suc i) best
   best_same heads None i lt n b = none_more heads i lt b n
   best_same heads (Some at) i lt n b = (b.0, least_on (get_or heads at Due) b.1)
@@ -144,10 +144,10 @@ module _ (forward : Bool) where
       not_eq Greater p q = cc
 
 -- a head that ties with a key has that key
-pub tied_held : (key other : List ℕ) (row : RowCells) (h : Head) → tied key h ≡ true
+pub tied_held : (key other : List ℕ) (row : RowCells) (h : Head) → is_head_tied key h ≡ true
     → h ≡ Held other row → h ≡ Held key row
 tied_held key other row h t e = e ∙ ap (λ (k : List ℕ). Held k row)
-    (sym (key_exact key other (equal (key_cmp key other) (ap (tied key) (sym e) ∙ t))))
+    (sym (key_exact key other (equal (key_cmp key other) (ap (is_head_tied key) (sym e) ∙ t))))
   where
     equal : (o : Ordering) → is_eq o ≡ true → o ≡ Equal
     equal Less p = cc
@@ -155,7 +155,7 @@ tied_held key other row h t e = e ∙ ap (λ (k : List ℕ). Held k row)
     equal Greater p = cc
 
 -- a head that holds no row isn't one that does
-pub not_held : (h : Head) → ((key : List ℕ) (row : RowCells) → h ≡ Held key row → ⊥) → IsHeld h → ⊥
+pub not_held : (h : Head) → ((key : List ℕ) (row : RowCells) → h ≡ Held key row → ⊥) → HeadHoldsRow h → ⊥
 not_held Due n p = p
 not_held (Held key row) n p = n key row refl
 not_held End n p = p

@@ -5,7 +5,7 @@ use Rattle.alt_disk.specs.Disk.{DiskState}
 use Rattle.alt_cells.specs.declared.row.RowCells.{RowCells}
 use Rattle.alt_cells.specs.declared.source.SourceFault.{SourceFault}
 use Rattle.alt_cells.specs.declared.source.SourceFault.TheVariants.{Damaged, Failed, NoMemory}
-use Rattle.alt_cells.specs.Walks.{RowMap, RowList, HasCause, Keeps, Fails, SameFiles}
+use Rattle.alt_cells.specs.Walks.{RowMap, RowList, HasCause, KeepsSource, Fails, SameFiles}
 use Rattle.alt_merge.specs.declared.head.Head.{Head}
 use Rattle.alt_merge.specs.MergeLaws.{or_left, or_right}
 use Rattle.alt_merge.specs.Merges.{Each2, InTurn, with_head, with_heads, any_reads, HoldsEach, LeftWith, IsFilled, AllFilled, IsFilledBy, AreFilledBy}
@@ -68,8 +68,8 @@ module _ {S : Type 0} (Holds : DiskState → S → RowMap → Type 0) (reads_of 
   module _ (holds_on : (old new : DiskState) (x : S) (rows : RowMap)
       → SameFiles (reads_of x) old new → Holds old x rows → Holds new x rows) where
     pub keeps_set : (a b : DiskState) (xs : List S) (i : ℕ) (d x : S) → i < length xs
-        → Keeps Holds reads_of a b (get_or xs i d) x
-        → Keeps (HoldsEach Holds) (any_reads reads_of) a b xs (set xs i x)
+        → KeepsSource Holds reads_of a b (get_or xs i d) x
+        → KeepsSource (HoldsEach Holds) (any_reads reads_of) a b xs (set xs i x)
     keeps_set a b xs i d x lt k = record {
       holds = λ t maps h. each2_one (Holds b) xs maps
           (each2_map (Holds a) (Holds b) (λ y m. holds_on a b y m (λ f r. (k.quiet t).file f)) xs

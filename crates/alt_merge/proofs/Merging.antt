@@ -5,10 +5,10 @@ use Rattle.std.proofs.lemmas.List.{get_or_default}
 use Rattle.std.specs.Vec.{with_items}
 use Rattle.alt_disk.specs.Disk.{DiskState}
 use Rattle.alt_cells.specs.declared.source.SourceFault.{SourceFault}
-use Rattle.alt_cells.specs.Joined.{all_joined, joined}
+use Rattle.alt_cells.specs.Joined.{all_joined, joined_entries}
 use Rattle.alt_cells.specs.declared.row.RowCells.{RowCells}
 use Rattle.alt_cells.specs.Rows.{join_row}
-use Rattle.alt_cells.specs.Walks.{RowMap, RowList, walk_cmp, rows_from, HasCause, Keeps, Fails, Gives}
+use Rattle.alt_cells.specs.Walks.{RowMap, RowList, walk_cmp, rows_from, HasCause, KeepsSource, Fails, Gives}
 use Rattle.alt_cells.proofs.WalkLaws.{is_sorted-rows_from, rows_from-joined, rows_from-empty}
 use Rattle.alt_merge.specs.declared.merge.Merge.{Merge}
 use Rattle.alt_merge.specs.declared.head.Head.{Head}
@@ -25,8 +25,8 @@ module _ {S : Type 0} (Holds : DiskState → S → RowMap → Type 0) where
   -- what a call keeps of the sources it keeps of the merge
   pub keeps_merge : (reads : S → ℕ → Bool) (a b : DiskState) (old new : Merge S) (xs ys : List S)
       → xs ≡ old.sources.items → new.sources.items ≡ ys
-      → Keeps (HoldsEach Holds) (any_reads reads) a b xs ys
-      → Keeps (merge_holds Holds) (merge_reads reads) a b old new
+      → KeepsSource (HoldsEach Holds) (any_reads reads) a b xs ys
+      → KeepsSource (merge_holds Holds) (merge_reads reads) a b old new
   keeps_merge reads a b old new xs ys is made k = record {
     holds = λ t rows h. record {
       maps = h.maps;
@@ -85,7 +85,7 @@ pub rows_from_all : (maps : List RowMap) (from : Option (List ℕ)) (forward : B
     (map (λ m. rows_from m from forward) maps)
 rows_from_all [] from forward = rows_from-empty from forward
 rows_from_all (m ∷ maps) from forward = rows_from-joined m (all_rows maps) from forward
-    ∙ ap (joined (walk_cmp forward) join_row (rows_from m from forward))
+    ∙ ap (joined_entries (walk_cmp forward) join_row (rows_from m from forward))
     (rows_from_all maps from forward)
 
 module _ {S : Type 0} (Left : S → RowList → Type 0) where

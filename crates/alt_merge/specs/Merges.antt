@@ -4,7 +4,7 @@ use Rattle.std.specs.declared.cmp.Ordering.TheVariants.{Greater}
 use Rattle.std.specs.FinMap.{empty}
 use Rattle.std.specs.FinMap.Entries.{is_sorted, below_all}
 use Rattle.alt_disk.specs.Disk.{DiskState}
-use Rattle.alt_cells.specs.Joined.{all_joined, joined, joined_map}
+use Rattle.alt_cells.specs.Joined.{all_joined, joined_entries, joined_map}
 use Rattle.alt_cells.specs.declared.row.RowCells.{RowCells}
 use Rattle.alt_cells.specs.Rows.{join_row}
 use Rattle.alt_cells.specs.Walks.{RowMap, RowList, walk_cmp}
@@ -141,15 +141,15 @@ IsLeast forward (Held key row) heads = AllNotAbove forward key heads
 IsLeast forward End heads = ⊥
 
 -- a row is in hand
-abbrev pub IsHeld : Head → Type 0
-IsHeld Due = ⊥
-IsHeld (Held key row) = Unit {0}
-IsHeld End = ⊥
+abbrev pub HeadHoldsRow : Head → Type 0
+HeadHoldsRow Due = ⊥
+HeadHoldsRow (Held key row) = Unit {0}
+HeadHoldsRow End = ⊥
 
 -- no row is in hand of any source
 abbrev pub NoneHeld : List Head → Type 0
 NoneHeld [] = Unit {0}
-NoneHeld (h ∷ heads) = (IsHeld h → ⊥) × NoneHeld heads
+NoneHeld (h ∷ heads) = (HeadHoldsRow h → ⊥) × NoneHeld heads
 
 -- all keys of a source from its head on are at or behind the key, and behind it where the head is due
 abbrev pub Ready : Bool → List ℕ → Head → RowList → Type 0
@@ -164,7 +164,7 @@ abbrev pub Gathers : List ℕ → RowCells → List Head → List Head → List 
 Gathers key row before after given = (forward : Bool) (tails : List RowList)
     → Each2 (Ready forward key) before tails
     → AllSorted forward (with_heads after tails)
-    × (joined (walk_cmp forward) join_row ((key, row) ∷ [])
+    × (joined_entries (walk_cmp forward) join_row ((key, row) ∷ [])
     (all_joined (walk_cmp forward) join_row (with_heads before tails))
     ≡ given ∷ all_joined (walk_cmp forward) join_row (with_heads after tails))
 

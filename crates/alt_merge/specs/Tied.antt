@@ -27,10 +27,10 @@ abbrev pub IsLeastAt : Bool → List Head → ℕ → Type 0
 IsLeastAt forward heads at = (at < length heads) × IsLeast forward (get_or heads at Due) heads
 
 -- it is the key's row
-abbrev pub tied : List ℕ → Head → Bool
-tied key Due = false
-tied key (Held other row) = is_eq (key_cmp key other)
-tied key End = false
+abbrev pub is_head_tied : List ℕ → Head → Bool
+is_head_tied key Due = false
+is_head_tied key (Held other row) = is_eq (key_cmp key other)
+is_head_tied key End = false
 
 -- the least of the first few
 abbrev pub BestTo : Bool → List Head → ℕ → Option ℕ → Type 0
@@ -39,6 +39,6 @@ BestTo forward heads n (Some at) = (at < length heads)
     × IsLeast forward (get_or heads at Due) (take n heads)
 
 -- a row is joined with the one in hand, if that is the key's
-abbrev pub Takes : List ℕ → RowCells → Head → Head → RowCells → Type 0
-Takes key row old new joined = ((more : RowCells) × (old ≡ Held key more) × (new ≡ Due)
-    × (joined ≡ join_row row more)) ⊎ ((new ≡ old) × (tied key old ≡ false) × (joined ≡ row))
+abbrev pub JoinsHead : List ℕ → RowCells → Head → Head → RowCells → Type 0
+JoinsHead key row old new joined = ((more : RowCells) × (old ≡ Held key more) × (new ≡ Due)
+    × (joined ≡ join_row row more)) ⊎ ((new ≡ old) × (is_head_tied key old ≡ false) × (joined ≡ row))

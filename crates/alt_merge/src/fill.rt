@@ -1,12 +1,10 @@
 //! Seeks and reads on, source by source.
 
-ghost use Rattle.std.specs.Prelude.{◌≡◌, ◌≤◌, ◌<◌, ◌+◌, ℕ, Bool, List, IsTrue, IfOk, IfErr, OnOk, length, map, Option};
+ghost use Rattle.std.specs.Prelude.{◌≡◌, ◌≤◌, ◌<◌, ◌+◌, List, IsTrue, IfOk, IfErr, OnOk, length, map, Option};
 ghost use Rattle.std.specs.Option.{option_copied};
-ghost use Rattle.std.specs.List.{All};
-ghost use Rattle.alt_disk.specs.Disk.{DiskState, IsTrusted};
-ghost use Rattle.alt_cells.specs.Walks.{RowMap, RowList, rows_from, Keeps, Fails, answered_by};
-ghost use Rattle.alt_merge.specs.Costs.{all_width, due_of, all_due};
-ghost use Rattle.alt_merge.specs.Merges.{Each2, InTurn, with_head, with_heads, any_reads, IsFilled, IsFilledBy, AllFilled, AreFilledBy, HoldsEach, LeftWith};
+ghost use Rattle.alt_cells.specs.Walks.{RowMap, RowList, rows_from, KeepsSource, Fails, answered_by};
+ghost use Rattle.alt_merge.specs.Costs.{all_width, cost_if_due, all_due};
+ghost use Rattle.alt_merge.specs.Merges.{Each2, InTurn, with_head, any_reads, IsFilled, IsFilledBy, AllFilled, AreFilledBy, HoldsEach, LeftWith};
 ghost use Rattle.alt_merge.specs.declared.head.Head.TheVariants.{Due};
 
 use crate::head::Head;
@@ -24,7 +22,7 @@ pub(crate) fn next_head<D: Disk, S: RowSource<D>>(
         → S.left (D.state disk.old) source.old rows
         → IfOk result (λ head. (tail : RowList) × S.left (D.state disk.new) source.new tail
         × (with_head head tail ≡ rows)) }
-    ensures keeps { Keeps S.holds S.reads (D.state disk.old)
+    ensures keeps { KeepsSource S.holds S.reads (D.state disk.old)
         (D.state disk.new) source.old source.new }
     ensures reads { (D.state disk.new).reads ≤ (D.state disk.old).reads + S.width source.old }
     ensures width { S.width source.new ≡ S.width source.old }
@@ -52,10 +50,10 @@ fn fill<D: Disk, S: RowSource<D>>(
         → S.left (D.state disk.old) source.old tail
         → OnOk result ((rest : RowList) × S.left (D.state disk.new) source.new rest
         × (with_head head.new rest ≡ with_head head.old tail)) }
-    ensures keeps { Keeps S.holds S.reads (D.state disk.old)
+    ensures keeps { KeepsSource S.holds S.reads (D.state disk.old)
         (D.state disk.new) source.old source.new }
     ensures reads { (D.state disk.new).reads
-        ≤ (D.state disk.old).reads + due_of head.old (S.width source.old) }
+        ≤ (D.state disk.old).reads + cost_if_due head.old (S.width source.old) }
     ensures width { S.width source.new ≡ S.width source.old }
     ensures well { IsTrue (answered_by result)
         → (D.state disk.new).faults ≡ (D.state disk.old).faults }
@@ -80,7 +78,7 @@ pub(crate) fn fill_all<D: Disk, S: RowSource<D>>(
     ensures left { IsTrue (D.state disk.old).tells → (lists : List RowList)
         → LeftWith (S.left (D.state disk.old)) sources.old heads.old lists
         → OnOk result (LeftWith (S.left (D.state disk.new)) sources.new heads.new lists) }
-    ensures keeps { Keeps (HoldsEach S.holds) (any_reads S.reads) (D.state disk.old)
+    ensures keeps { KeepsSource (HoldsEach S.holds) (any_reads S.reads) (D.state disk.old)
         (D.state disk.new) sources.old sources.new }
     ensures reads { (D.state disk.new).reads
         ≤ (D.state disk.old).reads + all_due S.width heads.old sources.old }
@@ -110,7 +108,7 @@ pub(crate) fn seek_all<D: Disk, S: RowSource<D>>(
     ensures given { OnOk result (InTurn
         (λ a b x y. S.seeks a b x (option_copied from.entry) forward y)
         (D.state disk.old) (D.state disk.new) sources.old sources.new) }
-    ensures keeps { Keeps (HoldsEach S.holds) (any_reads S.reads) (D.state disk.old)
+    ensures keeps { KeepsSource (HoldsEach S.holds) (any_reads S.reads) (D.state disk.old)
         (D.state disk.new) sources.old sources.new }
     ensures reads { (D.state disk.new).reads
         ≤ (D.state disk.old).reads + all_width S.width sources.old }

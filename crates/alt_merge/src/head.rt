@@ -2,8 +2,8 @@
 
 ghost use Rattle.std.specs.Prelude.{◌≡◌, IfSome, IfNone, false};
 ghost use Rattle.alt_merge.specs.declared.head.Head.TheVariants.{Due, Held, End};
-ghost use Rattle.alt_merge.specs.Tied.{tied, comes_before};
-ghost use Rattle.alt_merge.specs.Merges.{IsHeld};
+ghost use Rattle.alt_merge.specs.Tied.{is_head_tied, comes_before};
+ghost use Rattle.alt_merge.specs.Merges.{HeadHoldsRow};
 
 use alt_cells::RowCells;
 use alt_fields::Bytes;
@@ -19,7 +19,7 @@ pub(crate) enum Head {
 /// Takes the row in hand.
 pub(crate) fn take_row(head: &mut Head) -> Option<(Bytes, RowCells)>
     ensures some { IfSome result (λ e. (head.old ≡ Held e.0 e.1) × (head.new ≡ Due)) }
-    ensures none { IfNone result ((head.new ≡ head.old) × (IsHeld head.old → ⊥)) }
+    ensures none { IfNone result ((head.new ≡ head.old) × (HeadHoldsRow head.old → ⊥)) }
 {
     match mem::replace(head, Head::Due) {
         Head::Held(key, row) => Some((key, row)),
@@ -31,7 +31,7 @@ pub(crate) fn take_row(head: &mut Head) -> Option<(Bytes, RowCells)>
 }
 
 fn is_tied(key: &Bytes, head: &Head) -> bool
-    ensures { result ≡ tied key.now head.now }
+    ensures { result ≡ is_head_tied key.now head.now }
 {
     match head {
         Head::Held(other, _) => key.cmp(other).is_eq(),
@@ -42,7 +42,7 @@ fn is_tied(key: &Bytes, head: &Head) -> bool
 /// Takes the row in hand if it is the key's.
 pub(crate) fn take_tied(key: &Bytes, head: &mut Head) -> Option<RowCells>
     ensures some { IfSome result (λ row. (head.old ≡ Held key.now row) × (head.new ≡ Due)) }
-    ensures none { IfNone result ((head.new ≡ head.old) × (tied key.now head.old ≡ false)) }
+    ensures none { IfNone result ((head.new ≡ head.old) × (is_head_tied key.now head.old ≡ false)) }
 {
     if !is_tied(key, head) {
         return None;

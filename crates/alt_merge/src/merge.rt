@@ -1,6 +1,6 @@
 //! Several sources walked as one.
 
-ghost use Rattle.std.specs.Prelude.{◌≡◌, ◌+◌, ℕ, [], length, IfOk, OnOk, vec_len};
+ghost use Rattle.std.specs.Prelude.{◌≡◌, ◌+◌, IfOk, OnOk};
 ghost use Rattle.alt_merge.specs.Whole.{sources_of};
 
 use crate::fill::{fill_all, seek_all};
@@ -39,7 +39,7 @@ impl<D: Disk, S: RowSource<D>> RowSource<D> for Merge<S> {
     ghost use Rattle.std.specs.Prelude.{◌≤◌, List, IsTrue, IfErr, map};
     ghost use Rattle.std.specs.Option.{option_copied};
     ghost use Rattle.alt_merge.specs.Merges.{AllDue, HoldsEach};
-    ghost use Rattle.alt_cells.specs.Walks.{RowMap, RowList, rows_from, Gives, Keeps, Fails, answered_by};
+    ghost use Rattle.alt_cells.specs.Walks.{RowMap, RowList, rows_from, Gives, KeepsSource, Fails, answered_by};
     ghost use Rattle.alt_merge.specs.Costs.{HasLists, CallSpends, all_due};
     ghost use Rattle.alt_merge.specs.MergeLaws.{merge_holds_on, merge_left_on};
 
@@ -66,7 +66,7 @@ impl<D: Disk, S: RowSource<D>> RowSource<D> for Merge<S> {
             (rows_from rows (option_copied from.entry) forward)) }
         ensures given { OnOk result (merge_seeks S.seeks (D.state disk.old) (D.state disk.new)
             self.old (option_copied from.entry) forward self.new) }
-        ensures keeps { Keeps (merge_holds S.holds) (merge_reads S.reads) (D.state disk.old)
+        ensures keeps { KeepsSource (merge_holds S.holds) (merge_reads S.reads) (D.state disk.old)
             (D.state disk.new) self.old self.new }
         ensures reads { (D.state disk.new).reads
             ≤ (D.state disk.old).reads + merge_width S.width self.old }
@@ -97,7 +97,7 @@ impl<D: Disk, S: RowSource<D>> RowSource<D> for Merge<S> {
             → IfOk result (Gives (merge_left S.left (D.state disk.new) self.new) rows) }
         ensures given { IfOk result (λ row. merge_nexts S.nexts (D.state disk.old)
             (D.state disk.new) self.old row self.new) }
-        ensures keeps { Keeps (merge_holds S.holds) (merge_reads S.reads) (D.state disk.old)
+        ensures keeps { KeepsSource (merge_holds S.holds) (merge_reads S.reads) (D.state disk.old)
             (D.state disk.new) self.old self.new }
         ensures reads { (D.state disk.new).reads
             ≤ (D.state disk.old).reads + merge_width S.width self.old }

@@ -1,6 +1,6 @@
 //! What a walk over a merge costs in reads, however many rows it passes.
 
-ghost use Rattle.std.specs.Prelude.{◌≡◌, ◌≤◌, ◌+◌, ◌*◌, List, IsTrue, OnOk, map};
+ghost use Rattle.std.specs.Prelude.{◌≤◌, ◌+◌, ◌*◌, List, IsTrue, OnOk, map};
 ghost use Rattle.std.specs.Option.{option_copied};
 ghost use Rattle.alt_cells.specs.Walks.{RowMap, RowList, rows_from};
 ghost use Rattle.alt_merge.specs.Costs.{HasLists, all_width, all_times};

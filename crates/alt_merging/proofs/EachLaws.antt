@@ -15,16 +15,16 @@ use Rattle.alt_layout.proofs.MomentLaws.{same_or_not}
 use Rattle.alt_manifest.specs.InHand.{version_of}
 use Rattle.alt_manifest.specs.Versions.{IsIn, files_named, numbers_of}
 use Rattle.alt_manifest.specs.declared.version.Version.{Version}
-use Rattle.alt_manifest.specs.Rules.{Tells}
-use Rattle.alt_rowfile.specs.InHand.{Reads as RowReads}
+use Rattle.alt_manifest.specs.Rules.{Reflects}
+use Rattle.alt_rowfile.specs.InHand.{ReadsRows as RowReads}
 use Rattle.alt_rowfile.specs.Summaries.{any_tombstone}
 use Rattle.alt_rowfile.specs.declared.rowfile.RowFile.{RowFile}
 use Rattle.alt_hand.specs.Carrying.{AreStill}
 use Rattle.alt_hand.specs.Drafting.{IsSpentFor}
-use Rattle.alt_hand.specs.Adding.{Adds, IsLeftOut, LeavesOut, MakesNone}
-use Rattle.alt_hand.specs.InHand.{Stands, next_file_of, next_of}
+use Rattle.alt_hand.specs.Adding.{AddsVersion, IsLeftOut, LeavesOut, MakesNone}
+use Rattle.alt_hand.specs.InHand.{HandStandsForLayout, next_file_of, next_of}
 use Rattle.alt_hand.specs.Merging.{memory_at, version_in}
-use Rattle.alt_hand.specs.Working.{IsFileSpent, IsNoDamage, Works, WorksIn}
+use Rattle.alt_hand.specs.Working.{IsFileSpent, TellsNoDamage, Works, WorksIn}
 use Rattle.alt_hand.specs.DeclaredEngineFault.{EngineFault}
 use Rattle.alt_hand.specs.DeclaredEngineFault.TheVariants.{Spent, Damaged, Failed, NoMemory}
 use Rattle.alt_hand.specs.declared.hand.Hand.{Hand}
@@ -49,7 +49,7 @@ merged_on a b (f ∷ g ∷ fs) still merged = absurd merged
 pub one_merged : (s : DiskState) (fs : List RowFile) (maps : List RowMap) (x : RowFile)
     (has : Bool) → 0 < length fs → length fs ≤ 1 → x ≡ get_or fs 0 x
     → ((m : RowMap) → RowReads s x (entries m) → has ≡ any_tombstone (entries m))
-    → ReadEach s fs maps → Tells (not has) (AreMerged s fs)
+    → ReadEach s fs maps → Reflects (not has) (AreMerged s fs)
 one_merged s [] maps x has some few is tells each = absurd (omega (arith, some))
 one_merged s (f ∷ g ∷ fs) maps x has some few is tells each = absurd (omega (arith, few))
 one_merged s (f ∷ []) [] x has some few is tells each = absurd each
@@ -58,7 +58,7 @@ one_merged s (f ∷ []) (m ∷ maps) x has some few is tells each = here has ref
     at : (n : RowMap) → RowReads s f (entries n) → has ≡ any_tombstone (entries n)
     at n reads = tells n (subst (λ (k : RowFile). RowReads s k (entries n)) (sym is) reads)
 
-    here : (t : Bool) → has ≡ t → Tells (not t) (AreMerged s (f ∷ []))
+    here : (t : Bool) → has ≡ t → Reflects (not t) (AreMerged s (f ∷ []))
     here true e = λ purged. let no : true ≡ false = sym e ∙ at m each.0 ∙ purged m each.0 in cc no
     here false e = λ n reads. sym (at n reads) ∙ e
 
@@ -94,7 +94,7 @@ works_on a b c live l m works first later =
 -- ---- versions
 
 -- a file of the store is below the next one
-of_below : (a : DiskState) (e : Hand) (l : Layout) → Stands a e l → (f : ℕ) → IsOf (version_in e) f
+of_below : (a : DiskState) (e : Hand) (l : Layout) → HandStandsForLayout a e l → (f : ℕ) → IsOf (version_in e) f
     → f < next_file_of e
 of_below a e l stands f of =
     let free = stands.reads.free in
@@ -120,8 +120,8 @@ of_or_not v f = ⊎_elim (λ (first : f ≡ versions_file). inl (inl first))
     (in_or_not (files_named v) f)) (same_or_not f versions_file)
 
 -- a version behind another one
-pub adds_then : (a b c : DiskState) (e f g : Hand) (l : Layout) → Stands a e l → Adds b e f
-    → Adds c f g → next_file_of e ≤ next_file_of f → MakesNone b c (next_file_of f) → Adds c e g
+pub adds_then : (a b c : DiskState) (e f g : Hand) (l : Layout) → HandStandsForLayout a e l → AddsVersion b e f
+    → AddsVersion c f g → next_file_of e ≤ next_file_of f → MakesNone b c (next_file_of f) → AddsVersion c e g
 adds_then a b c e f g l stands first later low missing = record {
   next_file = later.next_file;
   removed = λ k of out. ⊎_elim (λ (between : IsOf (version_in f) k). later.removed k between out)
@@ -140,7 +140,7 @@ leaves_then live e f g first later next = record {
 }
 
 -- A version that was added to an engine with the same version and memory was added to this one.
-pub adds_from : (s : DiskState) (e f g : Hand) → version_in f ≡ version_in e → Adds s f g → Adds s e g
+pub adds_from : (s : DiskState) (e f g : Hand) → version_in f ≡ version_in e → AddsVersion s f g → AddsVersion s e g
 adds_from s e f g same adds = record {
   next_file = adds.next_file;
   removed = λ k of out. adds.removed k (subst (λ (v : Version). IsOf v k) (sym same) of) out;
@@ -162,7 +162,7 @@ leaves_from live e f g same memory next leaves = record {
 -- ---- faults
 
 -- A fault for a next file tells of no damage, and names file 2^32 - 1 where it tells a number.
-pub whole_for : (n : ℕ) (f : EngineFault) → IsSpentFor n f → IsNoDamage f
+pub whole_for : (n : ℕ) (f : EngineFault) → IsSpentFor n f → TellsNoDamage f
 whole_for n (Spent number) spent = tt
 whole_for n (Damaged file at) spent = absurd spent
 whole_for n Failed spent = tt

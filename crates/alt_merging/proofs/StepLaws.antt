@@ -10,7 +10,7 @@ use Rattle.alt_cells.specs.Walks.{Anything, HasCause, IsDamaged, RowList, RowMap
 use Rattle.alt_cells.specs.declared.source.SourceFault.{SourceFault}
 use Rattle.alt_cells.specs.declared.source.SourceFault.TheVariants.{Damaged, Failed, NoMemory}
 use Rattle.alt_compact.specs.declared.job.Stepped.{Stepped}
-use Rattle.alt_compact.specs.Jobs.{Moves}
+use Rattle.alt_compact.specs.Jobs.{MovesOnlyTouched}
 use Rattle.alt_disk.specs.Disk.{DiskState, IsTrusted}
 use Rattle.alt_disk.specs.Runs.{Run, Spans}
 use Rattle.alt_disk.proofs.Runs.{quiet_spans, quiet_start, run_spans, spans_on, spans_weaker}
@@ -24,14 +24,14 @@ use Rattle.alt_layout.specs.Layout.{Layout}
 use Rattle.alt_layout.specs.Moments.{Has, IsIt}
 use Rattle.alt_manifest.specs.Versions.{IsIn, files_named}
 use Rattle.alt_merge.specs.Merges.{Each2, all_rows}
-use Rattle.alt_rowfile.specs.InHand.{file_of as row_file, Reads as RowReads, Stands as RowFileStands}
+use Rattle.alt_rowfile.specs.InHand.{file_of as row_file, ReadsRows as RowReads, StandsForRows as RowFileStands}
 use Rattle.alt_rowfile.specs.Writing.{itself}
 use Rattle.alt_rowfile.specs.declared.rowfile.RowFile.{RowFile}
-use Rattle.alt_hand.specs.Carrying.{Carries}
-use Rattle.alt_hand.specs.InHand.{Stands}
+use Rattle.alt_hand.specs.Carrying.{CarriesFamily}
+use Rattle.alt_hand.specs.InHand.{HandStandsForLayout}
 use Rattle.alt_hand.specs.Merging.{IsMadeOf, IsMerging, IsOlder, files_at, version_in}
-use Rattle.alt_hand.specs.Working.{IsNoDamage, WorksIn}
-use Rattle.alt_hand.specs.Opened.{IsUnspent, of_source}
+use Rattle.alt_hand.specs.Working.{TellsNoDamage, WorksIn}
+use Rattle.alt_hand.specs.Opened.{EngineFaultIsUnspent, of_source}
 use Rattle.alt_hand.specs.declared.hand.Hand.{Hand}
 use Rattle.alt_hand.specs.DeclaredEngineFault.{EngineFault}
 use Rattle.alt_hand.specs.DeclaredEngineFault.TheVariants as fault
@@ -58,15 +58,15 @@ pub run_it : (a b : DiskState) (file : ℕ) (P : ℕ → Option (List ℕ) → T
     → Run a b file P → Spans a b (IsIt file) Anything
 run_it a b file P run = run_spans a b file P (IsIt file) Anything run refl (λ t image here others. tt)
 
-module _ (a b : DiskState) (e : Hand) (l : Layout) (stands : Stands a e l)
+module _ (a b : DiskState) (e : Hand) (l : Layout) (stands : HandStandsForLayout a e l)
     (family taken number file : ℕ) (merging : IsMerging a e family taken number file)
     (spans : Spans a b (IsIt file) Anything) where
-  both : Stands b e l × Spans a b (IsIt file) (Has l)
+  both : HandStandsForLayout b e l × Spans a b (IsIt file) (Has l)
   both = stands_by_side a b e l file stands merging.below
       (not_of a e family taken number file merging) spans
 
   -- leave the engine as it stands
-  pub hand_stays : Stands b e l
+  pub hand_stays : HandStandsForLayout b e l
   hand_stays = both.0
 
   -- and each image with the layout
@@ -129,7 +129,7 @@ not_older s number file (f ∷ fs) older =
     here false same rest = rest
 
 -- It stands once its file is made.
-pub begins : (a b : DiskState) (e : Hand) (l : Layout) → Stands a e l
+pub begins : (a b : DiskState) (e : Hand) (l : Layout) → HandStandsForLayout a e l
     → (family taken number file : ℕ) → IsMerging a e family taken number file
     → Spans a b (IsIt file) Anything → (merge : FileMerge) → output_of merge ≡ file
     → drops merge ≡ true
@@ -158,7 +158,7 @@ begins a b e l stands family taken number file merging spans merge output purges
 
 -- what it moves is its file
 pub moves_it : (a b : DiskState) (merge : FileMerge) (file : ℕ) → IsTrusted a → output_of merge ≡ file
-    → Moves (is_output merge) a b → Spans a b (IsIt file) Anything
+    → MovesOnlyTouched (is_output merge) a b → Spans a b (IsIt file) Anything
 moves_it a b merge file t output moves = spans_weaker a b (λ f. IsTrue (is_output merge f)) (IsIt file)
     Anything Anything (moves.others t) (λ f it. eqb-true f (output_of merge) it ∙ output)
     (λ s image any. any)
@@ -170,7 +170,7 @@ same_output old new same = eqb-true (output_of new) (output_of old)
     (sym (ap (λ (p : ℕ → Bool). p (output_of new)) same) ∙ itself (output_of new))
 
 -- It stands after a step.
-pub steps : (a b : DiskState) (e : Hand) (l : Layout) → Stands a e l → (old new : Merging)
+pub steps : (a b : DiskState) (e : Hand) (l : Layout) → HandStandsForLayout a e l → (old new : Merging)
     (left rest more : RowList) → (stands : MergingStands a e old left)
     → Spans a b (IsIt old.file) Anything → new.family ≡ old.family → new.taken ≡ old.taken
     → new.file ≡ old.file → is_output new.merge ≡ is_output old.merge
@@ -211,7 +211,7 @@ each2_on a b (f ∷ fs) (m ∷ maps) same each = (
 )
 
 -- Where no row is left, the file that was finished stands for what is left of all.
-pub made_of : (a b : DiskState) (e : Hand) (l : Layout) → Stands a e l → (old : Merging)
+pub made_of : (a b : DiskState) (e : Hand) (l : Layout) → HandStandsForLayout a e l → (old : Merging)
     → (stands : MergingStands a e old []) → Spans a b (IsIt old.file) Anything → (made : RowFile)
     → RowFileStands b made (compacted (drops old.merge) stands.done)
     → IsMadeOf b (take old.taken (files_at e old.family)) made
@@ -237,13 +237,13 @@ made_of a b e l engine old stands spans made lasts =
 -- ---- no call
 
 -- where no call is made each image has the layout
-pub has_still : (s : DiskState) (e : Hand) (l : Layout) → Stands s e l
+pub has_still : (s : DiskState) (e : Hand) (l : Layout) → HandStandsForLayout s e l
     → Spans s s (λ g. Unit {0}) (Has l)
 has_still s e l stands = quiet_spans s s (λ g. Unit {0}) (Has l) (quiet_start s)
     (λ t image fits. each_image s e l stands image fits)
 
 -- and the last version
-pub last_still : (s : DiskState) (e : Hand) (l : Layout) → Stands s e l
+pub last_still : (s : DiskState) (e : Hand) (l : Layout) → HandStandsForLayout s e l
     → Spans s s (λ g. Unit {0}) (HasLast (version_in e))
 last_still s e l stands = keeps_last s s (λ g. ⊥) Anything (version_of e.manifest)
     (lies_of s e l stands).last (stands.settled versions_file (inl refl)) (λ no. no)
@@ -261,17 +261,17 @@ cause_of reads a b NoMemory made is has r same e = absurd (let no : ⊥ = cc in 
 
 -- it tells of no spent number
 pub unspent_source : (given : SourceFault) (made : EngineFault) → made ≡ of_source given
-    → IsUnspent made
-unspent_source (Damaged f at) made is = subst IsUnspent (sym is) tt
-unspent_source Failed made is = subst IsUnspent (sym is) tt
-unspent_source NoMemory made is = subst IsUnspent (sym is) tt
+    → EngineFaultIsUnspent made
+unspent_source (Damaged f at) made is = subst EngineFaultIsUnspent (sym is) tt
+unspent_source Failed made is = subst EngineFaultIsUnspent (sym is) tt
+unspent_source NoMemory made is = subst EngineFaultIsUnspent (sym is) tt
 
 -- and where the source's tells of no damage, of none
 pub sound_source : (given : SourceFault) (made : EngineFault) → made ≡ of_source given
-    → (IsDamaged given → ⊥) → IsNoDamage made
+    → (IsDamaged given → ⊥) → TellsNoDamage made
 sound_source (Damaged f at) made is sound = absurd (sound tt)
-sound_source Failed made is sound = subst IsNoDamage (sym is) tt
-sound_source NoMemory made is sound = subst IsNoDamage (sym is) tt
+sound_source Failed made is sound = subst TellsNoDamage (sym is) tt
+sound_source NoMemory made is sound = subst TellsNoDamage (sym is) tt
 
 -- ---- carried on by the engine
 
@@ -290,7 +290,7 @@ any_on a b (f ∷ fs) g same there = either_test (g == row_file f) (any_file fs 
 
 -- A call of the engine that carries merges of its family on leaves it as it stands.
 pub carried : (a b : DiskState) (e f : Hand) (j : Merging) (left : RowList)
-    → Carries a b e f j.family → MergingStands a e j left → MergingStands b f j left
+    → CarriesFamily a b e f j.family → MergingStands a e j left → MergingStands b f j left
 carried a b e f j left carries stands =
     let fs = files_at e j.family in
     let front : take j.taken (files_at f j.family) ≡ take j.taken fs =

@@ -14,11 +14,11 @@ use Rattle.alt_cells.proofs.CompactLaws.{is_sorted-kept}
 use Rattle.alt_cells.proofs.CellLaws.{key_total}
 use Rattle.alt_disk.specs.Disk.{DiskState}
 use Rattle.alt_rowfile.specs.Format.{IsRowFile}
-use Rattle.alt_rowfile.specs.InHand.{file_of as row_file, Reads as RowReads}
+use Rattle.alt_rowfile.specs.InHand.{file_of as row_file, ReadsRows as RowReads}
 use Rattle.alt_rowfile.specs.Summaries.{any_tombstone, has_tombstone}
 use Rattle.alt_rowfile.specs.declared.rowfile.RowFile.{RowFile}
 use Rattle.alt_rowfile.proofs.OneFile.{one_list}
-use Rattle.alt_merging.specs.Mergings.{IsPurged}
+use Rattle.alt_merging.specs.Mergings.{FileIsPurged}
 
 -- a cell is one
 abbrev is_tombstone : List ℕ × Cell → Bool
@@ -64,7 +64,7 @@ any_tombstone-compacted (e ∷ es) =
 -- So a file that was made of one has none, as long as it reads as it read.
 pub purged_made : (b z : DiskState) (made : RowFile) (rows : RowList)
     → RowReads b made (compacted true rows) → z.file (row_file made) ≡ b.file (row_file made)
-    → IsPurged z made
+    → FileIsPurged z made
 purged_made b z made rows reads same m later =
     let bytes : later.bytes ≡ reads.bytes = inside later.bytes reads.bytes
     (sym later.there ∙ same ∙ reads.there) in

@@ -6,14 +6,14 @@ ghost use Rattle.alt_disk.specs.Disk.{DiskState, IsTrusted, Goes};
 ghost use Rattle.alt_disk.specs.Runs.{Spans};
 ghost use Rattle.alt_filemerge.specs.FileMerges.{ReadEach};
 ghost use Rattle.alt_layout.specs.Layout.{Layout, RowMap};
-ghost use Rattle.alt_manifest.specs.Rules.{Tells};
+ghost use Rattle.alt_manifest.specs.Rules.{Reflects};
 ghost use Rattle.alt_manifest.specs.Versions.{IsIn, RiseFrom};
-ghost use Rattle.alt_hand.specs.Adding.{Adds, LeavesOut, MakesNone};
+ghost use Rattle.alt_hand.specs.Adding.{AddsVersion, LeavesOut, MakesNone};
 ghost use Rattle.alt_hand.specs.Drafting.{IsSpentFor};
 ghost use Rattle.alt_hand.specs.Carrying.{AreStill};
-ghost use Rattle.alt_hand.specs.InHand.{Stands, length_of, limits_of, next_file_of, next_of};
+ghost use Rattle.alt_hand.specs.InHand.{HandStandsForLayout, length_of, limits_of, next_file_of, next_of};
 ghost use Rattle.alt_hand.specs.Merging.{files_at, memory_at};
-ghost use Rattle.alt_hand.specs.Working.{IsFileSpent, IsNoDamage, Works, WorksIn};
+ghost use Rattle.alt_hand.specs.Working.{IsFileSpent, TellsNoDamage, Works, WorksIn};
 ghost use Rattle.alt_merging.specs.Merged.{AreMerged};
 
 use crate::merging::Merging;
@@ -31,11 +31,11 @@ pub fn merge_each<D: Disk>(
     live: &[u32],
 ) -> Result<bool, EngineFault>
     requires ready { IsTrusted (D.state disk.old)
-        → (l : Layout) × Stands (D.state disk.old) hand.old l }
+        → (l : Layout) × HandStandsForLayout (D.state disk.old) hand.old l }
     requires live { RiseFrom 0 live.now }
     ensures ok { OnOk result (IsTrusted (D.state disk.old) → (l : Layout)
-        → Stands (D.state disk.old) hand.old l
-        → (m : Layout) × Stands (D.state disk.new) hand.new m × Works live.now l m) }
+        → HandStandsForLayout (D.state disk.old) hand.old l
+        → (m : Layout) × HandStandsForLayout (D.state disk.new) hand.new m × Works live.now l m) }
     ensures merged { OnOk result (IsTrusted (D.state disk.old) → (family : ℕ)
         → IsIn live.now family → AreMerged (D.state disk.new) (files_at hand.new family)) }
     ensures idle { IfOk result (λ done. done ≡ false → IsTrusted (D.state disk.old)
@@ -58,9 +58,9 @@ pub fn merge_each<D: Disk>(
     // file below the next one is there that wasn't.
     ensures leaves_out { IfOk result (λ done. done ≡ true → LeavesOut live.now hand.old hand.new) }
     ensures adds { IfOk result (λ done. done ≡ true → IsTrusted (D.state disk.old) → (l : Layout)
-        → Stands (D.state disk.old) hand.old l → Adds (D.state disk.new) hand.old hand.new) }
+        → HandStandsForLayout (D.state disk.old) hand.old l → AddsVersion (D.state disk.new) hand.old hand.new) }
     ensures missing { OnOk result (IsTrusted (D.state disk.old) → (l : Layout)
-        → Stands (D.state disk.old) hand.old l
+        → HandStandsForLayout (D.state disk.old) hand.old l
         → MakesNone (D.state disk.old) (D.state disk.new) (next_file_of hand.old)) }
     ensures next_file { OnOk result (next_file_of hand.new
         ≤ next_file_of hand.old + length live.now) }
@@ -70,12 +70,12 @@ pub fn merge_each<D: Disk>(
 
     // A stop at any moment of the call, also one that fails, leaves the rows of live families.
     ensures any_moment { IsTrusted (D.state disk.old) → (l : Layout)
-        → Stands (D.state disk.old) hand.old l
+        → HandStandsForLayout (D.state disk.old) hand.old l
         → Spans (D.state disk.old) (D.state disk.new) (λ _. ⊤) (WorksIn live.now l) }
     ensures spent { IfErr result IsFileSpent }
     ensures spent_for { IsTrusted (D.state disk.old)
         → IfErr result (IsSpentFor (next_file_of hand.old + length live.now)) }
-    ensures sound { IsTrusted (D.state disk.old) → IfErr result IsNoDamage }
+    ensures sound { IsTrusted (D.state disk.old) → IfErr result TellsNoDamage }
     ensures goes { Goes (D.state disk.old) (D.state disk.new) }
     ensures cause { IsErrOf result EngineFault.Failed
         → Rose (D.state disk.old).faults (D.state disk.new).faults }
@@ -105,11 +105,11 @@ fn merge_family<D: Disk>(
     family: u32,
 ) -> Result<bool, EngineFault>
     requires ready { IsTrusted (D.state disk.old)
-        → (l : Layout) × Stands (D.state disk.old) hand.old l }
+        → (l : Layout) × HandStandsForLayout (D.state disk.old) hand.old l }
     requires live { IsIn live.now family }
     ensures ok { OnOk result (IsTrusted (D.state disk.old) → (l : Layout)
-        → Stands (D.state disk.old) hand.old l
-        → (m : Layout) × Stands (D.state disk.new) hand.new m × Works live.now l m) }
+        → HandStandsForLayout (D.state disk.old) hand.old l
+        → (m : Layout) × HandStandsForLayout (D.state disk.new) hand.new m × Works live.now l m) }
     ensures merged { OnOk result (IsTrusted (D.state disk.old)
         → AreMerged (D.state disk.new) (files_at hand.new family)) }
     ensures others { OnOk result ((other : ℕ) → IsIn live.now other → other ≢ family
@@ -127,9 +127,9 @@ fn merge_family<D: Disk>(
         → memory_at hand.new other ≡ memory_at hand.old other) }
     ensures leaves_out { IfOk result (λ done. done ≡ true → LeavesOut live.now hand.old hand.new) }
     ensures adds { IfOk result (λ done. done ≡ true → IsTrusted (D.state disk.old)
-        → Adds (D.state disk.new) hand.old hand.new) }
+        → AddsVersion (D.state disk.new) hand.old hand.new) }
     ensures missing { OnOk result (IsTrusted (D.state disk.old) → (l : Layout)
-        → Stands (D.state disk.old) hand.old l
+        → HandStandsForLayout (D.state disk.old) hand.old l
         → MakesNone (D.state disk.old) (D.state disk.new) (next_file_of hand.old)) }
     ensures low { OnOk result (next_file_of hand.old ≤ next_file_of hand.new) }
     ensures next_file { OnOk result (next_file_of hand.new ≤ next_file_of hand.old + 1) }
@@ -137,7 +137,7 @@ fn merge_family<D: Disk>(
     ensures next { next_of hand.new ≡ next_of hand.old }
     ensures limits { limits_of hand.new ≡ limits_of hand.old }
     ensures any_moment { IsTrusted (D.state disk.old) → (l : Layout)
-        → Stands (D.state disk.old) hand.old l
+        → HandStandsForLayout (D.state disk.old) hand.old l
         → Spans (D.state disk.old) (D.state disk.new) (λ _. ⊤) (WorksIn live.now l) }
     ensures spent { IfErr result IsFileSpent }
     ensures spent_for { IsTrusted (D.state disk.old)
@@ -159,7 +159,7 @@ fn merge_family<D: Disk>(
 /// Whether there is one file at most, and that has no tombstone.
 fn are_merged(files: &[RowFile]) -> bool
     ensures merged { (s : DiskState) (maps : List RowMap) → ReadEach s files.now maps
-        → Tells result (AreMerged s files.now) }
+        → Reflects result (AreMerged s files.now) }
     ensures some { result ≡ false → 0 < length files.now }
 {
     if files.is_empty() {

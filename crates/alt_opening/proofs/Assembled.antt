@@ -15,14 +15,14 @@ use Rattle.alt_cells.proofs.SameKeys.{key_itself, one_key}
 use Rattle.alt_layout.specs.Layout.{Layout, shown}
 use Rattle.alt_machine.specs.declared.TheConstants.{NUMBERS_END}
 use Rattle.alt_machine.specs.State.{Change, State, Table, Texts, descriptions}
-use Rattle.alt_machine.specs.Valid.{AreChanges, IsChange, IsHeldChange, IsStored, IsTable, IsValid}
+use Rattle.alt_machine.specs.Valid.{AreChanges, IsChange, IsChangeOfValues, IsStored, IsTable, IsValid}
 use Rattle.alt_machine.proofs.Descriptions.{get-descriptions, len-descriptions}
 use Rattle.alt_schema.specs.Rules.{is_name}
 use Rattle.alt_schema.specs.declared.schema.TableSchema.{TableSchema}
 use Rattle.alt_tablerows.specs.ItemRows.{item_columns, IsReadItem}
-use Rattle.alt_opening.specs.private.Opening.{IsCatalog, AreApart}
+use Rattle.alt_opening.specs.private.Opening.{IsCatalog, ShareNoFamily}
 use Rattle.alt_tablerows.specs.Good.{IsGood}
-use Rattle.alt_opening.specs.Recovery.{Agrees}
+use Rattle.alt_opening.specs.Recovery.{LayoutAgreesAt}
 use Rattle.alt_opening.specs.Scans.{IsItemAt, ItemsRead}
 use Rattle.alt_opening.specs.StateRows.{HasMoment, catalog_family, table_row, next_row}
 use Rattle.alt_opening.proofs.ChosenLaws.{AllRead, IsRead, map_read}
@@ -32,7 +32,7 @@ use Rattle.alt_value.specs.Tree.{Pair}
 -- A state whose rows of the catalog and of tables these are, and whose tables are those of the catalog.
 pub record AssembledRows (l : Layout) (next : ℕ) (known : Texts TableSchema)
     (s : State) : Type 0 where
-  pub agrees : Agrees (λ f k. Unit {0}) l s
+  pub agrees : LayoutAgreesAt (λ f k. Unit {0}) l s
   pub catalog : descriptions s.tables ≡ known
   pub family : s.next_family ≡ next
 
@@ -48,7 +48,7 @@ not_empty number family (c ∷ cs) d good = refl
 pub record MayHave (next : ℕ) (d : TableSchema) (trimmed : ℕ) (changes : List Change)
     : Type 0 where
   pub are : AreChanges d next trimmed changes
-  pub held : All IsHeldChange changes
+  pub held : All IsChangeOfValues changes
   pub moments : All HasMoment changes
 
 -- each may have none
@@ -61,7 +61,7 @@ none_had next d some = record {
     trimmed_before = some;
     none = λ e. (refl, refl);
   };
-  held = All-nil IsHeldChange;
+  held = All-nil IsChangeOfValues;
   moments = All-nil HasMoment;
 }
 
@@ -263,7 +263,7 @@ module _ (l : Layout) (family : ℕ) (catalog : Texts TableSchema)
 
   apart_or_one : (name other : List ℕ) (t u : Table) → map.get chosen.0 name ≡ Some t
       → map.get chosen.0 other ≡ Some u
-      → (AreApart t.description u.description → ⊥) → name ≡ other
+      → (ShareNoFamily t.description u.description → ⊥) → name ≡ other
   apart_or_one name other t u at_t at_u not_apart = by (eq_by_cmp key_cmp name other) refl
     where
       by : (b : Bool) → eq_by_cmp key_cmp name other ≡ b → name ≡ other

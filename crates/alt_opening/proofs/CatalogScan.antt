@@ -12,7 +12,7 @@ use Rattle.alt_layout.specs.Layout.{Layout, shown}
 use Rattle.alt_machine.specs.State.{Texts}
 use Rattle.alt_machine.proofs.Looks.{at_insert, not_there}
 use Rattle.alt_schema.specs.declared.schema.TableSchema.{TableSchema}
-use Rattle.alt_opening.specs.private.Opening.{CatalogWhere, IsCatalog, IsNextFamily, IsTableAt, AreApart}
+use Rattle.alt_opening.specs.private.Opening.{CatalogWhere, IsCatalog, IsNextFamily, IsTableAt, ShareNoFamily}
 use Rattle.alt_tablerows.specs.Good.{IsGood}
 use Rattle.alt_opening.specs.Scans.{IsBelow, IsFirstFrom, IsNextRow}
 use Rattle.alt_opening.specs.StateRows.{catalog_family, table_row}
@@ -66,7 +66,7 @@ module _ (l : Layout) (next : ℕ) (catalog : Texts TableSchema) (from : List �
   }
 
 -- two tables that are apart, the other way round
-apart_turned : (d e : TableSchema) → AreApart d e → AreApart e d
+apart_turned : (d e : TableSchema) → ShareNoFamily d e → ShareNoFamily e d
 apart_turned d e apart = record {
   families = λ f in_e in_d. apart.families f in_d in_e;
 }
@@ -142,11 +142,11 @@ module _ (l : Layout) (next : ℕ) (catalog new : Texts TableSchema) (name after
     apart = λ one other e f at_e at_f differ. ⊎_elim
         (λ (came : (one ≡ name) × (d ≡ e)). ⊎_elim
         (λ (also : (other ≡ name) × (d ≡ f)). absurd (differ (came.0 ∙ sym also.0)))
-        (λ (old : map.get catalog other ≡ Some f). subst (λ x. AreApart x f) came.1
+        (λ (old : map.get catalog other ≡ Some f). subst (λ x. ShareNoFamily x f) came.1
         (apart_turned f d (is.may.apart other f old)))
         (known_then other f at_f))
         (λ (old : map.get catalog one ≡ Some e). ⊎_elim
-        (λ (also : (other ≡ name) × (d ≡ f)). subst (AreApart e) also.1
+        (λ (also : (other ≡ name) × (d ≡ f)). subst (ShareNoFamily e) also.1
         (is.may.apart one e old))
         (λ (too : map.get catalog other ≡ Some f). so_far.apart one other e f old too differ)
         (known_then other f at_f))

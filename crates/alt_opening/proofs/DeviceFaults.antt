@@ -1,7 +1,7 @@
 -- A fault of the device is none of a row, whatever is read, and one of a walk is of the device.
 use Rattle.std.proofs.Common.{◌≡◌, ℕ, sym, subst}
 use Rattle.alt_engine.specs.HandFaults.{told_by_engine}
-use Rattle.alt_engine.specs.HandOpened.{IsUndamaged}
+use Rattle.alt_engine.specs.HandOpened.{EngineFaultIsUndamaged}
 use Rattle.alt_engine.specs.HandDeclaredEngineFault.{EngineFault}
 use Rattle.alt_faults.specs.Faults.{IsOutside, RowWhere, without_numbers}
 use Rattle.alt_faults.proofs.Telling.{outside-numbers, outside-tells}
@@ -41,7 +41,7 @@ device_index l d i fault = outside-tells (λ n. ⊥)
 
 -- one that a walk tells of no damage
 pub device_walk : (given : EngineFault) (fault : OpenFault)
-    → told_by_opening fault ≡ without_numbers (told_by_engine given) → IsUndamaged given
+    → told_by_opening fault ≡ without_numbers (told_by_engine given) → EngineFaultIsUndamaged given
     → IsDeviceFault fault
 device_walk given fault same whole =
     subst IsOutside (sym same) (outside-numbers (told_by_engine given) whole)

@@ -18,8 +18,8 @@ use Rattle.alt_machine.specs.Valid.{IsMade}
 use Rattle.alt_tablerows.specs.Held.{IsHeld}
 use Rattle.alt_schema.specs.declared.schema.TableSchema.{TableSchema}
 use Rattle.alt_tablerows.specs.ItemRows.{item_columns}
-use Rattle.alt_opening.specs.private.Opening.{IsCatalog, AreApart}
-use Rattle.alt_opening.specs.Recovery.{Agrees, IsBefore, IsUpTo, IsFirstWrong}
+use Rattle.alt_opening.specs.private.Opening.{IsCatalog, ShareNoFamily}
+use Rattle.alt_opening.specs.Recovery.{LayoutAgreesAt, IsBefore, RowIsUpTo, IsFirstWrong}
 use Rattle.alt_opening.specs.Scans.{IsItemAt, IsFirstBad, ItemsRead}
 use Rattle.alt_opening.specs.StateRows.{catalog_family, table_row, next_row}
 use Rattle.alt_opening.proofs.Assembled.{AssembledRows, assembled, not_empty}
@@ -79,7 +79,7 @@ not_before family key f k not = by (before_row family key f k) refl
 
 -- ---- what a state has where its rows agree
 
-module _ (l : Layout) (Here : ℕ → List ℕ → Type 0) (r : State) (agrees : Agrees Here l r) where
+module _ (l : Layout) (Here : ℕ → List ℕ → Type 0) (r : State) (agrees : LayoutAgreesAt Here l r) where
   -- the next family
   pub same_next : (family : ℕ) → Here catalog_family [] → 1 ≤ family → family ≤ FAMILIES_END
       → shown l catalog_family [] ≡ next_row family → r.next_family ≡ family
@@ -120,7 +120,7 @@ module _ (l : Layout) (Here : ℕ → List ℕ → Type 0) (r : State) (agrees :
 pub agrees_before : (l : Layout) (family : ℕ) (key : List ℕ) (next : ℕ)
     (catalog : Texts TableSchema) (s : State)
     → AssembledRows (cut (before_row family key) l) next catalog s
-    → Agrees (λ f k. IsBefore f k family key) l s
+    → LayoutAgreesAt (λ f k. IsBefore f k family key) l s
 agrees_before l family key next catalog s made = record {
   number = made.agrees.number;
   catalog = λ k here. sym (shown-here (before_row family key) l catalog_family k
@@ -152,7 +152,7 @@ module _ (l : Layout) (next : ℕ) (catalog : Texts TableSchema) (read : IsCatal
       by : (b : Bool) → eq_by_cmp key_cmp name other ≡ b → d ≡ e
       by true one = same_Some d e (sym at_d ∙ ap (map.get catalog) (one_key name other one) ∙ at_e)
       by false differ =
-          let apart : AreApart d e = read.apart name other d e at_d at_e
+          let apart : ShareNoFamily d e = read.apart name other d e at_d at_e
           (λ one. false≢true (sym differ ∙ ap (λ k. eq_by_cmp key_cmp k other) one
           ∙ key_itself other)) in
           absurd (apart.families d.family (own_family d)
@@ -197,7 +197,7 @@ module _ (l : Layout) (next : ℕ) (catalog : Texts TableSchema) (read : IsCatal
 
     state_before : ((name : List ℕ) (d : TableSchema) → map.get catalog name ≡ Some d
         → ItemsRead front d) → ((f : ℕ) (k : List ℕ) → next ≤ f → shown front f k ≡ None)
-        → (s : State) × Agrees (λ f k. IsBefore f k family key) l s
+        → (s : State) × LayoutAgreesAt (λ f k. IsBefore f k family key) l s
     state_before items beyond =
         let (s, made) = assembled front next catalog front_catalog items beyond number in
         (s, agrees_before l family key next catalog s made)
@@ -217,7 +217,7 @@ module _ (l : Layout) (next : ℕ) (catalog : Texts TableSchema) (read : IsCatal
         (λ (same : (f ≡ d.family) × (key_cmp k key ≡ Less)).
         omega (arith, same.0, above, within.1)) low)));
     none = λ r agrees.
-        let (t, there, same) = described_at l (λ f k. IsUpTo f k d.family key) r agrees name d
+        let (t, there, same) = described_at l (λ f k. RowIsUpTo f k d.family key) r agrees name d
         (inl (inl (omega (arith, within.0)))) (not_empty l.next_number next name d good)
         good.made good.held (read.stands name d at).1 in
         no_item r agrees t there same;
@@ -239,7 +239,7 @@ module _ (l : Layout) (next : ℕ) (catalog : Texts TableSchema) (read : IsCatal
           (same_table name other d e at at_e (sym same))
           (bad.before k row low (ap (λ f. shown l f k) (sym same) ∙ shows))
 
-      no_item : (r : State) → Agrees (λ f k. IsUpTo f k d.family key) l r → (t : Table)
+      no_item : (r : State) → LayoutAgreesAt (λ f k. RowIsUpTo f k d.family key) l r → (t : Table)
           → map.get r.tables name ≡ Some t → t.description ≡ d → ⊥
       no_item r agrees t there same = by (map.get t.items key) refl
           (sym bad.shows ∙ ap (λ x. shown l x.family key) (sym same)
@@ -271,7 +271,7 @@ module _ (l : Layout) (next : ℕ) (catalog : Texts TableSchema) (read : IsCatal
         (λ f k above. shown-cut (before_row family key) l f k
         ∙ by f k above (before_row family key f k) refl);
     none = λ r agrees.
-        let same = same_next l (λ f k. IsUpTo f k family key) r agrees next
+        let same = same_next l (λ f k. RowIsUpTo f k family key) r agrees next
         (inl (inl (omega (arith, high)))) read.next.low read.next.high read.next.row in
         first.shows (agrees.beyond family key (omega (arith, same, first.later))
         (inr (refl, refl)));

@@ -6,7 +6,7 @@ use Rattle.std.specs.Prelude.{if◌then◌else◌}
 use Rattle.std.specs.FinMap as map
 use Rattle.alt_cells.specs.Changes.{Columns}
 use Rattle.alt_layout.specs.Layout.{Layout, shown}
-use Rattle.alt_machine.specs.Building.{built_part, is_reached, reaches}
+use Rattle.alt_machine.specs.Building.{built_part, is_built_of_item, reaches}
 use Rattle.alt_machine.specs.Indexed.{index_entry, index_items}
 use Rattle.alt_machine.specs.Keys.{place_of}
 use Rattle.alt_machine.specs.State.{State, Table, Texts}
@@ -55,18 +55,18 @@ row_of d i item key columns has = by (index_entry d i item) refl has
 -- a row of an item of which the index is built is one of the item
 pub inside : (d : TableSchema) (i : IndexSchema) (item : List Pair) (r : KeyedRow)
     → built_row d i item ≡ Some r
-    → (is_reached d i.built item ≡ true) × (row_in_index d i item ≡ Some r)
-inside d i item r e = by (is_reached d i.built item) refl e
+    → (is_built_of_item d i.built item ≡ true) × (row_in_index d i item ≡ Some r)
+inside d i item r e = by (is_built_of_item d i.built item) refl e
   where
-    by : (b : Bool) → is_reached d i.built item ≡ b
+    by : (b : Bool) → is_built_of_item d i.built item ≡ b
         → (if b then row_in_index d i item else None) ≡ Some r
-        → (is_reached d i.built item ≡ true) × (row_in_index d i item ≡ Some r)
+        → (is_built_of_item d i.built item ≡ true) × (row_in_index d i item ≡ Some r)
     by true is f = (is, f)
     by false is f = absurd (let no : None ≡ Some r = f in cc no)
 
 -- an item at a place, by the place
 reached_at : (d : TableSchema) (b : Built) (item : List Pair) (place : List ℕ)
-    → place_of d item ≡ Some place → is_reached d b item ≡ reaches d b place
+    → place_of d item ≡ Some place → is_built_of_item d b item ≡ reaches d b place
 reached_at d b item place at = ap (λ o. option_map_or (reaches d b) o (is_whole b)) at
 
 module _ (l : Layout) (s : State) (agrees : AgreesWhole l s) (name : List ℕ) (t : Table)

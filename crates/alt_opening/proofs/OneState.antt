@@ -15,7 +15,7 @@ use Rattle.alt_machine.proofs.Trimming.{Above}
 use Rattle.alt_schema.specs.Rules.{is_name}
 use Rattle.alt_schema.specs.declared.schema.TableSchema.{TableSchema}
 use Rattle.alt_opening.specs.Images.{StandsFor}
-use Rattle.alt_opening.specs.Recovery.{Agrees, AgreesWhole}
+use Rattle.alt_opening.specs.Recovery.{LayoutAgreesAt, AgreesWhole}
 use Rattle.alt_tablerows.specs.ItemRows.{item_columns}
 use Rattle.alt_opening.proofs.OneStream.{ShowsStream, one_stream, one_trimmed}
 use Rattle.alt_opening.proofs.KeptChanges.{are_kept, are_small, trimmed_small}
@@ -164,7 +164,7 @@ one_agrees l s r agrees_s agrees_r =
 
 -- where rows show a state, those of some places are its rows
 pub agrees_all : (Here : ℕ → List ℕ → Type 0) (l : Layout) (s : State) → Shows l s → IsValid s
-    → IsHeldWhole s → Agrees Here l s
+    → IsHeldWhole s → LayoutAgreesAt Here l s
 agrees_all Here l s shows valid held = record {
   number = shows.number;
   catalog = λ key here. shows.catalog key;

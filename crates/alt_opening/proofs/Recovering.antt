@@ -8,12 +8,12 @@ use Rattle.alt_disk.proofs.Runs.{trusted_on, tells_of, quiet_spans, spans_on, sp
 use Rattle.alt_writes.specs.Bytes.{AllHeld}
 use Rattle.alt_layout.specs.Families.{next_after}
 use Rattle.alt_layout.specs.Files.{IsLayout, all_of}
-use Rattle.alt_engine.specs.InHand.{Reads, Stands as EngineStands}
+use Rattle.alt_engine.specs.InHand.{ReadsLayout, StandsForLayout as EngineStands}
 use Rattle.alt_manifest.specs.InHand.{version_of}
 use Rattle.alt_layout.specs.Layout.{Layout}
 use Rattle.alt_writes.specs.Writes.{Write}
 use Rattle.alt_engine.specs.HandFaults.{told_by_recovery}
-use Rattle.alt_engine.specs.HandRecovery.{ExplainsStore, HasNoLayout, IsBadAt, IsBadDigest, LeftLike}
+use Rattle.alt_engine.specs.HandRecovery.{ExplainsStore, HasNoLayout, IsBadFileAt, IsBadDigest, LeftLike}
 use Rattle.alt_engine.specs.declared.engine.Engine.{Engine}
 use Rattle.alt_engine.specs.HandDeclaredRecoverFault.{RecoverFault}
 use Rattle.alt_layout.proofs.OneLayout.{one_layout}
@@ -25,7 +25,7 @@ use Rattle.alt_opening.specs.private.Opening.{Assembled, IsRowFault}
 use Rattle.alt_faults.specs.Faults.{Damage, bad_bytes, bad_digest, bad_row, FileWhere, OnlyDamaged, RowWhere}
 use Rattle.alt_faults.proofs.Telling.{tells-more}
 use Rattle.alt_opening.specs.Faults.{told_by_opening}
-use Rattle.alt_opening.specs.Recovery.{IsFirstWrong, IsUpTo, IsExplained, IsOfFiles, HasNoState, WasLeft}
+use Rattle.alt_opening.specs.Recovery.{IsFirstWrong, RowIsUpTo, IsExplained, IsOfFiles, HasNoState, WasLeft}
 use Rattle.alt_opening.specs.Scans.{Walked}
 use Rattle.alt_opening.specs.StateRows.{Shows, IsHeldWhole}
 use Rattle.alt_opening.specs.Opened.{OpensAs}
@@ -46,7 +46,7 @@ number_after next (w ∷ ws) held within = number_after (max next (w.number + 1)
     (omega (arith, within.0), let high = held.0.number in omega (arith, high, within.1))
 
 -- the next number of a layout that reads lies between 1 and the end of all numbers
-pub number_within : (s : DiskState) (e : Engine) (l : Layout) → Reads s e l
+pub number_within : (s : DiskState) (e : Engine) (l : Layout) → ReadsLayout s e l
     → (1 ≤ l.next_number) × (l.next_number ≤ NUMBERS_END)
 number_within s e l reads =
     let first = reads.versions.is.next_number in
@@ -108,7 +108,7 @@ stands_behind a b c same quiet s stands =
 -- ---- a state was read
 
 module _ (old mid new : DiskState) (e f : Engine) (l : Layout) (is : IsLayout old.file l)
-    (reads : Reads mid e l) (walked : Walked mid new e f) (t : Store) (known : t.engine ≡ f)
+    (reads : ReadsLayout mid e l) (walked : Walked mid new e f) (t : Store) (known : t.engine ≡ f)
     (s : State) (made : Assembled l t.family t.catalog t.largest t.trimmed.items s) where
   -- the files stand for it
   pub read_state : StandsFor old.file s
@@ -155,7 +155,7 @@ module _ (old mid new : DiskState) (e f : Engine) (l : Layout) (is : IsLayout ol
 pub none_wrong : (l : Layout) (family : ℕ) (key : List ℕ) → IsFirstWrong l family key → (s : State)
     → Shows l s → IsValid s → IsHeldWhole s → ⊥
 none_wrong l family key (inl first) s shows valid held = first.none s
-    (agrees_all (λ f k. IsUpTo f k family key) l s shows valid held)
+    (agrees_all (λ f k. RowIsUpTo f k family key) l s shows valid held)
 none_wrong l family key (inr (inl first)) s shows valid held =
     none_wrong_stream l s (agrees_whole l s shows valid held) family key first
 none_wrong l family key (inr (inr first)) s shows valid held =
@@ -191,7 +191,7 @@ module _ (files : ℕ → Option (List ℕ)) where
           stands.valid stands.held
 
   -- damage of the files themselves
-  of_files : (damage : Damage) → FileWhere (IsBadAt files) (IsBadDigest files) damage
+  of_files : (damage : Damage) → FileWhere (IsBadFileAt files) (IsBadDigest files) damage
       → IsOfFiles files damage
   of_files (bad_bytes file place) bad = bad
   of_files (bad_digest file kept found) bad = bad
@@ -202,7 +202,7 @@ module _ (files : ℕ → Option (List ℕ)) where
       → told_by_opening fault ≡ told_by_recovery given → ExplainsStore files given
       → IsExplained files fault
   files_explain given fault same bad = subst (OnlyDamaged (IsOfFiles files)) (sym same)
-      (tells-more (λ n. ⊥) (λ n. ⊥) (FileWhere (IsBadAt files) (IsBadDigest files))
+      (tells-more (λ n. ⊥) (λ n. ⊥) (FileWhere (IsBadFileAt files) (IsBadDigest files))
       (IsOfFiles files) (λ n no. no) of_files (told_by_recovery given) bad)
 
   -- where the files are no store's they stand for no state

@@ -7,7 +7,7 @@ use Rattle.alt_cells.specs.Keys.{key_cmp}
 use Rattle.alt_disk.specs.Disk.{DiskState}
 use Rattle.alt_disk.proofs.Calls.{goes_refl, goes_on}
 use Rattle.alt_disk.proofs.Runs.{quiet_start, quiet_then}
-use Rattle.alt_engine.specs.InHand.{Reads, Stands}
+use Rattle.alt_engine.specs.InHand.{ReadsLayout, StandsForLayout}
 use Rattle.alt_engine.specs.Opened.{StaysOn}
 use Rattle.alt_layout.specs.Layout.{Layout, shown}
 use Rattle.alt_engine.specs.declared.engine.Engine.{Engine}
@@ -49,12 +49,12 @@ walk_then a b c e f h first then = record {
 
 -- the engine reads as it read
 pub reads_on : (a b : DiskState) (e f : Engine) (l : Layout) → Walked a b e f → IsTrue a.tells
-    → Reads a e l → Reads b f l
+    → ReadsLayout a e l → ReadsLayout b f l
 reads_on a b e f l walked tells reads = (walked.same tells).reads l reads
 
 -- and stands as it stood
 pub stands_on : (a b : DiskState) (e f : Engine) (l : Layout) → Walked a b e f → IsTrue a.tells
-    → Stands a e l → Stands b f l
+    → StandsForLayout a e l → StandsForLayout b f l
 stands_on a b e f l walked tells stands = (walked.same tells).stands l stands
 
 -- ---- rows of a family

@@ -8,7 +8,7 @@ use Rattle.alt_machine.specs.Valid.{IsValid}
 use Rattle.alt_opening.specs.Scans.{IsBelow, IsFirstFrom, RowsWhere}
 use Rattle.alt_opening.specs.Sized.{AreSized}
 use Rattle.alt_opening.specs.StateRows.{IsHeldWhole, Shows}
-use Rattle.alt_opening.specs.private.RowSizes.{AreAllWithin, AreWithin}
+use Rattle.alt_opening.specs.private.RowSizes.{AreAllWithin, RowsAreWithin}
 use Rattle.alt_tablerows.specs.ItemTests.{IsWithin}
 use Rattle.alt_opening.proofs.OneState.{has_whole}
 use Rattle.alt_opening.proofs.Scanning.{rows_more, rows_next}
@@ -43,13 +43,13 @@ sized_more l family old size new is from so_far key row first small after at =
 
 -- one table more
 pub within_up : (l : Layout) (catalog : Texts TableSchema) (family old size new : ℕ)
-    → new ≡ max size old → AreUpTo (AreWithin l old) catalog family
-    → AreUpTo (AreWithin l new) catalog family
+    → new ≡ max size old → AreUpTo (RowsAreWithin l old) catalog family
+    → AreUpTo (RowsAreWithin l new) catalog family
 within_up l catalog family old size new is so_far name d at low key row here shows =
     within_more old new (up_right size old new is) key row (so_far name d at low key row here shows)
 
 pub within_this : (l : Layout) (d : TableSchema) (old size new : ℕ) → new ≡ max size old
-    → AreWithin l size d → AreWithin l new d
+    → RowsAreWithin l size d → RowsAreWithin l new d
 within_this l d old size new is own key row here shows =
     within_more size new (up_left size old new is) key row (own key row here shows)
 

@@ -22,7 +22,7 @@ use Rattle.alt_tablerows.specs.ChangeRows.{IsReadItem, change_columns, row_key}
 use Rattle.alt_tablerows.specs.TrimRows.{trimmed_row, trimmed_told}
 use Rattle.alt_layout.specs.Layout.{Layout, shown}
 use Rattle.alt_machine.specs.State.{Change, Texts}
-use Rattle.alt_machine.specs.Valid.{IsChange, IsHeldChange}
+use Rattle.alt_machine.specs.Valid.{IsChange, IsChangeOfValues}
 use Rattle.alt_machine.specs.declared.TheConstants.{NUMBERS_END}
 use Rattle.alt_machine.proofs.Trimming.{Rise}
 use Rattle.alt_schema.specs.declared.schema.TableSchema.{TableSchema}
@@ -313,7 +313,7 @@ module _ (l : Layout) (d : TableSchema)
       none = λ none. absurd (let no : None ≡ Some family = sym none ∙ stream in
           let f : ⊥ = cc in f);
     };
-    held = each_listed rows.0 own IsHeldChange (λ key c at.
+    held = each_listed rows.0 own IsChangeOfValues (λ key c at.
         let is = (is_row key c at).1.0 in
         (held_item c.old is.read.old, held_item c.new is.read.new));
     moments = each_listed rows.0 own HasMoment

@@ -10,7 +10,7 @@ use Rattle.std.specs.Prelude.{◌==◌, if◌then◌else◌, not}
 use Rattle.std.specs.Str.{bytes_eq}
 use Rattle.alt_cells.proofs.SameKeys.{key_itself, one_key}
 use Rattle.alt_machine.specs.State.{Table, Texts}
-use Rattle.alt_opening.specs.Trimmed.{AreTrimmedOf, IsRenumbered, number_at, with_number, without}
+use Rattle.alt_opening.specs.Trimmed.{AreTrimmedOf, IsRenumbered, number_at, with_number, without_table_number}
 use Rattle.alt_opening.specs.declared.trimmed.Trimmed.{Trimmed}
 use Rattle.alt_value.specs.Members.{text_order}
 use Rattle.alt_value.proofs.Texts.{text_total}
@@ -52,7 +52,7 @@ number-here e es q b is = ap (λ (c : Bool). option_map_or (λ (x : Trimmed). x.
 
 -- of a name that is taken out nothing is known, and of all others what was
 pub number-without : (name : List ℕ) (known : List Trimmed) (q : List ℕ)
-    → number_at q (without name known) ≡ (if bytes_eq name q then 0 else number_at q known)
+    → number_at q (without_table_number name known) ≡ (if bytes_eq name q then 0 else number_at q known)
 number-without name [] q = by (bytes_eq name q)
   where
     by : (b : Bool) → number_at q [] ≡ (if b then 0 else number_at q [])
@@ -64,8 +64,8 @@ number-without name (e ∷ es) q =
   where
     by : (a b c : Bool) → bytes_eq e.table name ≡ a → bytes_eq e.table q ≡ b
         → bytes_eq name q ≡ c
-        → number_at q (without name es) ≡ (if bytes_eq name q then 0 else number_at q es)
-        → number_at q (cond (not a) (e ∷ without name es) (without name es))
+        → number_at q (without_table_number name es) ≡ (if bytes_eq name q then 0 else number_at q es)
+        → number_at q (cond (not a) (e ∷ without_table_number name es) (without_table_number name es))
         ≡ (if bytes_eq name q then 0 else number_at q (e ∷ es))
     by true b true ea eb ec rest = rest ∙ ap (λ x. if x then 0 else number_at q es) ec
         ∙ sym (ap (λ x. if x then 0 else number_at q (e ∷ es)) ec)
@@ -75,10 +75,10 @@ number-without name (e ∷ es) q =
     by false true true ea eb ec rest = absurd (false≢true (sym ea
         ∙ (bytes_eq-Decides e.table name).1 ((bytes_eq-Decides e.table q).0 eb
         ∙ sym ((bytes_eq-Decides name q).0 ec))))
-    by false true false ea eb ec rest = number-here e (without name es) q true eb
+    by false true false ea eb ec rest = number-here e (without_table_number name es) q true eb
         ∙ sym (number-here e es q true eb)
         ∙ sym (ap (λ x. if x then 0 else number_at q (e ∷ es)) ec)
-    by false false c ea eb ec rest = number-here e (without name es) q false eb ∙ rest
+    by false false c ea eb ec rest = number-here e (without_table_number name es) q false eb ∙ rest
         ∙ ap (λ n. if bytes_eq name q then 0 else n) (sym (number-here e es q false eb))
 
 -- where that of a name is known already
@@ -93,14 +93,14 @@ number-same name number known is q = by (bytes_eq name q) refl
 
 -- and where it comes in the place of what was
 pub number-instead : (name : List ℕ) (number : ℕ) (known : List Trimmed)
-    → IsRenumbered name number known (with_number name number (without name known))
-number-instead name number known q = number-with name number (without name known)
+    → IsRenumbered name number known (with_number name number (without_table_number name known))
+number-instead name number known q = number-with name number (without_table_number name known)
     (number-without name known name ∙ ap (λ b. if b then 0 else number_at name known)
     ((bytes_eq-Decides name name).1 refl)) q
     ∙ by (bytes_eq name q) refl
   where
     by : (b : Bool) → bytes_eq name q ≡ b
-        → (if b then number else number_at q (without name known))
+        → (if b then number else number_at q (without_table_number name known))
         ≡ (if b then number else number_at q known)
     by true e = refl
     by false e = number-without name known q
@@ -165,7 +165,7 @@ module _ (tables : Texts Table) (name : List ℕ) (known : List Trimmed)
       by false e = sym (with_one u q false e)
 
   -- and one that goes
-  pub trimmed-remove : AreTrimmedOf (map.remove tables name) (without name known)
+  pub trimmed-remove : AreTrimmedOf (map.remove tables name) (without_table_number name known)
   trimmed-remove q = number-without name known q ∙ by (bytes_eq name q) refl
     where
       gone : (b : Bool) → eq_by_cmp text_order q name ≡ b

@@ -19,7 +19,7 @@ use Rattle.alt_machine.proofs.Looks.{not_there}
 use Rattle.alt_machine.proofs.States.{start_valid}
 use Rattle.alt_schema.specs.declared.schema.TableSchema.{TableSchema}
 use Rattle.alt_opening.specs.private.Opening.{CatalogWhere, IsCatalog, IsTableAt}
-use Rattle.alt_opening.specs.Recovery.{Agrees, IsBefore, IsUpTo, IsFirstWrong}
+use Rattle.alt_opening.specs.Recovery.{LayoutAgreesAt, IsBefore, RowIsUpTo, IsFirstWrong}
 use Rattle.alt_opening.specs.Scans.{IsBelow}
 use Rattle.alt_opening.specs.StateRows.{catalog_family, next_row, table_row}
 use Rattle.alt_opening.proofs.Assembled.{assembled, not_empty}
@@ -192,19 +192,19 @@ module _ (l : Layout) (next : ℕ) (catalog : Texts TableSchema) (name : List �
           sym (shown-not here l catalog_family other e) ∙ there in cc no)
 
   -- the table of that name in a state that has the row
-  module _ (r : State) (agrees : Agrees (λ f k. IsUpTo f k catalog_family name) l r) (t : Table)
+  module _ (r : State) (agrees : LayoutAgreesAt (λ f k. RowIsUpTo f k catalog_family name) l r) (t : Table)
       (there : map.get r.tables name ≡ Some t) (is_row : row ≡ table_row t.description) where
     is_table : IsTable r name t
     is_table = agrees.valid.tables name t there
 
     same_family : r.next_family ≡ next
-    same_family = same_next l (λ f k. IsUpTo f k catalog_family name) r agrees next
+    same_family = same_next l (λ f k. RowIsUpTo f k catalog_family name) r agrees next
         (inl (inr (refl, first_below))) read.next.low read.next.high read.next.row
 
     -- a table that is known stands in that state
     known : (other : List ℕ) (e : TableSchema) → map.get catalog other ≡ Some e
         → (u : Table) × (map.get r.tables other ≡ Some u) × (u.description ≡ e)
-    known other e at = described_at l (λ f k. IsUpTo f k catalog_family name) r agrees other e
+    known other e at = described_at l (λ f k. RowIsUpTo f k catalog_family name) r agrees other e
         (inl (inr (refl, (read.stands other e at).0)))
         (not_empty l.next_number next other e (read.good other e at))
         (read.good other e at).made (read.good other e at).held (read.stands other e at).1
@@ -257,7 +257,7 @@ module _ (l : Layout) (next : ℕ) (catalog : Texts TableSchema) (name : List �
         (λ f k high. others_none f k (omega (arith, high, read.next.low))) number in
         (s, agrees_before l catalog_family name next catalog s made);
     none = λ r agrees.
-        let (t, there, is_row) = table_at l (λ f k. IsUpTo f k catalog_family name) r agrees name
+        let (t, there, is_row) = table_at l (λ f k. RowIsUpTo f k catalog_family name) r agrees name
         row (inr (refl, refl)) named shows in
         none t.description (is_table_at r agrees t there is_row);
   })

@@ -1,7 +1,7 @@
 -- The state for which the rows of an engine stand, and so a store that was opened.
 use Rattle.std.specs.Prelude.{◌≡◌}
 use Rattle.alt_disk.specs.Disk.{DiskState, IsTrusted}
-use Rattle.alt_engine.specs.InHand.{Stands as EngineStands, next_of}
+use Rattle.alt_engine.specs.InHand.{StandsForLayout as EngineStands, next_write_of_engine}
 use Rattle.alt_layout.specs.Layout.{Layout}
 use Rattle.alt_engine.specs.declared.engine.Engine.{Engine}
 use Rattle.alt_machine.specs.State.{State, descriptions}
@@ -13,7 +13,7 @@ use Rattle.alt_opening.specs.declared.recover.Store.{Store}
 
 -- The disk tells its contents and keeps what was synced, and the rows for which the engine stands, as the disk reads and in whatever
 -- a stop now leaves, show the state.
-pub record Holds (disk : DiskState) (engine : Engine) (s : State) : Type 0 where
+pub record EngineHoldsState (disk : DiskState) (engine : Engine) (s : State) : Type 0 where
   pub trusted : IsTrusted disk
   pub layout : Layout
   pub is : EngineStands disk engine layout
@@ -25,9 +25,9 @@ pub record Holds (disk : DiskState) (engine : Engine) (s : State) : Type 0 where
 -- those on the disk.
 pub record OpensAs (disk : DiskState) (store : Store) (s : State) : Type 0 where
   pub catalog : store.catalog ≡ descriptions s.tables
-  pub number : next_of store.engine ≡ s.next_number
+  pub number : next_write_of_engine store.engine ≡ s.next_number
   pub family : store.family ≡ s.next_family
   pub trimmed : AreTrimmedOf s.tables store.trimmed.items
   pub sized : AreSized s.tables store.largest
-  pub rows : Holds disk store.engine s
+  pub rows : EngineHoldsState disk store.engine s
   pub valid : IsValid s

@@ -6,7 +6,7 @@ use Rattle.alt_cells.specs.Keys.{key_cmp}
 use Rattle.alt_disk.specs.Disk.{DiskState, IsImage}
 use Rattle.alt_layout.specs.Files.{IsLayout}
 use Rattle.alt_layout.specs.Layout.{Layout, shown}
-use Rattle.alt_engine.specs.HandRecovery.{IsBadAt, IsBadDigest}
+use Rattle.alt_engine.specs.HandRecovery.{IsBadFileAt, IsBadDigest}
 use Rattle.alt_machine.specs.Sources.{index_at}
 use Rattle.alt_machine.specs.State.{State, Table}
 use Rattle.alt_machine.specs.Valid.{IsValid}
@@ -19,26 +19,26 @@ use Rattle.alt_opening.specs.Faults.{told_by_opening}
 use Rattle.alt_opening.specs.declared.faults.OpenFault.{OpenFault}
 
 -- An image stands for each state for which one stands that a stop might have left before.
-pub record IsLeftLike (old : DiskState) (image : ℕ → Option (List ℕ)) : Type 0 where
+pub record StandsAsLeftBefore (old : DiskState) (image : ℕ → Option (List ℕ)) : Type 0 where
   pub before : ℕ → Option (List ℕ)
   pub left : IsImage old old.moment before
   pub same : (s : State) → StandsFor before s → StandsFor image s
 
 -- So does whatever a stop leaves on the way of calls, at any moment.
 abbrev pub WasLeft : DiskState → ℕ → (ℕ → Option (List ℕ)) → Type 0
-WasLeft old moment image = IsLeftLike old image
+WasLeft old moment image = StandsAsLeftBefore old image
 
 -- of two rows the one of the lesser family comes first, and in one family that of the lesser key
 abbrev pub IsBefore : ℕ → List ℕ → ℕ → List ℕ → Type 0
 IsBefore f k family key = (f < family) ⊎ ((f ≡ family) × (key_cmp k key ≡ Less))
 
 -- a row before that one, or that one itself
-abbrev pub IsUpTo : ℕ → List ℕ → ℕ → List ℕ → Type 0
-IsUpTo f k family key = IsBefore f k family key ⊎ ((f ≡ family) × (k ≡ key))
+abbrev pub RowIsUpTo : ℕ → List ℕ → ℕ → List ℕ → Type 0
+RowIsUpTo f k family key = IsBefore f k family key ⊎ ((f ≡ family) × (k ≡ key))
 
 -- The rows at these places are those of the state, which is valid and held: those of the catalog and of the tables, and none from the
 -- next family on. Those of streams and of indexes are told apart.
-pub record Agrees (Here : ℕ → List ℕ → Type 0) (l : Layout) (s : State) : Type 0 where
+pub record LayoutAgreesAt (Here : ℕ → List ℕ → Type 0) (l : Layout) (s : State) : Type 0 where
   pub number : l.next_number ≡ s.next_number
   pub catalog : (key : List ℕ) → Here catalog_family key
       → shown l catalog_family key ≡ catalog_rows s key
@@ -52,7 +52,7 @@ pub record Agrees (Here : ℕ → List ℕ → Type 0) (l : Layout) (s : State) 
 -- All of these rows are, and each stream shows the changes of its table and what was trimmed, whatever is left over. So the rows tell the
 -- state, and those of indexes are a function of it.
 pub record AgreesWhole (l : Layout) (s : State) : Type 0 where
-  pub rows : Agrees (λ f k. Unit {0}) l s
+  pub rows : LayoutAgreesAt (λ f k. Unit {0}) l s
   pub changes : (name : List ℕ) (t : Table) (family : ℕ) → map.get s.tables name ≡ Some t
       → t.description.stream_family ≡ Some family
       → (key : List ℕ) → (IsLeftover t.trimmed key → ⊥) → shown l family key ≡ change_rows t key
@@ -60,14 +60,14 @@ pub record AgreesWhole (l : Layout) (s : State) : Type 0 where
 -- The first wrong one of these rows: those before it are rows of a state, and with it they are those of none. Families come in the
 -- order of their numbers, the catalog before all, and in each its keys.
 pub record IsFirstOfTables (l : Layout) (family : ℕ) (key : List ℕ) : Type 0 where
-  pub before : (s : State) × Agrees (λ f k. IsBefore f k family key) l s
-  pub none : (s : State) → Agrees (λ f k. IsUpTo f k family key) l s → ⊥
+  pub before : (s : State) × LayoutAgreesAt (λ f k. IsBefore f k family key) l s
+  pub none : (s : State) → LayoutAgreesAt (λ f k. RowIsUpTo f k family key) l s → ⊥
 
 -- Where all these rows are those of a state, the first wrong one of a stream: it isn't that of a change that the table may keep, nor left over,
 -- nor does it tell what was trimmed. Tables come in the order of their families, and in each stream its keys.
 pub record IsFirstOfStreams (l : Layout) (family : ℕ) (key : List ℕ) : Type 0 where
   pub state : State
-  pub agrees : Agrees (λ f k. Unit {0}) l state
+  pub agrees : LayoutAgreesAt (λ f k. Unit {0}) l state
   pub name : List ℕ
   pub table : Table
   pub there : map.get state.tables name ≡ Some table
@@ -114,7 +114,7 @@ pub record HasBadRow (files : ℕ → Option (List ℕ)) (family : ℕ) (key : L
 
 -- damage is that of the files
 abbrev pub IsOfFiles : (ℕ → Option (List ℕ)) → Damage → Type 0
-IsOfFiles files (bad_bytes file place) = IsBadAt files file place
+IsOfFiles files (bad_bytes file place) = IsBadFileAt files file place
 IsOfFiles files (bad_digest file kept found) = IsBadDigest files file kept found
 IsOfFiles files (bad_row family key) = HasBadRow files family key
 

@@ -6,7 +6,7 @@ use Rattle.alt_cells.specs.Keys.{key_cmp}
 use Rattle.alt_disk.specs.Disk.{DiskState, Goes}
 use Rattle.alt_disk.specs.Runs.{Quiet}
 use Rattle.alt_layout.specs.Layout.{Layout, shown, rows_between}
-use Rattle.alt_engine.specs.InHand.{bounds_of}
+use Rattle.alt_engine.specs.InHand.{bounds_of_engine}
 use Rattle.alt_engine.specs.Opened.{StaysOn}
 use Rattle.alt_engine.specs.declared.engine.Engine.{Engine}
 use Rattle.alt_schema.specs.declared.schema.TableSchema.{TableSchema}
@@ -22,7 +22,7 @@ pub record Walked (old new : DiskState) (before after : Engine) : Type 0 where
   pub goes : Goes old new
   pub quiet : IsTrue old.tells → Quiet old new
   pub same : IsTrue old.tells → StaysOn old new before after
-  pub bounds : bounds_of after ≡ bounds_of before
+  pub bounds : bounds_of_engine after ≡ bounds_of_engine before
 
 -- a fault of the device, or want of memory
 abbrev pub IsDeviceFault : OpenFault → Type 0

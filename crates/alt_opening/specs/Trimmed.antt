@@ -18,8 +18,8 @@ with_number name number known =
     if number == 0 then known else record { table = name; number = number } ∷ known
 
 -- without those of a name
-abbrev pub without : List ℕ → List Trimmed → List Trimmed
-without name known = filter (λ (e : Trimmed). not (bytes_eq e.table name)) known
+abbrev pub without_table_number : List ℕ → List Trimmed → List Trimmed
+without_table_number name known = filter (λ (e : Trimmed). not (bytes_eq e.table name)) known
 
 -- They are the trimmed numbers of these tables, and nothing is known of a name that none of them has.
 abbrev pub AreTrimmedOf : Texts Table → List Trimmed → Type 0

@@ -1,6 +1,6 @@
 //! The descriptions of the tables by their names. There are 256 at most, so they stand in one sorted list.
 
-ghost use Rattle.std.specs.Prelude.{◌≡◌, ◌≢◌, ◌<◌, ◌≤◌, ◌==◌, ◌||◌, ◌↔◌, ◌∷◌, [], ℕ, List, T, true, false, None, Some, OnOk, OnErr, IfOk, IfErr, IfSome, option_map, length, map as each, slice_get, slice_index_or, slice_set, vec_len};
+ghost use Rattle.std.specs.Prelude.{◌≡◌, ◌<◌, ◌≤◌, ◌==◌, ◌||◌, ◌↔◌, ◌∷◌, [], ℕ, List, T, true, false, None, Some, OnOk, OnErr, IfOk, IfErr, IfSome, option_map, length, map as each, slice_get, slice_index_or, slice_set, vec_len};
 ghost use Rattle.std.specs.FinMap as map;
 ghost use Rattle.std.specs.FinMap.Entries.{is_sorted};
 ghost use Rattle.std.specs.List.{HoldsAt, list_any, remove};

@@ -3,7 +3,7 @@
 
 ghost use Rattle.std.specs.Prelude.{◌≡◌, IfOk, IfErr, OnOk, IsErrOf, IsTrue};
 ghost use Rattle.alt_base.specs.Counts.{Rose};
-ghost use Rattle.alt_engine.specs.InHand.{Reads};
+ghost use Rattle.alt_engine.specs.InHand.{ReadsLayout};
 ghost use Rattle.alt_layout.specs.Layout.{Layout};
 ghost use Rattle.alt_opening.specs.Scans.{IsDeviceFault, Walked};
 ghost use Rattle.alt_opening.specs.StreamScans.{ChangesRead, ChangesWhere, IsChangeFault, IsStreamFault, stream_trimmed, trimmed_in};
@@ -26,12 +26,12 @@ pub(crate) fn read_stream<D: Disk>(
     schema: &TableSchema,
 ) -> Result<u64, OpenFault>
     ensures read { IsTrue (D.state disk.old).tells → (l : Layout)
-        → Reads (D.state disk.old) engine.old l → OnOk result (ChangesRead l schema.now) }
+        → ReadsLayout (D.state disk.old) engine.old l → OnOk result (ChangesRead l schema.now) }
     ensures trimmed { IsTrue (D.state disk.old).tells → (l : Layout)
-        → Reads (D.state disk.old) engine.old l
+        → ReadsLayout (D.state disk.old) engine.old l
         → IfOk result (λ n. n ≡ stream_trimmed l schema.now) }
     ensures wrong { IsTrue (D.state disk.old).tells → (l : Layout)
-        → Reads (D.state disk.old) engine.old l → IfErr result (IsStreamFault l schema.now) }
+        → ReadsLayout (D.state disk.old) engine.old l → IfErr result (IsStreamFault l schema.now) }
     ensures walked { Walked (D.state disk.old) (D.state disk.new) engine.old engine.new }
     ensures cause { IsErrOf result OpenFault.Failed
         → Rose (D.state disk.old).faults (D.state disk.new).faults }
@@ -53,9 +53,9 @@ pub(crate) fn read_stream<D: Disk>(
 /// The number that the row of number 0 tells in the family of a stream.
 fn read_trimmed<D: Disk>(disk: &mut D, engine: &mut Engine, family: u32) -> Result<u64, OpenFault>
     ensures trimmed { IsTrue (D.state disk.old).tells → (l : Layout)
-        → Reads (D.state disk.old) engine.old l → IfOk result (λ n. n ≡ trimmed_in l family) }
+        → ReadsLayout (D.state disk.old) engine.old l → IfOk result (λ n. n ≡ trimmed_in l family) }
     ensures fault { IsTrue (D.state disk.old).tells → (l : Layout)
-        → Reads (D.state disk.old) engine.old l → IfErr result IsDeviceFault }
+        → ReadsLayout (D.state disk.old) engine.old l → IfErr result IsDeviceFault }
     ensures walked { Walked (D.state disk.old) (D.state disk.new) engine.old engine.new }
     ensures cause { IsErrOf result OpenFault.Failed
         → Rose (D.state disk.old).faults (D.state disk.new).faults }
@@ -77,10 +77,10 @@ fn test_changes<D: Disk>(
     family: u32,
 ) -> Result<(), OpenFault>
     ensures read { IsTrue (D.state disk.old).tells → (l : Layout)
-        → Reads (D.state disk.old) engine.old l
+        → ReadsLayout (D.state disk.old) engine.old l
         → OnOk result (ChangesWhere (λ key. Unit {0}) l schema.now next trimmed family) }
     ensures wrong { IsTrue (D.state disk.old).tells → (l : Layout)
-        → Reads (D.state disk.old) engine.old l
+        → ReadsLayout (D.state disk.old) engine.old l
         → IfErr result (IsChangeFault l schema.now next trimmed family) }
     ensures walked { Walked (D.state disk.old) (D.state disk.new) engine.old engine.new }
     ensures cause { IsErrOf result OpenFault.Failed

@@ -1,8 +1,8 @@
 //! The rows of the indexes of a table that is opened: each item that has a row in an index has it there, and there are no others.
 
-ghost use Rattle.std.specs.Prelude.{◌≡◌, ◌↔◌, ◌<◌, ℕ, List, Some, IfOk, IfErr, IfSome, OnOk, IsErrOf, IsTrue, length, option_map};
+ghost use Rattle.std.specs.Prelude.{◌≡◌, ◌↔◌, ◌<◌, List, Some, IfOk, IfErr, OnOk, IsErrOf, IsTrue, length, option_map};
 ghost use Rattle.alt_base.specs.Counts.{Rose};
-ghost use Rattle.alt_engine.specs.InHand.{Reads};
+ghost use Rattle.alt_engine.specs.InHand.{ReadsLayout};
 ghost use Rattle.alt_layout.specs.Layout.{Layout};
 ghost use Rattle.alt_machine.specs.Keys.{place_of};
 ghost use Rattle.alt_machine.specs.Sources.{index_at};
@@ -37,10 +37,10 @@ pub(crate) fn read_own_indexes<D: Disk>(
     schema: &TableSchema,
 ) -> Result<(), OpenFault>
     ensures read { IsTrue (D.state disk.old).tells → (l : Layout)
-        → Reads (D.state disk.old) engine.old l → IsMade schema.now → ItemsRead l schema.now
+        → ReadsLayout (D.state disk.old) engine.old l → IsMade schema.now → ItemsRead l schema.now
         → OnOk result (IndexesRead l schema.now) }
     ensures wrong { IsTrue (D.state disk.old).tells → (l : Layout)
-        → Reads (D.state disk.old) engine.old l → IsMade schema.now → ItemsRead l schema.now
+        → ReadsLayout (D.state disk.old) engine.old l → IsMade schema.now → ItemsRead l schema.now
         → IfErr result (IsOwnFault l schema.now) }
     ensures walked { Walked (D.state disk.old) (D.state disk.new) engine.old engine.new }
     ensures cause { IsErrOf result OpenFault.Failed
@@ -66,10 +66,10 @@ fn read_index<D: Disk>(
 ) -> Result<(), OpenFault>
     requires there { number < length (indexes schema.now) }
     ensures read { IsTrue (D.state disk.old).tells → (l : Layout) (i : IndexSchema)
-        → Reads (D.state disk.old) engine.old l → index_at schema.now (Some number) ≡ Some i
+        → ReadsLayout (D.state disk.old) engine.old l → index_at schema.now (Some number) ≡ Some i
         → IsMade schema.now → ItemsRead l schema.now → OnOk result (IndexRead l schema.now i) }
     ensures wrong { IsTrue (D.state disk.old).tells → (l : Layout) (i : IndexSchema)
-        → Reads (D.state disk.old) engine.old l → index_at schema.now (Some number) ≡ Some i
+        → ReadsLayout (D.state disk.old) engine.old l → index_at schema.now (Some number) ≡ Some i
         → IsMade schema.now → ItemsRead l schema.now
         → IfErr result (IsIndexFault l schema.now i) }
     ensures walked { Walked (D.state disk.old) (D.state disk.new) engine.old engine.new }
@@ -114,12 +114,12 @@ fn least_missing<D: Disk>(
 ) -> Result<Option<Bytes>, OpenFault>
     requires there { number < length (indexes schema.now) }
     ensures least { IsTrue (D.state disk.old).tells → (l : Layout) (i : IndexSchema)
-        → Reads (D.state disk.old) engine.old l → index_at schema.now (Some number) ≡ Some i
+        → ReadsLayout (D.state disk.old) engine.old l → index_at schema.now (Some number) ≡ Some i
         → ItemsRead l schema.now
         → IfOk result (IsLeastMissing (λ place. Unit {0}) l schema.now i) }
     ensures walked { Walked (D.state disk.old) (D.state disk.new) engine.old engine.new }
     ensures fault { IsTrue (D.state disk.old).tells → (l : Layout)
-        → Reads (D.state disk.old) engine.old l → IfErr result IsDeviceFault }
+        → ReadsLayout (D.state disk.old) engine.old l → IfErr result IsDeviceFault }
     ensures cause { IsErrOf result OpenFault.Failed
         → Rose (D.state disk.old).faults (D.state disk.new).faults }
 {
@@ -155,11 +155,11 @@ fn missing_key<D: Disk>(
 ) -> Result<Option<Bytes>, OpenFault>
     requires there { number < length (indexes schema.now) }
     ensures missing { IsTrue (D.state disk.old).tells → (l : Layout) (i : IndexSchema)
-        → Reads (D.state disk.old) engine.old l → index_at schema.now (Some number) ≡ Some i
+        → ReadsLayout (D.state disk.old) engine.old l → index_at schema.now (Some number) ≡ Some i
         → IfOk result (TellsMissingOf l schema.now i row.now) }
     ensures walked { Walked (D.state disk.old) (D.state disk.new) engine.old engine.new }
     ensures fault { IsTrue (D.state disk.old).tells → (l : Layout)
-        → Reads (D.state disk.old) engine.old l → IfErr result IsDeviceFault }
+        → ReadsLayout (D.state disk.old) engine.old l → IfErr result IsDeviceFault }
     ensures cause { IsErrOf result OpenFault.Failed
         → Rose (D.state disk.old).faults (D.state disk.new).faults }
 {
@@ -191,12 +191,12 @@ fn first_foreign<D: Disk>(
 ) -> Result<Option<Bytes>, OpenFault>
     requires there { number < length (indexes schema.now) }
     ensures first { IsTrue (D.state disk.old).tells → (l : Layout) (i : IndexSchema)
-        → Reads (D.state disk.old) engine.old l → index_at schema.now (Some number) ≡ Some i
+        → ReadsLayout (D.state disk.old) engine.old l → index_at schema.now (Some number) ≡ Some i
         → IsMade schema.now → ItemsRead l schema.now
         → IfOk result (IsFirstForeign l schema.now i) }
     ensures walked { Walked (D.state disk.old) (D.state disk.new) engine.old engine.new }
     ensures fault { IsTrue (D.state disk.old).tells → (l : Layout)
-        → Reads (D.state disk.old) engine.old l → IfErr result IsDeviceFault }
+        → ReadsLayout (D.state disk.old) engine.old l → IfErr result IsDeviceFault }
     ensures cause { IsErrOf result OpenFault.Failed
         → Rose (D.state disk.old).faults (D.state disk.new).faults }
 {
@@ -234,12 +234,12 @@ fn is_own<D: Disk>(
 ) -> Result<bool, OpenFault>
     requires there { number < length (indexes schema.now) }
     ensures own { IsTrue (D.state disk.old).tells → (l : Layout) (i : IndexSchema)
-        → Reads (D.state disk.old) engine.old l → index_at schema.now (Some number) ≡ Some i
+        → ReadsLayout (D.state disk.old) engine.old l → index_at schema.now (Some number) ≡ Some i
         → IsMade schema.now → ItemsRead l schema.now
         → IfOk result (λ own. IsTrue own ↔ HasRow l schema.now i key.now row.now) }
     ensures walked { Walked (D.state disk.old) (D.state disk.new) engine.old engine.new }
     ensures fault { IsTrue (D.state disk.old).tells → (l : Layout)
-        → Reads (D.state disk.old) engine.old l → IfErr result IsDeviceFault }
+        → ReadsLayout (D.state disk.old) engine.old l → IfErr result IsDeviceFault }
     ensures cause { IsErrOf result OpenFault.Failed
         → Rose (D.state disk.old).faults (D.state disk.new).faults }
 {

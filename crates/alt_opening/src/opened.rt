@@ -3,14 +3,14 @@
 ghost use Rattle.std.specs.Prelude.{◌≡◌, ◌↔◌, None, Err, IfOk, IfErr, IfSome, OnOk, IsErrOf, IsTrue};
 ghost use Rattle.std.specs.FinMap as map;
 ghost use Rattle.alt_base.specs.Counts.{Rose};
-ghost use Rattle.alt_engine.specs.InHand.{Reads};
+ghost use Rattle.alt_engine.specs.InHand.{ReadsLayout};
 ghost use Rattle.alt_layout.specs.Layout.{Layout};
 ghost use Rattle.alt_machine.specs.Building.{IsBuilt};
 ghost use Rattle.alt_machine.specs.State.{families_of};
 ghost use Rattle.alt_schema.specs.Described.{IsDescription};
 ghost use Rattle.alt_tablerows.specs.Held.{IsHeld};
 ghost use Rattle.alt_schema.specs.declared.schema.TableSchema.{TableSchema};
-ghost use Rattle.alt_opening.specs.private.Opening.{IsApart, IsCatalog, IsRowFault, IsNextFamily, IsReadOn, IsReadUpTo, IsTableAt, MayStand};
+ghost use Rattle.alt_opening.specs.private.Opening.{IsApart, IsCatalog, IsRowFault, IsNextFamily, IsReadOn, IsReadUpTo, IsTableAt, TableMayStand};
 ghost use Rattle.alt_opening.specs.Scans.{IsAhead, Walked};
 ghost use Rattle.alt_opening.specs.StateRows.{catalog_family};
 
@@ -41,10 +41,10 @@ pub(crate) fn read_catalog<D: Disk>(
     engine: &mut Engine,
 ) -> Result<Opened, OpenFault>
     ensures read { IsTrue (D.state disk.old).tells → (l : Layout)
-        → Reads (D.state disk.old) engine.old l
+        → ReadsLayout (D.state disk.old) engine.old l
         → IfOk result (λ o. IsCatalog l o.family o.catalog) }
     ensures wrong { IsTrue (D.state disk.old).tells → (l : Layout)
-        → Reads (D.state disk.old) engine.old l → IfErr result (IsRowFault l) }
+        → ReadsLayout (D.state disk.old) engine.old l → IfErr result (IsRowFault l) }
     ensures walked { Walked (D.state disk.old) (D.state disk.new) engine.old engine.new }
     ensures cause { IsErrOf result OpenFault.Failed
         → Rose (D.state disk.old).faults (D.state disk.new).faults }
@@ -79,15 +79,15 @@ fn read_table<D: Disk>(
     ahead: &mut Vec<(Bytes, ShownRow)>,
 ) -> Result<Option<Bytes>, OpenFault>
     ensures read { IsTrue (D.state disk.old).tells → (l : Layout)
-        → Reads (D.state disk.old) engine.old l
+        → ReadsLayout (D.state disk.old) engine.old l
         → IsAhead l catalog_family from.now ahead.old.items
         → IsReadUpTo l family from.now catalog.old → IfOk result (IsReadOn l family catalog.new) }
     ensures ahead { IsTrue (D.state disk.old).tells → (l : Layout)
-        → Reads (D.state disk.old) engine.old l
+        → ReadsLayout (D.state disk.old) engine.old l
         → IsAhead l catalog_family from.now ahead.old.items
         → IfOk result (λ o. IfSome o (λ after. IsAhead l catalog_family after ahead.new.items)) }
     ensures wrong { IsTrue (D.state disk.old).tells → (l : Layout)
-        → Reads (D.state disk.old) engine.old l
+        → ReadsLayout (D.state disk.old) engine.old l
         → IsAhead l catalog_family from.now ahead.old.items
         → IsReadUpTo l family from.now catalog.old → IfErr result (IsRowFault l) }
     ensures walked { Walked (D.state disk.old) (D.state disk.new) engine.old engine.new }
@@ -119,9 +119,9 @@ fn read_table<D: Disk>(
 /// The next family, which the row at the empty key tells.
 fn read_family<D: Disk>(alloc: Global, disk: &mut D, engine: &mut Engine) -> Result<u32, OpenFault>
     ensures read { IsTrue (D.state disk.old).tells → (l : Layout)
-        → Reads (D.state disk.old) engine.old l → IfOk result (IsNextFamily l) }
+        → ReadsLayout (D.state disk.old) engine.old l → IfOk result (IsNextFamily l) }
     ensures wrong { IsTrue (D.state disk.old).tells → (l : Layout)
-        → Reads (D.state disk.old) engine.old l → IfErr result (IsRowFault l) }
+        → ReadsLayout (D.state disk.old) engine.old l → IfErr result (IsRowFault l) }
     ensures walked { Walked (D.state disk.old) (D.state disk.new) engine.old engine.new }
     ensures cause { IsErrOf result OpenFault.Failed
         → Rose (D.state disk.old).faults (D.state disk.new).faults }
@@ -193,7 +193,7 @@ fn may_stand(
     requires held { IsHeld schema.now }
     requires built { IsBuilt schema.now }
     ensures may { IfOk result (λ may. IsTrue may
-        ↔ MayStand number family catalog.now name.now schema.now) }
+        ↔ TableMayStand number family catalog.now name.now schema.now) }
 {
     let families = families_of(alloc, schema)?;
     if catalog.len() >= MOST_TABLES {

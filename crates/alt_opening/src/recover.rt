@@ -4,7 +4,7 @@ ghost use Rattle.std.specs.Prelude.{◌≡◌, ℕ, IfOk, IfErr, OnOk, IsErrOf, 
 ghost use Rattle.alt_base.specs.Counts.{Rose};
 ghost use Rattle.alt_disk.specs.Disk.{IsTrusted, Goes};
 ghost use Rattle.alt_disk.specs.Runs.{Spans};
-ghost use Rattle.alt_engine.specs.InHand.{Reads, bounds_of, limits_of};
+ghost use Rattle.alt_engine.specs.InHand.{ReadsLayout, bounds_of_engine, limits_of_engine};
 ghost use Rattle.alt_layout.specs.Fresh.{versions_file};
 ghost use Rattle.alt_layout.specs.Layout.{Layout};
 ghost use Rattle.alt_machine.specs.State.{State};
@@ -50,11 +50,11 @@ pub fn open_store<D: Disk>(alloc: Global, disk: &mut D, limits: Limits) -> Resul
     // And the store stands for it, with whatever a stop leaves from then on.
     ensures stands { IfOk result (λ o. IsTrusted (D.state disk.old) → (s : State)
         → StandsFor (D.state disk.old).file s → OpensAs (D.state disk.new) o s) }
-    ensures limits { IfOk result (λ o. limits_of o.engine ≡ limits) }
+    ensures limits { IfOk result (λ o. limits_of_engine o.engine ≡ limits) }
     // The next file is past all that were there, and not below that of the last version; work makes it first, or the one behind it.
     ensures next_file { IfOk result (λ o. IsTrue (D.state disk.old).tells → (v : Version)
         → HasVersion v ((D.state disk.old).file versions_file)
-        → IsFirstFile v (D.state disk.old).file (bounds_of o.engine).file) }
+        → IsFirstFile v (D.state disk.old).file (bounds_of_engine o.engine).file) }
 
     // The files stand, as they read, for the state for which they stood, also where the call fails.
     ensures files { IsTrue (D.state disk.old).tells → (s : State)
@@ -97,11 +97,11 @@ fn read_rows<D: Disk>(
     engine: &mut Engine,
 ) -> Result<(Opened, u64, Vec<Trimmed>), OpenFault>
     ensures read { IsTrue (D.state disk.old).tells → (l : Layout)
-        → Reads (D.state disk.old) engine.old l
+        → ReadsLayout (D.state disk.old) engine.old l
         → IfOk result (λ o. (s : State)
         × Assembled l o.0.family o.0.catalog o.1 o.2.items s) }
     ensures wrong { IsTrue (D.state disk.old).tells → (l : Layout)
-        → Reads (D.state disk.old) engine.old l → IfErr result (IsRowFault l) }
+        → ReadsLayout (D.state disk.old) engine.old l → IfErr result (IsRowFault l) }
     ensures walked { Walked (D.state disk.old) (D.state disk.new) engine.old engine.new }
     ensures cause { IsErrOf result OpenFault.Failed
         → Rose (D.state disk.old).faults (D.state disk.new).faults }
@@ -127,13 +127,13 @@ fn read_state<D: Disk>(
     engine: &mut Engine,
 ) -> Result<(Opened, u64), OpenFault>
     ensures read { IsTrue (D.state disk.old).tells → (l : Layout)
-        → Reads (D.state disk.old) engine.old l
+        → ReadsLayout (D.state disk.old) engine.old l
         → IfOk result (λ o. AreTablesRead l o.0.family o.0.catalog) }
     ensures largest { IsTrue (D.state disk.old).tells → (l : Layout)
-        → Reads (D.state disk.old) engine.old l
+        → ReadsLayout (D.state disk.old) engine.old l
         → IfOk result (λ o. AreAllWithin l o.0.catalog o.1) }
     ensures wrong { IsTrue (D.state disk.old).tells → (l : Layout)
-        → Reads (D.state disk.old) engine.old l → IfErr result (IsRowFault l) }
+        → ReadsLayout (D.state disk.old) engine.old l → IfErr result (IsRowFault l) }
     ensures walked { Walked (D.state disk.old) (D.state disk.new) engine.old engine.new }
     ensures cause { IsErrOf result OpenFault.Failed
         → Rose (D.state disk.old).faults (D.state disk.new).faults }
@@ -161,13 +161,13 @@ fn read_tables<D: Disk>(
     catalog: &Catalog,
 ) -> Result<u64, OpenFault>
     ensures read { IsTrue (D.state disk.old).tells → (l : Layout) (next : ℕ)
-        → Reads (D.state disk.old) engine.old l → IsCatalog l next catalog.now
+        → ReadsLayout (D.state disk.old) engine.old l → IsCatalog l next catalog.now
         → OnOk result (AllItemsRead l catalog.now) }
     ensures largest { IsTrue (D.state disk.old).tells → (l : Layout) (next : ℕ)
-        → Reads (D.state disk.old) engine.old l → IsCatalog l next catalog.now
+        → ReadsLayout (D.state disk.old) engine.old l → IsCatalog l next catalog.now
         → IfOk result (AreAllWithin l catalog.now) }
     ensures wrong { IsTrue (D.state disk.old).tells → (l : Layout) (next : ℕ)
-        → Reads (D.state disk.old) engine.old l → IsCatalog l next catalog.now
+        → ReadsLayout (D.state disk.old) engine.old l → IsCatalog l next catalog.now
         → IfErr result (IsRowFault l) }
     ensures walked { Walked (D.state disk.old) (D.state disk.new) engine.old engine.new }
     ensures cause { IsErrOf result OpenFault.Failed
@@ -194,13 +194,13 @@ fn read_streams<D: Disk>(
     catalog: &Catalog,
 ) -> Result<Vec<Trimmed>, OpenFault>
     ensures read { IsTrue (D.state disk.old).tells → (l : Layout) (next : ℕ)
-        → Reads (D.state disk.old) engine.old l → AreTablesRead l next catalog.now
+        → ReadsLayout (D.state disk.old) engine.old l → AreTablesRead l next catalog.now
         → OnOk result (AllChangesRead l catalog.now) }
     ensures trimmed { IsTrue (D.state disk.old).tells → (l : Layout) (next : ℕ)
-        → Reads (D.state disk.old) engine.old l → AreTablesRead l next catalog.now
+        → ReadsLayout (D.state disk.old) engine.old l → AreTablesRead l next catalog.now
         → IfOk result (λ known. AreTrimmedIn l catalog.now known.items) }
     ensures wrong { IsTrue (D.state disk.old).tells → (l : Layout) (next : ℕ)
-        → Reads (D.state disk.old) engine.old l → AreTablesRead l next catalog.now
+        → ReadsLayout (D.state disk.old) engine.old l → AreTablesRead l next catalog.now
         → IfErr result (IsStreamsFault l catalog.now) }
     ensures walked { Walked (D.state disk.old) (D.state disk.new) engine.old engine.new }
     ensures cause { IsErrOf result OpenFault.Failed
@@ -231,10 +231,10 @@ fn read_indexes<D: Disk>(
     catalog: &Catalog,
 ) -> Result<(), OpenFault>
     ensures read { IsTrue (D.state disk.old).tells → (l : Layout) (next : ℕ)
-        → Reads (D.state disk.old) engine.old l → AreTablesRead l next catalog.now
+        → ReadsLayout (D.state disk.old) engine.old l → AreTablesRead l next catalog.now
         → OnOk result (AllIndexesRead l catalog.now) }
     ensures wrong { IsTrue (D.state disk.old).tells → (l : Layout) (next : ℕ)
-        → Reads (D.state disk.old) engine.old l → AreTablesRead l next catalog.now
+        → ReadsLayout (D.state disk.old) engine.old l → AreTablesRead l next catalog.now
         → IfErr result (IsIndexesFault l catalog.now) }
     ensures walked { Walked (D.state disk.old) (D.state disk.new) engine.old engine.new }
     ensures cause { IsErrOf result OpenFault.Failed

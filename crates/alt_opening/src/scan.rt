@@ -2,11 +2,10 @@
 
 ghost use Rattle.std.specs.Prelude.{◌≡◌, ◌++◌, ◌∷◌, [], IfOk, IfErr, OnOk, IfSome, IsErrOf, IsTrue, None, true};
 ghost use Rattle.alt_base.specs.Counts.{Rose};
-ghost use Rattle.alt_engine.specs.InHand.{Reads};
-ghost use Rattle.alt_engine.specs.HandOpened.{IsUndamaged};
+ghost use Rattle.alt_engine.specs.InHand.{ReadsLayout};
 ghost use Rattle.alt_layout.specs.Layout.{Layout, rows_between};
 ghost use Rattle.alt_opening.specs.Scans.{Walked, IsAhead, IsNextRow, ItemsRead, IsItemFault, IsDeviceFault};
-ghost use Rattle.alt_opening.specs.private.RowSizes.{AreWithin};
+ghost use Rattle.alt_opening.specs.private.RowSizes.{RowsAreWithin};
 
 use crate::faults::OpenFault;
 use alt_base::NoMemory;
@@ -31,15 +30,15 @@ pub(crate) fn next_row<D: Disk>(
     ahead: &mut Vec<(Bytes, ShownRow)>,
 ) -> Result<Option<(Bytes, ShownRow)>, OpenFault>
     ensures row { IsTrue (D.state disk.old).tells → (l : Layout)
-        → Reads (D.state disk.old) engine.old l → IsAhead l family from.now ahead.old.items
+        → ReadsLayout (D.state disk.old) engine.old l → IsAhead l family from.now ahead.old.items
         → IfOk result (IsNextRow l family from.now) }
     ensures ahead { IsTrue (D.state disk.old).tells → (l : Layout)
-        → Reads (D.state disk.old) engine.old l → IsAhead l family from.now ahead.old.items
+        → ReadsLayout (D.state disk.old) engine.old l → IsAhead l family from.now ahead.old.items
         → IfOk result (λ row. IfSome row (λ e.
         IsAhead l family (e.0 ++ 0 ∷ []) ahead.new.items)) }
     ensures walked { Walked (D.state disk.old) (D.state disk.new) engine.old engine.new }
     ensures fault { IsTrue (D.state disk.old).tells → (l : Layout)
-        → Reads (D.state disk.old) engine.old l → IfErr result IsDeviceFault }
+        → ReadsLayout (D.state disk.old) engine.old l → IfErr result IsDeviceFault }
     ensures cause { IsErrOf result OpenFault.Failed
         → Rose (D.state disk.old).faults (D.state disk.new).faults }
 {
@@ -58,14 +57,14 @@ fn read_ahead<D: Disk>(
     ahead: &mut Vec<(Bytes, ShownRow)>,
 ) -> Result<(), OpenFault>
     ensures ahead { IsTrue (D.state disk.old).tells → (l : Layout)
-        → Reads (D.state disk.old) engine.old l → IsAhead l family from.now ahead.old.items
+        → ReadsLayout (D.state disk.old) engine.old l → IsAhead l family from.now ahead.old.items
         → OnOk result (IsAhead l family from.now ahead.new.items) }
     ensures none { IsTrue (D.state disk.old).tells → (l : Layout)
-        → Reads (D.state disk.old) engine.old l → OnOk result (ahead.new.items ≡ []
+        → ReadsLayout (D.state disk.old) engine.old l → OnOk result (ahead.new.items ≡ []
         → rows_between l family from.now None true ≡ []) }
     ensures walked { Walked (D.state disk.old) (D.state disk.new) engine.old engine.new }
     ensures fault { IsTrue (D.state disk.old).tells → (l : Layout)
-        → Reads (D.state disk.old) engine.old l → IfErr result IsDeviceFault }
+        → ReadsLayout (D.state disk.old) engine.old l → IfErr result IsDeviceFault }
     ensures cause { IsErrOf result OpenFault.Failed
         → Rose (D.state disk.old).faults (D.state disk.new).faults }
 {
@@ -102,12 +101,12 @@ pub(crate) fn read_items<D: Disk>(
     schema: &TableSchema,
 ) -> Result<u64, OpenFault>
     ensures read { IsTrue (D.state disk.old).tells → (l : Layout)
-        → Reads (D.state disk.old) engine.old l → OnOk result (ItemsRead l schema.now) }
+        → ReadsLayout (D.state disk.old) engine.old l → OnOk result (ItemsRead l schema.now) }
     ensures largest { IsTrue (D.state disk.old).tells → (l : Layout)
-        → Reads (D.state disk.old) engine.old l
-        → IfOk result (λ largest. AreWithin l largest schema.now) }
+        → ReadsLayout (D.state disk.old) engine.old l
+        → IfOk result (λ largest. RowsAreWithin l largest schema.now) }
     ensures wrong { IsTrue (D.state disk.old).tells → (l : Layout)
-        → Reads (D.state disk.old) engine.old l → IfErr result (IsItemFault l schema.now) }
+        → ReadsLayout (D.state disk.old) engine.old l → IfErr result (IsItemFault l schema.now) }
     ensures walked { Walked (D.state disk.old) (D.state disk.new) engine.old engine.new }
     ensures cause { IsErrOf result OpenFault.Failed
         → Rose (D.state disk.old).faults (D.state disk.new).faults }

@@ -3,7 +3,7 @@
 ghost use Rattle.std.specs.Prelude.{◌≡◌, OnOk, option_map};
 ghost use Rattle.std.specs.List.{find};
 ghost use Rattle.std.specs.Str.{bytes_eq};
-ghost use Rattle.alt_opening.specs.Trimmed.{IsRenumbered, number_at, with_number, without};
+ghost use Rattle.alt_opening.specs.Trimmed.{IsRenumbered, number_at, with_number, without_table_number};
 
 use alt_base::NoMemory;
 use alt_value::Text;
@@ -52,7 +52,7 @@ pub(crate) fn know(
 
 /// Takes a table out.
 pub fn forget(known: &mut Vec<Trimmed>, table: &str)
-    ensures { known.new.items ≡ without table.now known.old.items }
+    ensures { known.new.items ≡ without_table_number table.now known.old.items }
 {
     known.retain(|entry| entry.table.as_str() != table);
 }

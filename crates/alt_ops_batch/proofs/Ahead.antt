@@ -13,12 +13,12 @@ use Rattle.alt_machine.specs.declared.Sought.TheVariants.{Item, Key}
 use Rattle.alt_machine.specs.declared.TheConstants.{MOST_WRITES}
 use Rattle.alt_machine.specs.Body.{of_shape}
 use Rattle.alt_machine.specs.Batches as machine
-use Rattle.alt_machine.specs.Batches.{each_found, elements, elements_in, has_repeat, is_sized, of_each, pairs_in, pairs_of, placed, tables_asked}
+use Rattle.alt_machine.specs.Batches.{each_found, array_elements, elements_in, has_repeat, is_sized, of_each, pairs_in, pairs_of, placed, tables_asked}
 use Rattle.alt_machine.specs.Members.{unless_fault}
-use Rattle.alt_machine.specs.Ops.BatchWriteItem.{are_writes, is_one, of_body, of_members, read_write, requests, writes_asked}
+use Rattle.alt_machine.specs.Ops.BatchWriteItem.{are_writes, is_one, of_body, of_members, read_write, requested_writes, writes_asked}
 use Rattle.alt_machine.specs.Refusals.{first_answer, refuse_if, refuse_unless, unless_answer, ◌>>=◌}
 use Rattle.alt_machine.specs.State.{Texts}
-use Rattle.alt_ops_batch.specs.private.Ahead.{member_of, members_of, of_catalog, writes_ahead}
+use Rattle.alt_ops_batch.specs.private.Ahead.{member_of_write, members_of, missing_table_refusals, writes_ahead}
 use Rattle.alt_readahead.specs.Batch.{IsBatchAhead, SaysWrite, SayWrites, SayTables}
 use Rattle.alt_readahead.specs.declared.batch.TableWrites.{TableWrites}
 use Rattle.alt_readahead.specs.declared.batch.Write.{Write}
@@ -26,9 +26,10 @@ use Rattle.alt_readahead.specs.declared.batch.Write.TheVariants.{Put, Delete}
 use Rattle.alt_schema.specs.Rules.{is_name}
 use Rattle.alt_schema.specs.declared.schema.TableSchema.{TableSchema}
 use Rattle.alt_shape.specs.Bodies as bodies
-use Rattle.alt_shape.specs.Bodies.{array_fault, in_items, in_members, object_fault, write_request}
+use Rattle.alt_shape.specs.Bodies.{write_request}
+use Rattle.alt_shape.specs.BodyParts.{array_fault, in_items, in_members, object_fault}
 use Rattle.alt_shape.specs.Refusals.{Answer, not_found, bad_batch, bad_name}
-use Rattle.alt_shape.specs.Shape.{or_next}
+use Rattle.alt_shape.specs.Shape.{or_next_fault}
 
 -- ---- from a table on
 
@@ -38,8 +39,8 @@ members_from_suc : (ts : List TableWrites) (i : ℕ) (t : TableWrites) → i < l
     ≡ length (get_or ts i t).writes.items + length (members_of (drop (suc i) ts))
 members_from_suc [] i t h = absurd (omega arith)
 members_from_suc (u ∷ ts) zero t h =
-    length-append (map (member_of u.table) u.writes.items) (members_of ts)
-    ∙ ap (λ n. n + length (members_of ts)) (length-map u.writes.items (member_of u.table))
+    length-append (map (member_of_write u.table) u.writes.items) (members_of ts)
+    ∙ ap (λ n. n + length (members_of ts)) (length-map u.writes.items (member_of_write u.table))
 members_from_suc (u ∷ ts) (suc i) t h = members_from_suc ts i t (omega arith)
 
 -- the same, with the next place counted by + 1
@@ -109,7 +110,7 @@ read_one (r ∷ rs) (m ∷ ms) h =
 
 -- a write is read as its member
 write_read : (table : List ℕ) (d : Data) (w : Write) → SaysWrite d w
-    → (read_write (table, d) ≡ Ok (member_of table w)) × (is_one d ≡ true)
+    → (read_write (table, d) ≡ Ok (member_of_write table w)) × (is_one d ≡ true)
 write_read table d (Put i) h = (
   ap (λ e. read_write (table, e)) h.1
       ∙ ap (λ r. unless_fault r
@@ -125,7 +126,7 @@ write_read table d (Delete i) h = (
 
 -- so are those of a table
 writes_read : (table : List ℕ) (ds : Items) (ws : List Write) → SayWrites ds ws
-    → AreRead (map (λ d. (table, d)) (elements ds)) (map (member_of table) ws)
+    → AreRead (map (λ d. (table, d)) (array_elements ds)) (map (member_of_write table) ws)
 writes_read table no_items [] h = tt
 writes_read table no_items (w ∷ ws) h = absurd h
 writes_read table (item d ds) [] h = absurd h
@@ -140,10 +141,10 @@ tables_read no_members (t ∷ ts) h = absurd h
 tables_read (member name d ms) [] h = absurd h
 tables_read (member name d ms) (t ∷ ts) h =
     let one : AreRead (map (λ e. (name, e)) (elements_in d))
-    (map (member_of t.table) t.writes.items) =
+    (map (member_of_write t.table) t.writes.items) =
     rw (h.0.array, h.0.named) (writes_read name h.0.elements t.writes.items h.0.writes) in
     read_both (map (λ e. (name, e)) (elements_in d)) (of_each elements_in (pairs_in ms))
-    (map (member_of t.table) t.writes.items) (members_of ts) one (tables_read ms ts h.1)
+    (map (member_of_write t.table) t.writes.items) (members_of ts) one (tables_read ms ts h.1)
 
 -- ---- what the body and the names of the tables come to
 
@@ -154,10 +155,10 @@ writes_unbroken no_items [] h = refl
 writes_unbroken no_items (w ∷ ws) h = absurd h
 writes_unbroken (item d ds) [] h = absurd h
 writes_unbroken (item d ds) (Put i ∷ ws) h =
-    ap (λ e. or_next (object_fault write_request e) (in_items (object_fault write_request) ds)) h.0.1
+    ap (λ e. or_next_fault (object_fault write_request e) (in_items (object_fault write_request) ds)) h.0.1
     ∙ writes_unbroken ds ws h.1
 writes_unbroken (item d ds) (Delete k ∷ ws) h =
-    ap (λ e. or_next (object_fault write_request e) (in_items (object_fault write_request) ds)) h.0.1
+    ap (λ e. or_next_fault (object_fault write_request e) (in_items (object_fault write_request) ds)) h.0.1
     ∙ writes_unbroken ds ws h.1
 
 -- nor does a table
@@ -168,8 +169,8 @@ tables_unbroken no_members (t ∷ ts) h = absurd h
 tables_unbroken (member name d ms) [] h = absurd h
 tables_unbroken (member name d ms) (t ∷ ts) h =
     let inside = array_fault (in_items (object_fault write_request)) in
-    ap (λ e. or_next (inside e) (in_members inside ms)) h.0.array
-    ∙ ap (λ o. or_next o (in_members inside ms))
+    ap (λ e. or_next_fault (inside e) (in_members inside ms)) h.0.array
+    ∙ ap (λ o. or_next_fault o (in_members inside ms))
     (writes_unbroken h.0.elements t.writes.items h.0.writes)
     ∙ tables_unbroken ms ts h.1
 
@@ -194,25 +195,25 @@ module _ (catalog : Texts TableSchema) (ms : Members) (ts : List TableWrites)
       as_object_in None = None
       as_object_in (Some d) = as_object d
 
-  requests_are : requests ms ≡ of_each elements_in (pairs_in ahead.tables)
+  requests_are : requested_writes ms ≡ of_each elements_in (pairs_in ahead.tables)
   requests_are = ap (of_each elements_in) tables_are
 
-  reads : AreRead (requests ms) (members_of ts)
+  reads : AreRead (requested_writes ms) (members_of ts)
   reads = rw requests_are (tables_read ahead.tables ts ahead.say)
 
   unbroken : bodies.batch_write_item ms ≡ None
   unfolding bodies.batch_write_item
   unbroken =
-      rw ahead.given (ap (λ o. or_next o None) (tables_unbroken ahead.tables ts ahead.say))
+      rw ahead.given (ap (λ o. or_next_fault o None) (tables_unbroken ahead.tables ts ahead.say))
 
   -- the body alone is refused for the number of its writes, and for the names of its tables
   body_refused : of_body ms ≡ (None ∷ None ∷
       refuse_unless (is_sized MOST_WRITES (length (members_of ts))) bad_batch ∷
       refuse_unless (list_all (λ (t : TableWrites). is_name t.table) ts) bad_name ∷ [])
   body_refused =
-      let good : are_writes (requests ms) ≡ is_sized MOST_WRITES (length (members_of ts)) =
-      (λ i. is_sized MOST_WRITES (read_count (requests ms) (members_of ts) reads i)
-      && read_one (requests ms) (members_of ts) reads i)
+      let good : are_writes (requested_writes ms) ≡ is_sized MOST_WRITES (length (members_of ts)) =
+      (λ i. is_sized MOST_WRITES (read_count (requested_writes ms) (members_of ts) reads i)
+      && read_one (requested_writes ms) (members_of ts) reads i)
       ∙ and-true (is_sized MOST_WRITES (length (members_of ts))) in
       let named = ap (list_all (λ q. is_name q.0)) tables_are
       ∙ all_named is_name ahead.tables ts ahead.say in
@@ -220,13 +221,13 @@ module _ (catalog : Texts TableSchema) (ms : Members) (ts : List TableWrites)
       refuse_unless (named i) bad_name ∷ []
 
   -- each table is there where those of the writes are
-  catalog_same : machine.of_catalog catalog (tables_asked ms) ≡ of_catalog catalog ts
+  catalog_same : machine.of_catalog catalog (tables_asked ms) ≡ missing_table_refusals catalog ts
   catalog_same = ap (λ b. refuse_unless b not_found ∷ [])
       (ap (list_all (λ q. finite.contains_key catalog q.0)) tables_are
       ∙ all_named (finite.contains_key catalog) ahead.tables ts ahead.say)
 
-  found : each_found read_write (requests ms) ≡ Ok (members_of ts)
-  found = read_found (requests ms) (members_of ts) reads
+  found : each_found read_write (requested_writes ms) ≡ Ok (members_of ts)
+  found = read_found (requested_writes ms) (members_of ts) reads
 
 -- the tables may be tested before the writes are read, where nothing refuses those
 tested_first : (x y z : Option Answer) (rs : List (List ℕ × Data)) (read : List BatchMember)
@@ -248,10 +249,10 @@ asked_ahead catalog ms ts ahead =
     let rest : List BatchMember → Result (List PlacedMember) Answer =
     λ known. each_found (placed catalog) known >>= (λ there. unless_answer
     (first_answer (refuse_if (has_repeat there) bad_batch ∷ of_members catalog there)) there) in
-    (λ i. unless_answer (first_answer (body_refused catalog ms ts ahead i)) (requests ms)
+    (λ i. unless_answer (first_answer (body_refused catalog ms ts ahead i)) (requested_writes ms)
     >>= (λ rs. each_found read_write rs >>= (λ read. unless_answer
     (first_answer (catalog_same catalog ms ts ahead i)) read >>= rest)))
     ∙ tested_first (refuse_unless (is_sized MOST_WRITES (length (members_of ts))) bad_batch)
     (refuse_unless (list_all (λ (t : TableWrites). is_name t.table) ts) bad_name)
     (refuse_unless (list_all (λ (t : TableWrites). finite.contains_key catalog t.table) ts)
-    not_found) (requests ms) (members_of ts) rest (found catalog ms ts ahead)
+    not_found) (requested_writes ms) (members_of ts) rest (found catalog ms ts ahead)

@@ -10,7 +10,7 @@ use Rattle.alt_machine.specs.Batches.{is_same_key, has_repeat}
 use Rattle.alt_machine.specs.Ops.BatchWriteItem.{written_by, writes_asked}
 use Rattle.alt_machine.specs.State.{Texts}
 use Rattle.alt_machine.proofs.Batches as machine
-use Rattle.alt_machine.proofs.Batches.{MayStand, asked_may, asked_named, asked_once, may_be_left}
+use Rattle.alt_machine.proofs.Batches.{MayStand, asked_may, asked_named, may_be_left}
 use Rattle.alt_request.specs.TablesSeveral.{Every, MayWrite, AreApart, AreAllApart}
 use Rattle.alt_schema.specs.declared.schema.TableSchema.{TableSchema}
 use Rattle.alt_request.proofs.TablesOpeningOneColumn.{bytes_differ}

@@ -3,7 +3,7 @@ use Rattle.std.proofs.Common.{◌≡◌, ap, ◌∙◌, List, [], ◌∷◌, ◌
 use Rattle.std.proofs.lemmas.List.{map-append}
 use Rattle.alt_disk.specs.Disk.{DiskState}
 use Rattle.alt_machine.specs.declared.PlacedMember.{PlacedMember}
-use Rattle.alt_machine.specs.Ops.BatchWriteItem.{Written, written_by}
+use Rattle.alt_machine.specs.Ops.BatchWriteItem.{PlacedWrite, written_by}
 use Rattle.alt_machine.specs.State.{State}
 use Rattle.alt_request.specs.TablesSeveral.{Every, written_at, MayWrite, IsFound}
 use Rattle.alt_request.specs.TablesDeclaredItemChange.{ItemChange}
@@ -32,7 +32,7 @@ found_one before mid after old now new members rest m changes c so only same fou
       only = only_then so.only only;
       written = ap (λ l. l ++ map written_by rest) (map-append written_at changes (c ∷ []))
           ∙ append_assoc (map written_at changes) (written_at c ∷ []) (map written_by rest)
-          ∙ ap (λ (w : Written). map written_at changes ++ w ∷ map written_by rest) same
+          ∙ ap (λ (w : PlacedWrite). map written_at changes ++ w ∷ map written_by rest) same
           ∙ so.written;
       may = so.may.1;
       found = λ s stands. every_more (IsFound s) changes c (so.found s stands)

@@ -8,12 +8,12 @@ use Rattle.serde_json.specs.View.{view, items_view}
 use Rattle.serde_json.specs.declared.value.Value.{Value}
 use Rattle.alt_machine.specs.declared.BatchMember.{BatchMember}
 use Rattle.alt_machine.specs.declared.PlacedMember.{PlacedMember}
-use Rattle.alt_machine.specs.Batches.{elements, of_each, each_found, is_sized, at_place, placed_in, placed}
+use Rattle.alt_machine.specs.Batches.{array_elements, of_each, each_found, is_sized, at_place, placed_in, placed}
 use Rattle.alt_machine.specs.Ops.BatchWriteItem.{is_one, of_member, of_members}
 use Rattle.alt_machine.specs.Refusals.{first_answer, or_refused, unless_answer, ◌>>=◌}
 use Rattle.alt_machine.specs.State.{Texts}
 use Rattle.alt_machine.specs.Targets.{of_length, place_in}
-use Rattle.alt_ops_batch.specs.private.Batches.{request_of}
+use Rattle.alt_ops_batch.specs.private.Batches.{requested_write}
 use Rattle.alt_request.specs.Steps.{Comes}
 use Rattle.alt_request.specs.Targets.{place_that_fits}
 use Rattle.alt_ops_batch.specs.declared.asked_writes.Request.{Request}
@@ -175,13 +175,13 @@ module _ (catalog : Texts TableSchema) where
 -- ---- the elements of an array
 
 -- an array has as many elements as values
-pub elements_length : (vs : List Value) → length (elements (items_view vs)) ≡ length vs
+pub elements_length : (vs : List Value) → length (array_elements (items_view vs)) ≡ length vs
 elements_length [] = refl
 elements_length (v ∷ vs) = ap suc (elements_length vs)
 
 -- from a place on
 elements_from_suc : (vs : List Value) (i : ℕ) (v : Value) → i < length vs
-    → elements (items_view (drop i vs)) ≡ view (get_or vs i v) ∷ elements
+    → array_elements (items_view (drop i vs)) ≡ view (get_or vs i v) ∷ array_elements
     (items_view (drop (suc i) vs))
 elements_from_suc [] i v h = absurd (omega arith)
 elements_from_suc (x ∷ xs) zero v h = refl
@@ -189,11 +189,11 @@ elements_from_suc (x ∷ xs) (suc i) v h = elements_from_suc xs i v (omega arith
 
 -- the same, with the next place counted by + 1
 pub elements_from : (vs : List Value) (i : ℕ) (v : Value) → i < length vs
-    → elements (items_view (drop i vs)) ≡ view (get_or vs i v) ∷ elements
+    → array_elements (items_view (drop i vs)) ≡ view (get_or vs i v) ∷ array_elements
     (items_view (drop (i + 1) vs))
 elements_from vs i v h = rw add-one (elements_from_suc vs i v h)
 
 -- each write is one put or one delete
 pub all_one : (rs : List Request) → list_all (λ r. is_one (view r.value.now)) rs
-    ≡ list_all (λ r. is_one r.1) (map request_of rs)
-all_one rs = all_mapped request_of (λ r. is_one r.1) rs
+    ≡ list_all (λ r. is_one r.1) (map requested_write rs)
+all_one rs = all_mapped requested_write (λ r. is_one r.1) rs

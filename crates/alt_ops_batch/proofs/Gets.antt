@@ -4,11 +4,11 @@ use Rattle.std.specs.Prelude.{fold}
 use Rattle.std.specs.FinMap as finite
 use Rattle.serde_json.specs.Data.{Members}
 use Rattle.alt_machine.specs.declared.PlacedMember.{PlacedMember}
-use Rattle.alt_machine.specs.Ops.BatchGetItem.{Reads, Shown, batch_get_item, nothing_read, read_answer, reads_asked, with_reads}
+use Rattle.alt_machine.specs.Ops.BatchGetItem.{KeyReads, Shown, batch_get_item, nothing_read, read_answer, reads_asked, with_reads}
 use Rattle.alt_machine.specs.Outcomes.{Outcome, says, with_found}
 use Rattle.alt_machine.specs.State.{State, Texts, descriptions}
 use Rattle.alt_machine.proofs.Batches as machine
-use Rattle.alt_ops_batch.specs.private.Readings.{AreKnown, AreAllKnown, IsFault, IfErrFailed}
+use Rattle.alt_ops_batch.specs.private.Readings.{KeyTablesAreThere, AreAllKnown, IsFault, IfErrFailed}
 use Rattle.alt_ops_batch.specs.private.Batches.{reads_of}
 use Rattle.alt_request.specs.Carried.{Carries, IfFailed}
 use Rattle.alt_ops_batch.specs.declared.asked_reads.TableReads.{TableReads}
@@ -18,7 +18,7 @@ use Rattle.alt_request.proofs.Carrying.{unfound}
 use Rattle.alt_schema.specs.declared.schema.TableSchema.{TableSchema}
 
 -- what it goes on with
-abbrev pub go : State → List (Reads Shown PlacedMember) → Outcome
+abbrev pub go : State → List (KeyReads Shown PlacedMember) → Outcome
 go s tables = says (read_answer (fold (with_reads s) nothing_read tables))
 
 -- a BatchGetItem looks for the reads that are asked for, and goes on with them
@@ -28,19 +28,19 @@ unfolding batch_get_item
 get_is ms s = refl
 
 -- what is asked for
-abbrev pub asked_of : Vec TableReads Global → List (Reads Shown PlacedMember)
+abbrev pub asked_of : Vec TableReads Global → List (KeyReads Shown PlacedMember)
 asked_of v = map reads_of v.items
 
 -- the tables of all keys are there
 keys_known : (catalog : Texts TableSchema) (ks : List PlacedMember)
     → machine.Every (λ (m : PlacedMember). finite.contains_key catalog m.table ≡ true) ks
-    → AreKnown catalog ks
+    → KeyTablesAreThere catalog ks
 keys_known catalog [] h = tt
 keys_known catalog (k ∷ ks) h = (h.0, keys_known catalog ks h.1)
 
 -- so are those of all keys of each read
 all_known : (catalog : Texts TableSchema) (asked : List TableReads)
-    → machine.Every (λ (r : Reads Shown PlacedMember).
+    → machine.Every (λ (r : KeyReads Shown PlacedMember).
     machine.Every (λ (m : PlacedMember). finite.contains_key catalog m.table ≡ true) r.keys)
     (map reads_of asked) → AreAllKnown catalog asked
 all_known catalog [] h = tt

@@ -8,18 +8,18 @@ use Rattle.serde_json.specs.Written.{has_float, items_have_float, members_have_f
 use Rattle.alt_machine.specs.Expressions.{names_member}
 use Rattle.alt_machine.specs.Ops.BatchGetItem.{attributes_member, keys_object}
 use Rattle.alt_ops_batch.specs.private.Names.{ArePlain}
-use Rattle.alt_schema.specs.Json.{member_if, put_if}
+use Rattle.alt_schema.specs.Json.{member_if, put_member_if}
 use Rattle.alt_shape.specs.Shape.{given}
 
 -- ---- their order
 
 -- they are put in this order, and so they stand
 ordered : (a : Option Items) (t : Option Bool) (n : Option Members) (p : Option (List ℕ)) (keys : Data)
-    → put_if (codes "ProjectionExpression") (option_map (λ text. string text) p)
+    → put_member_if (codes "ProjectionExpression") (option_map (λ text. string text) p)
     (put (codes "Keys") keys
-    (put_if (codes "ExpressionAttributeNames") (option_map (λ names. object names) n)
-    (put_if (codes "ConsistentRead") (option_map (λ b. boolean b) t)
-    (put_if (codes "AttributesToGet") (option_map (λ names. array names) a) no_members))))
+    (put_member_if (codes "ExpressionAttributeNames") (option_map (λ names. object names) n)
+    (put_member_if (codes "ConsistentRead") (option_map (λ b. boolean b) t)
+    (put_member_if (codes "AttributesToGet") (option_map (λ names. array names) a) no_members))))
     ≡ member_if (codes "AttributesToGet") (option_map (λ names. array names) a)
     (member_if (codes "ConsistentRead") (option_map (λ b. boolean b) t)
     (member_if (codes "ExpressionAttributeNames") (option_map (λ names. object names) n)
@@ -45,14 +45,14 @@ ordered (Some ds) (Some b) (Some names) (Some text) keys = refl
 -- so the object is that of the keys
 pub asked : (ms : Members) (keys : Data) (none with_names with_truth with_words with_keys all : Members)
     → none ≡ no_members
-    → with_names ≡ put_if (codes "AttributesToGet") (option_map (λ names. array names)
+    → with_names ≡ put_member_if (codes "AttributesToGet") (option_map (λ names. array names)
     (attributes_member ms)) none
-    → with_truth ≡ put_if (codes "ConsistentRead") (option_map (λ b. boolean b)
+    → with_truth ≡ put_member_if (codes "ConsistentRead") (option_map (λ b. boolean b)
     (option_and_then as_bool (given (codes "ConsistentRead") ms))) with_names
-    → with_words ≡ put_if (codes "ExpressionAttributeNames") (option_map (λ names. object names)
+    → with_words ≡ put_member_if (codes "ExpressionAttributeNames") (option_map (λ names. object names)
     (names_member ms)) with_truth
     → with_keys ≡ put (codes "Keys") keys with_words
-    → all ≡ put_if (codes "ProjectionExpression") (option_map (λ text. string text)
+    → all ≡ put_member_if (codes "ProjectionExpression") (option_map (λ text. string text)
     (option_and_then as_str (given (codes "ProjectionExpression") ms))) with_keys
     → object all ≡ keys_object ms keys
 asked ms keys none with_names with_truth with_words with_keys all e f g h i j =
@@ -61,11 +61,11 @@ asked ms keys none with_names with_truth with_words with_keys all e f g h i j =
     let n = names_member ms in
     let p = option_and_then as_str (given (codes "ProjectionExpression") ms) in
     ap object (j
-    ∙ ap (put_if (codes "ProjectionExpression") (option_map (λ text. string text) p)) (i
+    ∙ ap (put_member_if (codes "ProjectionExpression") (option_map (λ text. string text) p)) (i
     ∙ ap (put (codes "Keys") keys) (h
-    ∙ ap (put_if (codes "ExpressionAttributeNames") (option_map (λ names. object names) n)) (g
-    ∙ ap (put_if (codes "ConsistentRead") (option_map (λ b. boolean b) t)) (f
-    ∙ ap (put_if (codes "AttributesToGet") (option_map (λ names. array names) a)) e))))
+    ∙ ap (put_member_if (codes "ExpressionAttributeNames") (option_map (λ names. object names) n)) (g
+    ∙ ap (put_member_if (codes "ConsistentRead") (option_map (λ b. boolean b) t)) (f
+    ∙ ap (put_member_if (codes "AttributesToGet") (option_map (λ names. array names) a)) e))))
     ∙ ordered a t n p keys)
 
 -- ---- no float

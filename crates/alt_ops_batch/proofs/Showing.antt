@@ -12,7 +12,7 @@ use Rattle.alt_machine.specs.declared.TheConstants.{LARGEST_ITEM}
 use Rattle.alt_machine.specs.Ops.BatchGetItem.{found_at}
 use Rattle.alt_machine.specs.State.{State, Table}
 use Rattle.alt_machine.proofs.Descriptions.{there-descriptions}
-use Rattle.alt_request.specs.TablesFound.{IsFoundIn}
+use Rattle.alt_request.specs.TablesFound.{IsFoundInTable}
 use Rattle.alt_request.specs.TablesStands.{Stands, catalog_of}
 use Rattle.alt_request.specs.TablesDeclaredFound.{Found}
 use Rattle.alt_request.specs.TablesDeclaredTables.{Tables}
@@ -29,7 +29,7 @@ some_there (Some x) e = (x, refl)
 module _ (disk : DiskState) (tables : Tables) (s : State) (stands : Stands disk tables s)
     (key : PlacedMember) (known : finite.contains_key (catalog_of tables) key.table ≡ true)
     (name : List ℕ) (named : name ≡ key.table) (found : Found) (at : found.place ≡ key.place)
-    (is : IsFoundIn s name found) where
+    (is : IsFoundInTable s name found) where
   -- the table of the key is there
   table_there : (t : Table) × (finite.get s.tables key.table ≡ Some t)
   table_there = some_there (finite.get s.tables key.table)

@@ -12,10 +12,10 @@ use Rattle.alt_disk.specs.Disk.{DiskState}
 use Rattle.alt_machine.specs.declared.PlacedMember.{PlacedMember}
 use Rattle.alt_machine.specs.declared.TheConstants.{BATCH_BYTES}
 use Rattle.alt_shape.specs.Body.{items_json}
-use Rattle.alt_machine.specs.Ops.BatchGetItem.{Reads as Asked, Shown, found_at, keys_object, size_at, read_of, with_left, with_reads, nothing_read}
+use Rattle.alt_machine.specs.Ops.BatchGetItem.{KeyReads as Asked, Shown, found_at, keys_object, size_at, read_of, with_left, with_reads, nothing_read}
 use Rattle.alt_machine.specs.Ops.GetItem.{parts}
 use Rattle.alt_machine.specs.State.{State}
-use Rattle.alt_ops_batch.specs.private.Readings.{AreAllKnown, AreKnown, IsBounded, IsPlainRead, IsPlainTaken, IsTaken, Takes, key_json, name_left, read_so, responses_of}
+use Rattle.alt_ops_batch.specs.private.Readings.{AreAllKnown, KeyTablesAreThere, IsBounded, IsPlainRead, IsPlainTaken, ItemsAreTaken, TakesItems, unprocessed_key_json, name_left, read_so, responses_of}
 use Rattle.alt_ops_batch.specs.declared.reading.Read.{Read}
 use Rattle.alt_ops_batch.specs.declared.reading.Taken.{Taken}
 use Rattle.alt_ops_batch.specs.private.Batches.{HasPlainNames, reads_of}
@@ -94,15 +94,15 @@ pub record SoFar (s : State) (paths : Shown) (before : ℕ) (keys : List PlacedM
   pub items : taken.items.items
       ++ map (parts paths) (filter_map (found_at s) (read_of s now rest))
       ≡ map (parts paths) (filter_map (found_at s) (read_of s before keys))
-  pub left : map view taken.left.items ++ map key_json (drop (length (read_of s now rest)) rest)
-      ≡ map key_json (drop (length (read_of s before keys)) keys)
+  pub left : map view taken.left.items ++ map unprocessed_key_json (drop (length (read_of s now rest)) rest)
+      ≡ map unprocessed_key_json (drop (length (read_of s before keys)) keys)
   pub size : now + sum_by (size_at s) (read_of s now rest)
       ≡ before + sum_by (size_at s) (read_of s before keys)
 
 module _ (s : State) (paths : Shown) (before : ℕ) (keys : List PlacedMember) where
   -- so it is with one key more that is taken
   so_more : (old new : Taken) (size after : ℕ) (k : PlacedMember) (rest : List PlacedMember)
-      → SoFar s paths before keys old size (k ∷ rest) → Takes s paths size (k ∷ []) old new after
+      → SoFar s paths before keys old size (k ∷ rest) → TakesItems s paths size (k ∷ []) old new after
       → SoFar s paths before keys new after rest
   so_more old new size after k rest so takes =
       let shown : List PlacedMember → List _ =
@@ -119,12 +119,12 @@ module _ (s : State) (paths : Shown) (before : ℕ) (keys : List PlacedMember) w
             ∙ map-append (parts paths) (filter_map (found_at s) one)
             (filter_map (found_at s) others)))
             ∙ so.items;
-        left = ap (λ ds. ds ++ map key_json (drop (length others) rest)) takes.left
-            ∙ append_assoc (map view old.left.items) (map key_json (drop (length one) (k ∷ [])))
-            (map key_json (drop (length others) rest))
+        left = ap (λ ds. ds ++ map unprocessed_key_json (drop (length others) rest)) takes.left
+            ∙ append_assoc (map view old.left.items) (map unprocessed_key_json (drop (length one) (k ∷ [])))
+            (map unprocessed_key_json (drop (length others) rest))
             ∙ ap (λ ds. map view old.left.items ++ ds)
-            (sym (ap (map key_json) both.left
-            ∙ map-append key_json (drop (length one) (k ∷ [])) (drop (length others) rest)))
+            (sym (ap (map unprocessed_key_json) both.left
+            ∙ map-append unprocessed_key_json (drop (length one) (k ∷ [])) (drop (length others) rest)))
             ∙ so.left;
         size = omega (
           arith,
@@ -137,7 +137,7 @@ module _ (s : State) (paths : Shown) (before : ℕ) (keys : List PlacedMember) w
 
 -- where none is left all are taken
 pub all_taken : (s : State) (paths : Shown) (before : ℕ) (keys : List PlacedMember) (taken : Taken)
-    (now : ℕ) → SoFar s paths before keys taken now [] → IsTaken s paths before keys taken now
+    (now : ℕ) → SoFar s paths before keys taken now [] → ItemsAreTaken s paths before keys taken now
 all_taken s paths before keys taken now so = record {
   items = sym (append-nil taken.items.items) ∙ so.items;
   left = sym (append-nil (map view taken.left.items)) ∙ so.left;
@@ -152,7 +152,7 @@ pub record AreTaken (before : DiskState) (old : Tables) (after : DiskState) (now
     (paths : Shown) (first : ℕ) (keys : List PlacedMember) (taken : Taken) (size : ℕ)
     (rest : List PlacedMember) : Type 0 where
   pub only : OnlyReads before after old now
-  pub known : AreKnown (catalog_of old) rest
+  pub known : KeyTablesAreThere (catalog_of old) rest
   pub bounded : IsBounded size
   pub plain : IsPlainTaken taken
   pub so : (s : State) → Stands before old s → SoFar s paths first keys taken size rest
@@ -163,7 +163,7 @@ module _ (before mid after : DiskState) (old now new : Tables) where
       (size next : ℕ) (k : PlacedMember) (rest : List PlacedMember)
       → AreTaken before old mid now paths first keys taken size (k ∷ rest)
       → OnlyReads mid after now new → IsBounded next → IsPlainTaken more
-      → ((s : State) → Stands mid now s → Takes s paths size (k ∷ []) taken more next)
+      → ((s : State) → Stands mid now s → TakesItems s paths size (k ∷ []) taken more next)
       → AreTaken before old after new paths first keys more next rest
   taken_more paths first keys taken more size next k rest so only bounded plain takes = record {
     only = only_then so.only only;
@@ -178,7 +178,7 @@ module _ (before mid after : DiskState) (old now new : Tables) where
 
 -- what is left of keys is asked for again
 left_named : (r : Asked Shown PlacedMember) (ks : List PlacedMember) (ms : Members)
-    → name_left r.table r.body (map key_json ks) ms ≡ with_left r ks ms
+    → name_left r.table r.body (map unprocessed_key_json ks) ms ≡ with_left r ks ms
 left_named r [] ms = refl
 left_named r (k ∷ ks) ms = ap (λ ds. put r.table (keys_object r.body (array ds)) ms)
     (sym (json_of_each (λ (x : PlacedMember). x.item) (k ∷ ks)))
@@ -193,7 +193,7 @@ responses_push ms (u ∷ ts) t =
 
 -- what is taken of a table is read of it
 pub table_read : (s : State) (old new : Read) (r : TableReads) (taken : Taken) (t : TableItems)
-    → IsTaken s r.projection old.size r.keys.items taken new.size
+    → ItemsAreTaken s r.projection old.size r.keys.items taken new.size
     → t.table ≡ r.table → t.items.items ≡ taken.items.items
     → new.responses.items ≡ old.responses.items ++ t ∷ []
     → members_view new.unprocessed.entries

@@ -6,7 +6,7 @@ use Rattle.alt_machine.specs.Outcomes.{Outcome, last_state, numbers, together, w
 use Rattle.alt_machine.specs.State.{State}
 use Rattle.alt_machine.specs.Wanted.{lack_among}
 use Rattle.alt_machine.proofs.Lacks.{has_numbers, lacks_numbers, one_has, one_lacks}
-use Rattle.alt_request.specs.Carried.{Carries, Does}
+use Rattle.alt_request.specs.Carried.{Carries, FollowsOutcome}
 use Rattle.alt_request.specs.declared.stop.Stop.TheVariants.{Fault}
 use Rattle.alt_shape.specs.Body.{body_json}
 use Rattle.alt_shape.specs.Refusals.{Answer, answer_of}
@@ -73,7 +73,7 @@ module _ {file : ℕ} (outcome : State → Outcome) (old now : State → Type 0)
     does = λ s stands.
         let (ws, is, all) = h s stands in
         let made = together_made now s ws all in
-        subst (λ o. Does file now s o (Ok reply)) (sym is)
+        subst (λ o. FollowsOutcome file now s o (Ok reply)) (sym is)
         (record { reply = refl; state = made.state; enough = made.enough });
     plain = plain;
   }
@@ -86,7 +86,7 @@ module _ {file : ℕ} (outcome : State → Outcome) (old now : State → Type 0)
   batch_broke f h = record {
     does = λ s stands.
         let (ws, answer, is, valid, broke) = h s stands in
-        subst (λ o. Does file now s o (Err (Fault f))) (sym is)
+        subst (λ o. FollowsOutcome file now s o (Err (Fault f))) (sym is)
         (together_broke file now s ws f valid broke);
     plain = tt;
   }

@@ -39,7 +39,7 @@ pub(crate) fn writes_ahead(
 
 /// Refuses writes for their number, and for the names of their tables.
 fn tables_refusal(tables: &Tables, asked: &[TableWrites]) -> Result<(), Stop>
-    ensures tested { Tested (ahead.of_tables (catalog_of tables.now) asked.now) result }
+    ensures tested { Tested (ahead.table_writes_refusals (catalog_of tables.now) asked.now) result }
 {
     if !is_sized(asked) {
         return Err(Stop::Refused(Refusal::BAD_BATCH));
@@ -75,7 +75,7 @@ fn all_are_names(asked: &[TableWrites]) -> bool
 /// Refuses writes one of whose tables isn't there.
 #[tactic(auto, using(crate::proofs::Ahead::known_from))]
 fn known(tables: &Tables, asked: &[TableWrites]) -> Result<(), Stop>
-    ensures tested { Tested (ahead.of_catalog (catalog_of tables.now) asked.now) result }
+    ensures tested { Tested (ahead.missing_table_refusals (catalog_of tables.now) asked.now) result }
 {
     for table in asked {
         if tables.table(table.table.as_str()).is_none() {
@@ -107,7 +107,7 @@ fn push_writes(
     members: &mut Vec<BatchMember>,
 ) -> Result<(), Stop>
     ensures pushed { OnOk result (members.new.items
-        ≡ members.old.items ++ each (ahead.member_of table.now) writes.items) }
+        ≡ members.old.items ++ each (ahead.member_of_write table.now) writes.items) }
     ensures cause { IfErr result IsMemory }
 {
     for write in writes {
@@ -117,7 +117,7 @@ fn push_writes(
 }
 
 fn member_of(alloc: Global, table: &str, write: Write) -> Result<BatchMember, Stop>
-    ensures member { IfOk result (λ m. m ≡ ahead.member_of table.now write) }
+    ensures member { IfOk result (λ m. m ≡ ahead.member_of_write table.now write) }
     ensures cause { IfErr result IsMemory }
 {
     let table = Text::new(alloc, table)?;

@@ -1,15 +1,15 @@
 //! The reads that a BatchGetItem asks for, table by table.
 
-ghost use Rattle.std.specs.Prelude.{◌≡◌, All, IfOk, codes, map as each};
+ghost use Rattle.std.specs.Prelude.{◌≡◌, All, IfOk, map as each};
 ghost use Rattle.std.specs.List.{list_any};
 ghost use Rattle.serde_json.specs.View.{view, items_view, members_view};
 ghost use Rattle.alt_machine.specs.Batches as machine;
 ghost use Rattle.alt_machine.specs.Lists.{is_given};
 ghost use Rattle.alt_machine.specs.Ops.BatchGetItem as get;
 ghost use Rattle.alt_machine.specs.Refusals.{first_answer, unless_answer};
-ghost use Rattle.alt_ops_batch.specs.private.Batches.{keys_read, keys_said, reads_of, shown_in, HasPlainNames};
+ghost use Rattle.alt_ops_batch.specs.private.Batches.{keys_read, keys_said, reads_of, table_projection, HasPlainNames};
 ghost use Rattle.alt_request.specs.Steps.{Comes};
-ghost use Rattle.alt_request.specs.Words.{given_of, IsFresh};
+ghost use Rattle.alt_request.specs.Words.{given_of, AreFreshWords};
 ghost use Rattle.alt_request.specs.TablesStands.{catalog_of};
 
 use crate::keys::{KeysRead, KeysSaid};
@@ -135,7 +135,7 @@ fn read_table<'b>(alloc: Global, name: &str, value: &'b Value) -> Result<KeysRea
 }
 
 fn read_keys(alloc: Global, name: &str, value: &Value) -> Result<Vec<BatchMember>, Stop>
-    ensures read { Comes (λ v. v.items) (machine.each_found (get.read_key name.now)
+    ensures read { Comes (λ v. v.items) (machine.each_found (get.read_batch_key name.now)
         (get.keys_in (view value.now))) result }
 {
     match elements_of(Inside::Keys, value) {
@@ -146,8 +146,8 @@ fn read_keys(alloc: Global, name: &str, value: &Value) -> Result<Vec<BatchMember
 
 #[tactic(auto, using(crate::proofs::Founds::founds, crate::proofs::Founds::elements_from))]
 fn each_key(alloc: Global, name: &str, elements: &[Value]) -> Result<Vec<BatchMember>, Stop>
-    ensures read { Comes (λ v. v.items) (machine.each_found (get.read_key name.now)
-        (machine.elements (items_view elements.now))) result }
+    ensures read { Comes (λ v. v.items) (machine.each_found (get.read_batch_key name.now)
+        (machine.array_elements (items_view elements.now))) result }
 {
     let mut keys = Vec::with_capacity(alloc, elements.len())?;
     for element in elements {
@@ -157,7 +157,7 @@ fn each_key(alloc: Global, name: &str, elements: &[Value]) -> Result<Vec<BatchMe
 }
 
 fn read_key(alloc: Global, name: &str, value: &Value) -> Result<BatchMember, Stop>
-    ensures read { Comes (λ m. m) (get.read_key name.now (view value.now)) result }
+    ensures read { Comes (λ m. m) (get.read_batch_key name.now (view value.now)) result }
 {
     let item = item_of(alloc, value)?;
     let table = Text::new(alloc, name)?;
@@ -176,7 +176,7 @@ fn said_all<'b>(
     read: Vec<KeysRead<'b>>,
 ) -> Result<Vec<KeysSaid<'b>>, Stop>
     ensures said { Comes (λ v. each keys_said v.items) (machine.each_found
-        (get.said_in (catalog_of tables.now)) (each keys_read read.entry.items)) result }
+        (get.projection_said (catalog_of tables.now)) (each keys_read read.entry.items)) result }
 {
     let mut said = Vec::with_capacity(alloc, read.len())?;
     for keys in read {
@@ -188,7 +188,7 @@ fn said_all<'b>(
 #[tactic(auto, using(crate::proofs::AskedReads::unshown, crate::proofs::AskedReads::shown_so, crate::proofs::Plain::parts_plain))]
 fn said_in<'b>(alloc: Global, tables: &Tables, keys: KeysRead<'b>) -> Result<KeysSaid<'b>, Stop>
     ensures said { Comes keys_said
-        (get.said_in (catalog_of tables.now) (keys_read keys.entry)) result }
+        (get.projection_said (catalog_of tables.now) (keys_read keys.entry)) result }
 {
     let KeysRead {
         table,
@@ -213,8 +213,8 @@ fn shown_in(
     body: &Map<String, Value>,
     given: Given,
 ) -> Result<Option<Paths>, Stop>
-    requires fresh { IsFresh (members_view body.now.entries) given }
-    ensures shown { Comes (λ p. p) (shown_in (catalog_of tables.now) table.now
+    requires fresh { AreFreshWords (members_view body.now.entries) given }
+    ensures shown { Comes (λ p. p) (table_projection (catalog_of tables.now) table.now
         (members_view body.now.entries) (given_of given)) result }
 {
     let schema = table_named(tables, table)?;

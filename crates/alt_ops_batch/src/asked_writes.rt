@@ -6,7 +6,7 @@ ghost use Rattle.serde_json.specs.View.{view, items_view, members_view};
 ghost use Rattle.alt_machine.specs.Batches as machine;
 ghost use Rattle.alt_machine.specs.Ops.BatchWriteItem as write;
 ghost use Rattle.alt_machine.specs.Refusals.{first_answer, refuse_if, unless_answer};
-ghost use Rattle.alt_ops_batch.specs.private.Batches.{request_of};
+ghost use Rattle.alt_ops_batch.specs.private.Batches.{requested_write};
 ghost use Rattle.alt_request.specs.Steps.{Comes, IsMemory, Tested};
 ghost use Rattle.alt_shape.specs.Refusals.{bad_batch};
 ghost use Rattle.alt_request.specs.TablesStands.{catalog_of};
@@ -52,9 +52,9 @@ pub fn writes_asked(
 /// The writes of a body that nothing refuses by itself.
 #[tactic(auto, using(crate::proofs::Founds::all_one))]
 fn requests<'b>(alloc: Global, body: &'b Map<String, Value>) -> Result<Vec<Request<'b>>, Stop>
-    ensures asked { Comes (λ v. each request_of v.items) (unless_answer
+    ensures asked { Comes (λ v. each requested_write v.items) (unless_answer
         (first_answer (write.of_body (members_view body.now.entries)))
-        (write.requests (members_view body.now.entries))) result }
+        (write.requested_writes (members_view body.now.entries))) result }
 {
     if let Some(broken) = bodies::batch_write_item(body) {
         return Err(Stop::Refused(Refusal::from(broken)));
@@ -77,7 +77,7 @@ fn requests<'b>(alloc: Global, body: &'b Map<String, Value>) -> Result<Vec<Reque
 
 /// The writes of each table, in their order.
 fn requests_in<'b>(alloc: Global, tables: &'b Map<String, Value>) -> Result<Vec<Request<'b>>, Stop>
-    ensures asked { IfOk result (λ v. each request_of v.items
+    ensures asked { IfOk result (λ v. each requested_write v.items
         ≡ machine.of_each machine.elements_in
         (machine.pairs_in (members_view tables.now.entries))) }
     ensures cause { IfErr result IsMemory }
@@ -97,9 +97,9 @@ fn push_requests<'b>(
     elements: &'b [Value],
     requests: &mut Vec<Request<'b>>,
 ) -> Result<(), Stop>
-    ensures asked { OnOk result (each request_of requests.new.items
-        ≡ each request_of requests.old.items
-        ++ each (λ d. (table.now, d)) (machine.elements (items_view elements.now))) }
+    ensures asked { OnOk result (each requested_write requests.new.items
+        ≡ each requested_write requests.old.items
+        ++ each (λ d. (table.now, d)) (machine.array_elements (items_view elements.now))) }
     ensures cause { IfErr result IsMemory }
 {
     for value in elements {
@@ -137,7 +137,7 @@ fn object_in<'b>(value: &'b Value, name: &str) -> Option<&'b Map<String, Value>>
 #[tactic(auto, using(crate::proofs::Founds::founds, std::proofs::lemmas::List::map_push))]
 fn read_all(alloc: Global, requests: Vec<Request<'_>>) -> Result<Vec<BatchMember>, Stop>
     ensures read { Comes (λ v. v.items) (machine.each_found write.read_write
-        (each request_of requests.entry.items)) result }
+        (each requested_write requests.entry.items)) result }
 {
     let mut read = Vec::with_capacity(alloc, requests.len())?;
     for request in requests {
@@ -147,7 +147,7 @@ fn read_all(alloc: Global, requests: Vec<Request<'_>>) -> Result<Vec<BatchMember
 }
 
 fn read_write(alloc: Global, request: Request<'_>) -> Result<BatchMember, Stop>
-    ensures read { Comes (λ m. m) (write.read_write (request_of request.entry)) result }
+    ensures read { Comes (λ m. m) (write.read_write (requested_write request.entry)) result }
 {
     if let Some(put) = object_in(request.value, "PutRequest") {
         return read_member(alloc, request.table, Sought::Item, put);

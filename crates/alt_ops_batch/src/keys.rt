@@ -2,7 +2,7 @@
 
 ghost use Rattle.serde_json.specs.View.{members_view};
 ghost use Rattle.alt_ops_batch.specs.private.Names.{ArePlain, ArePlainNames};
-ghost use Rattle.alt_request.specs.Words.{IsFresh};
+ghost use Rattle.alt_request.specs.Words.{AreFreshWords};
 
 use alt_expr::Paths;
 use alt_machine::BatchMember;
@@ -17,7 +17,7 @@ pub(crate) struct KeysRead<'b> {
     pub(crate) body: &'b Map<String, Value>,
     pub(crate) given: Given,
     pub(crate) keys: Vec<BatchMember>,
-    ghost fresh: { IsFresh (members_view body.now.entries) given },
+    ghost fresh: { AreFreshWords (members_view body.now.entries) given },
     ghost plain: { ArePlainNames (members_view body.now.entries) },
 }
 

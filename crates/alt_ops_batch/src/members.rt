@@ -40,7 +40,7 @@ pub(crate) fn tables_asked(body: &Map<String, Value>) -> Option<&Map<String, Val
 
 /// The writes or the keys of a table, None where its value has none.
 pub(crate) fn elements_of(inside: Inside, value: &Value) -> Option<&Vec<Value>>
-    ensures { machine.elements_of (option_map (λ v. items_view v.now.items) result)
+    ensures { machine.elements_if_array (option_map (λ v. items_view v.now.items) result)
         ≡ inside_of inside (view value.now) }
 {
     match inside {

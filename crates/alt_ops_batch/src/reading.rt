@@ -1,11 +1,11 @@
 //! Reading the keys of a batch, table by table, until the sizes of the items have reached 16 MB.
 
-ghost use Rattle.std.specs.Prelude.{◌≡◌, ◌+◌, ◌<◌, ◌≤◌, ◌∷◌, [], true, false, Some, All, IfOk, IfErr, OnOk, fold, map as each};
+ghost use Rattle.std.specs.Prelude.{◌≡◌, ◌+◌, ◌<◌, ◌≤◌, ◌∷◌, [], true, Some, All, IfOk, IfErr, OnOk, fold, map as each};
 ghost use Rattle.std.specs.FinMap as map;
 ghost use Rattle.alt_base.specs.Counts.{Rose};
 ghost use Rattle.alt_machine.specs.Ops.BatchGetItem as machine;
 ghost use Rattle.alt_machine.specs.State.{State};
-ghost use Rattle.alt_ops_batch.specs.private.Readings.{AreAllKnown, AreKnown, IsBounded, IsPlainRead, IsFault, IfErrFailed, IsPlainTaken, IsTaken, ShowsMore, Takes, read_so};
+ghost use Rattle.alt_ops_batch.specs.private.Readings.{AreAllKnown, KeyTablesAreThere, IsBounded, IsPlainRead, IsFault, IfErrFailed, IsPlainTaken, ItemsAreTaken, ShowsMore, TakesItems, read_so};
 ghost use Rattle.alt_ops_batch.specs.private.Batches.{HasPlainNames, reads_of};
 ghost use Rattle.alt_request.specs.Steps.{IsMemory};
 ghost use Rattle.alt_request.specs.TablesLooking.{OnlyReads};
@@ -78,7 +78,7 @@ fn read_table<D: Disk>(
     read: &mut Read,
 ) -> Result<(), Stop>
     requires ready { AreReady (D.state disk.old) tables.old }
-    requires there { AreKnown (catalog_of tables.old) reads.keys.items }
+    requires there { KeyTablesAreThere (catalog_of tables.old) reads.keys.items }
     requires names { HasPlainNames reads }
     requires plain { IsPlainRead read.old }
     requires bounded { IsBounded read.old.size }
@@ -116,10 +116,10 @@ fn take<D: Disk>(
     size: &mut u64,
 ) -> Result<Taken, Stop>
     requires ready { AreReady (D.state disk.old) tables.old }
-    requires there { AreKnown (catalog_of tables.old) keys.items }
+    requires there { KeyTablesAreThere (catalog_of tables.old) keys.items }
     requires bounded { IsBounded size.old }
     ensures taken { (s : State) → Stands (D.state disk.old) tables.old s
-        → IfOk result (λ taken. IsTaken s projection.now size.old keys.items taken size.new) }
+        → IfOk result (λ taken. ItemsAreTaken s projection.now size.old keys.items taken size.new) }
     ensures plain { IfOk result IsPlainTaken }
     ensures bounded { OnOk result (IsBounded size.new) }
     ensures only { OnlyReads (D.state disk.old) (D.state disk.new) tables.old tables.new }
@@ -152,7 +152,7 @@ fn take_key<D: Disk>(
     requires plain { IsPlainTaken taken.old }
     requires bounded { IsBounded size.old }
     ensures takes { (s : State) → Stands (D.state disk.old) tables.old s
-        → OnOk result (Takes s projection.now size.old (key ∷ []) taken.old taken.new size.new) }
+        → OnOk result (TakesItems s projection.now size.old (key ∷ []) taken.old taken.new size.new) }
     ensures plain { OnOk result (IsPlainTaken taken.new) }
     ensures bounded { OnOk result (IsBounded size.new) }
     ensures only { OnlyReads (D.state disk.old) (D.state disk.new) tables.old tables.new }

@@ -10,9 +10,9 @@ ghost use Rattle.alt_machine.specs.Ops.BatchGetItem as machine;
 ghost use Rattle.alt_machine.specs.Ops.BatchGetItem.{attributes_member};
 ghost use Rattle.alt_machine.specs.Ops.GetItem.{parts};
 ghost use Rattle.alt_ops_batch.specs.private.Names.{ArePlain};
-ghost use Rattle.alt_ops_batch.specs.private.Readings.{IsPlainRead, IsWhole, name_left, read_so, reply_of, responses_of, rises};
+ghost use Rattle.alt_ops_batch.specs.private.Readings.{IsPlainRead, ResponsesAreWhole, name_left, read_so, reply_of, responses_of, rises};
 ghost use Rattle.alt_request.specs.Steps.{IsMemory};
-ghost use Rattle.alt_schema.specs.Json.{put_if};
+ghost use Rattle.alt_schema.specs.Json.{put_member_if};
 ghost use Rattle.alt_shape.specs.Body.{body_json, items_json, tables_json};
 ghost use Rattle.alt_shape.specs.Refusals.{answer_of};
 ghost use Rattle.alt_shape.specs.Shape.{given};
@@ -48,7 +48,7 @@ pub(crate) fn read_reply(alloc: Global, read: Read) -> Result<Reply, Stop>
 
 /// Whether no keys are left, and the tables may stand in their order.
 fn is_whole(responses: &[TableItems], unprocessed: &Map<String, Value>) -> bool
-    ensures whole { result ≡ true → IsWhole responses.now (members_view unprocessed.now.entries) }
+    ensures whole { result ≡ true → ResponsesAreWhole responses.now (members_view unprocessed.now.entries) }
 {
     if !unprocessed.is_empty() {
         return false;
@@ -217,7 +217,7 @@ fn put_attributes(
     body: &Map<String, Value>,
 ) -> Result<(), NoMemory>
     ensures put { OnOk result (members_view members.new.entries
-        ≡ put_if (codes "AttributesToGet")
+        ≡ put_member_if (codes "AttributesToGet")
         (option_map (λ names. array names) (attributes_member (members_view body.now.entries)))
         (members_view members.old.entries)) }
 {
@@ -233,7 +233,7 @@ fn put_truth(
     members: &mut Map<String, Value>,
     body: &Map<String, Value>,
 ) -> Result<(), NoMemory>
-    ensures put { OnOk result (members_view members.new.entries ≡ put_if (codes "ConsistentRead")
+    ensures put { OnOk result (members_view members.new.entries ≡ put_member_if (codes "ConsistentRead")
         (option_map (λ b. boolean b) (option_and_then as_bool
         (given (codes "ConsistentRead") (members_view body.now.entries))))
         (members_view members.old.entries)) }
@@ -250,7 +250,7 @@ fn put_names(
     body: &Map<String, Value>,
 ) -> Result<(), NoMemory>
     ensures put { OnOk result (members_view members.new.entries
-        ≡ put_if (codes "ExpressionAttributeNames")
+        ≡ put_member_if (codes "ExpressionAttributeNames")
         (option_map (λ names. object names) (names_member (members_view body.now.entries)))
         (members_view members.old.entries)) }
 {
@@ -267,7 +267,7 @@ fn put_projection(
     body: &Map<String, Value>,
 ) -> Result<(), NoMemory>
     ensures put { OnOk result (members_view members.new.entries
-        ≡ put_if (codes "ProjectionExpression") (option_map (λ text. string text)
+        ≡ put_member_if (codes "ProjectionExpression") (option_map (λ text. string text)
         (option_and_then as_str
         (given (codes "ProjectionExpression") (members_view body.now.entries))))
         (members_view members.old.entries)) }

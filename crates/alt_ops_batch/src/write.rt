@@ -1,6 +1,6 @@
 //! BatchWriteItem.
 
-ghost use Rattle.std.specs.Prelude.{◌≡◌, false, codes, Some, IfOk, IfErr, map as each};
+ghost use Rattle.std.specs.Prelude.{◌≡◌, false, Some, IfOk, IfErr, map as each};
 ghost use Rattle.serde_json.specs.Data.{Members};
 ghost use Rattle.serde_json.specs.View.{members_view};
 ghost use Rattle.serde_json.specs.Written.{has_float};
@@ -156,7 +156,7 @@ fn find<D: Disk>(
 
 /// What a member leaves at its place: the item that is put, or nothing.
 fn left_of(sought: Sought, item: Item) -> Option<Item>
-    ensures { result ≡ machine.left_of sought item }
+    ensures { result ≡ machine.left_at_place sought item }
 {
     match sought {
         Sought::Item => Some(item),

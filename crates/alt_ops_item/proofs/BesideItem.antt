@@ -19,7 +19,7 @@ use Rattle.alt_shape.specs.Shape.{given}
 use Rattle.alt_shape.specs.declared.rule.Broken.{Broken}
 use Rattle.alt_value.specs.Tree.{Pair}
 use Rattle.alt_readahead.specs.Direct.{IsReadAhead}
-use Rattle.alt_request.specs.ItemWrites.{IsAsked, changes}
+use Rattle.alt_request.specs.ItemWrites.{IsAsked, changes_item}
 use Rattle.alt_request.specs.Targets.{SaySame}
 use Rattle.alt_ops_item.specs.private.Writes.{putting}
 
@@ -94,7 +94,7 @@ module _ (ms bs : Members) (item : List Pair) (h : IsReadAhead (heeded PutItem) 
   -- and come to the same
   changes_same : (s : State) (moment : ℕ) (said : Expressions) (i : List Pair) (t : Table)
       (place : List ℕ)
-      → changes putting s moment ms said i t place ≡ changes putting s moment bs said i t place
+      → changes_item putting s moment ms said i t place ≡ changes_item putting s moment bs said i t place
   changes_same s moment said i t place =
       rw (
         same (codes "TableName") refl (omega arith),

@@ -11,14 +11,14 @@ use Rattle.std.proofs.lemmas.Slice.Eq.{bytes_eq-Decides}
 use Rattle.std.proofs.lemmas.Bool.{or_parts}
 use Rattle.alt_expr.specs.Located.{View}
 use Rattle.alt_expr.specs.UpdateLanguage.{target}
-use Rattle.alt_expr.specs.Updated.{Edit, Fault, edit, edits, sum_of, parent, added, taken, behind, under, after, put_name, updated, ◌>>=◌}
+use Rattle.alt_expr.specs.Updated.{Edit, ActionFault, edit, edits, sum_of, parent, added, taken_from_set, edits_behind, under, place_after, put_name, updated, ◌>>=◌}
 use Rattle.alt_expr.specs.declared.path.PathPart.TheVariants.{Name, Index}
 use Rattle.alt_expr.specs.declared.update.Action.{Action}
 use Rattle.alt_expr.specs.declared.update.Action.TheVariants.{Set, Remove, Add, Delete}
 use Rattle.alt_machine.specs.Conditional.{seen}
-use Rattle.alt_machine.specs.Ops.UpdateItem.{name_of, names_of, pairs_of}
+use Rattle.alt_machine.specs.Ops.UpdateItem.{attribute_of_path, names_of, pairs_of}
 use Rattle.alt_machine.proofs.Names.{IsItem-pairs_of, at_name-pairs_of, at_name-has_bytes, IsItem-put_name}
-use Rattle.alt_ops_item.specs.private.Updates.{with_change, with_changes}
+use Rattle.alt_ops_item.specs.private.Updates.{with_attribute_change, with_changes}
 use Rattle.alt_updeval.specs.Changes.{changed_by}
 use Rattle.alt_updeval.specs.declared.update.AttrChange.{AttrChange}
 use Rattle.alt_value.specs.Item.{IsItem, at_name, without}
@@ -53,7 +53,7 @@ at_name-without q n ps =
 
 -- one change sets what stands at its name alone
 at_name-change : (q : List ℕ) (c : AttrChange) (item : List Pair) → 0 < length q
-    → at_name q (with_change c item)
+    → at_name q (with_attribute_change c item)
     ≡ cond (bytes_eq q c.name) (option_map tree_of c.value) (at_name q item)
 at_name-change q c item some = elim c.value as (λ o. at_name q
     (option_map_or (λ a. put_name c.name (tree_of a) item) o (without c.name item))
@@ -68,12 +68,12 @@ at_name-changes : (cs : List AttrChange) (item : List Pair) (view : View)
     → at_name q (with_changes cs item) ≡ changed_by cs view q
 at_name-changes [] item view h q some = h q some
 at_name-changes (c ∷ cs) item view h q some =
-    at_name-changes cs (with_change c item)
+    at_name-changes cs (with_attribute_change c item)
     (λ n. if bytes_eq n c.name then option_map tree_of c.value else view n)
     (λ n more. at_name-change n c item more
     ∙ ap (cond (bytes_eq n c.name) (option_map tree_of c.value)) (h n more)) q some
 
-IsItem-change : (c : AttrChange) (item : List Pair) → IsItem item → IsItem (with_change c item)
+IsItem-change : (c : AttrChange) (item : List Pair) → IsItem item → IsItem (with_attribute_change c item)
 IsItem-change c item h = elim c.value as (λ o. IsItem
     (option_map_or (λ a. put_name c.name (tree_of a) item) o (without c.name item))) [
       | None ↦ IsItem-without c.name item h
@@ -83,7 +83,7 @@ IsItem-change c item h = elim c.value as (λ o. IsItem
 IsItem-changes : (cs : List AttrChange) (item : List Pair) → IsItem item
     → IsItem (with_changes cs item)
 IsItem-changes [] item h = h
-IsItem-changes (c ∷ cs) item h = IsItem-changes cs (with_change c item) (IsItem-change c item h)
+IsItem-changes (c ∷ cs) item h = IsItem-changes cs (with_attribute_change c item) (IsItem-change c item h)
 
 -- a name without a value has none among those of any names
 no_pair : (view : View) (q : List ℕ) → view q ≡ None → 0 < length q → (names : List (List ℕ))
@@ -106,12 +106,12 @@ no_pair view q none some (n ∷ names) =
 -- ---- which names an update changes
 
 -- what was found first, and what was made of it
-found_first : {A B : Type 0} (r : Result A Fault) (next : A → Result B Fault) (b : B)
+found_first : {A B : Type 0} (r : Result A ActionFault) (next : A → Result B ActionFault) (b : B)
     → r >>= next ≡ Ok b → (a : A) × (r ≡ Ok a) × (next a ≡ Ok b)
 found_first (Ok a) next b e = (a, refl, e)
 found_first (Err f) next b e = absurd (let g : ⊥ = cc in g)
 
-abbrev fine : {A : Type 0} → A → Result A Fault
+abbrev fine : {A : Type 0} → A → Result A ActionFault
 fine x = Ok x
 
 same_Ok : {A : Type 0} (x y : A) → fine x ≡ fine y → x ≡ y
@@ -131,12 +131,12 @@ edit-target view (Add name v) e h =
     let one = found_first (added (view name) (tree_of v)) (λ t. Ok (Name name ∷ [], Some t)) e h in
     ap (λ (x : Edit). x.0) (sym (same_Ok (Name name ∷ [], Some one.0) e one.2))
 edit-target view (Delete name v) e h =
-    let one = found_first (taken (view name) (tree_of v)) (λ o. Ok (Name name ∷ [], o)) e h in
+    let one = found_first (taken_from_set (view name) (tree_of v)) (λ o. Ok (Name name ∷ [], o)) e h in
     ap (λ (x : Edit). x.0) (sym (same_Ok (Name name ∷ [], one.0) e one.2))
 
 -- nothing stands behind a name that an edit doesn't begin with
-behind_none : (q : List ℕ) (e : Edit) → eq_by_cmp text_order q (name_of e.0) ≡ false
-    → behind (Name q) e ≡ []
+behind_none : (q : List ℕ) (e : Edit) → eq_by_cmp text_order q (attribute_of_path e.0) ≡ false
+    → edits_behind (Name q) e ≡ []
 behind_none q ([], v) h = refl
 behind_none q (Name m ∷ ps, v) h =
     ap (λ b. if b then (ps, v) ∷ [] else []) (sym (text_ties q m) ∙ h)
@@ -144,7 +144,7 @@ behind_none q (Index i ∷ ps, v) h = refl
 
 -- the names of the attributes that actions change
 abbrev changed_names : List Action → List (List ℕ)
-changed_names actions = map (λ (a : Action). name_of (target a)) actions
+changed_names actions = map (λ (a : Action). attribute_of_path (target a)) actions
 
 under_none : (view : View) (actions : List Action) (es : List Edit) → edits view actions ≡ Ok es
     → (q : List ℕ) → list_any (eq_by_cmp text_order q) (changed_names actions) ≡ false
@@ -153,11 +153,11 @@ under_none view [] es h q none = ap (under (Name q)) (sym (same_Ok [] es h))
 under_none view (a ∷ more) es h q none =
     let one = found_first (edit view a) (λ e. edits view more >>= (λ rest. Ok (e ∷ rest))) es h in
     let two = found_first (edits view more) (λ rest. Ok (one.0 ∷ rest)) es one.2 in
-    let apart = or_parts (eq_by_cmp text_order q (name_of (target a)))
+    let apart = or_parts (eq_by_cmp text_order q (attribute_of_path (target a)))
     (list_any (eq_by_cmp text_order q) (changed_names more)) none in
     ap (under (Name q)) (sym (same_Ok (one.0 ∷ two.0) es two.2))
     ∙ (λ i. behind_none q one.0
-    (ap (λ path. eq_by_cmp text_order q (name_of path)) (edit-target view a one.0 one.1)
+    (ap (λ path. eq_by_cmp text_order q (attribute_of_path path)) (edit-target view a one.0 one.1)
     ∙ apart.0) i ++ under_none view more two.0 two.1 q apart.1 i)
 
 -- the attributes of the item that is there, or of the empty one
@@ -181,7 +181,7 @@ module _ (old : Option (List Pair)) (update : List Action) (view : View)
   valueless q none =
       let before : List Pair = unwrap_or old [] in
       let one = found_first (edits (seen old) update)
-      (λ es. Ok (λ name. after (under (Name name) es) (seen old name))) view is in
+      (λ es. Ok (λ name. place_after (under (Name name) es) (seen old name))) view is in
       let apart = or_parts (list_any (eq_by_cmp text_order q) (map (λ p. p.0) before))
       (list_any (eq_by_cmp text_order q) (changed_names update))
       (sym (list_any-append (eq_by_cmp text_order q) (map (λ p. p.0) before)
@@ -189,8 +189,8 @@ module _ (old : Option (List Pair)) (update : List Action) (view : View)
       let absent : at_name q before ≡ None = no_value (at_name q before)
       (is_some-find text_order q before ∙ apart.0) in
       ap (λ (v : View). v q)
-      (sym (same_Ok (λ name. after (under (Name name) one.0) (seen old name)) view one.2))
-      ∙ (λ i. after (under_none (seen old) update one.0 one.1 q apart.1 i)
+      (sym (same_Ok (λ name. place_after (under (Name name) one.0) (seen old name)) view one.2))
+      ∙ (λ i. place_after (under_none (seen old) update one.0 one.1 q apart.1 i)
       ((ap (λ (v : View). v q) (seen_is old) ∙ absent) i))
 
 -- no name but those among the names has a value

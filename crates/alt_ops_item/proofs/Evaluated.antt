@@ -4,17 +4,17 @@ use Rattle.std.specs.Prelude.{unwrap_or}
 use Rattle.alt_decimal.specs.declared.fault.NumberFault.{NumberFault}
 use Rattle.alt_decimal.specs.declared.fault.NumberFault.TheVariants.{NotANumber, TooManyDigits, TooLarge, TooSmall}
 use Rattle.alt_expr.specs.Located.{View}
-use Rattle.alt_expr.specs.Updated.{Fault, updated}
+use Rattle.alt_expr.specs.Updated.{ActionFault, updated}
 use Rattle.alt_expr.specs.declared.update.Action.{Action}
 use Rattle.alt_machine.specs.Conditional.{seen}
 use Rattle.alt_machine.specs.Ops.UpdateItem.{item_after, or_update_refusal, names_of, pairs_of}
 use Rattle.alt_machine.specs.Refusals.{number_refusal, ◌>>=◌}
-use Rattle.alt_ops_item.specs.private.Updates.{with_changes, stop_of}
+use Rattle.alt_ops_item.specs.private.Updates.{with_changes, stop_of_update_fault}
 use Rattle.alt_ops_item.proofs.Changed.{seen_is, pairs_are}
 use Rattle.alt_request.specs.Steps.{Comes, IsMemory}
 use Rattle.alt_request.specs.declared.stop.Stop.{Stop}
 use Rattle.alt_shape.specs.Refusals.{Answer, IsKnown}
-use Rattle.alt_updeval.specs.Answers.{fault_of}
+use Rattle.alt_updeval.specs.Answers.{fault_as_defined}
 use Rattle.alt_updeval.specs.Changes.{changed_by}
 use Rattle.alt_updeval.specs.declared.fault.UpdateFault.{UpdateFault}
 use Rattle.alt_updeval.specs.declared.fault.UpdateFault.TheVariants as fault
@@ -23,7 +23,7 @@ use Rattle.alt_value.specs.Item.{IsItem, at_name}
 use Rattle.alt_value.specs.Tree.{Pair}
 
 -- the item of what an update makes of the attributes
-abbrev pub behind_view : List Action → Option (List Pair) → Result View Fault
+abbrev pub behind_view : List Action → Option (List Pair) → Result View ActionFault
     → Result (List Pair) Answer
 behind_view update old r = or_update_refusal r
     >>= (λ view. Ok (pairs_of view (names_of update old)))
@@ -54,15 +54,15 @@ module _ (old : Option (List Pair)) (update : List Action) (before : List Pair)
       ∙ ap (λ i. Ok (with_changes cs i)) (sym same)
 
   -- the refusal of a fault
-  fault_so : (f : Fault) → updated (λ name. at_name name before) update ≡ Err f
+  fault_so : (f : ActionFault) → updated (λ name. at_name name before) update ≡ Err f
       → item_after update old ≡ behind_view update old (Err f)
   fault_so f told = ap (behind_view update old)
       (subst (λ (v : View). updated v update ≡ Err f) (sym view_same) told)
 
   -- the fault that was told
   pub after-fault : (f : UpdateFault)
-      → (f ≢ fault.NoMemory → updated (λ name. at_name name before) update ≡ Err (fault_of f))
-      → Comes {X = List Pair} (λ i. i) (item_after update old) (Err (stop_of f))
+      → (f ≢ fault.NoMemory → updated (λ name. at_name name before) update ≡ Err (fault_as_defined f))
+      → Comes {X = List Pair} (λ i. i) (item_after update old) (Err (stop_of_update_fault f))
   after-fault fault.BadPath told = (fault_so _ (told (λ e. let g : ⊥ = cc in g)), omega arith)
   after-fault fault.BadKind told = (fault_so _ (told (λ e. let g : ⊥ = cc in g)), omega arith)
   after-fault (fault.BadNumber n) told =

@@ -16,7 +16,7 @@ use Rattle.alt_machine.specs.declared.Expressions.{Expressions}
 use Rattle.alt_machine.specs.declared.Sought.TheVariants.{Key}
 use Rattle.alt_machine.specs.Expressions as machine
 use Rattle.alt_machine.specs.Members.{table_name}
-use Rattle.alt_machine.specs.Ops.UpdateItem.{of_body, item_after, left, of_left, with_key}
+use Rattle.alt_machine.specs.Ops.UpdateItem.{of_body, item_after, left_by_update, of_left, with_key_attributes}
 use Rattle.alt_machine.specs.Refusals.{first_answer, unless_answer, ◌>>=◌}
 use Rattle.alt_machine.specs.State.{State, Table}
 use Rattle.alt_machine.specs.Targets.{IsPlaced}
@@ -24,7 +24,7 @@ use Rattle.alt_machine.specs.Valid.{IsStored, IsValid, deepest}
 use Rattle.alt_machine.proofs.Older.{parts_of, said_has, older_begins}
 use Rattle.alt_machine.proofs.Said.{found_first, says_update}
 use Rattle.alt_machine.proofs.Updates.{may_be_left}
-use Rattle.alt_ops_item.specs.private.Updates.{left_after, WithPart, is_flat}
+use Rattle.alt_ops_item.specs.private.Updates.{left_or_refusal, WithPart, is_flat}
 use Rattle.alt_request.specs.Steps.{Comes, IsMemory, Tested}
 use Rattle.alt_request.specs.declared.stop.Stop.{Stop}
 use Rattle.alt_request.specs.declared.stop.Stop.TheVariants.{Refused, Fault}
@@ -45,7 +45,7 @@ same_pair p q e = cc
 
 -- the attributes of a key are put from the last on
 with_key-take : (key item : List Pair) (i : ℕ) (p : Pair) → slice_get key i ≡ Some p
-    → with_key (take (suc i) key) item ≡ with_key (take i key) (with_pair p.0 p.1 item)
+    → with_key_attributes (take (suc i) key) item ≡ with_key_attributes (take i key) (with_pair p.0 p.1 item)
 with_key-take [] item i p e = absurd (let f : ⊥ = cc in f)
 with_key-take ((name, t) ∷ key) item zero p e =
     ap (λ (q : Pair). with_pair q.0 q.1 item) (same_pair (name, t) p e)
@@ -54,14 +54,14 @@ with_key-take ((name, t) ∷ key) item (suc i) p e =
 
 -- one of them was put
 pub part_put : (key item new : List Pair) (i : ℕ) → WithPart (slice_get key i) item new
-    → with_key (take i key) new ≡ with_key (take (i + 1) key) item
+    → with_key_attributes (take i key) new ≡ with_key_attributes (take (i + 1) key) item
 part_put key item new i = by (slice_get key i) refl
   where
     by : (o : Option Pair) → slice_get key i ≡ o → WithPart o item new
-        → with_key (take i key) new ≡ with_key (take (i + 1) key) item
+        → with_key_attributes (take i key) new ≡ with_key_attributes (take (i + 1) key) item
     by None e h = absurd h
-    by (Some p) e h = ap (with_key (take i key)) h ∙ sym (with_key-take key item i p e)
-        ∙ ap (λ n. with_key (take n key) item) (let f : suc i ≡ i + 1 = omega arith in f)
+    by (Some p) e h = ap (with_key_attributes (take i key)) h ∙ sym (with_key-take key item i p e)
+        ∙ ap (λ n. with_key_attributes (take n key) item) (let f : suc i ≡ i + 1 = omega arith in f)
 
 -- each attribute of an item has a name with bytes
 below_get : (ps : List Pair) (i : ℕ) (p : Pair) → T (below_all text_order [] ps)
@@ -129,36 +129,36 @@ too_deep ps i steep = by (slice_get ps i) refl
 
 module _ (d : TableSchema) (said : Expressions) (key : List Pair) (old : Option (List Pair)) where
   abbrev tested : List Pair → Result (Option (List Pair)) Answer
-  tested item = unless_answer (first_answer (of_left d (left said key old item)))
-      (left said key old item)
+  tested item = unless_answer (first_answer (of_left d (left_by_update said key old item)))
+      (left_by_update said key old item)
 
   -- no item was made
   pub left-unmade : (stop : Stop) → Comes {X = List Pair} (λ i. i)
       (item_after (unwrap_or said.update []) old) (Err stop)
-      → Comes {X = Option (List Pair)} (λ o. o) (left_after d said key old) (Err stop)
+      → Comes {X = Option (List Pair)} (λ o. o) (left_or_refusal d said key old) (Err stop)
   left-unmade (Refused r) h = (ap (λ x. x >>= tested) h.0, h.1)
   left-unmade (Fault f) h = h
 
   -- memory was wanting
   pub left-memory : (stop : Stop) → IsMemory stop
-      → Comes {X = Option (List Pair)} (λ o. o) (left_after d said key old) (Err stop)
+      → Comes {X = Option (List Pair)} (λ o. o) (left_or_refusal d said key old) (Err stop)
   left-memory stop h = subst (λ (e : Stop). Comes {X = Option (List Pair)} (λ o. o)
-      (left_after d said key old) (Err e)) (sym h) tt
+      (left_or_refusal d said key old) (Err e)) (sym h) tt
 
   module _ (item : List Pair) (after : item_after (unwrap_or said.update []) old ≡ Ok item)
-      (new : Option (List Pair)) (is : new ≡ left said key old item) where
-    left_so : left_after d said key old ≡ unless_answer (first_answer (of_left d new)) new
+      (new : Option (List Pair)) (is : new ≡ left_by_update said key old item) where
+    left_so : left_or_refusal d said key old ≡ unless_answer (first_answer (of_left d new)) new
     left_so = ap (λ x. x >>= tested) after
         ∙ sym (ap (λ o. unless_answer (first_answer (of_left d o)) o) is)
 
     -- the table refuses it
     pub left-refused : (stop : Stop) → Tested {X = Unit {0}} (of_left d new) (Err stop)
-        → Comes {X = Option (List Pair)} (λ o. o) (left_after d said key old) (Err stop)
+        → Comes {X = Option (List Pair)} (λ o. o) (left_or_refusal d said key old) (Err stop)
     left-refused (Refused r) h = (left_so ∙ ap (λ o. unless_answer o new) h.0, h.1)
     left-refused (Fault f) h = h
 
     -- it doesn't
-    pub left-made : first_answer (of_left d new) ≡ None → left_after d said key old ≡ Ok new
+    pub left-made : first_answer (of_left d new) ≡ None → left_or_refusal d said key old ≡ Ok new
     left-made h = left_so ∙ ap (λ o. unless_answer o new) h
 
 -- ---- what may be stored
@@ -172,15 +172,15 @@ passes (Some a) x y e = absurd (let f : ⊥ = cc in f)
 pub left_stored : (s : State) (ms : Members) (said : Expressions) (key : List Pair) (t : Table)
     (place : List ℕ) → IsPlaced (of_body ms) Key machine.updating ms t.description said key place
     → IsValid s → map.get s.tables (table_name ms) ≡ Some t → (new : Option (List Pair))
-    → left_after t.description said key (map.get t.items place) ≡ Ok new
+    → left_or_refusal t.description said key (map.get t.items place) ≡ Ok new
     → IfSome new (IsStored t.description place)
 left_stored s ms said key t place target valid there None e = tt
 left_stored s ms said key t place target valid there (Some new) e =
     let old : Option (List Pair) = map.get t.items place in
     let made = found_first (item_after (unwrap_or said.update []) old)
     (tested t.description said key old) (Some new) e in
-    let free = passes (first_answer (of_left t.description (left said key old made.0)))
-    (left said key old made.0) (Some new) made.2 in
+    let free = passes (first_answer (of_left t.description (left_by_update said key old made.0)))
+    (left_by_update said key old made.0) (Some new) made.2 in
     may_be_left s ms said key t place target old
     (λ was at. (valid.tables (table_name ms) t there).items place was at) made.0 made.1 free.0
     new free.1
@@ -210,7 +210,7 @@ parsed_begins g text (Ok actions) h update e =
 parsed_begins g text (Err f) h update e = absurd (let k : ⊥ = cc in k)
 
 stated_begins : (g : Given) (text : Option (List ℕ)) (update : Option (List Action))
-    → machine.stated update_of g text ≡ Ok update → begin_with_names (unwrap_or update []) ≡ true
+    → machine.stated_by_text update_of g text ≡ Ok update → begin_with_names (unwrap_or update []) ≡ true
 stated_begins g None update e = none_begins update e
 stated_begins g (Some text) update e =
     let of_text = update_of g text in

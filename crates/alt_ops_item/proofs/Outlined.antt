@@ -12,11 +12,11 @@ use Rattle.alt_expr.specs.declared.update.Action.{Action}
 use Rattle.alt_machine.specs.Conditional.{seen}
 use Rattle.alt_machine.specs.declared.Expressions.{Expressions}
 use Rattle.alt_machine.specs.declared.TheConstants.{LARGEST_ITEM}
-use Rattle.alt_machine.specs.Ops.UpdateItem.{item_after, left, makes_none, names_of, of_left, pairs_of, with_key}
+use Rattle.alt_machine.specs.Ops.UpdateItem.{item_after, left_by_update, makes_none, names_of, of_left, pairs_of, with_key_attributes}
 use Rattle.alt_machine.specs.Refusals.{first_answer, refuse_unless}
 use Rattle.alt_machine.specs.Valid.{deepest}
 use Rattle.alt_ops_item.specs.private.Outlines.{IsOutline}
-use Rattle.alt_ops_item.specs.private.Updates.{left_after, with_changes}
+use Rattle.alt_ops_item.specs.private.Updates.{left_or_refusal, with_changes}
 use Rattle.alt_ops_item.proofs.Changed.{pairs_made, valueless}
 use Rattle.alt_ops_item.proofs.Evaluated.{behind_view, view_same}
 use Rattle.alt_ops_item.proofs.Left.{left-made, left-refused}
@@ -101,16 +101,16 @@ AreAlike o p = ⊥
 
 -- with the attributes of a key
 key_in : (key ps qs : List Pair) → EachOfTwo StandsInAt ps qs
-    → EachOfTwo StandsInAt (with_key key ps) (with_key key qs)
+    → EachOfTwo StandsInAt (with_key_attributes key ps) (with_key_attributes key qs)
 key_in [] ps qs h = h
-key_in ((name, t) ∷ key) ps qs h = put_in text_order name t t (itself t) (with_key key ps)
-    (with_key key qs) (key_in key ps qs h)
+key_in ((name, t) ∷ key) ps qs h = put_in text_order name t t (itself t) (with_key_attributes key ps)
+    (with_key_attributes key qs) (key_in key ps qs h)
 
 left_alike : (said : Expressions) (key : List Pair) (old : Option (List Pair)) (ps qs : List Pair)
-    → EachOfTwo StandsInAt ps qs → AreAlike (left said key old ps) (left said key old qs)
+    → EachOfTwo StandsInAt ps qs → AreAlike (left_by_update said key old ps) (left_by_update said key old qs)
 left_alike said key (Some item) ps qs h = h
 left_alike said key None ps qs h = elim (makes_none said.update) as (λ (b : Bool). AreAlike
-    (if b then None else Some (with_key key ps)) (if b then None else Some (with_key key qs))) [
+    (if b then None else Some (with_key_attributes key ps)) (if b then None else Some (with_key_attributes key qs))) [
       | true ↦ tt
       | false ↦ key_in key ps qs h
     ]
@@ -274,21 +274,21 @@ refused_if d (Some ps) None h a e = absurd h
 module _ (d : TableSchema) (said : Expressions) (key : List Pair) (old : Option (List Pair))
     (outline : List Pair) (whole : Bool)
     (h : IsOutline (item_after (unwrap_or said.update []) old) outline whole)
-    (new : Option (List Pair)) (is : new ≡ left said key old outline) where
+    (new : Option (List Pair)) (is : new ≡ left_by_update said key old outline) where
   -- the table refuses what is left of the outline, and so what is left of the item
   pub outline-refused : (stop : Stop) → Tested {X = Unit {0}} (of_left d new) (Err stop)
-      → Comes {X = Option (List Pair)} (λ o. o) (left_after d said key old) (Err stop)
+      → Comes {X = Option (List Pair)} (λ o. o) (left_or_refusal d said key old) (Err stop)
   outline-refused (Refused r) t =
       let item : List Pair = h.item in
-      let alike : AreAlike new (left said key old item) =
-      subst (λ (o : Option (List Pair)). AreAlike o (left said key old item)) (sym is)
+      let alike : AreAlike new (left_by_update said key old item) =
+      subst (λ (o : Option (List Pair)). AreAlike o (left_by_update said key old item)) (sym is)
       (left_alike said key old outline item h.stands_in) in
-      left-refused d said key old item h.is (left said key old item) refl (Refused r)
-      (refused_if d new (left said key old item) alike (refused r) t.0, t.1)
+      left-refused d said key old item h.is (left_by_update said key old item) refl (Refused r)
+      (refused_if d new (left_by_update said key old item) alike (refused r) t.0, t.1)
   outline-refused (Fault f) t = t
 
   -- it doesn't, and the outline is the item
   pub outline-whole : whole ≡ true → first_answer (of_left d new) ≡ None
-      → left_after d said key old ≡ Ok new
+      → left_or_refusal d said key old ≡ Ok new
   outline-whole w free =
-      left-made d said key old h.item h.is new (is ∙ ap (left said key old) (h.same w)) free
+      left-made d said key old h.item h.is new (is ∙ ap (left_by_update said key old) (h.same w)) free

@@ -5,7 +5,7 @@ ghost use Rattle.alt_expr.specs.UpdateLanguage.{begin_with_names};
 ghost use Rattle.alt_expr.specs.Updated.{put_name};
 ghost use Rattle.alt_machine.specs.Ops.UpdateItem as machine;
 ghost use Rattle.alt_ops_item.specs.private.Outlines.{IsOutline};
-ghost use Rattle.alt_ops_item.specs.private.Updates.{with_change, with_changes, stop_of};
+ghost use Rattle.alt_ops_item.specs.private.Updates.{with_attribute_change, with_changes, stop_of_update_fault};
 ghost use Rattle.alt_request.specs.Steps.{Comes, IsMemory};
 ghost use Rattle.alt_value.specs.Item.{IsItem};
 ghost use Rattle.alt_value.specs.Stands.{tree_of};
@@ -115,7 +115,7 @@ fn with_changes(item: Item, changes: Vec<AttrChange>) -> Result<Item, Stop>
 }
 
 fn make(item: &mut Item, change: AttrChange) -> Result<(), Stop>
-    ensures made { OnOk result (item.new ≡ with_change change item.old) }
+    ensures made { OnOk result (item.new ≡ with_attribute_change change item.old) }
     ensures cause { IfErr result IsMemory }
 {
     let AttrChange { name, value } = change;
@@ -143,7 +143,7 @@ fn put(item: &mut Item, name: &str, value: Attr) -> Result<(), Stop>
 
 /// How a request stops for the fault of an update: it is refused, unless memory was wanting.
 fn stop_of(fault: UpdateFault) -> Stop
-    ensures { result ≡ stop_of fault }
+    ensures { result ≡ stop_of_update_fault fault }
 {
     match fault {
         UpdateFault::BadPath => Stop::Refused(Refusal::BAD_UPDATE),

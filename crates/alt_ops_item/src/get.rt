@@ -28,7 +28,7 @@ struct Shown;
 impl ItemRead for Shown {
     ghost use Rattle.alt_machine.specs.Expressions.{projecting};
     ghost use Rattle.alt_machine.specs.Ops.GetItem.{rules};
-    ghost use Rattle.alt_ops_item.specs.private.Gets.{shown};
+    ghost use Rattle.alt_ops_item.specs.private.Gets.{projected_item_answer};
     ghost use Rattle.alt_shape.specs.Bodies as bodies;
 
     ghost shape = { bodies.get_item };
@@ -37,7 +37,7 @@ impl ItemRead for Shown {
 
     ghost texts = { projecting };
 
-    ghost answer = { shown };
+    ghost answer = { projected_item_answer };
 
     fn broken(&self, body: &Map<String, Value>) -> Option<Broken> {
         bodies::get_item(body)

@@ -5,7 +5,7 @@ ghost use Rattle.std.specs.List.{list_all};
 ghost use Rattle.alt_expr.specs.UpdateLanguage.{begin_with_names};
 ghost use Rattle.alt_machine.specs.Ops.UpdateItem as machine;
 ghost use Rattle.alt_machine.specs.Valid.{deepest};
-ghost use Rattle.alt_ops_item.specs.private.Updates.{left_after, WithPart, is_flat};
+ghost use Rattle.alt_ops_item.specs.private.Updates.{left_or_refusal, WithPart, is_flat};
 ghost use Rattle.alt_request.specs.Steps.{Comes, IsMemory, Tested};
 ghost use Rattle.alt_value.specs.Size.{fields_depth};
 ghost use Rattle.alt_value.specs.Tree.{fields_of};
@@ -31,7 +31,7 @@ pub(crate) fn left_in(
     old: &Option<Item>,
 ) -> Result<Option<Item>, Stop>
     requires begins { begin_with_names (unwrap_or said.now.update []) ≡ true }
-    ensures left { Comes (λ o. o) (left_after schema.now said.now key old.now) result }
+    ensures left { Comes (λ o. o) (left_or_refusal schema.now said.now key old.now) result }
 {
     let (outline, whole) = outline_after(alloc, &said.update, old)?;
     let new = left(said, &key, old, outline)?;
@@ -59,7 +59,7 @@ fn left_at_length(
     old: &Option<Item>,
 ) -> Result<Option<Item>, Stop>
     requires begins { begin_with_names (unwrap_or said.now.update []) ≡ true }
-    ensures left { Comes (λ o. o) (left_after schema.now said.now key.now old.now) result }
+    ensures left { Comes (λ o. o) (left_or_refusal schema.now said.now key.now old.now) result }
 {
     let item = item_after(alloc, &said.update, old)?;
     let made = left(said, key, old, item)?;
@@ -78,7 +78,7 @@ fn left(
     old: &Option<Item>,
     item: Item,
 ) -> Result<Option<Item>, Stop>
-    ensures left { IfOk result (λ o. o ≡ machine.left said.now key.now old.now item) }
+    ensures left { IfOk result (λ o. o ≡ machine.left_by_update said.now key.now old.now item) }
     ensures cause { IfErr result IsMemory }
 {
     match old {
@@ -88,7 +88,7 @@ fn left(
 }
 
 fn left_new(said: &Expressions, key: &Item, item: Item) -> Result<Option<Item>, Stop>
-    ensures left { IfOk result (λ o. o ≡ machine.left said.now key.now None item) }
+    ensures left { IfOk result (λ o. o ≡ machine.left_by_update said.now key.now None item) }
     ensures cause { IfErr result IsMemory }
 {
     if makes_none(&said.update) {
@@ -128,7 +128,7 @@ fn takes_away(action: &Action) -> bool
 
 /// The item with the attributes of its key.
 fn with_key(key: &Item, item: Item) -> Result<Item, Stop>
-    ensures item { IfOk result (λ i. i ≡ machine.with_key key.now item) }
+    ensures item { IfOk result (λ i. i ≡ machine.with_key_attributes key.now item) }
     ensures cause { IfErr result IsMemory }
 {
     let mut item = item;

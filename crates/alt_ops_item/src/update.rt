@@ -28,9 +28,9 @@ static RULES: Rules = Rules {
 struct Change;
 
 impl ItemWrite for Change {
-    ghost use Rattle.alt_ops_item.specs.private.Writes.{updating};
+    ghost use Rattle.alt_ops_item.specs.private.Writes.{update_writer};
 
-    ghost says = { updating };
+    ghost says = { update_writer };
 
     fn broken(&self, body: &Map<String, Value>) -> Option<Broken> {
         bodies::update_item(body)

@@ -17,13 +17,13 @@ use Rattle.alt_machine.specs.State.{State, Texts}
 use Rattle.alt_machine.specs.declared.Expressions.{Expressions}
 use Rattle.alt_ops_query.specs.private.Filled.{HasFilled}
 use Rattle.alt_ops_query.specs.private.Paged.{AnswersPage, HasLimit, answer_with, asked_page}
-use Rattle.alt_ops_query.specs.private.Replied.{page_of}
+use Rattle.alt_ops_query.specs.private.Replied.{machine_page}
 use Rattle.alt_ops_query.specs.private.Stops.{IsFault}
 use Rattle.alt_paging.specs.declared.pager.Pager.{Pager}
-use Rattle.alt_paging.specs.Offered.{IsPage, asked_of, unless_counts}
+use Rattle.alt_paging.specs.Offered.{IsPage, asked_of_page, unless_counts}
 use Rattle.alt_paging.specs.declared.ask.Page.{Page}
 use Rattle.alt_paging.specs.declared.ask.PageAsk.{PageAsk}
-use Rattle.alt_request.specs.Carried.{Does}
+use Rattle.alt_request.specs.Carried.{FollowsOutcome}
 use Rattle.alt_request.specs.Steps.{IsMemory}
 use Rattle.alt_request.specs.declared.stop.Stop.{Stop}
 use Rattle.alt_request.specs.declared.stop.Stop.TheVariants.{Refused, Fault}
@@ -51,9 +51,9 @@ page_with ask seen ended = record {
 -- the page of what a page of the list examines is that of the list
 same_page : (ask : PageAsk) (list : List (List Pair)) (pager : Pager)
     → HasFilled pager ask list
-    → pages.page_of (asked_of ask) (examined ask.limit list) ≡ pages.page_of (asked_of ask) list
+    → pages.page_of (asked_of_page ask) (examined ask.limit list) ≡ pages.page_of (asked_of_page ask) list
 unfolding page_with
-same_page ask list pager filled = λ i. page_with (asked_of ask) (filled.whole.whole i)
+same_page ask list pager filled = λ i. page_with (asked_of_page ask) (filled.whole.whole i)
     (filled.ends i)
 
 -- where counts alone are wanted no items are shown
@@ -74,9 +74,9 @@ module _ (d : TableSchema) (x : Option IndexSchema) (ms : Members) (ask : PageAs
     (is : IsPage ask (examined ask.limit list) page) where
   -- the page of the list
   abbrev whole : pages.Page
-  whole = pages.page_of (asked_of ask) list
+  whole = pages.page_of (asked_of_page ask) list
 
-  page_is : page_of page ≡ record whole { items = unless_counts ask.count_only whole.items }
+  page_is : machine_page page ≡ record whole { items = unless_counts ask.count_only whole.items }
   page_is = λ i. record {
     items = (is.items ∙ ap (λ (p : pages.Page). unless_counts ask.count_only p.items)
         (same_page ask list pager filled)) i;
@@ -86,11 +86,11 @@ module _ (d : TableSchema) (x : Option IndexSchema) (ms : Members) (ask : PageAs
     ended = (is.ended ∙ ap (λ (p : pages.Page). p.ended) (same_page ask list pager filled)) i;
   }
 
-  last_is : page.last ≡ last_examined (asked_of ask) list
+  last_is : page.last ≡ last_examined (asked_of_page ask) list
   last_is = is.last ∙ (λ i. if filled.ends i then last_or None (filled.whole.whole i) else None)
 
   -- the page that was filled is answered as the machine answers the whole list
-  pub answered_so : page_answer d x ms (page_of page) page.last
+  pub answered_so : page_answer d x ms (machine_page page) page.last
       ≡ answer_with d x ms ask list
   answered_so = (λ i. page_answer d x ms (page_is i) (last_is i))
       ∙ ap with_shown (counts_shown ms whole.items ask.count_only counts)
@@ -99,11 +99,11 @@ module _ (d : TableSchema) (x : Option IndexSchema) (ms : Members) (ask : PageAs
       with_shown shown = answered (member (codes "Count") (number (unsigned whole.count))
           (member_if (codes "Items") shown
           (member_if (codes "LastEvaluatedKey") (option_map
-          (λ i. json_of_pairs (key_attributes d x i)) (last_examined (asked_of ask) list))
+          (λ i. json_of_pairs (key_attributes d x i)) (last_examined (asked_of_page ask) list))
           (member (codes "ScannedCount") (number (unsigned whole.scanned)) no_members))))
 
   -- so is a reply that has it
-  pub answered_by : (answer : Answer) → answer ≡ page_answer d x ms (page_of page) page.last
+  pub answered_by : (answer : Answer) → answer ≡ page_answer d x ms (machine_page page) page.last
       → answer ≡ answer_with d x ms ask list
   answered_by answer e = e ∙ answered_so
 
@@ -116,17 +116,17 @@ pub page_does : (file : ℕ) (now : State → Type 0) (s : State) (d : TableSche
     → HasFilled pager ask list → ask.count_only ≡ selects (codes "COUNT") ms
     → IfOk r (λ reply. AnswersPage d x ms pager (answer_of reply))
     → IfOk r (λ reply. has_float (body_json reply.body) ≡ false) → IfErr r IsMemory
-    → Does file now s (says (answer_with d x ms ask list)) r
+    → FollowsOutcome file now s (says (answer_with d x ms ask list)) r
 page_does file now s d x ms ask list pager (Ok reply) stands filled counts told plain cause =
     does_say file now (answer_with d x ms ask list) s (Ok reply)
     (told ask list filled counts, plain) stands
 page_does file now s d x ms ask list pager (Err stop) stands filled counts told plain cause =
-    subst (λ e. Does file now s (says (answer_with d x ms ask list)) (Err e)) (sym cause)
+    subst (λ e. FollowsOutcome file now s (says (answer_with d x ms ask list)) (Err e)) (sym cause)
     (does_say file now (answer_with d x ms ask list) s (Err (Fault NoMemory)) refl stands)
 
 -- the walk stopped before it
 pub fault_does : (file : ℕ) (now : State → Type 0) (s : State) (outcome : Outcome) (stop : Stop)
-    → IsFault stop → now s → Does file now s outcome (Err stop)
+    → IsFault stop → now s → FollowsOutcome file now s outcome (Err stop)
 fault_does file now s outcome (Refused r) h stands = absurd h
 fault_does file now s outcome (Fault (Spent n)) h stands = absurd h
 fault_does _ now s outcome (Fault (Damaged file at)) h stands = absurd h
@@ -137,16 +137,16 @@ fault_does file now s outcome (Fault NoMemory) h stands = tt
 -- and that is what is handed on
 pub does_fault : (file : ℕ) (now : State → Type 0) (s : State) (outcome : Outcome)
     (r : Result Reply Stop) (stop : Stop) → IsErr r × IsErrAnd r (λ e. e ≡ stop) → IsFault stop → now s
-    → Does file now s outcome r
+    → FollowsOutcome file now s outcome r
 does_fault file now s outcome r stop same fault stands =
-    subst (Does file now s outcome) (sym (err_is r stop same))
+    subst (FollowsOutcome file now s outcome) (sym (err_is r stop same))
     (fault_does file now s outcome stop fault stands)
 
 -- what is asked of the page is what the request asks
 pub asked_is : (ms : Members) (said : Expressions) (ask : PageAsk)
     → ask ≡ asked_page ms said.condition said.projection → HasLimit ms
-    → asked_of ask ≡ page_asked ms said
-asked_is ms said ask is limit = ap asked_of is ∙ ap asked limit
+    → asked_of_page ask ≡ page_asked ms said
+asked_is ms said ask is limit = ap asked_of_page is ∙ ap asked limit
   where
     asked : Option ℕ → Asked
     asked most = record { limit = most; condition = said.condition; paths = said.projection }

@@ -8,7 +8,7 @@ use Rattle.alt_machine.specs.Sources.{index_at, items_of}
 use Rattle.alt_machine.specs.State.{State, Table}
 use Rattle.alt_machine.proofs.Descriptions.{get-descriptions}
 use Rattle.alt_machine.proofs.Indexing.{all_index, is_entry}
-use Rattle.alt_ops_query.specs.Places.{MayStand, place_in}
+use Rattle.alt_ops_query.specs.Places.{MayStand, place_in_source}
 use Rattle.alt_views.proofs.Taken.{none_past}
 use Rattle.alt_request.proofs.Named.{table_found}
 use Rattle.alt_schema.specs.Indexes.{cut, index_row, indexes, is_in_index, is_projected}
@@ -76,12 +76,12 @@ module _ (disk : DiskState) (tables : Tables) (s : State) (stands : Stands disk 
       → IfSome index (λ n. CanRead d n))
       → (place : List ℕ) (item : List Pair)
       → finite.get (items_of t (index_at t.description index)) place ≡ Some item
-      → place_in t.description (index_at t.description index) item ≡ Some place
+      → place_in_source t.description (index_at t.description index) item ≡ Some place
   stored_at index within place item found =
       by (index_at t.description index) (may_stand index within place item found)
     where
       by : (i : Option IndexSchema) → MayStand t.description i place item
-          → place_in t.description i item ≡ Some place
+          → place_in_source t.description i item ≡ Some place
       by None may = may.0.stands
       by (Some i) may = entry_place t.description i may.1 place item may.4
 

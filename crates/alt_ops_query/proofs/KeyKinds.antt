@@ -17,7 +17,7 @@ use Rattle.alt_expr.specs.declared.cond.Cond.{Cond, out-Cond}
 use Rattle.alt_expr.specs.declared.cond.Cond.TheOpen.{Cond-F}
 use Rattle.alt_expr.specs.KeyForm as f
 use Rattle.alt_expr.specs.KeyForm.{Key, Ask, ask_of}
-use Rattle.alt_keycond.specs.Asked.{test_of, asks}
+use Rattle.alt_keycond.specs.Asked.{test_of, answer_asks}
 use Rattle.alt_keycond.specs.KeysAsked.{AsksOfKind}
 use Rattle.alt_keycond.specs.declared.ask.KeyAsk.{KeyAsk}
 use Rattle.alt_keycond.specs.declared.ask.RangeAsk.{RangeAsk}
@@ -88,18 +88,18 @@ found_kind key (o.Value w) v e = by (f.has_kind key.kind w) refl e
 -- the value that a key is compared with, on either side, is of the key's kind
 tested_kind : (key : Key) (by : Comparison) (x y : Operand) (c : Comparison) (v : Attr)
     → f.key_test key by x y ≡ Some (c, v) → Has key.kind v
-tested_kind key by x y c v e = at (f.is_key key x) e
+tested_kind key by x y c v e = at (f.is_key_operand key x) e
   where
-    behind : (b : Bool) → (if b then f.with_value (f.mirrored by) (f.value_for key x) else None)
+    behind : (b : Bool) → (if b then f.comparison_with_value (f.mirrored by) (f.value_for key x) else None)
         ≡ Some (c, v) → Has key.kind v
     behind true e = found_kind key x v (valued (f.mirrored by) (f.value_for key x) c v e)
     behind false e = absurd (let no : ⊥ = cc in no)
 
-    at : (b : Bool) → (if b then f.with_value by (f.value_for key y) else (if f.is_key key y
-        then f.with_value (f.mirrored by) (f.value_for key x) else None)) ≡ Some (c, v)
+    at : (b : Bool) → (if b then f.comparison_with_value by (f.value_for key y) else (if f.is_key_operand key y
+        then f.comparison_with_value (f.mirrored by) (f.value_for key x) else None)) ≡ Some (c, v)
         → Has key.kind v
     at true e = found_kind key y v (valued by (f.value_for key y) c v e)
-    at false e = behind (f.is_key key y) e
+    at false e = behind (f.is_key_operand key y) e
 
 -- the value that the HASH attribute is to equal is of its kind
 hash_kind : (key : Key) (top : Cond-F Cond) (v : Attr) → f.hash_at key top ≡ Some v → Has key.kind v
@@ -196,11 +196,11 @@ range_kind key (Cond-F.Compare by x y) ask e =
     comparison_kind key by x y ask (f.key_test key by x y) refl e
 range_kind key (Cond-F.Between x low high) ask e =
     bound_kind key low high ask (f.value_for key low) (f.value_for key high) refl refl
-    (some_of_if (f.is_key key x) (f.range_between (f.value_for key low) (f.value_for key high))
+    (some_of_if (f.is_key_operand key x) (f.range_between (f.value_for key low) (f.value_for key high))
     (test_of ask) e)
 range_kind key (Cond-F.BeginsWith x y) ask e =
     front_kind key y ask key.kind (f.value_for key y) refl refl
-    (some_of_if (f.is_key key x) (f.range_front key.kind (f.value_for key y)) (test_of ask) e)
+    (some_of_if (f.is_key_operand key x) (f.range_front key.kind (f.value_for key y)) (test_of ask) e)
 range_kind key _ ask e = absurd (let no : ⊥ = cc in no)
 
 -- ---- the whole
@@ -211,9 +211,9 @@ BothOf hash range ask = Has hash.kind ask.hash × AreOf (option_map (λ k. k.kin
 
 -- what two conditions ask for, the first of HASH and the second of RANGE, is of the kinds of these
 pair_kinds : (hash : Key) (range : Option Key) (x y : Cond) (ask : KeyAsk)
-    → f.both_asked hash range x y ≡ Some (asks ask) → BothOf hash range ask
+    → f.both_asked hash range x y ≡ Some (answer_asks ask) → BothOf hash range ask
 pair_kinds hash (Some range) x y ask e =
-    let parts = both_parts (f.hash_value hash x) (f.range_test range y) (asks ask) e in (
+    let parts = both_parts (f.hash_value hash x) (f.range_test range y) (answer_asks ask) e in (
       hash_kind hash (out-Cond x) ask.hash parts.0,
       range_kind range (out-Cond y) ask.range parts.1,
     )
@@ -221,11 +221,11 @@ pair_kinds hash None x y ask e = absurd (let no : ⊥ = cc in no)
 
 -- so is what they ask for in either order
 joined_kinds : (hash : Key) (range : Option Key) (xs : List Cond) (ask : KeyAsk)
-    → f.joined_ask hash range xs ≡ Some (asks ask) → BothOf hash range ask
+    → f.joined_ask hash range xs ≡ Some (answer_asks ask) → BothOf hash range ask
 joined_kinds hash range (x ∷ y ∷ []) ask e = at (f.both_asked hash range x y) refl e
   where
     at : (q : Option Ask) → f.both_asked hash range x y ≡ q
-        → f.or_else q (f.both_asked hash range y x) ≡ Some (asks ask) → BothOf hash range ask
+        → f.or_else q (f.both_asked hash range y x) ≡ Some (answer_asks ask) → BothOf hash range ask
     at (Some q) is e = pair_kinds hash range x y ask (is ∙ e)
     at None is e = pair_kinds hash range y x ask e
 joined_kinds hash range [] ask e = absurd (let no : ⊥ = cc in no)
@@ -246,10 +246,10 @@ nothing_kind k (r.Begins w) e = absurd (let no : ⊥ = cc in no)
 
 -- so it is with both conditions, and with the one of HASH alone
 top_kinds : (hash : Key) (range : Option Key) (top : Cond-F Cond) (ask : KeyAsk)
-    → f.ask_at hash range top ≡ Some (asks ask) → BothOf hash range ask
+    → f.ask_at hash range top ≡ Some (answer_asks ask) → BothOf hash range ask
 top_kinds hash range (Cond-F.All xs) ask e = joined_kinds hash range xs ask e
 top_kinds hash range (Cond-F.Compare by x y) ask e =
-    let parts = both_parts (f.hash_at hash (Cond-F.Compare by x y)) (Some f.anything) (asks ask) e
+    let parts = both_parts (f.hash_at hash (Cond-F.Compare by x y)) (Some f.anything) (answer_asks ask) e
     in (
       hash_kind hash (Cond-F.Compare by x y) ask.hash parts.0,
       nothing_kind _ ask.range (same_Some _ _ parts.1),
@@ -258,7 +258,7 @@ top_kinds hash range _ ask e = absurd (let no : ⊥ = cc in no)
 
 -- what is asked has the kinds of the key attributes
 pub asks_kinds : (hash : Key) (range : Option Key) (x : Cond) (ask : KeyAsk)
-    → ask_of hash range x ≡ Some (asks ask) → IsValue (tree_of ask.hash) → AreHeld ask.range
+    → ask_of hash range x ≡ Some (answer_asks ask) → IsValue (tree_of ask.hash) → AreHeld ask.range
     → IsOfKind hash.kind (tree_of ask.hash)
     × AsksOfKind (option_map (λ k. k.kind) range) ask.range
 unfolding ask_of

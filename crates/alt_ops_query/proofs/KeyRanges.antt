@@ -8,14 +8,14 @@ use Rattle.alt_expr.specs.KeyForm.{Key, Ask, ask_of, in_range, meets, range_meet
 use Rattle.alt_expr.specs.Pages.{passes}
 use Rattle.alt_expr.specs.declared.cond.Cond.{Cond}
 use Rattle.alt_expr.proofs.SameValues.{same_decides}
-use Rattle.alt_keycond.specs.Asked.{test_of, asks}
+use Rattle.alt_keycond.specs.Asked.{test_of, answer_asks}
 use Rattle.alt_keycond.specs.KeysAsked.{AsksOfKind, HoldsAsked}
 use Rattle.alt_keycond.specs.declared.ask.KeyAsk.{KeyAsk}
 use Rattle.alt_keycond.specs.declared.ask.RangeAsk.{RangeAsk}
 use Rattle.alt_keycond.specs.declared.ask.RangeAsk.TheVariants as r
 use Rattle.alt_keyorder.specs.Kinds.{IsOfKind, IsKeyFor}
 use Rattle.alt_keyorder.specs.Place.{place_bytes, place_in_table}
-use Rattle.alt_keyorder.specs.Range.{AreBytes, IsInRange}
+use Rattle.alt_keyorder.specs.Range.{IsByteString, IsInRange}
 use Rattle.alt_keyorder.specs.declared.range.KeyRange.{KeyRange}
 use Rattle.alt_machine.specs.Lists.{walk_start}
 use Rattle.alt_machine.specs.Ops.Query.{key_of, key_asked}
@@ -23,7 +23,7 @@ use Rattle.alt_machine.specs.Outcomes.{with_found}
 use Rattle.alt_machine.specs.Refusals.{or_refused}
 use Rattle.alt_machine.specs.Walks.{is_beyond}
 use Rattle.alt_machine.specs.Sources.{hash_of, range_of}
-use Rattle.alt_ops_query.specs.private.Asked.{AreHeld, Asks, IsAsked, IsPlaced, Places}
+use Rattle.alt_ops_query.specs.private.Asked.{AreHeld, IsRangeAskedOrRefused, IsRangeAsked, IsRangePlaced, Places}
 use Rattle.alt_ops_query.specs.Places.{HoldsListed}
 use Rattle.alt_ops_query.specs.private.Ranges.{IsBeyond}
 use Rattle.alt_ops_query.proofs.KeyKinds.{asks_kinds}
@@ -72,7 +72,7 @@ module _ (d : TableSchema) (i : Option IndexSchema) (condition : Option Cond) (a
     (hash_kind : IsOfKind (hash_of d i).kind (tree_of ask.hash))
     (range_kind : AsksOfKind (option_map (λ x. x.kind) (range_of d i)) ask.range)
     (holds : (item : List Pair) → passes condition item
-    ≡ meets (key_of (hash_of d i)) (option_map key_of (range_of d i)) (asks ask)
+    ≡ meets (key_of (hash_of d i)) (option_map key_of (range_of d i)) (answer_asks ask)
     (λ name. at_name name item)) where
   -- a stored item passes exactly where its key is one that is asked for
   passes_is : (key : List ℕ) (item : List Pair)
@@ -98,7 +98,7 @@ module _ (d : TableSchema) (i : Option IndexSchema) (condition : Option Cond) (a
       sym keys.is in
       let both = asked (hash_of d i).kind (option_map (λ (x : KeyAttr). x.kind) (range_of d i))
       hash_kind range_kind keys.hash keys.range keys.behind kinds
-      (subst AreBytes (sym whole) (bytes_there d i key item may)) in
+      (subst IsByteString (sym whole) (bytes_there d i key item may)) in
       let test = passes_is key item keys in
       contains_beyond forward place from to first last beyond key
       ∙ ap (λ b. b && is_beyond forward place key) (both_ways _ _
@@ -135,18 +135,18 @@ some_asked d i (Some x) ask e =
 module _ (d : TableSchema) (i : Option IndexSchema) (condition : Option Cond)
     (start : Option (List Pair)) (forward : Bool) where
   -- a range that is placed as the ask says holds the items of which the key condition holds
-  pub asked_so : (ask : KeyAsk) → key_asked d i condition ≡ Ok (asks ask)
+  pub asked_so : (ask : KeyAsk) → key_asked d i condition ≡ Ok (answer_asks ask)
       → ((item : List Pair) → passes condition item
-      ≡ meets (key_of (hash_of d i)) (option_map key_of (range_of d i)) (asks ask)
+      ≡ meets (key_of (hash_of d i)) (option_map key_of (range_of d i)) (answer_asks ask)
       (λ name. at_name name item))
       → IsValue (tree_of ask.hash) → AreHeld ask.range → (range : KeyRange)
-      → IsPlaced d i ask start forward range → IsAsked d i condition start forward range
+      → IsRangePlaced d i ask start forward range → IsRangeAsked d i condition start forward range
   asked_so ask e holds held range_held range p =
-      let x = some_asked d i condition (asks ask) e in
+      let x = some_asked d i condition (answer_asks ask) e in
       let kinds = asks_kinds (key_of (hash_of d i))
       (option_map key_of (range_of d i)) x.0 ask x.1 held range_held in
       record {
-        ask = asks ask;
+        ask = answer_asks ask;
         asks = e;
         place = p.place;
         starts = p.starts;
@@ -157,8 +157,8 @@ module _ (d : TableSchema) (i : Option IndexSchema) (condition : Option Cond)
       }
 
   -- the machine asks nothing either
-  pub no_ask : (stop : Stop) → Comes {X = KeyAsk} asks (key_asked d i condition) (Err stop)
-      → Asks d i condition start forward (Err stop)
+  pub no_ask : (stop : Stop) → Comes {X = KeyAsk} answer_asks (key_asked d i condition) (Err stop)
+      → IsRangeAskedOrRefused d i condition start forward (Err stop)
   no_ask (Refused r) h = (
     h.1,
     λ go. ap (λ q. with_found q
@@ -167,23 +167,23 @@ module _ (d : TableSchema) (i : Option IndexSchema) (condition : Option Cond)
   no_ask (Fault f) h = h
 
   -- or it starts nowhere
-  pub no_place : (ask : KeyAsk) → key_asked d i condition ≡ Ok (asks ask) → (stop : Stop)
-      → Places d i ask start forward (Err stop) → Asks d i condition start forward (Err stop)
+  pub no_place : (ask : KeyAsk) → key_asked d i condition ≡ Ok (answer_asks ask) → (stop : Stop)
+      → Places d i ask start forward (Err stop) → IsRangeAskedOrRefused d i condition start forward (Err stop)
   no_place ask e (Refused r) h = (
     h.0,
     λ go. ap (λ q. with_found q
         (λ ask. with_found (walk_start d i (Some ask.hash) start) (go ask))) e
-        ∙ ap (λ q. with_found q (go (asks ask))) h.1,
+        ∙ ap (λ q. with_found q (go (answer_asks ask))) h.1,
   )
   no_place ask e (Fault f) h = h
 
   -- a result that is placed as the ask says answers the key condition
-  pub asked_by : (ask : KeyAsk) → key_asked d i condition ≡ Ok (asks ask)
+  pub asked_by : (ask : KeyAsk) → key_asked d i condition ≡ Ok (answer_asks ask)
       → ((item : List Pair) → passes condition item
-      ≡ meets (key_of (hash_of d i)) (option_map key_of (range_of d i)) (asks ask)
+      ≡ meets (key_of (hash_of d i)) (option_map key_of (range_of d i)) (answer_asks ask)
       (λ name. at_name name item))
       → IsValue (tree_of ask.hash) → AreHeld ask.range → (result : Result KeyRange Stop)
-      → Places d i ask start forward result → Asks d i condition start forward result
+      → Places d i ask start forward result → IsRangeAskedOrRefused d i condition start forward result
   asked_by ask e holds held range_held (Ok range) p =
       asked_so ask e holds held range_held range p
   asked_by ask e holds held range_held (Err stop) p = no_place ask e stop p

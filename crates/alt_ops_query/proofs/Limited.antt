@@ -2,11 +2,12 @@
 use Rattle.std.proofs.Common.{◌≡◌, refl, sym, ap, ◌∙◌, ℕ, zero, suc, ◌&&◌, ◌^◌, nat_lt, nat_le, Bool, true, false, List, [], ◌∷◌, Option, Some, None, option_and_then, arith}
 use Rattle.std.specs.Prelude.{if◌then◌else◌, codes, slice_get}
 use Rattle.serde_json.specs.Data.{Data, Members, null, boolean, number, unsigned, negative, float, string, array, object}
-use Rattle.alt_machine.specs.Body.{Rules, paired_refusals}
+use Rattle.alt_machine.specs.Body.{MemberRules, paired_refusals}
 use Rattle.alt_machine.specs.Refusals.{first_answer}
 use Rattle.alt_ops_query.specs.private.Paged.{HasLimit, limit_in}
 use Rattle.alt_shape.specs.Bodies as bodies
-use Rattle.alt_shape.specs.Bodies.{required, optional, selections, first_of, condition_entry, in_entries, in_names, operator_demand, key_condition_demand, own_of_query}
+use Rattle.alt_shape.specs.Bodies.{selections, key_condition_demand, own_of_query}
+use Rattle.alt_shape.specs.BodyParts.{required, optional, first_shape_fault, condition_entry, in_entries, in_names, operator_demand}
 use Rattle.alt_shape.specs.Shape.{Demand, a_text, a_whole, a_truth, an_object, an_array, a_word, fault_of, given, natural_of, first_unmet, unmet_by}
 use Rattle.alt_shape.specs.declared.rule.Broken.{Broken}
 use Rattle.alt_shape.specs.declared.rule.Broken.TheVariants.{OutOfRange}
@@ -78,13 +79,13 @@ scan_demands =
 
 -- what they demand of the objects inside them
 abbrev query_inside : Members → Option Broken
-query_inside ms = first_of (
+query_inside ms = first_shape_fault (
     in_entries (codes "KeyConditions") condition_entry ms ∷
     in_entries (codes "QueryFilter") condition_entry ms ∷ in_names ms ∷ [])
 
 abbrev scan_inside : Members → Option Broken
 scan_inside ms =
-    first_of (in_entries (codes "ScanFilter") condition_entry ms ∷ in_names ms ∷ [])
+    first_shape_fault (in_entries (codes "ScanFilter") condition_entry ms ∷ in_names ms ∷ [])
 
 -- a Query whose body breaks no demand has a limit that a page takes, or none
 pub query_limit : (ms : Members) → bodies.query ms ≡ None → HasLimit ms
@@ -102,7 +103,7 @@ scan_limit ms e = limited_at (given (codes "Limit") ms)
 
 -- ---- behind the tests of a body
 
-module _ (broken : Option Broken) (mismatched : Bool) (rules : Rules) (ms : Members)
+module _ (broken : Option Broken) (mismatched : Bool) (rules : MemberRules) (ms : Members)
     (free : first_answer (paired_refusals broken mismatched rules ms) ≡ None) where
   -- it breaks no demand
   pub none_broken : broken ≡ None

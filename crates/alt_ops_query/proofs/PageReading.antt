@@ -17,9 +17,9 @@ use Rattle.alt_machine.specs.Refusals.{or_refused}
 use Rattle.alt_machine.specs.Sources.{hash_of, index_at}
 use Rattle.alt_machine.specs.State.{State, Table}
 use Rattle.alt_machine.specs.Walks.{items_between}
-use Rattle.alt_ops_query.specs.PageReads.{ReadsPage, ReadsQuery, ReadsScan, most_reads}
+use Rattle.alt_ops_query.specs.PageReads.{ReadsPage, ReadsQuery, ReadsScan, most_reads_of_page}
 use Rattle.alt_ops_query.specs.Places.{HoldsListed}
-use Rattle.alt_ops_query.specs.private.Asked.{IsAsked, IsOfSegment}
+use Rattle.alt_ops_query.specs.private.Asked.{IsRangeAsked, IsOfSegment}
 use Rattle.alt_ops_query.proofs.Answering.{within_of}
 use Rattle.alt_ops_query.proofs.Whole.{list_is, query_is, scan_is}
 use Rattle.alt_request.specs.Targets.{IsListedAt}
@@ -51,7 +51,7 @@ module _ (before after : DiskState) (tables : Tables) (ms : Members) (target : L
   IsPaid forward = (t : Table) (maps : List RowMap) → map.get s.tables (table_name ms) ≡ Some t
       → HasRowFiles before.file (family_read t.description (source_in t.description)) maps
       → OnOk r (after.reads ≤ before.reads
-      + most_reads t (source_in t.description) forward range.from range.to
+      + most_reads_of_page t (source_in t.description) forward range.from range.to
       (page_asked ms target.said)
       (items_between t (source_in t.description) range.from range.to forward) maps)
 
@@ -65,7 +65,7 @@ module _ (before after : DiskState) (tables : Tables) (ms : Members) (target : L
       → ((maps : List RowMap)
       → HasRowFiles before.file (family_read t.description (source_in t.description)) maps
       → after.reads ≤ before.reads
-      + most_reads t (source_in t.description) forward range.from range.to
+      + most_reads_of_page t (source_in t.description) forward range.from range.to
       (page_asked ms target.said)
       (items_between t (source_in t.description) range.from range.to forward) maps)
       → ReadsPage before after t (source_in t.description) forward place test
@@ -76,7 +76,7 @@ module _ (before after : DiskState) (tables : Tables) (ms : Members) (target : L
     holds = subst (λ x. HoldsListed forward place test x (source_in x) range.from range.to)
         (sym same) holds;
     reads = λ maps has. subst (λ l. after.reads ≤ before.reads
-        + most_reads t (source_in t.description) forward range.from range.to
+        + most_reads_of_page t (source_in t.description) forward range.from range.to
         (page_asked ms target.said) l maps)
         (list_is before tables s stands (table_name ms) t at target.schema.now same target.index
         (within_of (catalog_of tables) (table_name ms) target.index target.schema.now known within)
@@ -88,7 +88,7 @@ module _ (before after : DiskState) (tables : Tables) (ms : Members) (target : L
       → mismatched ≡ is_mismatched ms
       → IsListedAt (paired_refusals broken mismatched querying_of.rules ms) querying
       (catalog_of tables) ms target
-      → IsAsked target.schema.now (source_in target.schema.now) target.said.key_condition
+      → IsRangeAsked target.schema.now (source_in target.schema.now) target.said.key_condition
       target.start (goes_forward ms) range
       → IsPaid (goes_forward ms) → OnOk r (ReadsQuery s ms before after)
   query_reads broken mismatched e f is asked = by r
@@ -97,7 +97,7 @@ module _ (before after : DiskState) (tables : Tables) (ms : Members) (target : L
           → map.get s.tables (table_name ms) ≡ Some t
           → HasRowFiles before.file (family_read t.description (source_in t.description)) maps
           → OnOk q (after.reads ≤ before.reads
-          + most_reads t (source_in t.description) (goes_forward ms) range.from range.to
+          + most_reads_of_page t (source_in t.description) (goes_forward ms) range.from range.to
           (page_asked ms target.said)
           (items_between t (source_in t.description) range.from range.to (goes_forward ms)) maps))
           → OnOk q (ReadsQuery s ms before after)
@@ -140,7 +140,7 @@ module _ (before after : DiskState) (tables : Tables) (ms : Members) (target : L
           → map.get s.tables (table_name ms) ≡ Some t
           → HasRowFiles before.file (family_read t.description (source_in t.description)) maps
           → OnOk q (after.reads ≤ before.reads
-          + most_reads t (source_in t.description) true range.from range.to
+          + most_reads_of_page t (source_in t.description) true range.from range.to
           (page_asked ms target.said)
           (items_between t (source_in t.description) range.from range.to true) maps))
           → OnOk q (ReadsScan s ms before after)

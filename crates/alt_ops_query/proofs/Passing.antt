@@ -10,11 +10,11 @@ use Rattle.alt_base.proofs.Orderings.{is_lt-true}
 use Rattle.alt_cells.specs.Walks.{RowList, RowMap}
 use Rattle.alt_families.specs.Reads.{passed_of, versions_of}
 use Rattle.alt_machine.specs.Walks.{is_beyond}
-use Rattle.alt_ops_query.specs.PageReads.{is_passed}
-use Rattle.alt_ops_query.specs.private.Filled.{is_behind, paid_for}
+use Rattle.alt_ops_query.specs.PageReads.{is_passed_by_page}
+use Rattle.alt_ops_query.specs.private.Filled.{is_behind_in_range, paid_for}
 use Rattle.alt_ops_query.specs.private.Ranges.{IsBeyond}
 use Rattle.alt_ops_query.proofs.Rests.{contains_beyond}
-use Rattle.alt_request.specs.TablesReading.{is_reached, is_within}
+use Rattle.alt_request.specs.TablesReading.{is_place_reached, is_within}
 use Rattle.alt_value.specs.Members.{text_order}
 
 -- ---- versions at places
@@ -89,8 +89,8 @@ module _ (forward : Bool) (place : Option (List ℕ)) (from : List ℕ) (to : Op
       further key = beyond_trans forward place end key (within_beyond end within)
 
       -- the places up to it are those up to the first and those of the rest up to it
-      pub fits_behind : (key : List ℕ) → fits (is_behind forward from to place key)
-          (is_behind forward first last (Some end) key) (is_behind forward from to (Some end) key)
+      pub fits_behind : (key : List ℕ) → fits (is_behind_in_range forward from to place key)
+          (is_behind_in_range forward first last (Some end) key) (is_behind_in_range forward from to (Some end) key)
           ≡ true
       fits_behind key = subst (λ b. fits (is_within from to key && not (is_beyond forward place key))
           (b && not (is_beyond forward (Some end) key))
@@ -121,8 +121,8 @@ module _ (forward : Bool) (place : Option (List ℕ)) (from : List ℕ) (to : Op
     -- and so it is to the end of the page
     pub fits_passed : (end : Option (List ℕ))
         → IfSome end (λ place. is_within first last place ≡ true) → (key : List ℕ)
-        → fits (is_behind forward from to place key) (is_passed forward first last end key)
-        (is_passed forward from to end key) ≡ true
+        → fits (is_behind_in_range forward from to place key) (is_passed_by_page forward first last end key)
+        (is_passed_by_page forward from to end key) ≡ true
     fits_passed None within key = subst
         (λ b. fits (is_within from to key && not (is_beyond forward place key)) (b && true)
         (is_within from to key && true) ≡ true)
@@ -140,7 +140,7 @@ module _ (forward : Bool) (place : Option (List ℕ)) (from : List ℕ) (to : Op
 -- a walk that finds as many items as it wants goes up to the last of them
 pub reached_last : (forward : Bool) (n : ℕ) (places : List (List ℕ)) (o : Option (List ℕ))
     (last key : List ℕ) → 0 < n → n ≤ length places → last_or o (take n places) ≡ Some last
-    → is_reached forward n places key ≡ not (is_beyond forward (Some last) key)
+    → is_place_reached forward n places key ≡ not (is_beyond forward (Some last) key)
 reached_last forward zero places o last key some many is = absurd (omega (arith, some))
 reached_last forward (suc n) [] o last key some many is = absurd (omega (arith, many))
 reached_last forward (suc zero) (p ∷ ps) o last key some many is =
@@ -154,7 +154,7 @@ reached_last forward (suc (suc n)) (p ∷ ps) o last key some many is =
 
 -- and one that doesn't goes on to the range's end
 pub reached_all : (forward : Bool) (n : ℕ) (places : List (List ℕ)) (key : List ℕ)
-    → length places < n → is_reached forward n places key ≡ true
+    → length places < n → is_place_reached forward n places key ≡ true
 reached_all forward zero places key few = absurd (omega (arith, few))
 reached_all forward (suc n) [] key few = refl
 reached_all forward (suc zero) (p ∷ ps) key few = absurd (omega (arith, few))

@@ -8,11 +8,11 @@ use Rattle.std.specs.Int.Digits.{digits_of, AllBelowBase}
 use Rattle.std.specs.List.{AllByRecursion, flat_map}
 use Rattle.std.specs.Str.{IsUtf8}
 use Rattle.alt_decimal.specs.Digits.{width, trimmed}
-use Rattle.alt_decimal.specs.Number.{Fits, IsMagnitude}
-use Rattle.alt_decimal.specs.Spelled.{spelled, magnitude_bytes, pairs, complement}
+use Rattle.alt_decimal.specs.Number.{FitsDecimal, IsMagnitude}
+use Rattle.alt_decimal.specs.Spelled.{spelled, magnitude_bytes, digit_pairs, complement}
 use Rattle.alt_keyorder.specs.KeyBytes.{escaped, closed, key_bytes}
 use Rattle.alt_keyorder.specs.Place.{key_values, place_bytes, place_in_table}
-use Rattle.alt_keyorder.specs.Range.{AreBytes}
+use Rattle.alt_keyorder.specs.Range.{IsByteString}
 use Rattle.alt_keyorder.specs.Token.{token_of}
 use Rattle.alt_ops_query.specs.Places.{MayStand}
 use Rattle.alt_ops_query.proofs.Stored.{IsBeside, has_both, keyed}
@@ -24,31 +24,31 @@ use Rattle.alt_value.specs.Values.{IsValue, AreFields}
 use Rattle.alt_value.proofs.NamedPairs.{value_at}
 
 -- bytes behind bytes are bytes
-both_bytes : (a b : List ℕ) → AreBytes a → AreBytes b → AreBytes (a ++ b)
+both_bytes : (a b : List ℕ) → IsByteString a → IsByteString b → IsByteString (a ++ b)
 both_bytes [] b h k = k
 both_bytes (x ∷ a) b h k = (h.0, both_bytes a b h.1 k)
 
 -- by a test
-by_test : (b : Bool) (x y : List ℕ) → (b ≡ true → AreBytes x) → (b ≡ false → AreBytes y)
-    → AreBytes (cond b x y)
+by_test : (b : Bool) (x y : List ℕ) → (b ≡ true → IsByteString x) → (b ≡ false → IsByteString y)
+    → IsByteString (cond b x y)
 by_test true x y h k = h refl
 by_test false x y h k = k refl
 
 -- numbers below 256 are bytes
-all_bytes : (bs : List ℕ) → AllByRecursion (λ b. b < 256) bs → AreBytes bs
+all_bytes : (bs : List ℕ) → AllByRecursion (λ b. b < 256) bs → IsByteString bs
 all_bytes [] h = tt
 all_bytes (b ∷ bs) h = (h.0, all_bytes bs h.1)
 
 -- ---- texts and binaries
 
 -- bytes in which each 0 is escaped are bytes
-escaped_bytes : (s : List ℕ) → AreBytes s → AreBytes (escaped s)
+escaped_bytes : (s : List ℕ) → IsByteString s → IsByteString (escaped s)
 escaped_bytes [] h = tt
 escaped_bytes (zero ∷ s) h = (omega arith, (omega arith, escaped_bytes s h.1))
 escaped_bytes (suc b ∷ s) h = (h.0, escaped_bytes s h.1)
 
 -- so are those with the end that is put behind them
-closed_bytes : (s : List ℕ) → AreBytes s → AreBytes (closed s)
+closed_bytes : (s : List ℕ) → IsByteString s → IsByteString (closed s)
 closed_bytes s h =
     both_bytes (escaped s) (0 ∷ 0 ∷ []) (escaped_bytes s h) (omega arith, (omega arith, tt))
 
@@ -58,7 +58,7 @@ scalar_below c e = ⊎_elim (λ (h : c < 55296). omega (arith, h))
     (λ (h : (57344 ≤ c) × (c < 1114112)). h.1) (scalar_cases c e)
 
 -- so what stands for it in UTF-8 is bytes
-character_bytes : (c : ℕ) → scalar c ≡ true → AreBytes (encode c)
+character_bytes : (c : ℕ) → scalar c ≡ true → IsByteString (encode c)
 unfolding encode
 character_bytes c ok =
     let most : c < 1114112 = scalar_below c ok in
@@ -77,47 +77,47 @@ character_bytes c ok =
     (λ g. (omega (arith, most), (omega arith, (omega arith, (omega arith, tt)))))))
 
 -- and what stands for several characters is
-characters_bytes : (cs : List ℕ) → scalars cs ≡ true → AreBytes (encodes cs)
+characters_bytes : (cs : List ℕ) → scalars cs ≡ true → IsByteString (encodes cs)
 characters_bytes [] ok = tt
 characters_bytes (c ∷ cs) ok = by (scalar c) refl ok (λ e. characters_bytes cs e)
   where
     by : (b : Bool) → scalar c ≡ b → (b && scalars cs) ≡ true
-        → (scalars cs ≡ true → AreBytes (encodes cs)) → AreBytes (encode c ++ encodes cs)
+        → (scalars cs ≡ true → IsByteString (encodes cs)) → IsByteString (encode c ++ encodes cs)
     by true is e rest = both_bytes (encode c) (encodes cs) (character_bytes c is) (rest e)
     by false is e rest = absurd (let f : ⊥ = cc in f)
 
 -- a text that is UTF-8 is bytes
-text_bytes : (s : List ℕ) → IsUtf8 s → AreBytes s
-text_bytes s u = subst AreBytes u.1.1 (characters_bytes u.0 u.1.0)
+text_bytes : (s : List ℕ) → IsUtf8 s → IsByteString s
+text_bytes s u = subst IsByteString u.1.1 (characters_bytes u.0 u.1.0)
 
 -- ---- numbers
 
 -- digits in pairs are bytes
-pairs_bytes : (ds : List ℕ) → AllBelowBase 10 ds → AreBytes (pairs ds)
+pairs_bytes : (ds : List ℕ) → AllBelowBase 10 ds → IsByteString (digit_pairs ds)
 pairs_bytes [] h = tt
 pairs_bytes (a ∷ []) h = (omega (arith, h.0), tt)
 pairs_bytes (a ∷ b ∷ ds) h = (omega (arith, h.0, h.1.0), pairs_bytes ds h.1.1)
 
 -- so are the complements of any bytes
-complement_bytes : (bs : List ℕ) → AreBytes (complement bs)
+complement_bytes : (bs : List ℕ) → IsByteString (complement bs)
 complement_bytes [] = tt
 complement_bytes (b ∷ bs) = (omega arith, complement_bytes bs)
 
 -- the exponent and the digits of a number that fits are bytes
-magnitude_are_bytes : (m : ℕ) → IsMagnitude m → AreBytes (magnitude_bytes m)
+magnitude_are_bytes : (m : ℕ) → IsMagnitude m → IsByteString (magnitude_bytes m)
 unfolding magnitude_bytes width
 magnitude_are_bytes m size =
     let few : length (digits_of 10 m) ≤ 293 =
     length-digits_of-le 10 293 m (omega arith) size.below in (
       omega (arith, few),
-      both_bytes (pairs (digits_of 10 (trimmed m))) (0 ∷ [])
+      both_bytes (digit_pairs (digits_of 10 (trimmed m))) (0 ∷ [])
           (pairs_bytes (digits_of 10 (trimmed m))
           (all_below_base_digits_of 10 (trimmed m) (omega arith)))
           (omega arith, tt),
     )
 
 -- and its key part is, whatever its sign
-spelled_bytes : (z : ℤ) → Fits z → AreBytes (spelled z)
+spelled_bytes : (z : ℤ) → FitsDecimal z → IsByteString (spelled z)
 unfolding spelled
 spelled_bytes z fits = by_test (nat_abs z == 0) _ _ (λ e. (omega arith, tt))
     (λ e. by_test (is_negative z) _ _
@@ -133,7 +133,7 @@ spelled_bytes z fits = by_test (nat_abs z == 0) _ _ (λ e. (omega arith, tt))
 -- ---- places
 
 -- the key part of a value
-part_bytes : (t : Tree) → IsValue t → AreBytes (key_bytes t)
+part_bytes : (t : Tree) → IsValue t → IsByteString (key_bytes t)
 part_bytes (S_tree s) v = closed_bytes s (text_bytes s v.0)
 part_bytes (N_tree z) v = spelled_bytes z v
 part_bytes (B_tree b) v = closed_bytes b (all_bytes b v.0)
@@ -146,7 +146,7 @@ part_bytes (L_tree ts) v = tt
 part_bytes (M_tree fs) v = tt
 
 -- a token is spelled in bytes
-token_are_bytes : (n : ℕ) → AreBytes (to_be_bytes w64 n)
+token_are_bytes : (n : ℕ) → IsByteString (to_be_bytes w64 n)
 token_are_bytes n = (
   omega arith,
   (
@@ -169,7 +169,7 @@ token_are_bytes n = (
 
 -- the place of values
 pub values_place : (hash : Tree) (range : Option Tree) → IsValue hash
-    → ((t : Tree) → range ≡ Some t → IsValue t) → AreBytes (place_bytes (place_in_table hash range))
+    → ((t : Tree) → range ≡ Some t → IsValue t) → IsByteString (place_bytes (place_in_table hash range))
 values_place hash None h r = both_bytes (to_be_bytes w64 (token_of hash)) (key_bytes hash ++ [])
     (token_are_bytes (token_of hash)) (both_bytes (key_bytes hash) [] (part_bytes hash h) tt)
 values_place hash (Some range) h r =
@@ -189,25 +189,25 @@ beside_value item (Some key) (Some u) h beside t e =
 -- the parts of a key
 values_bytes : (hash : Tree) (range : Option Tree) → IsValue hash
     → ((t : Tree) → range ≡ Some t → IsValue t)
-    → AreBytes (flat_map key_bytes (key_values hash range))
+    → IsByteString (flat_map key_bytes (key_values hash range))
 values_bytes hash None h r = both_bytes (key_bytes hash) [] (part_bytes hash h) tt
 values_bytes hash (Some range) h r = both_bytes (key_bytes hash) (key_bytes range ++ [])
     (part_bytes hash h) (both_bytes (key_bytes range) [] (part_bytes range (r range refl)) tt)
 
 -- the place of what stands in a table or in an index
 pub bytes_there : (d : TableSchema) (i : Option IndexSchema) (key : List ℕ) (item : List Pair)
-    → MayStand d i key item → AreBytes key
+    → MayStand d i key item → IsByteString key
 bytes_there d None key item may =
     let (keys, none) = keyed d item key may.1.fields may.0.stands in
-    subst AreBytes (sym keys.is)
+    subst IsByteString (sym keys.is)
     (both_bytes (place_bytes (place_in_table keys.hash keys.range)) keys.behind
     (values_place keys.hash keys.range
     (value_at d.hash.name item keys.hash may.1.fields keys.has_hash.at)
     (beside_value item d.range keys.range may.1.fields keys.has_range))
-    (subst AreBytes (sym none) tt))
+    (subst IsByteString (sym none) tt))
 bytes_there d (Some i) key row may =
     let both = has_both d i may.1 key row may.3 may.4 in
-    subst AreBytes (sym both.is)
+    subst IsByteString (sym both.is)
     (both_bytes (place_bytes (place_in_table both.own.hash both.own.range))
     (flat_map key_bytes (key_values both.of_table.hash both.of_table.range))
     (values_place both.own.hash both.own.range

@@ -19,9 +19,9 @@ use Rattle.alt_machine.specs.State.{Table}
 use Rattle.alt_machine.specs.Walks.{end_bound, is_beyond, items_between, placed_items}
 use Rattle.alt_keyorder.specs.declared.range.KeyRange.{KeyRange}
 use Rattle.alt_machine.proofs.Turned.{All-turned}
-use Rattle.alt_ops_query.specs.PageReads.{is_passed, page_end}
-use Rattle.alt_ops_query.specs.Places.{place_in}
-use Rattle.alt_ops_query.specs.private.Filled.{EndsPage, Examines, GoesOn, is_behind, paid_for}
+use Rattle.alt_ops_query.specs.PageReads.{is_passed_by_page, page_end}
+use Rattle.alt_ops_query.specs.Places.{place_in_source}
+use Rattle.alt_ops_query.specs.private.Filled.{EndsPage, Examines, ContinuesPage, is_behind_in_range, paid_for}
 use Rattle.alt_ops_query.specs.private.Ranges.{IsBeyond}
 use Rattle.alt_ops_query.specs.private.Stops.{IsFault}
 use Rattle.alt_paging.specs.declared.pager.Pager.{Pager}
@@ -29,13 +29,13 @@ use Rattle.alt_ops_query.proofs.Filling.{filled_all, filled_front}
 use Rattle.alt_ops_query.proofs.Lists.{each_entry}
 use Rattle.alt_ops_query.proofs.Passing.{reached_all, reached_last}
 use Rattle.alt_ops_query.proofs.Rests.{HasLast, has_last, walked, items_walked, rest_is}
-use Rattle.alt_paging.specs.Offered.{WasOffered, asked_of}
+use Rattle.alt_paging.specs.Offered.{WasOffered, asked_of_page}
 use Rattle.alt_paging.specs.declared.ask.PageAsk.{PageAsk}
 use Rattle.alt_paging.proofs.PageLaws.{examined-ended, full_prefix-ended}
 use Rattle.alt_request.specs.Steps.{IsMemory}
 use Rattle.alt_request.specs.declared.stop.Stop.{Stop}
 use Rattle.alt_schema.specs.declared.schema.IndexSchema.{IndexSchema}
-use Rattle.alt_request.specs.TablesReading.{HasRowFiles, family_read, is_reached, is_within, places_between, walk_reads}
+use Rattle.alt_request.specs.TablesReading.{HasRowFiles, family_read, is_place_reached, is_within, places_between, most_walk_reads}
 use Rattle.alt_value.specs.Members.{text_order}
 use Rattle.alt_value.specs.Size.{item_size}
 use Rattle.alt_value.specs.Tree.{Pair}
@@ -100,11 +100,11 @@ module _ (t : Table) (i : Option IndexSchema) (forward : Bool) (from : List ℕ)
 
 -- an item that has a place isn't empty
 pub placed_some : (t : Table) (i : Option IndexSchema) (item : List Pair) (place : List ℕ)
-    → place_in t.description i item ≡ Some place → item ≢ []
+    → place_in_source t.description i item ≡ Some place → item ≢ []
 placed_some t i item place at empty = let no : None ≡ Some place = sym (none_placed i)
-    ∙ ap (place_in t.description i) (sym empty) ∙ at in absurd (cc no)
+    ∙ ap (place_in_source t.description i) (sym empty) ∙ at in absurd (cc no)
   where
-    none_placed : (i : Option IndexSchema) → place_in t.description i [] ≡ None
+    none_placed : (i : Option IndexSchema) → place_in_source t.description i [] ≡ None
     none_placed None = refl
     none_placed (Some i) = refl
 
@@ -120,16 +120,16 @@ pub record IsLast (t : Table) (i : Option IndexSchema) (forward : Bool) (from : 
   pub are : items ≡ front ++ item ∷ []
   pub place : List ℕ
   pub told : last ≡ Some place
-  pub stands : place_in t.description i item ≡ Some place
+  pub stands : place_in_source t.description i item ≡ Some place
   pub within : is_within from to place ≡ true
-  pub reached : (key : List ℕ) → is_reached forward most (places_between t i from to forward) key
+  pub reached : (key : List ℕ) → is_place_reached forward most (places_between t i from to forward) key
       ≡ not (is_beyond forward (Some place) key)
   pub rest : (first : List ℕ) (stop : Option (List ℕ))
       → IsBeyond forward (Some place) from to first stop
       → items_between t i first stop forward ≡ drop most (items_between t i from to forward)
 
 module _ (t : Table) (i : Option IndexSchema) (stored : (place : List ℕ) (item : List Pair)
-    → finite.get (items_of t i) place ≡ Some item → place_in t.description i item ≡ Some place)
+    → finite.get (items_of t i) place ≡ Some item → place_in_source t.description i item ≡ Some place)
     (forward : Bool) (from : List ℕ) (to : Option (List ℕ)) (most : ℕ)
     (items : List (List Pair)) (last : Option (List ℕ))
     (given : items ≡ take most (items_between t i from to forward))
@@ -165,10 +165,10 @@ module _ (t : Table) (i : Option IndexSchema) (stored : (place : List ℕ) (item
             ∙ map-append (λ (e : List ℕ × List Pair). e.1) end.front (end.last ∷ []);
         place = end.last.0;
         told = told ∙ at;
-        stands = All-last (λ e. place_in t.description i e.1 ≡ Some e.0) end.front end.last
-            (subst (All (λ e. place_in t.description i e.1 ≡ Some e.0)) end.is
-            (All-take (λ e. place_in t.description i e.1 ≡ Some e.0) most all
-            (each_walked t i forward from to (λ e. place_in t.description i e.1 ≡ Some e.0)
+        stands = All-last (λ e. place_in_source t.description i e.1 ≡ Some e.0) end.front end.last
+            (subst (All (λ e. place_in_source t.description i e.1 ≡ Some e.0)) end.is
+            (All-take (λ e. place_in_source t.description i e.1 ≡ Some e.0) most all
+            (each_walked t i forward from to (λ e. place_in_source t.description i e.1 ≡ Some e.0)
             stored)));
         within = All-last (λ e. is_within from to e.0 ≡ true) end.front end.last
             (subst (All (λ e. is_within from to e.0 ≡ true)) end.is
@@ -198,14 +198,14 @@ paid_as x y p q maps same paid =
 
 module _ (a b : DiskState) (t : Table) (i : Option IndexSchema) (stored : (place : List ℕ)
     (item : List Pair) → finite.get (items_of t i) place ≡ Some item
-    → place_in t.description i item ≡ Some place) (forward : Bool) (range : KeyRange)
+    → place_in_source t.description i item ≡ Some place) (forward : Bool) (range : KeyRange)
     (pager : Pager) (ask : PageAsk) (seen items : List (List Pair)) (most : ℕ)
     (last : Option (List ℕ))
     (given : items ≡ take most (items_between t i range.from range.to forward))
     (told : last ≡ last_or None (take most (places_between t i range.from range.to forward)))
     (some : 0 < most)
     (paid : (maps : List RowMap) → HasRowFiles a.file (family_read t.description i) maps
-    → b.reads ≤ a.reads + walk_reads forward range.from range.to most
+    → b.reads ≤ a.reads + most_walk_reads forward range.from range.to most
     (places_between t i range.from range.to forward) maps) where
   -- the items of the range
   abbrev list : List (List Pair)
@@ -218,7 +218,7 @@ module _ (a b : DiskState) (t : Table) (i : Option IndexSchema) (stored : (place
   -- the walk goes on: the range beyond its last item has the others
   pub step_on : WasOffered pager ask (seen ++ items) → most ≤ length items → (rest : KeyRange)
       → IsBeyond forward last range.from range.to rest.from rest.to
-      → GoesOn a b t i forward ask seen pager range rest
+      → ContinuesPage a b t i forward ask seen pager range rest
   step_on h many rest beyond =
       let end = last_of_step t i stored forward range.from range.to most items last given told some
       many in
@@ -234,7 +234,7 @@ module _ (a b : DiskState) (t : Table) (i : Option IndexSchema) (stored : (place
         within = end.within;
         beyond = further;
         paid = λ maps has. paid_as a.reads b.reads _
-            (is_behind forward range.from range.to (Some end.place)) maps
+            (is_behind_in_range forward range.from range.to (Some end.place)) maps
             (λ key. ap (λ x. is_within range.from range.to key && x) (end.reached key))
             (paid maps has);
       }
@@ -258,8 +258,8 @@ module _ (a b : DiskState) (t : Table) (i : Option IndexSchema) (stored : (place
         ∙ sym (append_assoc seen end.front (end.item ∷ [])))
         ∙ last_push None (seen ++ end.front) end.item
 
-    ends_at : page_end t i (asked_of ask) (seen ++ list) ≡ Some end.place
-    ends_at = ap (option_and_then (place_in t.description i))
+    ends_at : page_end t i (asked_of_page ask) (seen ++ list) ≡ Some end.place
+    ends_at = ap (option_and_then (place_in_source t.description i))
         ((λ j. if ends_list j then last_or None (examined_list j) else None) ∙ last_item)
         ∙ end.stands
 
@@ -271,9 +271,9 @@ module _ (a b : DiskState) (t : Table) (i : Option IndexSchema) (stored : (place
       within = subst (λ o. IfSome o (λ place. is_within range.from range.to place ≡ true))
           (sym ends_at) end.within;
       paid = λ maps has. subst
-          (λ o. b.reads ≤ a.reads + paid_for (is_passed forward range.from range.to o) maps 1)
+          (λ o. b.reads ≤ a.reads + paid_for (is_passed_by_page forward range.from range.to o) maps 1)
           (sym ends_at) (paid_as a.reads b.reads _
-          (is_passed forward range.from range.to (Some end.place)) maps
+          (is_passed_by_page forward range.from range.to (Some end.place)) maps
           (λ key. ap (λ x. is_within range.from range.to key && x) (end.reached key))
           (paid maps has));
     }
@@ -309,8 +309,8 @@ module _ (a b : DiskState) (t : Table) (i : Option IndexSchema) (stored : (place
       let all : WasOffered pager ask (seen ++ list) =
       subst (λ l. WasOffered pager ask (seen ++ l)) same h in
       let unended : ends_early ask.limit (seen ++ list) ≡ false = sym all.ended ∙ going in
-      let none : page_end t i (asked_of ask) (seen ++ list) ≡ None =
-      ap (option_and_then (place_in t.description i))
+      let none : page_end t i (asked_of_page ask) (seen ++ list) ≡ None =
+      ap (option_and_then (place_in_source t.description i))
       (λ j. if unended j then last_or None (pages.examined ask.limit (seen ++ list)) else None) in
       let fewer : length (places_between t i range.from range.to forward) < most =
       omega (arith, few, ap length same, same_length t i forward range.from range.to) in
@@ -320,8 +320,8 @@ module _ (a b : DiskState) (t : Table) (i : Option IndexSchema) (stored : (place
         within = subst (λ o. IfSome o (λ place. is_within range.from range.to place ≡ true))
             (sym none) tt;
         paid = λ maps has. subst
-            (λ o. b.reads ≤ a.reads + paid_for (is_passed forward range.from range.to o) maps 1)
-            (sym none) (paid_as a.reads b.reads _ (is_passed forward range.from range.to None) maps
+            (λ o. b.reads ≤ a.reads + paid_for (is_passed_by_page forward range.from range.to o) maps 1)
+            (sym none) (paid_as a.reads b.reads _ (is_passed_by_page forward range.from range.to None) maps
             (λ key. ap (λ x. is_within range.from range.to key && x)
             (reached_all forward most (places_between t i range.from range.to forward) key fewer))
             (paid maps has));

@@ -2,7 +2,7 @@
 use Rattle.std.proofs.Common.{◌≡◌, refl, sym, ap, subst, ◌∙◌, ℕ, List, [], ◌++◌, append-nil, append_assoc, Option, Some, None, option_map}
 use Rattle.std.proofs.lemmas.Grind.{flat_map-append}
 use Rattle.std.proofs.lemmas.Option.{same_Some}
-use Rattle.std.specs.Prelude.{if◌then◌else◌, option_and_then}
+use Rattle.std.specs.Prelude.{option_and_then}
 use Rattle.alt_keyorder.specs.Kinds.{IsOfKind}
 use Rattle.alt_keyorder.specs.Place.{Place, place_in_table, place_bytes, key_values}
 use Rattle.alt_machine.specs.Keys.{can_be_key, if_key, key_value, place_beside, place_of}

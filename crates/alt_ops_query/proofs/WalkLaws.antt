@@ -8,12 +8,12 @@ use Rattle.alt_expr.specs.Pages as pages
 use Rattle.alt_keyorder.specs.declared.range.KeyRange.{KeyRange}
 use Rattle.alt_machine.specs.State.{Table}
 use Rattle.alt_machine.specs.Walks.{items_between}
-use Rattle.alt_ops_query.specs.PageReads.{is_passed, most_reads, page_end}
-use Rattle.alt_ops_query.specs.private.Filled.{EndsPage, GoesOn, HasFilled, is_behind, paid_for}
+use Rattle.alt_ops_query.specs.PageReads.{is_passed_by_page, most_reads_of_page, page_end}
+use Rattle.alt_ops_query.specs.private.Filled.{EndsPage, ContinuesPage, HasFilled, is_behind_in_range, paid_for}
 use Rattle.alt_ops_query.specs.private.Ranges.{IsBeyond}
 use Rattle.alt_paging.specs.declared.pager.Pager.{Pager}
 use Rattle.alt_ops_query.proofs.Passing.{beyond_on, fits_behind, fits_passed, paid_more}
-use Rattle.alt_paging.specs.Offered.{WasOffered, asked_of}
+use Rattle.alt_paging.specs.Offered.{WasOffered, asked_of_page}
 use Rattle.alt_paging.specs.declared.ask.PageAsk.{PageAsk}
 use Rattle.alt_schema.specs.declared.schema.IndexSchema.{IndexSchema}
 use Rattle.alt_request.specs.TablesReading.{HasRowFiles, family_read}
@@ -69,7 +69,7 @@ pub record IsWalked (a b : DiskState) (now : Pager) (ask : PageAsk) (t : Table)
   pub beyond : IsBeyond forward place range.from range.to rest.from rest.to
   pub paid : (maps : List RowMap) → HasRowFiles a.file (family_read t.description i) maps
       → b.reads ≤ a.reads
-      + paid_for (is_behind forward range.from range.to place) maps (length seen)
+      + paid_for (is_behind_in_range forward range.from range.to place) maps (length seen)
 
 -- before the first step nothing is paid
 pub walk_starts : (a : DiskState) (now : Pager) (ask : PageAsk) (t : Table)
@@ -82,7 +82,7 @@ walk_starts a now ask t i forward range h = record {
   place = None;
   beyond = λ key. (λ within. (within, refl), λ both. both.0);
   paid = λ maps has. le-add_right a.reads
-      (paid_for (is_behind forward range.from range.to None) maps 0);
+      (paid_for (is_behind_in_range forward range.from range.to None) maps 0);
 }
 
 -- what two steps pay is what both pay together
@@ -101,7 +101,7 @@ module _ (a b c : DiskState) (now then : Pager) (ask : PageAsk) (t : Table)
     (so : IsWalked a b now ask t i forward range rest)
     (same : (f : ℕ) → b.file f ≡ a.file f) where
   -- a step more
-  pub walk_on : (left : KeyRange) → GoesOn b c t i forward ask so.seen then rest left
+  pub walk_on : (left : KeyRange) → ContinuesPage b c t i forward ask so.seen then rest left
       → IsWalked a c then ask t i forward range left
   walk_on left step = record {
     seen = so.seen ++ step.front;
@@ -117,9 +117,9 @@ module _ (a b c : DiskState) (now then : Pager) (ask : PageAsk) (t : Table)
         let before = so.paid maps has in
         let after = step.paid maps (same_row_files a b (family_read t.description i) maps same has)
         in
-        let both = paid_more (is_behind forward range.from range.to so.place)
-        (is_behind forward rest.from rest.to (Some step.last))
-        (is_behind forward range.from range.to (Some step.last))
+        let both = paid_more (is_behind_in_range forward range.from range.to so.place)
+        (is_behind_in_range forward rest.from rest.to (Some step.last))
+        (is_behind_in_range forward range.from range.to (Some step.last))
         (fits_behind forward so.place range.from range.to rest.from rest.to so.beyond step.last
         step.within) maps (length so.seen) (length (so.seen ++ step.front)) more in
         total_of a.reads b.reads c.reads _ _ _ before after both;
@@ -133,21 +133,21 @@ module _ (a b c : DiskState) (now then : Pager) (ask : PageAsk) (t : Table)
 
     -- and then all is paid
     pub walk_paid : (maps : List RowMap) → HasRowFiles a.file (family_read t.description i) maps
-        → c.reads ≤ a.reads + most_reads t i forward range.from range.to (asked_of ask)
+        → c.reads ≤ a.reads + most_reads_of_page t i forward range.from range.to (asked_of_page ask)
         (items_between t i range.from range.to forward) maps
     walk_paid maps has =
         let list : List (List Pair) = so.seen ++ items_between t i rest.from rest.to forward in
-        let end : Option (List ℕ) = page_end t i (asked_of ask) list in
+        let end : Option (List ℕ) = page_end t i (asked_of_page ask) list in
         let before = so.paid maps has in
         let after = step.paid maps (same_row_files a b (family_read t.description i) maps same has)
         in
         let more : length so.seen + 1 ≤ 1 + length (pages.examined ask.limit list) =
         omega (arith, step.more) in
-        let both = paid_more (is_behind forward range.from range.to so.place)
-        (is_passed forward rest.from rest.to end) (is_passed forward range.from range.to end)
+        let both = paid_more (is_behind_in_range forward range.from range.to so.place)
+        (is_passed_by_page forward rest.from rest.to end) (is_passed_by_page forward range.from range.to end)
         (fits_passed forward so.place range.from range.to rest.from rest.to so.beyond end
         step.within) maps (length so.seen) (1 + length (pages.examined ask.limit list)) more in
-        subst (λ l. c.reads ≤ a.reads + most_reads t i forward range.from range.to (asked_of ask) l
+        subst (λ l. c.reads ≤ a.reads + most_reads_of_page t i forward range.from range.to (asked_of_page ask) l
         maps) (sym so.whole) (total_of a.reads b.reads c.reads _ _ _ before after both)
 
 -- a page that doesn't go on has ended

@@ -19,12 +19,12 @@ use Rattle.alt_machine.specs.Outcomes.{Outcome, with_found}
 use Rattle.alt_machine.specs.Sources.{hash_of, index_at}
 use Rattle.alt_machine.specs.State.{State, Table}
 use Rattle.alt_machine.specs.Walks.{items_between}
-use Rattle.alt_ops_query.specs.private.Asked.{Asks, IsAsked, Segments, IsOfSegment}
+use Rattle.alt_ops_query.specs.private.Asked.{IsRangeAskedOrRefused, IsRangeAsked, Segments, IsOfSegment}
 use Rattle.alt_ops_query.specs.Places.{HoldsListed}
 use Rattle.alt_ops_query.proofs.Answering.{within_of}
 use Rattle.alt_ops_query.proofs.Described.{may_stand}
 use Rattle.alt_ops_query.proofs.Lists.{items_between-listed}
-use Rattle.alt_request.specs.Carried.{Carries, Does, IsPlain, IfFailed}
+use Rattle.alt_request.specs.Carried.{Carries, FollowsOutcome, IsPlainResult, IfFailed}
 use Rattle.alt_request.specs.Targets.{IsListedAt}
 use Rattle.alt_request.specs.declared.lists.ListTarget.{ListTarget}
 use Rattle.alt_request.specs.declared.stop.Stop.{Stop}
@@ -89,11 +89,11 @@ module _ (disk : DiskState) (tables : Tables) (s : State) (stands : Stands disk 
 
     -- the page of the range that is asked for is that of the Query
     pub query_page : (file : ℕ) (start : Option (List Pair))
-        → IsAsked d (index_at d index) said.key_condition start (goes_forward ms) range
-        → Does file now s (pages t.description there ms said
+        → IsRangeAsked d (index_at d index) said.key_condition start (goes_forward ms) range
+        → FollowsOutcome file now s (pages t.description there ms said
         (items_between t there range.from range.to (goes_forward ms))) r
-        → Does file now s (queries ms said start t index) r
-    query_page file start asked does = subst (λ o. Does file now s o r)
+        → FollowsOutcome file now s (queries ms said start t index) r
+    query_page file start asked does = subst (λ o. FollowsOutcome file now s o r)
         (ap (pages t.description there ms said) (list_is (goes_forward ms) asked.place
         (passes said.key_condition) range asked.holds) ∙ sym found) does
       where
@@ -112,10 +112,10 @@ module _ (disk : DiskState) (tables : Tables) (s : State) (stands : Stands disk 
     -- and that of a segment's range is that of the Scan
     pub scan_page : (file : ℕ) (start : Option (List Pair))
         → IsOfSegment d (index_at d index) (segment_of ms) start range
-        → Does file now s (pages t.description there ms said
+        → FollowsOutcome file now s (pages t.description there ms said
         (items_between t there range.from range.to true)) r
-        → Does file now s (scans ms said start t index) r
-    scan_page file start asked does = subst (λ o. Does file now s o r)
+        → FollowsOutcome file now s (scans ms said start t index) r
+    scan_page file start asked does = subst (λ o. FollowsOutcome file now s o r)
         (ap (pages t.description there ms said) (list_is true asked.place
         (is_in (hash_of t.description there) (segment_of ms)) range
         (subst (λ x. HoldsListed true asked.place
@@ -143,7 +143,7 @@ module _ (file : ℕ) (disk : DiskState) (tables : Tables) (now : State → Type
       → mismatched ≡ is_mismatched ms
       → IsListedAt (paired_refusals broken mismatched querying_of.rules ms) querying
       (catalog_of tables) ms target
-      → Asks target.schema.now (there_in target.schema.now) target.said.key_condition target.start
+      → IsRangeAskedOrRefused target.schema.now (there_in target.schema.now) target.said.key_condition target.start
       (goes_forward ms) (Err stop)
       → Carries file (λ s. query s ms) (Stands disk tables) now (Err stop)
   query_stopped broken mismatched e f is = by stop
@@ -159,7 +159,7 @@ module _ (file : ℕ) (disk : DiskState) (tables : Tables) (now : State → Type
           (listed (goes_forward ms) place (passes target.said.key_condition) t
           (there_in t.description))
 
-      by : (q : Stop) → Asks target.schema.now (there_in target.schema.now)
+      by : (q : Stop) → IsRangeAskedOrRefused target.schema.now (there_in target.schema.now)
           target.said.key_condition target.start (goes_forward ms) (Err q)
           → Carries file (λ s. query s ms) (Stands disk tables) now (Err q)
       by (Refused r) h = refused_so (λ s. query s ms) (Stands disk tables) now r h.0
@@ -202,17 +202,17 @@ module _ (file : ℕ) (disk : DiskState) (tables : Tables) (now : State → Type
 -- ---- what answers it
 
 module _ (file : ℕ) (disk : DiskState) (tables : Tables) (now : State → Type 0) (ms : Members)
-    (target : ListTarget) (range : KeyRange) (r : Result Reply Stop) (plain : IsPlain r)
+    (target : ListTarget) (range : KeyRange) (r : Result Reply Stop) (plain : IsPlainResult r)
     (within : IfSome target.index (λ n. CanRead target.schema.now n)) where
   -- a Query is carried out by the page of the range that is asked for
   pub query_done : (broken : Option Broken) (mismatched : Bool) → broken ≡ bodies.query ms
       → mismatched ≡ is_mismatched ms
       → IsListedAt (paired_refusals broken mismatched querying_of.rules ms) querying
       (catalog_of tables) ms target
-      → IsAsked target.schema.now (index_at target.schema.now target.index)
+      → IsRangeAsked target.schema.now (index_at target.schema.now target.index)
       target.said.key_condition target.start (goes_forward ms) range
       → ((s : State) (t : Table) → Stands disk tables s → map.get s.tables (table_name ms) ≡ Some t
-      → Does file now s (pages t.description (index_at t.description target.index) ms target.said
+      → FollowsOutcome file now s (pages t.description (index_at t.description target.index) ms target.said
       (items_between t (index_at t.description target.index) range.from range.to
       (goes_forward ms))) r)
       → Carries file (λ s. query s ms) (Stands disk tables) now r
@@ -221,7 +221,7 @@ module _ (file : ℕ) (disk : DiskState) (tables : Tables) (now : State → Type
         let (t, at, same, so) = list_reached disk tables
         (paired_refusals broken mismatched querying_of.rules ms) ms (λ s. query s ms) querying
         (λ s. queries ms) (query_is ms broken mismatched e f) target is s stands in
-        subst (λ o. Does file now s o r) (sym so)
+        subst (λ o. FollowsOutcome file now s o r) (sym so)
         (query_page disk tables s stands (table_name ms) t at target.schema.now same target.index
         (within_of (catalog_of tables) (table_name ms) target.index target.schema.now
         is.there within)
@@ -237,7 +237,7 @@ module _ (file : ℕ) (disk : DiskState) (tables : Tables) (now : State → Type
       → IsOfSegment target.schema.now (index_at target.schema.now target.index) (segment_of ms)
       target.start range
       → ((s : State) (t : Table) → Stands disk tables s → map.get s.tables (table_name ms) ≡ Some t
-      → Does file now s (pages t.description (index_at t.description target.index) ms target.said
+      → FollowsOutcome file now s (pages t.description (index_at t.description target.index) ms target.said
       (items_between t (index_at t.description target.index) range.from range.to true)) r)
       → Carries file (λ s. scan s ms) (Stands disk tables) now r
   scan_done broken mismatched e f is asked does = record {
@@ -245,7 +245,7 @@ module _ (file : ℕ) (disk : DiskState) (tables : Tables) (now : State → Type
         let (t, at, same, so) = list_reached disk tables
         (paired_refusals broken mismatched scanning_of.rules ms) ms (λ s. scan s ms) scanning
         (λ s. scans ms) (scan_is ms broken mismatched e f) target is s stands in
-        subst (λ o. Does file now s o r) (sym so)
+        subst (λ o. FollowsOutcome file now s o r) (sym so)
         (scan_page disk tables s stands (table_name ms) t at target.schema.now same target.index
         (within_of (catalog_of tables) (table_name ms) target.index target.schema.now
         is.there within)
@@ -256,7 +256,7 @@ module _ (file : ℕ) (disk : DiskState) (tables : Tables) (now : State → Type
 -- none of these is a failure of the device
 pub asks_unfailed : (P : Type 0) (d : TableSchema) (i : Option IndexSchema)
     (condition : Option Cond) (start : Option (List Pair)) (forward : Bool) (stop : Stop)
-    → Asks d i condition start forward (Err stop) → IfFailed (Err stop) P
+    → IsRangeAskedOrRefused d i condition start forward (Err stop) → IfFailed (Err stop) P
 asks_unfailed P d i condition start forward (Refused r) h = tt
 asks_unfailed P d i condition start forward (Fault f) h = unfailed_fault f P h
 

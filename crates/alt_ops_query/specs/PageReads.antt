@@ -19,25 +19,25 @@ use Rattle.alt_machine.specs.Ops.Scan.{is_in, segment_of}
 use Rattle.alt_machine.specs.Sources.{hash_of, index_at}
 use Rattle.alt_machine.specs.State.{State, Table}
 use Rattle.alt_machine.specs.Walks.{is_beyond}
-use Rattle.alt_ops_query.specs.Places.{HoldsListed, place_in}
+use Rattle.alt_ops_query.specs.Places.{HoldsListed, place_in_source}
 use Rattle.alt_schema.specs.declared.schema.IndexSchema.{IndexSchema}
 use Rattle.alt_request.specs.TablesReading.{HasRowFiles, family_read, is_within}
 use Rattle.alt_value.specs.Tree.{Pair}
 
 -- Where the page of a list ends: at the place of the last item that it examines, where it ends early; else it goes on to the range's end.
 abbrev pub page_end : Table → Option IndexSchema → Asked → List (List Pair) → Option (List ℕ)
-page_end t i ask list = option_and_then (place_in t.description i) (last_examined ask list)
+page_end t i ask list = option_and_then (place_in_source t.description i) (last_examined ask list)
 
 -- A page that ends there passes the places of its range that aren't beyond its end.
-abbrev pub is_passed : Bool → List ℕ → Option (List ℕ) → Option (List ℕ) → List ℕ → Bool
-is_passed forward from to end place = is_within from to place
+abbrev pub is_passed_by_page : Bool → List ℕ → Option (List ℕ) → Option (List ℕ) → List ℕ → Bool
+is_passed_by_page forward from to end place = is_within from to place
     && option_map_or (λ last. not (is_beyond forward (Some last) place)) end true
 
 -- The most reads of the page of a list that lies in a range, where what is read has these row files.
-abbrev pub most_reads : Table → Option IndexSchema → Bool → List ℕ → Option (List ℕ) → Asked
+abbrev pub most_reads_of_page : Table → Option IndexSchema → Bool → List ℕ → Option (List ℕ) → Asked
     → List (List Pair) → List RowMap → ℕ
-most_reads t i forward from to ask list maps =
-    versions_of (is_passed forward from to (page_end t i ask list)) maps
+most_reads_of_page t i forward from to ask list maps =
+    versions_of (is_passed_by_page forward from to (page_end t i ask list)) maps
     + 2 * length maps * (1 + (page_of ask list).scanned)
 
 -- The page of the items beyond the start that pass a test was read: over a range that holds exactly these of the items that may stand there, with no
@@ -50,7 +50,7 @@ pub record ReadsPage (before after : DiskState) (t : Table) (i : Option IndexSch
   pub holds : HoldsListed forward start test t.description i from to
   pub reads : (maps : List RowMap) → HasRowFiles before.file (family_read t.description i) maps
       → after.reads ≤ before.reads
-      + most_reads t i forward from to ask (listed forward start test t i) maps
+      + most_reads_of_page t i forward from to ask (listed forward start test t i) maps
 
 -- The page of a Query was read: that of the items of which its key condition holds.
 pub record ReadsQuery (s : State) (ms : Members) (before after : DiskState) : Type 0 where

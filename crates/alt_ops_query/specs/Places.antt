@@ -12,9 +12,9 @@ use Rattle.alt_value.specs.Tree.{Pair}
 use Rattle.alt_value.specs.Values.{IsItemOfValues}
 
 -- where an item lies in a table or in an index
-abbrev pub place_in : TableSchema → Option IndexSchema → List Pair → Option (List ℕ)
-place_in d None item = place_of d item
-place_in d (Some i) item = option_map place_bytes (index_place d i item)
+abbrev pub place_in_source : TableSchema → Option IndexSchema → List Pair → Option (List ℕ)
+place_in_source d None item = place_of d item
+place_in_source d (Some i) item = option_map place_bytes (index_place d i item)
 
 -- An item may stand at a place of a table; or of an index, which keeps it of an item that may.
 abbrev pub MayStand : TableSchema → Option IndexSchema → List ℕ → List Pair → Type 0

@@ -12,10 +12,10 @@ ghost use Rattle.alt_machine.specs.Outcomes.{says};
 ghost use Rattle.alt_machine.specs.Sources.{index_at, selects};
 ghost use Rattle.alt_machine.specs.State.{State, Table};
 ghost use Rattle.alt_machine.specs.Walks.{items_between};
-ghost use Rattle.alt_ops_query.specs.PageReads.{most_reads};
+ghost use Rattle.alt_ops_query.specs.PageReads.{most_reads_of_page};
 ghost use Rattle.alt_ops_query.specs.private.Paged.{AnswersPage, HasLimit, answer_with};
-ghost use Rattle.alt_paging.specs.Offered.{asked_of};
-ghost use Rattle.alt_request.specs.Carried.{Does, IsPlain, IfFailed};
+ghost use Rattle.alt_paging.specs.Offered.{asked_of_page};
+ghost use Rattle.alt_request.specs.Carried.{FollowsOutcome, IsPlainResult, IfFailed};
 ghost use Rattle.alt_request.specs.Steps.{IsMemory};
 ghost use Rattle.alt_schema.specs.declared.schema.TableSchema.{TableSchema};
 ghost use Rattle.alt_shape.specs.Body.{body_json};
@@ -58,7 +58,7 @@ pub(crate) fn page_of_range<D: Disk>(
     requires limit { HasLimit (members_view body.now.entries) }
     ensures does { (s : State) (t : Table) → Stands (D.state disk.old) tables.old s
         → map.get s.tables (table_name (members_view body.now.entries)) ≡ Some t
-        → Does (bounds_of tables.old).file
+        → FollowsOutcome (bounds_of tables.old).file
         (Stands (D.state disk.new) tables.new) s (pages t.description
         (index_at t.description index) (members_view body.now.entries) said
         (items_between t (index_at t.description index) range.from range.to forward)) result }
@@ -68,10 +68,10 @@ pub(crate) fn page_of_range<D: Disk>(
         → HasRowFiles (D.state disk.old).file
         (family_read t.description (index_at t.description index)) maps
         → OnOk result ((D.state disk.new).reads ≤ (D.state disk.old).reads
-        + most_reads t (index_at t.description index) forward range.from range.to
+        + most_reads_of_page t (index_at t.description index) forward range.from range.to
         (page_asked (members_view body.now.entries) said)
         (items_between t (index_at t.description index) range.from range.to forward) maps) }
-    ensures plain { IsPlain result }
+    ensures plain { IsPlainResult result }
     ensures disk { Reads (D.state disk.old) (D.state disk.new) }
     ensures failed { IfFailed result (Rose (D.state disk.old).faults (D.state disk.new).faults) }
     ensures limits { bounds_of tables.new ≡ bounds_of tables.old }
@@ -106,7 +106,7 @@ fn page_of_ask<D: Disk>(
     requires counts { ask.count_only ≡ selects (codes "COUNT") (members_view body.now.entries) }
     ensures does { (s : State) (t : Table) → Stands (D.state disk.old) tables.old s
         → map.get s.tables (table_name (members_view body.now.entries)) ≡ Some t
-        → Does (bounds_of tables.old).file
+        → FollowsOutcome (bounds_of tables.old).file
         (Stands (D.state disk.new) tables.new) s (says (answer_with t.description
         (index_at t.description index) (members_view body.now.entries) ask
         (items_between t (index_at t.description index) range.from range.to forward))) result }
@@ -116,9 +116,9 @@ fn page_of_ask<D: Disk>(
         → HasRowFiles (D.state disk.old).file
         (family_read t.description (index_at t.description index)) maps
         → OnOk result ((D.state disk.new).reads ≤ (D.state disk.old).reads
-        + most_reads t (index_at t.description index) forward range.from range.to (asked_of ask)
+        + most_reads_of_page t (index_at t.description index) forward range.from range.to (asked_of_page ask)
         (items_between t (index_at t.description index) range.from range.to forward) maps) }
-    ensures plain { IsPlain result }
+    ensures plain { IsPlainResult result }
     ensures disk { Reads (D.state disk.old) (D.state disk.new) }
     ensures failed { IfFailed result (Rose (D.state disk.old).faults (D.state disk.new).faults) }
     ensures limits { bounds_of tables.new ≡ bounds_of tables.old }

@@ -4,14 +4,14 @@ ghost use Rattle.std.specs.Prelude.{◌≡◌, ◌<◌, List, IfOk, IfSome, OnOk
 ghost use Rattle.serde_json.specs.View.{members_view};
 ghost use Rattle.alt_expr.specs.KeyForm.{meets};
 ghost use Rattle.alt_expr.specs.Pages.{passes};
-ghost use Rattle.alt_keycond.specs.Asked.{asks};
+ghost use Rattle.alt_keycond.specs.Asked.{answer_asks};
 ghost use Rattle.alt_keycond.specs.KeysAsked.{AsksKeys};
 ghost use Rattle.alt_keyorder.specs.KeyBytes.{IsKey};
 ghost use Rattle.alt_machine.specs.Ops.Query.{query, goes_forward, key_asked, key_of as machine_key};
 ghost use Rattle.alt_machine.specs.Sources.{index_at, hash_of, range_of};
 ghost use Rattle.alt_machine.specs.State.{State};
 ghost use Rattle.alt_ops_query.specs.PageReads.{ReadsQuery};
-ghost use Rattle.alt_ops_query.specs.private.Asked.{AreHeld, Asks, Places};
+ghost use Rattle.alt_ops_query.specs.private.Asked.{AreHeld, IsRangeAskedOrRefused, Places};
 ghost use Rattle.alt_request.specs.Carried.{Carries, Moves};
 ghost use Rattle.alt_request.specs.Steps.{Comes};
 ghost use Rattle.alt_request.specs.TablesStands.{AreReady, Reads, Stands, bounds_of};
@@ -115,7 +115,7 @@ fn asked_range(
     forward: bool,
 ) -> Result<KeyRange, Stop>
     requires index { IfSome number (λ n. CanRead schema.now n) }
-    ensures asks { Asks schema.now (index_at schema.now number) condition.now start.now forward
+    ensures asks { IsRangeAskedOrRefused schema.now (index_at schema.now number) condition.now start.now forward
         result }
 {
     let index = index_of(schema, number);
@@ -154,12 +154,12 @@ fn key_asked(
     index: Option<&IndexSchema>,
     condition: &Option<Cond>,
 ) -> Result<KeyAsk, Stop>
-    ensures asked { Comes asks
+    ensures asked { Comes answer_asks
         (key_asked schema.now (option_map (λ i. i.now) index.entry) condition.now) result }
     ensures holds { IfOk result (λ ask. (item : List Pair) → passes condition.now item ≡ meets
         (machine_key (hash_of schema.now (option_map (λ i. i.now) index.entry)))
         (option_map machine_key (range_of schema.now (option_map (λ i. i.now) index.entry)))
-        (asks ask) (λ name. at_name name item)) }
+        (answer_asks ask) (λ name. at_name name item)) }
     ensures keys { IfOk result (λ ask. IsKey (tree_of ask.hash) × AsksKeys ask.range) }
 {
     let Some(condition) = condition else {

@@ -5,7 +5,7 @@ ghost use Rattle.serde_json.specs.Data.{member, no_members};
 ghost use Rattle.serde_json.specs.View.{members_view};
 ghost use Rattle.alt_codec.specs.Writing.{json_of_pairs};
 ghost use Rattle.alt_machine.specs.Lists as machine;
-ghost use Rattle.alt_ops_query.specs.private.Replied.{behind, page_of, with_attribute, with_key};
+ghost use Rattle.alt_ops_query.specs.private.Replied.{behind, machine_page, with_attribute, with_key};
 ghost use Rattle.alt_schema.specs.Json.{member_if};
 ghost use Rattle.alt_shape.specs.Body.{members_json, part_json};
 ghost use Rattle.alt_shape.specs.Refusals.{answer_of};
@@ -29,7 +29,7 @@ pub(crate) fn page_reply(
     page: Page,
 ) -> Result<Reply, NoMemory>
     ensures reply { IfOk result (λ reply. answer_of reply ≡ machine.page_answer schema.now
-        (option_map (λ i. i.now) index.entry) (members_view body.now.entries) (page_of page)
+        (option_map (λ i. i.now) index.entry) (members_view body.now.entries) (machine_page page)
         page.last) }
 {
     let Page {

@@ -9,7 +9,7 @@ ghost use Rattle.alt_machine.specs.Sources.{index_at};
 ghost use Rattle.alt_machine.specs.State.{State};
 ghost use Rattle.alt_ops_query.specs.PageReads.{ReadsScan};
 ghost use Rattle.alt_ops_query.specs.private.Asked.{Segments};
-ghost use Rattle.alt_ops_query.specs.private.Tokens.{segment_in, first_token, token_bytes, end_token};
+ghost use Rattle.alt_ops_query.specs.private.Tokens.{machine_segment, first_token, token_bytes, end_token};
 ghost use Rattle.alt_request.specs.Carried.{Carries, Moves};
 ghost use Rattle.alt_request.specs.TablesStands.{AreReady, Reads, Stands, bounds_of};
 ghost use Rattle.alt_views.specs.Readable.{CanRead};
@@ -118,7 +118,7 @@ fn is_segment_odd(body: &Map<String, Value>) -> bool
 /// The segment that is asked for, if one is.
 fn segment_of(body: &Map<String, Value>) -> Option<Segment>
     ensures segment { is_segment_odd (members_view body.now.entries) ≡ false
-        → option_map segment_in result ≡ machine.segment_of (members_view body.now.entries) }
+        → option_map machine_segment result ≡ machine.segment_of (members_view body.now.entries) }
     ensures below { IfSome result (λ s. s.number < s.total) }
 {
     match (whole_at(body, "Segment"), whole_at(body, "TotalSegments")) {
@@ -139,7 +139,7 @@ fn segment_range(
     requires below { IfSome segment (λ s. s.number < s.total) }
     requires index { IfSome number (λ n. CanRead schema.now n) }
     ensures segments { Segments schema.now (index_at schema.now number)
-        (option_map segment_in segment) start.now result }
+        (option_map machine_segment segment) start.now result }
 {
     let place = walk_start(alloc, schema, index_of(schema, number), None, start)?;
     let range = match segment {

@@ -1,6 +1,6 @@
 //! Members of a request for a list that don't go together.
 
-ghost use Rattle.std.specs.Prelude.{◌≡◌, codes};
+ghost use Rattle.std.specs.Prelude.{◌≡◌};
 ghost use Rattle.serde_json.specs.View.{members_view};
 ghost use Rattle.alt_machine.specs.Lists as machine;
 ghost use Rattle.alt_machine.specs.Sources.{selects};

@@ -9,10 +9,10 @@ ghost use Rattle.alt_expr.specs.Pages.{ends_early};
 ghost use Rattle.alt_machine.specs.Sources.{index_at};
 ghost use Rattle.alt_machine.specs.State.{State, Table};
 ghost use Rattle.alt_machine.specs.Walks.{items_between};
-ghost use Rattle.alt_ops_query.specs.PageReads.{most_reads};
+ghost use Rattle.alt_ops_query.specs.PageReads.{most_reads_of_page};
 ghost use Rattle.alt_ops_query.specs.private.Filled.{HasFilled, Examines, Steps};
 ghost use Rattle.alt_ops_query.specs.private.Stops.{IsFault, IfErrFailed};
-ghost use Rattle.alt_paging.specs.Offered.{WasOffered, asked_of, has_ended};
+ghost use Rattle.alt_paging.specs.Offered.{WasOffered, asked_of_page, has_ended};
 ghost use Rattle.alt_paging.specs.declared.ask.PageAsk.{PageAsk};
 ghost use Rattle.alt_request.specs.Steps.{IsMemory};
 ghost use Rattle.alt_schema.specs.declared.schema.TableSchema.{TableSchema};
@@ -61,7 +61,7 @@ pub(crate) fn fill<D: Disk>(
         → HasRowFiles (D.state disk.old).file
         (family_read t.description (index_at t.description index)) maps
         → OnOk result ((D.state disk.new).reads ≤ (D.state disk.old).reads
-        + most_reads t (index_at t.description index) forward range.from range.to (asked_of ask)
+        + most_reads_of_page t (index_at t.description index) forward range.from range.to (asked_of_page ask)
         (items_between t (index_at t.description index) range.from range.to forward) maps) }
     ensures only { OnlyReads (D.state disk.old) (D.state disk.new) tables.old tables.new }
     ensures fault { (s : State) (t : Table) (ask : PageAsk) → Stands (D.state disk.old) tables.old s

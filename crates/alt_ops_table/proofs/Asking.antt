@@ -24,9 +24,9 @@ use Rattle.alt_request.specs.TablesImages.{Leaves}
 use Rattle.alt_request.specs.Steps.{Tested}
 use Rattle.alt_request.specs.declared.stop.Stop.{Stop}
 use Rattle.alt_request.specs.declared.stop.Stop.TheVariants.{Refused, Fault}
-use Rattle.alt_ops_table.specs.private.Asked.{IsToBeMade, IsAsked}
+use Rattle.alt_ops_table.specs.private.Asked.{IsToBeMade, IsToBeMadeOrRefused}
 use Rattle.alt_request.specs.TablesFaults.{AreLacking, AreMade, BreakOff}
-use Rattle.alt_request.specs.TablesStands.{Stands, catalog_of, number_of, family_of}
+use Rattle.alt_request.specs.TablesStands.{Stands, catalog_of, next_write_of_tables, next_family_of_tables}
 use Rattle.alt_request.specs.TablesDeclaredTables.{Tables}
 use Rattle.alt_request.specs.TablesDeclaredTableFault.{TableFault}
 use Rattle.alt_request.specs.TablesDeclaredTableFault.TheVariants.{Spent, Damaged, BadRow, Failed, NoMemory}
@@ -57,8 +57,8 @@ known_by true true false r e = subst IsKnown (same e) (omega arith)
 known_by true true true r e = absurd (let f : ⊥ = cc in f)
 
 -- each refusal of a body is one of those that are known
-pub known : (ms : Members) (r : Refusal) → rules.refusal_of ms ≡ Some r → IsKnown r
-unfolding rules.refusal_of rules.refused_for
+pub known : (ms : Members) (r : Refusal) → rules.create_table_refusal ms ≡ Some r → IsKnown r
+unfolding rules.create_table_refusal rules.refused_for
 known ms r e = known_by (rules.names_fit (stated ms)) (rules.keys_fit_together (stated ms))
     (rules.indexes_fit (stated ms)) r e
 
@@ -100,14 +100,14 @@ module _ (s : State) (moment : ℕ) (ms : Members) where
     unfolding create_table
     of_body_on = passed (of_body ms) (unless_refused (of_tables s ms) made) free
 
-    pub create-refused : (r : Refusal) → rules.refusal_of ms ≡ Some r
+    pub create-refused : (r : Refusal) → rules.create_table_refusal ms ≡ Some r
         → create_table s moment ms ≡ refuses r
     create-refused r e = of_body_on ∙ stopped (of_tables s ms) made (refused r)
         (ap (λ o. first_answer (refuse_by o ∷ refuse_if (map.contains_key s.tables (table_name ms))
         table_exists ∷ refuse_if (nat_le MOST_TABLES (map.len s.tables)) too_many_tables ∷ []))
         e)
 
-    module _ (taken : rules.refusal_of ms ≡ None) (catalog : Texts TableSchema)
+    module _ (taken : rules.create_table_refusal ms ≡ None) (catalog : Texts TableSchema)
         (same : descriptions s.tables ≡ catalog) where
       tests : (b c : Bool) → map.contains_key catalog (table_name ms) ≡ b
           → nat_le MOST_TABLES (map.len catalog) ≡ c
@@ -156,13 +156,13 @@ free_family n f e = (table_room (record { tables = map.empty; next_number = n; n
 
 -- a body that is refused alone
 pub unfit_asked : (tables : Tables) (moment : ℕ) (ms : Members) (stop : Stop)
-    → Tested {X = Unit {0}} (of_body ms) (Err stop) → IsAsked tables moment ms (Err stop)
+    → Tested {X = Unit {0}} (of_body ms) (Err stop) → IsToBeMadeOrRefused tables moment ms (Err stop)
 unfit_asked tables moment ms (Refused r) h = (h.1, λ s same. create-unfit s moment ms r h.0)
 unfit_asked tables moment ms (Fault f) h = h
 
 -- what is asked stops the request
 pub asked_stops : {file : ℕ} (tables : Tables) (disk : DiskState) (now : State → Type 0)
-    (moment : ℕ) (ms : Members) (stop : Stop) → IsAsked tables moment ms (Err stop)
+    (moment : ℕ) (ms : Members) (stop : Stop) → IsToBeMadeOrRefused tables moment ms (Err stop)
     → ((s : State) → Stands disk tables s → now s)
     → Carries file (λ s. create_table s moment ms) (Stands disk tables) now (Err stop)
 asked_stops tables disk now moment ms (Refused r) h stays =
@@ -173,7 +173,7 @@ asked_stops tables disk now moment ms (Fault f) h stays =
 
 -- no failure of the device is among what stops it
 pub asked_unfailed : (P : Type 0) (tables : Tables) (moment : ℕ) (ms : Members) (stop : Stop)
-    → IsAsked tables moment ms (Err stop) → IfFailed (Err stop) P
+    → IsToBeMadeOrRefused tables moment ms (Err stop) → IfFailed (Err stop) P
 asked_unfailed P tables moment ms (Refused r) h = tt
 asked_unfailed P tables moment ms (Fault f) h = unfailed_fault f P h
 
@@ -188,7 +188,7 @@ pub to_be_made : (tables : Tables) (disk : DiskState) (moment : ℕ) (ms : Membe
 to_be_made tables disk moment ms d h s stands = (
   create-made s moment ms h.body h.taken (catalog_of tables) (sym stands.catalog)
       (ap (λ n. is_some (map.get (catalog_of tables) n))
-      (sym (name-described ms moment (number_of tables) h.family d h.is)) ∙ ap is_some h.absent)
+      (sym (name-described ms moment (next_write_of_tables tables) h.family d h.is)) ∙ ap is_some h.absent)
       h.few,
   λ free. h.is
       ∙ ap (λ n. description_of ms moment n h.family) stands.number
@@ -200,18 +200,18 @@ to_be_made tables disk moment ms d h s stands = (
 pub is_made : (tables : Tables) (moment : ℕ) (ms : Members) (d : TableSchema)
     → IsToBeMade tables moment ms d → IsMade d
 is_made tables moment ms d h = subst IsMade (sym h.is)
-    (made_is ms moment (number_of tables) h.family h.taken)
+    (made_is ms moment (next_write_of_tables tables) h.family h.taken)
 
 -- a table that is to be made gets the next number
 pub has_number : (tables : Tables) (moment : ℕ) (ms : Members) (d : TableSchema)
-    → IsToBeMade tables moment ms d → d.number ≡ number_of tables
-has_number tables moment ms d h = number-described ms moment (number_of tables) h.family d h.is
+    → IsToBeMade tables moment ms d → d.number ≡ next_write_of_tables tables
+has_number tables moment ms d h = number-described ms moment (next_write_of_tables tables) h.family d h.is
 
 -- a table that is to be made gets the next family, where numbers and families aren't used up
 pub has_family : (tables : Tables) (moment : ℕ) (ms : Members) (d : TableSchema)
     → IsToBeMade tables moment ms d
-    → table_lack (number_of tables) (family_of tables) ≡ None → d.family ≡ family_of tables
-has_family tables moment ms d h free = family-described ms moment (number_of tables) h.family d h.is
+    → table_lack (next_write_of_tables tables) (next_family_of_tables tables) ≡ None → d.family ≡ next_family_of_tables tables
+has_family tables moment ms d h free = family-described ms moment (next_write_of_tables tables) h.family d h.is
     ∙ h.next free
 
 -- where the one write that makes a table lacks nothing, neither does the state
@@ -273,12 +273,12 @@ module _ (s t u : State) (now : State → Type 0)
 -- What is left is the same where both states are one unless something is lacked, and then no call of the disk was made.
 pub left_alike : (before later : DiskState) (tables : Tables) (s : State) → Stands before tables s
     → (t u : State) → (table_lack s.next_number s.next_family ≡ None → t ≡ u)
-    → (IsSome (table_lack (number_of tables) (family_of tables)) → later ≡ before)
+    → (IsSome (table_lack (next_write_of_tables tables) (next_family_of_tables tables)) → later ≡ before)
     → Leaves before later s (t ∷ []) → Leaves before later s (u ∷ [])
 left_alike before later tables s stands t u same lacking left =
     by_lack (table_lack s.next_number s.next_family) refl
   where
-    known : table_lack (number_of tables) (family_of tables)
+    known : table_lack (next_write_of_tables tables) (next_family_of_tables tables)
         ≡ table_lack s.next_number s.next_family
     known = λ i. table_lack (stands.number i) (stands.family i)
 

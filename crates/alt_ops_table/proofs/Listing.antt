@@ -4,7 +4,7 @@ use Rattle.std.specs.Prelude.{if◌then◌else◌}
 use Rattle.std.specs.List.{last_or}
 use Rattle.serde_json.specs.Data.{Members}
 use Rattle.serde_json.specs.Written.{has_float}
-use Rattle.alt_machine.specs.Ops.ListTables.{of_body, start_name, page_length, names_after, listed, page_of, list_tables}
+use Rattle.alt_machine.specs.Ops.ListTables.{of_body, start_name, page_length, names_after, listed, table_names_page, list_tables}
 use Rattle.alt_machine.specs.Outcomes.{says, refuses}
 use Rattle.alt_machine.specs.Refusals.{first_answer}
 use Rattle.alt_machine.specs.State.{State, Texts, descriptions}
@@ -31,17 +31,17 @@ list-refused s ms r e = stopped (of_body ms) _ (refused r) e
 -- the page of the names in the catalog
 pub list-page : (s : State) (ms : Members) (catalog : Texts TableSchema)
     → catalog ≡ descriptions s.tables → first_answer (of_body ms) ≡ None
-    → list_tables s ms ≡ says (page_of (page_length ms) (names_after (start_name ms) catalog))
+    → list_tables s ms ≡ says (table_names_page (page_length ms) (names_after (start_name ms) catalog))
 unfolding list_tables
 list-page s ms catalog same free = passed (of_body ms) _ free
-    ∙ ap (λ names. says (page_of (page_length ms)
+    ∙ ap (λ names. says (table_names_page (page_length ms)
     (filter (λ name. is_lt (text_order (start_name ms) name)) names)))
     (sym (keys-descriptions s.tables) ∙ ap (λ m. map.keys m) (sym same))
 
 -- the names of a page, told with its last one where there are more, are the page of all names
 pub page-listed : (more : Bool) (names all : List (List ℕ)) (most : ℕ) → names ≡ take most all
     → more ≡ nat_lt most (length all)
-    → listed (if more then last_or None names else None) names ≡ page_of most all
+    → listed (if more then last_or None names else None) names ≡ table_names_page most all
 page-listed more names all most e f = λ i. listed (if f i then last_or None (e i) else None) (e i)
 
 -- ---- no float stands in it

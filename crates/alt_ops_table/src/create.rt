@@ -1,9 +1,9 @@
 //! CreateTable.
 
-ghost use Rattle.std.specs.Prelude.{◌≡◌, ◌+◌, ◌<◌, ◌≤◌, IfOk};
+ghost use Rattle.std.specs.Prelude.{◌≡◌, ◌+◌, ◌<◌, ◌≤◌};
 ghost use Rattle.serde_json.specs.View.{members_view};
 ghost use Rattle.alt_machine.specs.Ops.CreateTable.{shows, mismatched, of_stream, of_body, create_table};
-ghost use Rattle.alt_ops_table.specs.private.Asked.{IsAsked};
+ghost use Rattle.alt_ops_table.specs.private.Asked.{IsToBeMadeOrRefused};
 ghost use Rattle.alt_request.specs.Carried.{Carries, Moves};
 ghost use Rattle.alt_request.specs.Steps.{Tested};
 ghost use Rattle.alt_shape.specs.Shape.{given};
@@ -48,7 +48,7 @@ fn asked(
     body: &Map<String, Value>,
     moment: u64,
 ) -> Result<TableSchema, Stop>
-    ensures asked { IsAsked tables.now moment (members_view body.now.entries) result }
+    ensures asked { IsToBeMadeOrRefused tables.now moment (members_view body.now.entries) result }
 {
     unfit(body)?;
     let family = first_family(tables.next_family());

@@ -1,11 +1,11 @@
 //! ListTables.
 
-ghost use Rattle.std.specs.Prelude.{◌≡◌, take, length, nat_lt, false, None, option_map, if◌then◌else◌, IfOk, IfErr};
+ghost use Rattle.std.specs.Prelude.{◌≡◌, take, length, nat_lt, false, None, option_map, if◌then◌else◌, IfOk};
 ghost use Rattle.std.specs.List.{last_or};
 ghost use Rattle.serde_json.specs.View.{items_view, members_view};
 ghost use Rattle.serde_json.specs.Written.{has_float};
 ghost use Rattle.alt_codec.specs.Writing.{strings};
-ghost use Rattle.alt_machine.specs.Ops.ListTables.{of_body, start_name, page_length, names_after, listed, page_of, list_tables};
+ghost use Rattle.alt_machine.specs.Ops.ListTables.{of_body, start_name, page_length, names_after, listed, table_names_page, list_tables};
 ghost use Rattle.alt_request.specs.Carried.{Carries, Moves};
 ghost use Rattle.alt_request.specs.Steps.{Tested};
 ghost use Rattle.alt_shape.specs.Body.{body_json};
@@ -76,7 +76,7 @@ fn answer_of_page(
     body: &Map<String, Value>,
 ) -> Result<Reply, NoMemory>
     ensures reply { IfOk result (λ reply. answer_of reply
-        ≡ page_of (page_length (members_view body.now.entries))
+        ≡ table_names_page (page_length (members_view body.now.entries))
         (names_after (start_name (members_view body.now.entries)) (catalog_of tables.now))) }
     ensures plain { IfOk result (λ reply. has_float (body_json reply.body) ≡ false) }
 {

@@ -6,9 +6,9 @@ use Rattle.std.proofs.lemmas.List.{map-append}
 use Rattle.std.proofs.lemmas.List.Elements.{filter-append}
 use Rattle.std.proofs.lemmas.List.Sums.{sum_by_push}
 use Rattle.alt_base.proofs.Lists.{last_push}
-use Rattle.alt_expr.specs.Pages.{page_bytes, reaches, fills, examined, ends_early, passes, parts, passed}
+use Rattle.alt_expr.specs.Pages.{page_bytes, reaches_limit, fills, examined, ends_early, passes, parts, passed}
 use Rattle.alt_paging.specs.Counted.{reached}
-use Rattle.alt_paging.specs.Offered.{WasOffered, IsPage, Grows, asked_of, last_of, shown_of, unless_counts}
+use Rattle.alt_paging.specs.Offered.{WasOffered, IsPage, ExaminesItem, asked_of_page, last_item_of_page, kept_of_item, unless_counts}
 use Rattle.alt_paging.specs.declared.ask.Page.{Page}
 use Rattle.alt_paging.specs.declared.ask.PageAsk.{PageAsk}
 use Rattle.alt_paging.specs.declared.pager.Pager.{Pager}
@@ -19,24 +19,24 @@ use Rattle.alt_value.specs.Tree.{Pair}
 -- ---- lists with one item more
 
 module _ (ask : PageAsk) (items : List (List Pair)) (item : List Pair) where
-  passed_push : passed (asked_of ask) (items ++ item ∷ [])
-      ≡ passed (asked_of ask) items ++ cond (passes ask.filter item) (item ∷ []) []
+  passed_push : passed (asked_of_page ask) (items ++ item ∷ [])
+      ≡ passed (asked_of_page ask) items ++ cond (passes ask.filter item) (item ∷ []) []
   passed_push = filter-append (passes ask.filter) items (item ∷ [])
 
   -- what is kept of them
   kept_push : unless_counts ask.count_only
-      (map (parts ask.paths) (passed (asked_of ask) (items ++ item ∷ [])))
-      ≡ unless_counts ask.count_only (map (parts ask.paths) (passed (asked_of ask) items))
-      ++ shown_of ask item
+      (map (parts ask.paths) (passed (asked_of_page ask) (items ++ item ∷ [])))
+      ≡ unless_counts ask.count_only (map (parts ask.paths) (passed (asked_of_page ask) items))
+      ++ kept_of_item ask item
   kept_push = ap (λ l. unless_counts ask.count_only (map (parts ask.paths) l)) passed_push
       ∙ ap (unless_counts ask.count_only) (map-append (parts ask.paths)
-      (passed (asked_of ask) items) (cond (passes ask.filter item) (item ∷ []) []))
+      (passed (asked_of_page ask) items) (cond (passes ask.filter item) (item ∷ []) []))
       ∙ by ask.count_only (passes ask.filter item)
     where
       by : (counts met : Bool) → unless_counts counts
-          (map (parts ask.paths) (passed (asked_of ask) items)
+          (map (parts ask.paths) (passed (asked_of_page ask) items)
           ++ map (parts ask.paths) (cond met (item ∷ []) []))
-          ≡ unless_counts counts (map (parts ask.paths) (passed (asked_of ask) items))
+          ≡ unless_counts counts (map (parts ask.paths) (passed (asked_of_page ask) items))
           ++ (if met && not counts then parts ask.paths item ∷ [] else [])
       by true true = refl
       by true false = refl
@@ -44,11 +44,11 @@ module _ (ask : PageAsk) (items : List (List Pair)) (item : List Pair) where
       by false false = refl
 
   -- how many pass
-  count_push : length (passed (asked_of ask) (items ++ item ∷ []))
-      ≡ length (passed (asked_of ask) items) + (if passes ask.filter item then 1 else 0)
+  count_push : length (passed (asked_of_page ask) (items ++ item ∷ []))
+      ≡ length (passed (asked_of_page ask) items) + (if passes ask.filter item then 1 else 0)
   count_push = ap length passed_push
-      ∙ length-append (passed (asked_of ask) items) (cond (passes ask.filter item) (item ∷ []) [])
-      ∙ ap (λ n. length (passed (asked_of ask) items) + n) (by (passes ask.filter item))
+      ∙ length-append (passed (asked_of_page ask) items) (cond (passes ask.filter item) (item ∷ []) [])
+      ∙ ap (λ n. length (passed (asked_of_page ask) items) + n) (by (passes ask.filter item))
     where
       by : (met : Bool) → length (cond met (item ∷ []) []) ≡ (if met then 1 else 0)
       by true = refl
@@ -60,13 +60,13 @@ left_none total = grind arith
 
 -- the limit is reached by a list of that length
 reached_by : (limit : Option ℕ) (items : List (List Pair)) (n : ℕ) → n ≡ length items
-    → reached limit n ≡ reaches limit items
+    → reached limit n ≡ reaches_limit limit items
 reached_by limit items n e = ap (reached limit) e
 
 -- ---- the pager
 
 module _ (ask : PageAsk) (old new : Pager) (items : List (List Pair)) (item : List Pair)
-    (was : WasOffered old ask items) (grows : Grows old item new) (going : old.ended ≡ false) where
+    (was : WasOffered old ask items) (grows : ExaminesItem old item new) (going : old.ended ≡ false) where
   goes_on : ends_early ask.limit items ≡ false
   goes_on = sym was.ended ∙ going
 
@@ -87,17 +87,17 @@ module _ (ask : PageAsk) (old new : Pager) (items : List (List Pair)) (item : Li
       ∙ sym (ends_early_push ask.limit items item goes_on)
 
   kept_so : new.kept ≡ unless_counts ask.count_only
-      (map (parts ask.paths) (passed (asked_of ask) (items ++ item ∷ [])))
-  kept_so = grows.kept was.looked ∙ (λ i. was.kept i ++ shown_of (was.for i) item)
+      (map (parts ask.paths) (passed (asked_of_page ask) (items ++ item ∷ [])))
+  kept_so = grows.kept was.looked ∙ (λ i. was.kept i ++ kept_of_item (was.for i) item)
       ∙ sym (kept_push ask items item)
 
-  count_so : new.count ≡ length (passed (asked_of ask) (items ++ item ∷ []))
+  count_so : new.count ≡ length (passed (asked_of_page ask) (items ++ item ∷ []))
   count_so = grows.count was.looked
       ∙ (λ i. was.count i + (if passes (ap (λ (a : PageAsk). a.filter) was.for i) item
       then 1 else 0))
       ∙ sym (count_push ask items item)
 
-  last_so : new.last ≡ last_of ask (items ++ item ∷ [])
+  last_so : new.last ≡ last_item_of_page ask (items ++ item ∷ [])
   last_so = grows.last ∙ (λ i. if ended_so i then sym (last_push None items item) i else None)
       ∙ ap (λ seen. if ends_early ask.limit (items ++ item ∷ []) then last_or None seen else None)
       (sym (examined_push ask.limit items item goes_on))
@@ -145,7 +145,7 @@ none_examined limit = by (fills limit [])
     by false = refl
 
 -- no item ends a page that goes on
-pub none_last : (ask : PageAsk) → IfSome ask.limit (λ most. 0 < most) → None ≡ last_of ask []
+pub none_last : (ask : PageAsk) → IfSome ask.limit (λ most. 0 < most) → None ≡ last_item_of_page ask []
 none_last ask above = ap (λ b. if b then last_or None (examined ask.limit []) else None)
     (sym (none_ends ask.limit above))
 
@@ -161,8 +161,8 @@ pub page_is : (ask : PageAsk) (pager : Pager) (items : List (List Pair))
     → page.last ≡ pager.last → IsPage ask items page
 page_is ask pager items was page kept count scanned ended last = record {
   items = kept ∙ was.kept ∙ ap (λ seen. unless_counts ask.count_only
-      (map (parts ask.paths) (passed (asked_of ask) seen))) (sym was.whole);
-  count = count ∙ was.count ∙ ap (λ seen. length (passed (asked_of ask) seen)) (sym was.whole);
+      (map (parts ask.paths) (passed (asked_of_page ask) seen))) (sym was.whole);
+  count = count ∙ was.count ∙ ap (λ seen. length (passed (asked_of_page ask) seen)) (sym was.whole);
   scanned = scanned ∙ was.scanned ∙ ap length (sym was.whole);
   ended = ended ∙ was.ended;
   last = last ∙ was.last;

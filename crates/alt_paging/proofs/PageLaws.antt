@@ -5,7 +5,7 @@ use Rattle.std.specs.Option.{option_or}
 use Rattle.std.proofs.lemmas.List.Elements.{All-head, All-tail}
 use Rattle.std.proofs.lemmas.List.Folds.{find-append}
 use Rattle.std.proofs.lemmas.List.Sums.{sum_by-cons, sum_by_push}
-use Rattle.alt_expr.specs.Pages.{Asked, Page, page_bytes, reaches, fills, prefixes, full_prefix, examined, ends_early, parts, passed, page_of}
+use Rattle.alt_expr.specs.Pages.{Asked, Page, page_bytes, reaches_limit, fills, prefixes, full_prefix, examined, ends_early, parts, passed, page_of}
 use Rattle.alt_expr.proofs.Prefixes.{beyond, beyond_one, prefixes-append}
 use Rattle.alt_value.specs.Size.{item_size}
 use Rattle.alt_value.specs.Tree.{Pair}
@@ -107,16 +107,16 @@ module _ (limit : Option ℕ) (largest : ℕ) where
   not_le : (m n : ℕ) → n < m → nat_le m n ≡ false
   not_le m n h = grind arith
 
-  not_reached : (xs : List (List Pair)) → Within (length xs) → reaches limit xs ≡ false
+  not_reached : (xs : List (List Pair)) → Within (length xs) → reaches_limit limit xs ≡ false
   not_reached xs = by limit
     where
-      by : (o : Option ℕ) → IfSome o (λ most. length xs < most) → reaches o xs ≡ false
+      by : (o : Option ℕ) → IfSome o (λ most. length xs < most) → reaches_limit o xs ≡ false
       by None h = refl
       by (Some most) h = not_le most (length xs) h
 
   not_full : (xs : List (List Pair)) → Within (length xs) → sum_by item_size xs < page_bytes
       → fills limit xs ≡ false
-  not_full xs few small = by (reaches limit xs) (nat_le page_bytes (sum_by item_size xs))
+  not_full xs few small = by (reaches_limit limit xs) (nat_le page_bytes (sum_by item_size xs))
       (not_reached xs few) (not_le page_bytes (sum_by item_size xs) small)
     where
       by : (a b : Bool) → a ≡ false → b ≡ false → (a || b) ≡ false
@@ -171,10 +171,10 @@ module _ (limit : Option ℕ) where
       (ap (fills limit) (append_assoc xs (y ∷ []) (z ∷ more)) ∙ full)
 
   -- a list that has as many items as the limit, or as many bytes as a page, fills it
-  fills_by : (xs : List (List Pair)) → (reaches limit xs ≡ true) ⊎ (page_bytes ≤ sum_by item_size xs)
+  fills_by : (xs : List (List Pair)) → (reaches_limit limit xs ≡ true) ⊎ (page_bytes ≤ sum_by item_size xs)
       → fills limit xs ≡ true
   fills_by xs (inl e) = ap (λ b. b || nat_le page_bytes (sum_by item_size xs)) e
-  fills_by xs (inr le) = by (reaches limit xs) (nat_le page_bytes (sum_by item_size xs)) (grind arith)
+  fills_by xs (inr le) = by (reaches_limit limit xs) (nat_le page_bytes (sum_by item_size xs)) (grind arith)
     where
       by : (a b : Bool) → b ≡ true → (a || b) ≡ true
       by true b e = refl
@@ -183,7 +183,7 @@ module _ (limit : Option ℕ) where
   -- One item or more that with those before them reach the limit or fill a page's bytes end one that goes on.
   pub ends_early-full : (xs more : List (List Pair)) → ends_early limit xs ≡ false
       → 0 < length more
-      → (reaches limit (xs ++ more) ≡ true) ⊎ (page_bytes ≤ sum_by item_size (xs ++ more))
+      → (reaches_limit limit (xs ++ more) ≡ true) ⊎ (page_bytes ≤ sum_by item_size (xs ++ more))
       → ends_early limit (xs ++ more) ≡ true
   ends_early-full xs [] on some full = absurd (omega (arith, some))
   ends_early-full xs (y ∷ more) on some full =
@@ -202,5 +202,5 @@ sum_by-large largest (y ∷ more) large =
 
 -- a list of that length reaches the limit
 pub reaches-length : (most : ℕ) (xs : List (List Pair)) → most ≡ length xs
-    → reaches (Some most) xs ≡ true
+    → reaches_limit (Some most) xs ≡ true
 reaches-length most xs e = grind arith

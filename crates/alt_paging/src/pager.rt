@@ -39,7 +39,7 @@ pub struct Pager {
 impl Pager {
     ghost use Rattle.std.specs.Prelude.{◌≡◌, ◌≢◌, ◌<◌, ◌≤◌, ◌∷◌, ◌++◌, [], not, true, false, length, List, All, IfOk, OnOk, OnErr, IfSome};
     ghost use Rattle.alt_expr.specs.Pages.{ends_early};
-    ghost use Rattle.alt_paging.specs.Offered.{WasOffered, IsPage, Grows, has_ended};
+    ghost use Rattle.alt_paging.specs.Offered.{WasOffered, IsPage, ExaminesItem, has_ended};
     ghost use Rattle.alt_paging.specs.declared.ask.PageAsk.{PageAsk};
     ghost use Rattle.alt_value.specs.Size.{item_size};
     ghost use Rattle.alt_value.specs.Tree.{Pair};
@@ -120,7 +120,7 @@ impl Pager {
     fn examine(&mut self, item: Item) -> Result<(), NoMemory>
         requires some { item ≢ [] }
         requires open { has_ended self.old ≡ false }
-        ensures grows { OnOk result (Grows self.old item self.new) }
+        ensures grows { OnOk result (ExaminesItem self.old item self.new) }
         ensures err { OnErr result (self.new ≡ self.old) }
     {
         let scanned = self.scanned + 1;

@@ -9,7 +9,7 @@ use Rattle.alt_base.proofs.Orderings.{is_lt-true, less-is_lt}
 use Rattle.alt_value.proofs.Places.{less_tied}
 use Rattle.alt_expr.specs.PathOrder.{part_cmp}
 use Rattle.alt_expr.specs.PartOrder.{parts_total}
-use Rattle.alt_expr.specs.Projected.{ends, is_whole}
+use Rattle.alt_expr.specs.Projected.{ends, is_chosen_whole}
 use Rattle.alt_expr.specs.declared.path.PathPart.{PathPart}
 use Rattle.alt_projection.specs.Ways.{path_cmp, side, tails, Rise}
 
@@ -113,7 +113,7 @@ goes_on (suc depth) (p ∷ w) e = let lt : depth < length w = goes_on depth w e 
 
 -- whether one ends is told by the first
 pub whole_first : (depth : ℕ) (ways : List (List PathPart)) (w : List PathPart) → 0 < length ways
-    → w ≡ get_or ways 0 w → Rise depth ways → nat_le (length w) depth ≡ is_whole (tails depth ways)
+    → w ≡ get_or ways 0 w → Rise depth ways → nat_le (length w) depth ≡ is_chosen_whole (tails depth ways)
 whole_first depth [] w some is rise = absurd (omega (arith, some))
 whole_first depth (v ∷ vs) w some is rise =
     ap (λ u. nat_le (length u) depth) is ∙ by (ends (drop depth v)) refl

@@ -8,7 +8,7 @@ use Rattle.std.specs.Ordering.{is_lt, is_le, is_eq}
 use Rattle.std.proofs.lemmas.List.{append_assoc, append-nil, map-append, take_all, take-append-drop, get_or-take, get_or-drop}
 use Rattle.alt_expr.specs.PathOrder.{part_cmp}
 use Rattle.alt_expr.specs.PartOrder.{parts_tie, parts_equiv}
-use Rattle.alt_expr.specs.Projected.{under, behind, same_step}
+use Rattle.alt_expr.specs.Projected.{under, paths_behind, same_step}
 use Rattle.alt_expr.specs.declared.path.PathPart.{PathPart}
 use Rattle.alt_projection.specs.Ways.{path_cmp, side, tails, Rise, Longer}
 use Rattle.alt_projection.proofs.Order.{side_lt, side_le, rest_rises, drop-next, longer}
@@ -17,8 +17,8 @@ use Rattle.alt_projection.proofs.Order.{side_lt, side_le, rest_rises, drop-next,
 under-append : (s : PathPart) (xs ys : List (List PathPart))
     → under s (xs ++ ys) ≡ under s xs ++ under s ys
 under-append s [] ys = refl
-under-append s (x ∷ xs) ys = ap (λ (l : List (List PathPart)). behind s x ++ l) (under-append s xs ys)
-    ∙ sym (append_assoc (behind s x) (under s xs) (under s ys))
+under-append s (x ∷ xs) ys = ap (λ (l : List (List PathPart)). paths_behind s x ++ l) (under-append s xs ys)
+    ∙ sym (append_assoc (paths_behind s x) (under s xs) (under s ys))
 
 tied : (r : Ordering) → is_lt r ≡ false → is_le r ≡ true → r ≡ Equal
 tied Less f e = cc
@@ -40,12 +40,12 @@ stepped : (s p : PathPart) → same_step s p ≡ is_eq (part_cmp p s)
 stepped s p = parts_equiv.symm s p ∙ parts_tie p s
 
 -- what goes on behind a step that the path has, and behind one that it hasn't
-behind-same : (s : PathPart) (a : List PathPart) → side s a ≡ Equal → behind s a ≡ drop 1 a ∷ []
+behind-same : (s : PathPart) (a : List PathPart) → side s a ≡ Equal → paths_behind s a ≡ drop 1 a ∷ []
 behind-same s [] e = cc
 behind-same s (p ∷ ps) e =
     ap (λ b. cond b (ps ∷ []) []) (stepped s p ∙ ap is_eq e)
 
-behind-other : (s : PathPart) (a : List PathPart) → is_eq (side s a) ≡ false → behind s a ≡ []
+behind-other : (s : PathPart) (a : List PathPart) → is_eq (side s a) ≡ false → paths_behind s a ≡ []
 behind-other s [] e = refl
 behind-other s (p ∷ ps) e = ap (λ b. cond b (ps ∷ []) []) (stepped s p ∙ e)
 

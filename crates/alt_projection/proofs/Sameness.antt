@@ -11,8 +11,8 @@ use Rattle.alt_value.specs.Tree.{Tree, L_tree, M_tree, Trees, no_trees, tree_the
 use Rattle.alt_expr.specs.PartOrder.{parts_total}
 use Rattle.alt_expr.specs.declared.path.PathPart.{PathPart}
 use Rattle.alt_expr.specs.declared.path.PathPart.TheVariants.{Name, Index}
-use Rattle.alt_expr.specs.Projected.{same_step, under, is_whole, chosen, chosen_elements, chosen_fields, pair_then, element_then, some_list, some_map, projected}
-use Rattle.alt_projection.specs.Ways.{is_path, Same, path_cmp, Rise, tails}
+use Rattle.alt_expr.specs.Projected.{same_step, under, is_chosen_whole, chosen, chosen_elements, chosen_fields, pair_then, element_then, some_list, some_map, projected}
+use Rattle.alt_projection.specs.Ways.{is_path, SamePaths, path_cmp, Rise, tails}
 
 -- a path goes on from a step where the whole of it stands among the paths
 any-under : (s : PathPart) (p : List PathPart) (xs : List (List PathPart))
@@ -26,31 +26,31 @@ any-under s p ((q ∷ qs) ∷ xs) = elim (same_step s q) as (λ b.
       | false ↦ any-under s p xs
     ]
 
-any-ends : (xs : List (List PathPart)) → is_whole xs ≡ list_any (is_path []) xs
+any-ends : (xs : List (List PathPart)) → is_chosen_whole xs ≡ list_any (is_path []) xs
 any-ends [] = refl
 any-ends ([] ∷ xs) = refl
 any-ends ((p ∷ ps) ∷ xs) = any-ends xs
 
-same-under : (s : PathPart) (xs ys : List (List PathPart)) → Same xs ys
-    → Same (under s xs) (under s ys)
+same-under : (s : PathPart) (xs ys : List (List PathPart)) → SamePaths xs ys
+    → SamePaths (under s xs) (under s ys)
 same-under s xs ys h p = any-under s p xs ∙ h (s ∷ p) ∙ sym (any-under s p ys)
 
-same-whole : (xs ys : List (List PathPart)) → Same xs ys → is_whole xs ≡ is_whole ys
+same-whole : (xs ys : List (List PathPart)) → SamePaths xs ys → is_chosen_whole xs ≡ is_chosen_whole ys
 same-whole xs ys h = any-ends xs ∙ h [] ∙ sym (any-ends ys)
 
 mutual
   -- the same paths choose the same of a value
-  chosen-same : (t : Tree) (xs ys : List (List PathPart)) → Same xs ys → chosen xs t ≡ chosen ys t
+  chosen-same : (t : Tree) (xs ys : List (List PathPart)) → SamePaths xs ys → chosen xs t ≡ chosen ys t
   chosen-same (L_tree ts) xs ys h =
       ap (λ b. cond b (Some (L_tree ts)) (some_list (chosen_elements xs 0 ts))) (same-whole xs ys h)
-      ∙ ap (λ us. cond (is_whole ys) (Some (L_tree ts)) (some_list us)) (elements-same ts 0 xs ys h)
+      ∙ ap (λ us. cond (is_chosen_whole ys) (Some (L_tree ts)) (some_list us)) (elements-same ts 0 xs ys h)
   chosen-same (M_tree fs) xs ys h =
       ap (λ b. cond b (Some (M_tree fs)) (some_map (chosen_fields xs fs))) (same-whole xs ys h)
-      ∙ ap (λ gs. cond (is_whole ys) (Some (M_tree fs)) (some_map gs)) (fields-same fs xs ys h)
+      ∙ ap (λ gs. cond (is_chosen_whole ys) (Some (M_tree fs)) (some_map gs)) (fields-same fs xs ys h)
   chosen-same t xs ys h = ap (λ b. cond b (Some t) None) (same-whole xs ys h)
 
   -- of a list's elements
-  elements-same : (ts : Trees) (i : ℕ) (xs ys : List (List PathPart)) → Same xs ys
+  elements-same : (ts : Trees) (i : ℕ) (xs ys : List (List PathPart)) → SamePaths xs ys
       → chosen_elements xs i ts ≡ chosen_elements ys i ts
   elements-same no_trees i xs ys h = refl
   elements-same (tree_then t ts) i xs ys h =
@@ -59,7 +59,7 @@ mutual
       ∙ ap (element_then (chosen (under (Index i) ys) t)) (elements-same ts (suc i) xs ys h)
 
   -- and of a map's pairs
-  fields-same : (fs : Fields) (xs ys : List (List PathPart)) → Same xs ys
+  fields-same : (fs : Fields) (xs ys : List (List PathPart)) → SamePaths xs ys
       → chosen_fields xs fs ≡ chosen_fields ys fs
   fields-same no_fields xs ys h = refl
   fields-same (field_then name t fs) xs ys h =
@@ -68,7 +68,7 @@ mutual
       ∙ ap (pair_then name (chosen (under (Name name) ys) t)) (fields-same fs xs ys h)
 
 -- the same paths choose the same of an item
-pub projected-same : (xs ys : List (List PathPart)) (item : List Pair) → Same xs ys
+pub projected-same : (xs ys : List (List PathPart)) (item : List Pair) → SamePaths xs ys
     → projected xs item ≡ projected ys item
 projected-same xs ys item h = ap pairs (fields-same (fields_of item) xs ys h)
 
@@ -83,7 +83,7 @@ abbrev pub nows : List Way → List (List PathPart)
 nows ways = map (λ w. w.now) ways
 
 -- in another order they are the same
-pub same-moved : (ws vs : List Way) → IsPermutation ws vs → Same (nows ws) (nows vs)
+pub same-moved : (ws vs : List Way) → IsPermutation ws vs → SamePaths (nows ws) (nows vs)
 same-moved ws vs moved p =
     list_any-IsPermutation (is_path p) (nows ws) (nows vs)
     (IsPermutation-map (λ (w : Way). w.now) ws vs moved)
@@ -105,7 +105,7 @@ tails_none (w ∷ ways) = ap (λ (l : List (List PathPart)). w ∷ l) (tails_non
 
 -- what was chosen by paths in order is what the paths choose
 pub chosen-ready : (paths ways read : List (List PathPart)) (item out : List Pair)
-    → read ≡ ways → Same paths ways → out ≡ projected (tails 0 read) item
+    → read ≡ ways → SamePaths paths ways → out ≡ projected (tails 0 read) item
     → out ≡ projected paths item
 chosen-ready paths ways read item out is same e =
     e ∙ ap (λ (ws : List (List PathPart)). projected ws item) (tails_none read ∙ is)

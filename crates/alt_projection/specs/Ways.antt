@@ -21,8 +21,8 @@ is_path (s ∷ p) (t ∷ q) = same_step s t && is_path p q
 is_path _ _ = false
 
 -- each path stands in both lists or in none
-abbrev pub Same : List (List PathPart) → List (List PathPart) → Type 0
-Same xs ys = (p : List PathPart) → list_any (is_path p) xs ≡ list_any (is_path p) ys
+abbrev pub SamePaths : List (List PathPart) → List (List PathPart) → Type 0
+SamePaths xs ys = (p : List PathPart) → list_any (is_path p) xs ≡ list_any (is_path p) ys
 
 -- the order of paths, part by part
 abbrev pub path_cmp : List PathPart → List PathPart → Ordering

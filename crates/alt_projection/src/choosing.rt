@@ -49,7 +49,7 @@ fn chosen(
 /// Whether a path ends here. It would stand first.
 fn is_whole(ways: &[Path], depth: usize) -> bool
     requires { Rise depth ways.now }
-    ensures { result ≡ spec.is_whole (tails depth ways.now) }
+    ensures { result ≡ spec.is_chosen_whole (tails depth ways.now) }
 {
     match ways {
         [first, ..] => first.len() <= depth,

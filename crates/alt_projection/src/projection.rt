@@ -2,7 +2,7 @@
 
 ghost use Rattle.std.specs.Prelude.{◌≡◌, map, IfOk};
 ghost use Rattle.alt_expr.specs.Projected.{projected};
-ghost use Rattle.alt_projection.specs.Ways.{Same, Rise};
+ghost use Rattle.alt_projection.specs.Ways.{SamePaths, Rise};
 
 use crate::choosing::chosen_fields;
 use alt_base::NoMemory;
@@ -22,13 +22,13 @@ pub struct Projection {
 impl Model for Projection {
     ghost use Rattle.std.specs.Prelude.{List};
     ghost use Rattle.alt_expr.specs.declared.path.PathPart.{PathPart};
-    ghost use Rattle.alt_projection.specs.Ways.{Same, Rise};
+    ghost use Rattle.alt_projection.specs.Ways.{SamePaths, Rise};
 
     ghost Value = { List (List PathPart) };
 
     ghost view = { λ p. p.paths };
 
-    ghost invariant = { λ p. Same p.paths p.ways × Rise 0 p.ways };
+    ghost invariant = { λ p. SamePaths p.paths p.ways × Rise 0 p.ways };
 }
 
 impl Projection {
@@ -72,7 +72,7 @@ fn same(alloc: Global, paths: &Paths) -> Result<Paths, NoMemory>
 
 /// The paths in rising order.
 fn in_order(alloc: Global, paths: &Paths) -> Result<Paths, NoMemory>
-    ensures same { IfOk result (λ ways. Same paths.now ways) }
+    ensures same { IfOk result (λ ways. SamePaths paths.now ways) }
     ensures rising { IfOk result (λ ways. Rise 0 ways) }
 {
     let mut ways = ways_of(alloc, paths)?;

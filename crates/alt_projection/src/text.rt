@@ -1,6 +1,6 @@
 //! The text of a projection: its paths, or its first fault.
 
-ghost use Rattle.std.specs.Prelude.{◌≡◌, ◌∷◌, ◌++◌, [], map};
+ghost use Rattle.std.specs.Prelude.{◌≡◌, map};
 ghost use Rattle.std.specs.List.{list_any};
 ghost use Rattle.alt_expr.specs.Tokens.{tok_of};
 ghost use Rattle.alt_expr.specs.Crowded.{is_long};
@@ -11,7 +11,7 @@ ghost use Rattle.alt_expr.specs.Languages.{projections};
 ghost use Rattle.alt_expr.specs.Lookups.{names_alone};
 ghost use Rattle.alt_expr.specs.NamesGiven.{given_names};
 ghost use Rattle.alt_expr.specs.Read.{ReadsWhole, ReadTokens};
-ghost use Rattle.alt_expr.specs.Reader.{left, Reads, listed, path};
+ghost use Rattle.alt_expr.specs.Reader.{left, ReadsExpression, comma_separated, path};
 
 use alt_expr::{
     Cursor, ExprFault, Items, Mark, Names, Path, Paths, Token, is_too_deep, read_path,
@@ -108,7 +108,7 @@ fn read_whole(alloc: Global, tokens: &[Token<'_>], names: &Names) -> Result<Path
 
 /// One or more paths with commas between.
 fn read_paths(alloc: Global, names: &Names, tokens: &mut Cursor<'_>) -> Result<Paths, ExprFault>
-    ensures { Reads (listed (path (given_names names.now)) (left tokens.old)) result
+    ensures { ReadsExpression (comma_separated (path (given_names names.now)) (left tokens.old)) result
         (left tokens.new) }
 {
     let turns = tokens.len();

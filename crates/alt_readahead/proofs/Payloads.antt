@@ -11,14 +11,14 @@ use Rattle.json.proofs.Grammar.{value_is, value-begin_array, value-begin_object,
 use Rattle.serde_json.specs.Data.{Data, null, boolean, number, string, array, object, Items, no_items, item, Members, no_members, member}
 use Rattle.serde_json.specs.Read.{of_json, of_items, of_members, converted}
 use Rattle.alt_named.proofs.Converted.{converted_some, converted-array, converted-object, member_read, members_over}
-use Rattle.alt_decimal.specs.NumberText.{ReadsAs}
+use Rattle.alt_decimal.specs.NumberText.{TextReadsAs}
 use Rattle.alt_value.specs.declared.attr.Attr.{Attr}
 use Rattle.alt_value.specs.Members.{set_of}
 use Rattle.alt_value.specs.Stands.{tree_of}
 use Rattle.alt_value.specs.Tree.{Tree, BOOL_tree, NULL_tree, L_tree, M_tree, Pair, trees_of, fields_of}
 use Rattle.alt_codec.specs.declared.fault.ValueFault.{ValueFault}
 use Rattle.alt_codec.specs.Numbers.{number_of}
-use Rattle.alt_codec.specs.Reading.{Answer, value_in, list_in, map_in, payload_in, elements_in, fields_in}
+use Rattle.alt_codec.specs.Reading.{ValueOrFault, value_in, list_in, map_in, payload_in, elements_in, fields_in}
 use Rattle.alt_codec.specs.Scalars.{text_in, number_in, binary_in, truth_in, null_in, or_bad_number, or_bad_base64}
 use Rattle.alt_codec.specs.Sets.{sound, first_fault, told, members_in}
 use Rattle.alt_codec.specs.Steps.{and_then, map_ok}
@@ -70,7 +70,7 @@ reads_null before after e depth = (
 
 -- the number of a text
 pub reads_number : (before after : List Token) (s t : List ℕ) (z : ℤ)
-    → before ≡ Token.string s ∷ after → t ≡ s → ReadsAs t (Ok z)
+    → before ≡ Token.string s ∷ after → t ≡ s → TextReadsAs t (Ok z)
     → ReadsFlat number_in before z after
 reads_number before after s t z e same h depth =
     let r = reads_text before after s t e same depth in (
@@ -196,11 +196,11 @@ reads_map depth room before rest after i deep some e r = (
 -- ---- values
 
 -- an answer that is no value
-abbrev IsFault : Answer → Type 0
+abbrev IsFault : ValueOrFault → Type 0
 IsFault (Ok t) = ⊥
 IsFault (Err f) = ⊤
 
-either_fault : (b : Bool) (q r : Answer) → IsFault q → IsFault r → IsFault (cond b q r)
+either_fault : (b : Bool) (q r : ValueOrFault) → IsFault q → IsFault r → IsFault (cond b q r)
 either_fault true q r h k = h
 either_fault false q r h k = k
 
@@ -218,7 +218,7 @@ null_fault room name =
     (either_fault (bytes_eq name (codes "NS")) _ _ tt
     (either_fault (bytes_eq name (codes "BS")) _ _ tt tt)))))))))
 
-faulty : (r : Answer) (t : Tree) → IsFault r → r ≡ Ok t → ⊥
+faulty : (r : ValueOrFault) (t : Tree) → IsFault r → r ≡ Ok t → ⊥
 faulty (Ok u) t h e = h
 faulty (Err f) t h e = cc
 
@@ -252,7 +252,7 @@ reads_value depth room before s1 s2 s3 after kind t deep opened named r closed =
     )
 
 -- a kind without nested values, as its name says
-pub reads_kind : {E : Type 0} (f : Data → Answer) (room depth : ℕ) (kind name : List ℕ)
+pub reads_kind : {E : Type 0} (f : Data → ValueOrFault) (room depth : ℕ) (kind name : List ℕ)
     (before after : List Token) (q : Result Attr E) → kind ≡ name
     → ((d : Data) → payload_in room name d ≡ f d)
     → IfOk q (λ a. ReadsFlat f before (tree_of a) after)

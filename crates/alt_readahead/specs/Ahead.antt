@@ -17,7 +17,7 @@ IsReadSoFar names ms bs None = SameOthers names ms bs
 IsReadSoFar names ms bs (Some item) = IsReadAhead names ms bs item
 
 -- a member of this name and value more, whatever the members before it were
-abbrev pub Adds : List (List ℕ) → List ℕ → Data → Members → Option (List Pair) → Members
+abbrev pub AddsMember : List (List ℕ) → List ℕ → Data → Members → Option (List Pair) → Members
     → Option (List Pair) → Type 0
-Adds names name d bs item bs' item' = (ms : Members) → IsReadSoFar names ms bs item
+AddsMember names name d bs item bs' item' = (ms : Members) → IsReadSoFar names ms bs item
     → IsReadSoFar names (put name d ms) bs' item'

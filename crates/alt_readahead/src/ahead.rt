@@ -5,7 +5,7 @@ ghost use Rattle.json.specs.Json.{value, members};
 ghost use Rattle.serde_json.specs.Data.{Data, Members, no_members, put};
 ghost use Rattle.serde_json.specs.Read.{of_json, of_members, converted};
 ghost use Rattle.serde_json.specs.View.{view, members_view};
-ghost use Rattle.alt_readahead.specs.Ahead.{Adds};
+ghost use Rattle.alt_readahead.specs.Ahead.{AddsMember};
 ghost use Rattle.alt_readahead.specs.Direct.{IsReadAhead, SaysObject};
 
 use crate::direct::item_ahead;
@@ -97,7 +97,7 @@ fn member_ahead(
 ) -> Result<(), Unread>
     ensures member { OnOk result ((d : Data)
         × (converted of_json (value 126 reader.old) ≡ Some (d, reader.new))
-        × Adds (map (λ w. w.now) names.now) name.now d (members_view found.old.entries) item.old
+        × AddsMember (map (λ w. w.now) names.now) name.now d (members_view found.old.entries) item.old
         (members_view found.new.entries) item.new) }
     ensures shorter { OnOk result (length reader.new < length reader.old) }
 {

@@ -20,11 +20,11 @@ use Rattle.alt_layout.proofs.OneLayout.{same_file}
 use Rattle.alt_manifest.specs.Versions.{IsIn, row_files}
 use Rattle.alt_manifest.specs.declared.version.FamilyVersion.{FamilyVersion}
 use Rattle.alt_manifest.proofs.Among.{in_back, in_front}
-use Rattle.alt_rowfile.specs.InHand.{Reads, file_of}
+use Rattle.alt_rowfile.specs.InHand.{ReadsRows, file_of}
 use Rattle.alt_rowfile.specs.declared.fault.RowFileFault.{RowFileFault}
 use Rattle.alt_rowfile.specs.declared.fault.RowFileFault.TheVariants.{Damaged, DigestDiffers, Failed, NoMemory}
 use Rattle.alt_rowfile.specs.declared.rowfile.RowFile.{RowFile}
-use Rattle.alt_recovery.specs.Families.{AreFamilies, AreInHand, ExplainsFamilies}
+use Rattle.alt_recovery.specs.Families.{AreOpenedFamilies, AreInHand, ExplainsFamilies}
 use Rattle.alt_recovery.specs.Opening.{AreOpened, ExplainsOpening, IsOpened}
 use Rattle.alt_recovery.proofs.NumberLaws.{get_empty}
 use Rattle.alt_recovery.proofs.OpenLaws.{reads_while}
@@ -96,7 +96,7 @@ with_all-hold s held flushed (g ∷ gs) (f ∷ fs) (m ∷ ms) are =
       (subst (λ (n : RowMap). HoldsRows n flushed (s.file g)) (sym there) this, rest.0),
       (
         are.0.named,
-        subst (λ (n : RowMap). Reads s f (entries n)) (sym there) are.0.reads,
+        subst (λ (n : RowMap). ReadsRows s f (entries n)) (sym there) are.0.reads,
         rest.1,
       ),
     )
@@ -155,7 +155,7 @@ hand_same s held more [] (f ∷ fs) rows are = absurd are
 hand_same s held more (g ∷ gs) [] rows are = absurd are
 hand_same s held more (g ∷ gs) (f ∷ fs) rows are = (
   are.0,
-  subst (λ (m : RowMap). Reads s f (entries m)) (sym (rows g (inl refl))) are.1,
+  subst (λ (m : RowMap). ReadsRows s f (entries m)) (sym (rows g (inl refl))) are.1,
   hand_same s held more gs fs (λ h there. rows h (inr there)) are.2,
 )
 
@@ -173,7 +173,7 @@ hand_quiet a b held (g ∷ gs) (f ∷ fs) quiet are = (
 
 -- so do families
 pub families_quiet : (a b : DiskState) (held : Held) (fs : List FamilyVersion) (opened : Families)
-    → Quiet a b → AreFamilies a held fs opened → AreFamilies b held fs opened
+    → Quiet a b → AreOpenedFamilies a held fs opened → AreOpenedFamilies b held fs opened
 families_quiet a b held fs opened quiet are = record {
   files = subst (λ (image : Image). AllByRecursion (AreRowFiles image held) fs)
       (λ i g. sym (quiet.file g) i) are.files;
@@ -184,7 +184,7 @@ families_quiet a b held fs opened quiet are = record {
 
 -- no family yet
 pub families_none : (s : DiskState) (held : Held) (opened : Families) → opened.entries ≡ []
-    → AreFamilies s held [] opened
+    → AreOpenedFamilies s held [] opened
 families_none s held opened is = record {
   files = tt;
   open_files = λ family. subst (λ (o : Option Family). AreInHand s held [] (files_in o))
@@ -194,11 +194,11 @@ families_none s held opened is = record {
 
 -- one family more, at the front
 pub families_more : (s : DiskState) (held : Held) (fs : List FamilyVersion) (f : FamilyVersion)
-    (old new : Families) (family : Family) (ms : List RowMap) → AreFamilies s held fs old
+    (old new : Families) (family : Family) (ms : List RowMap) → AreOpenedFamilies s held fs old
     → AreOpened s f.flushed f.files family.files.items ms → family.table.0 ≡ empty
     → ((q : ℕ) → get nat_cmp new q
     ≡ cond (is_eq (nat_cmp f.family q)) (Some family) (get nat_cmp old q))
-    → AreFamilies s (with_all held f.files ms) (f ∷ fs) new
+    → AreOpenedFamilies s (with_all held f.files ms) (f ∷ fs) new
 families_more s held fs f old new family ms are opened bare put =
     let own = with_all-hold s held f.flushed f.files family.files.items ms opened in record {
       files = (
@@ -235,7 +235,7 @@ families_more s held fs f old new family ms are opened bare put =
 -- The last families so far were opened.
 pub record FamiliesSoFar (s : DiskState) (fs : List FamilyVersion) (opened : Families) : Type 0 where
   pub held : Held
-  pub are : AreFamilies s held fs opened
+  pub are : AreOpenedFamilies s held fs opened
 
 -- ---- one that wasn't
 

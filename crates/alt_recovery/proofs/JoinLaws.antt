@@ -13,7 +13,7 @@ use Rattle.alt_cells.specs.Rows.{join_row}
 use Rattle.alt_families.specs.Families.{Families, rows_in}
 use Rattle.alt_families.specs.Memory.{IsWrittenTo}
 use Rattle.alt_families.proofs.MemoryLaws.{changes_in-append, changes_one}
-use Rattle.alt_layout.specs.Families.{with_one}
+use Rattle.alt_layout.specs.Families.{with_one_write}
 use Rattle.alt_layout.specs.Layout.{RowMap}
 use Rattle.alt_layout.specs.Writes.{changes_in, one_row}
 use Rattle.alt_layout.proofs.RowLaws.{none_behind, rows_join}
@@ -27,7 +27,7 @@ write_with number changes = record { number = number; changes = changes }
 
 -- a write without changes makes nothing of rows
 joined_none : (flushed number f : ℕ) (m : RowMap)
-    → with_one flushed f m (write_with number []) ≡ m
+    → with_one_write flushed f m (write_with number []) ≡ m
 joined_none flushed number f m = by_test (nat_lt flushed number)
   where
     by_test : (t : Bool) → (if t then joined_map join_row m empty else m) ≡ m
@@ -36,8 +36,8 @@ joined_none flushed number f m = by_test (nat_lt flushed number)
 
 -- changes behind changes
 joined_append : (flushed number f : ℕ) (m : RowMap) (xs ys : List RowChange)
-    → with_one flushed f (with_one flushed f m (write_with number xs)) (write_with number ys)
-    ≡ with_one flushed f m (write_with number (xs ++ ys))
+    → with_one_write flushed f (with_one_write flushed f m (write_with number xs)) (write_with number ys)
+    ≡ with_one_write flushed f m (write_with number (xs ++ ys))
 joined_append flushed number f m xs ys = by_test (nat_lt flushed number)
   where
     by_test : (t : Bool) → (if t then joined_map join_row
@@ -67,7 +67,7 @@ joined_more flushed a b c number i cs x within at first later =
     (ap (λ (y : RowChange). take i cs ++ y ∷ []) at ∙ sym (take_more cs i x within))
     (record {
       rows = λ f. later.rows f
-          ∙ ap (λ (m : RowMap). with_one (flushed_in flushed f) f m (write_with number (x ∷ [])))
+          ∙ ap (λ (m : RowMap). with_one_write (flushed_in flushed f) f m (write_with number (x ∷ [])))
           (first.rows f)
           ∙ joined_append (flushed_in flushed f) number f (rows_in (get nat_cmp a f)) (take i cs)
           (x ∷ []);

@@ -4,3 +4,4 @@ pub mod NumberLaws
 pub mod HeldLaws
 pub mod JoinLaws
 pub mod ReplayLaws
+pub mod SegmentReplays

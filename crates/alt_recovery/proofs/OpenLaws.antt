@@ -10,7 +10,7 @@ use Rattle.alt_disk.specs.Runs.{Quiet}
 use Rattle.alt_layout.specs.Files.{Image}
 use Rattle.alt_manifest.proofs.Among.{in_at}
 use Rattle.alt_rowfile.specs.Format.{Entry}
-use Rattle.alt_rowfile.specs.InHand.{Reads, file_of}
+use Rattle.alt_rowfile.specs.InHand.{ReadsRows, file_of}
 use Rattle.alt_rowfile.specs.Summaries.{latest_of}
 use Rattle.alt_rowfile.specs.declared.fault.RowFileFault.{RowFileFault}
 use Rattle.alt_rowfile.specs.declared.fault.RowFileFault.TheVariants.{Damaged}
@@ -21,9 +21,9 @@ use Rattle.alt_recovery.specs.Opening.{AreOpened, IsOpened, ExplainsOpening, Exp
 -- A row file in hand reads as rows by their keys.
 pub record ReadsMap (s : DiskState) (file : RowFile) : Type 0 where
   pub rows : RowMap
-  pub reads : Reads s file (entries rows)
+  pub reads : ReadsRows s file (entries rows)
 
-pub reads_map : (s : DiskState) (file : RowFile) (rows : List Entry) → Reads s file rows
+pub reads_map : (s : DiskState) (file : RowFile) (rows : List Entry) → ReadsRows s file rows
     → ReadsMap s file
 reads_map s file rows reads =
     let same : rows ≡ entries (from_sorted {R = key_cmp} rows) =
@@ -31,12 +31,12 @@ reads_map s file rows reads =
     (sym reads.as_file.are) reads.as_file.file.rising)) in
     record {
       rows = from_sorted rows;
-      reads = subst (Reads s file) same reads;
+      reads = subst (ReadsRows s file) same reads;
     }
 
 -- a row file in hand reads as it read while its file does
 pub reads_while : (a b : DiskState) (file : RowFile) (rows : List Entry)
-    → b.file (file_of file) ≡ a.file (file_of file) → Reads a file rows → Reads b file rows
+    → b.file (file_of file) ≡ a.file (file_of file) → ReadsRows a file rows → ReadsRows b file rows
 reads_while a b file rows same reads = record {
   bytes = reads.bytes;
   there = same ∙ reads.there;

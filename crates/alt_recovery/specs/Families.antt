@@ -9,7 +9,7 @@ use Rattle.alt_families.specs.Families.{Families, files_in, rows_in}
 use Rattle.alt_layout.specs.Families.{Held, files_of}
 use Rattle.alt_layout.specs.Files.{AreRowFiles, Image}
 use Rattle.alt_manifest.specs.declared.version.FamilyVersion.{FamilyVersion}
-use Rattle.alt_rowfile.specs.InHand.{Reads, file_of}
+use Rattle.alt_rowfile.specs.InHand.{ReadsRows, file_of}
 use Rattle.alt_rowfile.specs.declared.fault.RowFileFault.{RowFileFault}
 use Rattle.alt_rowfile.specs.declared.fault.RowFileFault.TheVariants.{Damaged, DigestDiffers, Failed, NoMemory}
 use Rattle.alt_rowfile.specs.declared.rowfile.RowFile.{RowFile}
@@ -21,10 +21,10 @@ AreInHand s held [] [] = Unit {0}
 AreInHand s held [] (f ∷ fs) = ⊥
 AreInHand s held (g ∷ gs) [] = ⊥
 AreInHand s held (g ∷ gs) (f ∷ fs) =
-    (file_of f ≡ g) × Reads s f (entries (held g)) × AreInHand s held gs fs
+    (file_of f ≡ g) × ReadsRows s f (entries (held g)) × AreInHand s held gs fs
 
 -- The files of each family hold these rows and are in hand, and no family has rows in memory.
-pub record AreFamilies (s : DiskState) (held : Held) (fs : List FamilyVersion)
+pub record AreOpenedFamilies (s : DiskState) (held : Held) (fs : List FamilyVersion)
     (opened : Families) : Type 0 where
   pub files : AllByRecursion (AreRowFiles s.file held) fs
   pub open_files : (family : ℕ) → AreInHand s held (files_of fs family)

@@ -7,7 +7,7 @@ use Rattle.alt_layout.specs.Families.{IsMapBelow}
 use Rattle.alt_layout.specs.Files.{Image}
 use Rattle.alt_manifest.specs.Versions.{IsIn}
 use Rattle.alt_rowfile.specs.Format.{IsRowFile}
-use Rattle.alt_rowfile.specs.InHand.{Reads, file_of}
+use Rattle.alt_rowfile.specs.InHand.{ReadsRows, file_of}
 use Rattle.alt_rowfile.specs.Recovery.{ExplainsFile}
 use Rattle.alt_rowfile.specs.declared.fault.RowFileFault.{RowFileFault}
 use Rattle.alt_rowfile.specs.declared.fault.RowFileFault.TheVariants.{Damaged, DigestDiffers, Failed, NoMemory}
@@ -16,7 +16,7 @@ use Rattle.alt_rowfile.specs.declared.rowfile.RowFile.{RowFile}
 -- The file in hand is that of this number and reads as these rows, whose timestamps aren't above the flushed number.
 pub record IsOpened (s : DiskState) (flushed f : ℕ) (file : RowFile) (m : RowMap) : Type 0 where
   pub named : file_of file ≡ f
-  pub reads : Reads s file (entries m)
+  pub reads : ReadsRows s file (entries m)
   pub past : IsMapBelow (flushed + 1) m
 
 -- So is each of several, in order.

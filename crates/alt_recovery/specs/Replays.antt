@@ -4,16 +4,16 @@ use Rattle.std.specs.BTreeMap.{BTreeMap, get}
 use Rattle.std.specs.Ordering.{nat_cmp}
 use Rattle.alt_disk.specs.Disk.{DiskState, bytes_or_none}
 use Rattle.alt_families.specs.Families.{Families, files_in, rows_in}
-use Rattle.alt_gatelog.specs.InHand.{file_of, form_of, Reads}
-use Rattle.alt_gatelog.specs.Log.{IsDamaged, IsLog, gate_place}
+use Rattle.alt_gatelog.specs.InHand.{file_of_gate_log, form_of, ReadsEntries}
+use Rattle.alt_gatelog.specs.Log.{LogIsDamagedAt, IsLog, gate_place}
 use Rattle.alt_gatelog.specs.declared.fault.LogFault.{LogFault}
 use Rattle.alt_gatelog.specs.declared.fault.LogFault.TheVariants.{Damaged, Failed, NoMemory}
 use Rattle.alt_gatelog.specs.declared.form.Form.{Form}
 use Rattle.alt_gatelog.specs.declared.gatelog.GateLog.{GateLog}
 use Rattle.alt_layout.specs.Entries.{HoldWrites, IsNoEntry}
-use Rattle.alt_layout.specs.Families.{next_after, with_later, with_one}
+use Rattle.alt_layout.specs.Families.{next_after, with_later, with_one_write}
 use Rattle.alt_layout.specs.Files.{AreSegments, Image, all_of}
-use Rattle.alt_layout.specs.Sizes.{AreSized}
+use Rattle.alt_layout.specs.Sizes.{SegmentsAreSized}
 use Rattle.alt_memtable.specs.Rows.{most_bytes}
 use Rattle.alt_writes.specs.Bytes.{AllHeld}
 use Rattle.alt_writes.specs.Writes.{AreRising, Write}
@@ -25,7 +25,7 @@ use Rattle.alt_recovery.specs.declared.replay.Replay.{Replay}
 -- A write was joined to the rows in memory of each family whose flushed number is below it, and the files are as they were.
 pub record IsJoinedTo (flushed : BTreeMap ℕ ℕ) (old new : Families) (w : Write) : Type 0 where
   pub rows : (f : ℕ) → rows_in (get nat_cmp new f)
-      ≡ with_one (flushed_in flushed f) f (rows_in (get nat_cmp old f)) w
+      ≡ with_one_write (flushed_in flushed f) f (rows_in (get nat_cmp old f)) w
   pub files : (f : ℕ) → files_in (get nat_cmp new f) ≡ files_in (get nat_cmp old f)
 
 -- These writes, whose numbers rise, were joined one after another, and so many bytes counted.
@@ -47,10 +47,10 @@ pub record ReplaysLast (s : DiskState) (segments : List ℕ) (old new : Replay)
   pub writes : List Write
   pub entries : List (List ℕ)
   pub bytes : ℕ
-  pub segments_are : segments ≡ firsts ++ file_of log ∷ []
+  pub segments_are : segments ≡ firsts ++ file_of_gate_log log ∷ []
   pub are : AreSegments s.file segments (fronts ++ writes ∷ [])
-  pub sized : AreSized s.file segments bytes
-  pub reads : Reads s log entries
+  pub sized : SegmentsAreSized s.file segments bytes
+  pub reads : ReadsEntries s log entries
   pub holds : HoldWrites (form_of log) entries writes
   pub replays : Replays old new (all_of (fronts ++ writes ∷ [])) bytes
 
@@ -70,15 +70,15 @@ pub record IsBadEntry (form : Form) (entries : List (List ℕ)) (least at : ℕ)
   pub place : at ≡ gate_place entries (length front)
 
 -- Damaged names the file and the place of such an entry.
-abbrev pub ExplainsLog : Form → ℕ → List (List ℕ) → ℕ → LogFault → Type 0
-ExplainsLog form f entries least (Damaged file at) =
+abbrev pub ExplainsBadEntry : Form → ℕ → List (List ℕ) → ℕ → LogFault → Type 0
+ExplainsBadEntry form f entries least (Damaged file at) =
     (file ≡ f) × IsBadEntry form entries least at
-ExplainsLog form f entries least Failed = Unit {0}
-ExplainsLog form f entries least NoMemory = Unit {0}
+ExplainsBadEntry form f entries least Failed = Unit {0}
+ExplainsBadEntry form f entries least NoMemory = Unit {0}
 
 -- The file is no log at the place, or one with such an entry.
 abbrev pub IsBadSegment : ℕ → Option (List ℕ) → ℕ → Type 0
-IsBadSegment least file at = IsDamaged at (bytes_or_none file)
+IsBadSegment least file at = LogIsDamagedAt at (bytes_or_none file)
     ⊎ ((form : Form) × (entries : List (List ℕ)) × IsLog form entries file
     × IsBadEntry form entries least at)
 

@@ -4,7 +4,7 @@ ghost use Rattle.std.specs.Prelude.{◌≡◌, ◌<◌, ℕ, List, [], IfOk, IfE
 ghost use Rattle.alt_base.specs.Counts.{Rose};
 ghost use Rattle.alt_disk.specs.Disk.{Goes};
 ghost use Rattle.alt_disk.specs.Runs.{Quiet};
-ghost use Rattle.alt_gatelog.specs.InHand.{count_of, form_of, Reads};
+ghost use Rattle.alt_gatelog.specs.InHand.{count_of, form_of, ReadsEntries};
 ghost use Rattle.alt_gatelog.specs.declared.form.Form.TheVariants.{One};
 ghost use Rattle.alt_layout.specs.Entries.{IsEntry, IsNoEntry};
 ghost use Rattle.alt_writes.specs.Bytes.{AllHeld};
@@ -38,13 +38,13 @@ pub fn read_entry<D: Disk>(
     ensures held { IfOk result (λ read. AllHeld (writes_in read)) }
     ensures rising { IfOk result (λ read. AreRising least (writes_in read)) }
     ensures length { IfOk result (λ read. IsTrue (D.state disk.old).tells
-        → (entries : List (List ℕ)) → Reads (D.state disk.old) log.old entries
+        → (entries : List (List ℕ)) → ReadsEntries (D.state disk.old) log.old entries
         → read.length ≡ length (get_or entries i [])) }
     ensures entry { IfOk result (λ read. IsTrue (D.state disk.old).tells
-        → (entries : List (List ℕ)) → Reads (D.state disk.old) log.old entries
+        → (entries : List (List ℕ)) → ReadsEntries (D.state disk.old) log.old entries
         → IsEntry (form_of log.old) (get_or entries i []) (writes_in read)) }
     ensures damaged { IsTrue (D.state disk.old).tells → (entries : List (List ℕ))
-        → Reads (D.state disk.old) log.old entries
+        → ReadsEntries (D.state disk.old) log.old entries
         → IfErr result (ExplainsEntry (form_of log.old) f entries i least) }
     ensures quiet { IsTrue (D.state disk.old).tells
         → Quiet (D.state disk.old) (D.state disk.new) }

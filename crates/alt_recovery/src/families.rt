@@ -1,11 +1,11 @@
 //! The row files of all families of a version, opened.
 
-ghost use Rattle.std.specs.Prelude.{◌≡◌, ℕ, List, IfOk, IfErr, IsErrOf, IsTrue};
+ghost use Rattle.std.specs.Prelude.{◌≡◌, IfOk, IfErr, IsErrOf, IsTrue};
 ghost use Rattle.alt_base.specs.Counts.{Rose};
 ghost use Rattle.alt_disk.specs.Disk.{Goes};
 ghost use Rattle.alt_disk.specs.Runs.{Quiet};
 ghost use Rattle.alt_layout.specs.Families.{Held};
-ghost use Rattle.alt_recovery.specs.Families.{AreFamilies, ExplainsFamilies};
+ghost use Rattle.alt_recovery.specs.Families.{AreOpenedFamilies, ExplainsFamilies};
 
 use crate::open::open_files;
 use alt_disk::Disk;
@@ -23,7 +23,7 @@ pub fn open_families<D: Disk>(
     families: &[FamilyVersion],
 ) -> Result<BTreeMap<u32, Family>, RowFileFault>
     ensures ok { IfOk result (λ opened. IsTrue (D.state disk.old).tells → (held : Held)
-        × AreFamilies (D.state disk.new) held families.now opened) }
+        × AreOpenedFamilies (D.state disk.new) held families.now opened) }
     ensures explained { IsTrue (D.state disk.old).tells
         → IfErr result (ExplainsFamilies (D.state disk.old).file families.now) }
     ensures quiet { IsTrue (D.state disk.old).tells

@@ -1,6 +1,6 @@
 //! The row files of a family, opened one by one and tested whole.
 
-ghost use Rattle.std.specs.Prelude.{◌≡◌, ℕ, List, IfOk, IfErr, IsErrOf, IsTrue};
+ghost use Rattle.std.specs.Prelude.{◌≡◌, List, IfOk, IfErr, IsErrOf, IsTrue};
 ghost use Rattle.alt_base.specs.Counts.{Rose};
 ghost use Rattle.alt_cells.specs.Walks.{RowMap};
 ghost use Rattle.alt_disk.specs.Disk.{Goes};

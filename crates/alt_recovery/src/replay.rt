@@ -4,16 +4,16 @@ ghost use Rattle.std.specs.Prelude.{◌≡◌, ◌<◌, ℕ, List, [], ◌∷◌
 ghost use Rattle.alt_base.specs.Counts.{Rose};
 ghost use Rattle.alt_disk.specs.Disk.{Goes};
 ghost use Rattle.alt_disk.specs.Runs.{Quiet};
-ghost use Rattle.alt_gatelog.specs.InHand.{count_of, file_of, form_of, Reads};
+ghost use Rattle.alt_gatelog.specs.InHand.{count_of, file_of_gate_log, form_of, ReadsEntries};
 ghost use Rattle.alt_layout.specs.Entries.{HoldWrites, IsEntry};
 ghost use Rattle.alt_layout.specs.Files.{AreSegments, all_of};
-ghost use Rattle.alt_layout.specs.Sizes.{AreSized, bytes_in};
+ghost use Rattle.alt_layout.specs.Sizes.{SegmentsAreSized, bytes_in};
 ghost use Rattle.alt_writes.specs.Bytes.{AllHeld};
 ghost use Rattle.alt_writes.specs.Reading.{writes_of};
 ghost use Rattle.alt_writes.specs.Writes.{AreRising, Write};
 ghost use Rattle.alt_recovery.specs.Entries.{ExplainsEntry};
 ghost use Rattle.alt_recovery.specs.Flushed.{flushed_in};
-ghost use Rattle.alt_recovery.specs.Replays.{ExplainsLog, ExplainsSegment, ExplainsSegments, IsJoinedTo, Replays, ReplaysLast};
+ghost use Rattle.alt_recovery.specs.Replays.{ExplainsBadEntry, ExplainsSegment, ExplainsSegments, IsJoinedTo, Replays, ReplaysLast};
 
 use crate::entries::read_entry;
 use alt_base::NoMemory;
@@ -74,7 +74,7 @@ fn replay_firsts<D: Disk>(
 ) -> Result<(), LogFault>
     ensures ok { IsTrue (D.state disk.old).tells → OnOk result ((parts : List (List Write))
         × (bytes : ℕ) × AreSegments (D.state disk.old).file segments.now parts
-        × AreSized (D.state disk.old).file segments.now bytes
+        × SegmentsAreSized (D.state disk.old).file segments.now bytes
         × Replays replay.old replay.new (all_of parts) bytes) }
     ensures explained { IsTrue (D.state disk.old).tells
         → IfErr result (ExplainsSegments (D.state disk.old).file segments.now replay.old.least) }
@@ -102,9 +102,9 @@ fn replay_segment<D: Disk>(
     f: u32,
     replay: &mut Replay,
 ) -> Result<GateLog, LogFault>
-    ensures file { IfOk result (λ log. file_of log ≡ f) }
+    ensures file { IfOk result (λ log. file_of_gate_log log ≡ f) }
     ensures ok { IfOk result (λ log. IsTrue (D.state disk.old).tells → (ws : List Write)
-        × (entries : List (List ℕ)) × Reads (D.state disk.new) log entries
+        × (entries : List (List ℕ)) × ReadsEntries (D.state disk.new) log entries
         × HoldWrites (form_of log) entries ws
         × Replays replay.old replay.new ws (bytes_in entries)) }
     ensures explained { IsTrue (D.state disk.old).tells
@@ -137,12 +137,12 @@ fn replay_log<D: Disk>(
 ) -> Result<(), LogFault>
     ensures log { log.new ≡ log.old }
     ensures ok { IsTrue (D.state disk.old).tells → (entries : List (List ℕ))
-        → Reads (D.state disk.old) log.old entries → OnOk result ((ws : List Write)
+        → ReadsEntries (D.state disk.old) log.old entries → OnOk result ((ws : List Write)
         × HoldWrites (form_of log.old) entries ws
         × Replays replay.old replay.new ws (bytes_in entries)) }
     ensures damaged { IsTrue (D.state disk.old).tells → (entries : List (List ℕ))
-        → Reads (D.state disk.old) log.old entries
-        → IfErr result (ExplainsLog (form_of log.old) f entries replay.old.least) }
+        → ReadsEntries (D.state disk.old) log.old entries
+        → IfErr result (ExplainsBadEntry (form_of log.old) f entries replay.old.least) }
     ensures quiet { IsTrue (D.state disk.old).tells
         → Quiet (D.state disk.old) (D.state disk.new) }
     ensures goes { Goes (D.state disk.old) (D.state disk.new) }
@@ -172,11 +172,11 @@ fn replay_entry<D: Disk>(
     requires { i < count_of log.old }
     ensures log { log.new ≡ log.old }
     ensures ok { IsTrue (D.state disk.old).tells → (entries : List (List ℕ))
-        → Reads (D.state disk.old) log.old entries → OnOk result ((ws : List Write)
+        → ReadsEntries (D.state disk.old) log.old entries → OnOk result ((ws : List Write)
         × IsEntry (form_of log.old) (get_or entries i []) ws
         × Replays replay.old replay.new ws (length (get_or entries i []))) }
     ensures damaged { IsTrue (D.state disk.old).tells → (entries : List (List ℕ))
-        → Reads (D.state disk.old) log.old entries
+        → ReadsEntries (D.state disk.old) log.old entries
         → IfErr result (ExplainsEntry (form_of log.old) f entries i replay.old.least) }
     ensures quiet { IsTrue (D.state disk.old).tells
         → Quiet (D.state disk.old) (D.state disk.new) }

@@ -5,7 +5,7 @@ use Rattle.std.specs.Prelude.{IfSome}
 use Rattle.std.specs.FinMap as map
 use Rattle.serde_json.specs.Data.{Members}
 use Rattle.alt_disk.specs.Disk.{DiskState}
-use Rattle.alt_machine.specs.Body.{Rules, body_refusals}
+use Rattle.alt_machine.specs.Body.{MemberRules, body_refusals}
 use Rattle.alt_machine.specs.declared.Expressions.{Expressions}
 use Rattle.alt_machine.specs.declared.Sought.{Sought}
 use Rattle.alt_machine.specs.Expressions as words
@@ -16,9 +16,9 @@ use Rattle.alt_machine.specs.State.{State, Table, new_table}
 use Rattle.alt_machine.specs.Targets.{on_item, IsPlaced}
 use Rattle.alt_machine.specs.Valid.{IsStored}
 use Rattle.alt_machine.proofs.Tests.{passed, stopped}
-use Rattle.alt_request.specs.Carried.{Does, Moves}
-use Rattle.alt_request.specs.private.Decided.{Works}
-use Rattle.alt_request.specs.ItemWrites.{Writer, IsAsked, LeavesStored, of_body, changes, writes_item}
+use Rattle.alt_request.specs.Carried.{FollowsOutcome, Moves}
+use Rattle.alt_request.specs.private.Decided.{CarriesAndMoves}
+use Rattle.alt_request.specs.ItemWrites.{Writer, IsAsked, LeavesStored, writer_body_refusals, changes_item, writes_item}
 use Rattle.alt_request.specs.Steps.{Tested}
 use Rattle.alt_request.specs.Targets.{IsAtHand, OnItem, IsAt}
 use Rattle.alt_said.specs.declared.stop.Stop.{Stop}
@@ -48,16 +48,16 @@ all_asked w ms = record {
 -- The shape, the rules and so on, as the calls of the operation gave them.
 module _ (w : Writer) (moment : ℕ) (ms bs : Members) (ahead : Option (List Pair))
     (asked : IsAsked w ms bs ahead) (broken : Option Broken) (shape : broken ≡ w.shape bs)
-    (rules : Rules) (ruled : rules ≡ w.rules) (sought : Sought) (seeks : sought ≡ w.sought)
+    (rules : MemberRules) (ruled : rules ≡ w.rules) (sought : Sought) (seeks : sought ≡ w.sought)
     (texts : words.Texts) (takes : texts ≡ w.texts) where
   abbrev tests : List (Option Answer)
   tests = body_refusals broken rules bs
 
   abbrev go : State → Expressions → List Pair → Table → List ℕ → Outcome
   go s said item t place = unless_refused (w.takes t.description item)
-      (changes w s moment ms said item t place)
+      (changes_item w s moment ms said item t place)
 
-  same_tests : of_body w ms ≡ tests
+  same_tests : writer_body_refusals w ms ≡ tests
   same_tests = asked.tests ∙ (λ i. body_refusals (sym shape i) (sym ruled i) bs)
 
   whole_is : (s : State) → writes_item w s moment ms ≡ on_item tests sought texts s ms (go s)
@@ -71,7 +71,7 @@ module _ (w : Writer) (moment : ℕ) (ms bs : Members) (ahead : Option (List Pai
   module _ (disk : DiskState) (tables : Tables) where
     -- the item isn't reached
     pub unreached : {file : ℕ} (stop : Stop) → OnItem tests sought texts (catalog_of tables) ms (Err stop)
-        → Works file (λ s. writes_item w s moment ms) (Stands disk tables) (Stands disk tables) disk disk
+        → CarriesAndMoves file (λ s. writes_item w s moment ms) (Stands disk tables) (Stands disk tables) disk disk
         (Err stop)
     unreached stop h = record {
       carries = item_stopped disk tables tests ms (λ s. writes_item w s moment ms) sought texts go
@@ -85,7 +85,7 @@ module _ (w : Writer) (moment : ℕ) (ms bs : Members) (ahead : Option (List Pai
       -- its table refuses it
       pub untaken : {file : ℕ} (stop : Stop)
           → Tested {X = Unit {0}} (w.takes target.schema.now target.item) (Err stop)
-          → Works file (λ s. writes_item w s moment ms) (Stands disk tables) (Stands disk tables)
+          → CarriesAndMoves file (λ s. writes_item w s moment ms) (Stands disk tables) (Stands disk tables)
           disk disk (Err stop)
       untaken stop h = record {
         carries = untested (λ s. writes_item w s moment ms) (Stands disk tables)
@@ -94,7 +94,7 @@ module _ (w : Writer) (moment : ℕ) (ms bs : Members) (ahead : Option (List Pai
             let there = item_reached disk tables tests ms (λ s. writes_item w s moment ms) sought
             texts go whole_is target at s stands in
             there.3 ∙ stopped (w.takes there.0.description target.item)
-            (changes w s moment ms target.said target.item there.0 target.place) (refused r)
+            (changes_item w s moment ms target.said target.item there.0 target.place) (refused r)
             (ap (λ (d : TableSchema). first_answer (w.takes d target.item)) there.2 ∙ e))
             (λ s stands. stands);
         moves = moves_nothing (λ s. writes_item w s moment ms) tables disk (Err stop)
@@ -104,9 +104,9 @@ module _ (w : Writer) (moment : ℕ) (ms bs : Members) (ahead : Option (List Pai
       module _ (free : first_answer (w.takes target.schema.now target.item) ≡ None) where
         goes_on : (s : State) (t : Table) → t.description ≡ target.schema.now
             → go s target.said target.item t target.place
-            ≡ changes w s moment bs target.said target.item t target.place
+            ≡ changes_item w s moment bs target.said target.item t target.place
         goes_on s t same = passed (w.takes t.description target.item)
-            (changes w s moment ms target.said target.item t target.place)
+            (changes_item w s moment ms target.said target.item t target.place)
             (ap (λ (d : TableSchema). first_answer (w.takes d target.item)) same ∙ free)
             ∙ asked.changed s moment target.said target.item t target.place
 
@@ -115,22 +115,22 @@ module _ (w : Writer) (moment : ℕ) (ms bs : Members) (ahead : Option (List Pai
 
         -- what was done at its place was done for the request
         module _ {file : ℕ} (after : DiskState) (now : State → Type 0) (r : Result Reply Stop)
-            (works : (t : Table) → Works file
-            (λ s. changes w s moment bs target.said target.item t target.place)
+            (works : (t : Table) → CarriesAndMoves file
+            (λ s. changes_item w s moment bs target.said target.item t target.place)
             (λ s. Stands disk tables s × (map.get s.tables (table_name bs) ≡ Some t))
             now disk after r) where
-          pub done : Works file (λ s. writes_item w s moment ms) (Stands disk tables) now disk after r
+          pub done : CarriesAndMoves file (λ s. writes_item w s moment ms) (Stands disk tables) now disk after r
           done = record {
             carries = item_done disk tables tests ms (λ s. writes_item w s moment ms) sought texts
                 go whole_is now target at r (works (new_table target.schema.now)).carries.plain
-                (λ s t stands there same. subst (λ o. Does file now s o r) (sym (goes_on s t same))
+                (λ s t stands there same. subst (λ o. FollowsOutcome file now s o r) (sym (goes_on s t same))
                 ((works t).carries.does s
                 (stands, ap (map.get s.tables) (sym same_name) ∙ there)));
             moves = item_moved disk after tables tests ms (λ s. writes_item w s moment ms) sought
                 texts go whole_is target at
-                (λ s t. changes w s moment bs target.said target.item t target.place) goes_on r
+                (λ s t. changes_item w s moment bs target.said target.item t target.place) goes_on r
                 (λ t. subst (λ (name : List ℕ). Moves
-                (λ s. changes w s moment bs target.said target.item t target.place)
+                (λ s. changes_item w s moment bs target.said target.item t target.place)
                 (λ s. Stands disk tables s × (map.get s.tables name ≡ Some t)) disk after r)
                 (sym same_name) (works t).moves);
           }

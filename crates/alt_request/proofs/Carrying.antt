@@ -13,7 +13,7 @@ use Rattle.alt_machine.specs.Outcomes.{Outcome, says, refuses, Wants}
 use Rattle.alt_machine.specs.State.{State, Table}
 use Rattle.alt_machine.specs.Targets.{on_table, on_item, IsPlaced}
 use Rattle.alt_machine.proofs.Targets.{table-target, item-target}
-use Rattle.alt_request.specs.Carried.{Does, Carries, Says, IsPlain}
+use Rattle.alt_request.specs.Carried.{FollowsOutcome, Carries, SaysAnswer, IsPlainResult}
 use Rattle.alt_machine.specs.Refusals.{first_answer}
 use Rattle.alt_request.specs.Steps.{IsMemory, Tested}
 use Rattle.alt_request.specs.Targets.{OnTable, OnItem, IsAt}
@@ -36,18 +36,18 @@ use Rattle.alt_said.specs.TablesDeclaredTableFault.TheVariants.{Spent, Damaged, 
 
 -- an answer without a write that may be a refusal, or want of memory for it
 pub does_say : (file : ℕ) (now : State → Type 0) (answer : Answer) (s : State) (r : Result Reply Stop)
-    → Says answer r → now s → Does file now s (says answer) r
+    → SaysAnswer answer r → now s → FollowsOutcome file now s (says answer) r
 does_say file now answer s (Ok reply) h stands = record { reply = h.0; state = stands; enough = refl }
 does_say file now answer s (Err (Refused q)) h stands = record {
   answered = record { reply = h.0; state = stands; enough = refl };
   unwritten = refl;
 }
 does_say file now answer s (Err (Fault f)) h stands =
-    subst (λ g. Does file now s (says answer) (Err (Fault g))) (sym h) tt
+    subst (λ g. FollowsOutcome file now s (says answer) (Err (Fault g))) (sym h) tt
 
 -- a fault before anything was written
 pub unread : (file : ℕ) (now : State → Type 0) (s : State) (outcome : Outcome) (f : TableFault)
-    → IsFindFault f → now s → Does file now s outcome (Err (Fault f))
+    → IsFindFault f → now s → FollowsOutcome file now s outcome (Err (Fault f))
 unread file now s outcome (Spent n) known stands = absurd known
 unread file now s outcome (Damaged number at) known stands = absurd known
 unread file now s outcome (BadRow family key) known stands = absurd known
@@ -56,22 +56,22 @@ unread file now s outcome NoMemory known stands = tt
 
 -- a reply with an answer, or want of memory for it, says that answer
 pub says_so : (a : Answer) (r : Result Reply Stop) → IfOk r (λ reply. answer_of reply ≡ a)
-    → IfOk r (λ reply. has_float (body_json reply.body) ≡ false) → IfErr r IsMemory → Says a r
+    → IfOk r (λ reply. has_float (body_json reply.body) ≡ false) → IfErr r IsMemory → SaysAnswer a r
 says_so a (Ok reply) told plain cause = (told, plain)
-says_so a (Err stop) told plain cause = subst (λ e. Says a (Err e)) (sym cause) refl
+says_so a (Err stop) told plain cause = subst (λ e. SaysAnswer a (Err e)) (sym cause) refl
 
 -- and is plain
 pub plain_so : (r : Result Reply Stop) → IfOk r (λ reply. has_float (body_json reply.body) ≡ false)
-    → IfErr r IsMemory → IsPlain r
+    → IfErr r IsMemory → IsPlainResult r
 plain_so (Ok reply) plain cause = plain
-plain_so (Err stop) plain cause = subst (λ e. IsPlain (Err e)) (sym cause) tt
+plain_so (Err stop) plain cause = subst (λ e. IsPlainResult (Err e)) (sym cause) tt
 
 module _ {file : ℕ} (outcome : State → Outcome) (old now : State → Type 0) where
   -- a refusal, which leaves the state
   pub refused_so : (r : Refusal) → IsKnown r → ((s : State) → old s → outcome s ≡ refuses r)
       → ((s : State) → old s → now s) → Carries file outcome old now (Err (Refused r))
   refused_so r known is stays = record {
-    does = λ s stands. subst (λ o. Does file now s o (Err (Refused r))) (sym (is s stands)) (record {
+    does = λ s stands. subst (λ o. FollowsOutcome file now s o (Err (Refused r))) (sym (is s stands)) (record {
       answered = record { reply = refl; state = stays s stands; enough = refl };
       unwritten = refl;
     });
@@ -113,7 +113,7 @@ module _ {file : ℕ} (outcome : State → Outcome) (old now : State → Type 0)
       → ((s : State) → old s → outcome s ≡ says (answer_of reply)) → ((s : State) → old s → now s)
       → Carries file outcome old now (Ok reply)
   said reply plain is stays = record {
-    does = λ s stands. subst (λ o. Does file now s o (Ok reply)) (sym (is s stands))
+    does = λ s stands. subst (λ o. FollowsOutcome file now s o (Ok reply)) (sym (is s stands))
         (record { reply = refl; state = stays s stands; enough = refl });
     plain = plain;
   }
@@ -140,7 +140,7 @@ module _ {file : ℕ} (outcome : State → Outcome) (old now : State → Type 0)
       × BreakOff file now wants s atoms f) → Carries file outcome old now (Err (Fault f))
   broke_off f wants h = record {
     does = λ s stands. let (atoms, answer, is, broke) = h s stands in
-        subst (λ o. Does file now s o (Err (Fault f))) (sym is) broke;
+        subst (λ o. FollowsOutcome file now s o (Err (Fault f))) (sym is) broke;
     plain = tt;
   }
 
@@ -151,7 +151,7 @@ module _ {file : ℕ} (outcome : State → Outcome) (old now : State → Type 0)
       × AreMade now wants s atoms) → Carries file outcome old now (Ok reply)
   wrote reply plain wants h = record {
     does = λ s stands. let (atoms, is, made) = h s stands in
-        subst (λ o. Does file now s o (Ok reply)) (sym is)
+        subst (λ o. FollowsOutcome file now s o (Ok reply)) (sym is)
         (record { reply = refl; state = made.state; enough = made.enough });
     plain = plain;
   }
@@ -245,13 +245,13 @@ module _ (disk : DiskState) (tables : Tables) (tests : List (Option Answer)) (ms
     -- what is done there is done for the whole request
     pub item_done : {file : ℕ} (now : State → Type 0) (target : Target)
         → IsAt tests sought texts (catalog_of tables) ms target
-        → (r : Result Reply Stop) → IsPlain r
+        → (r : Result Reply Stop) → IsPlainResult r
         → ((s : State) (t : Table) → Stands disk tables s
         → map.get s.tables (table_name ms) ≡ Some t → t.description ≡ target.schema.now
-        → Does file now s (go s target.said target.item t target.place) r)
+        → FollowsOutcome file now s (go s target.said target.item t target.place) r)
         → Carries file outcome (Stands disk tables) now r
     item_done {file = file} now target h r plain does = record {
       does = λ s stands. let at = item_reached target h s stands in
-          subst (λ o. Does file now s o r) (sym at.3) (does s at.0 stands at.1 at.2);
+          subst (λ o. FollowsOutcome file now s o r) (sym at.3) (does s at.0 stands at.1 at.2);
       plain = plain;
     }

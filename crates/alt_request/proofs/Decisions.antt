@@ -5,7 +5,7 @@ use Rattle.std.specs.Prelude.{codes, if◌then◌else◌}
 use Rattle.std.specs.FinMap as map
 use Rattle.serde_json.specs.Data.{Members}
 use Rattle.alt_disk.specs.Disk.{DiskState}
-use Rattle.alt_machine.specs.Conditional.{meets, asked, failed}
+use Rattle.alt_machine.specs.Conditional.{meets_condition, asked, failed}
 use Rattle.alt_machine.specs.declared.Expressions.{Expressions}
 use Rattle.alt_machine.specs.Members.{table_name}
 use Rattle.alt_machine.specs.Outcomes.{Outcome, says, writes, with_found}
@@ -13,7 +13,7 @@ use Rattle.alt_machine.specs.Replies.{item_answer}
 use Rattle.alt_machine.specs.State.{State, Table}
 use Rattle.alt_machine.specs.Writes.{item_writes}
 use Rattle.alt_request.specs.private.Decided.{Decision, tells, leaves, left_or_told, decision, comes_to, Decides}
-use Rattle.alt_request.specs.ItemWrites.{Writer, changes}
+use Rattle.alt_request.specs.ItemWrites.{Writer, changes_item}
 use Rattle.alt_request.specs.Steps.{Comes, IsMemory}
 use Rattle.alt_said.specs.declared.stop.Stop.{Stop}
 use Rattle.alt_said.specs.declared.stop.Stop.TheVariants.{Refused, Fault}
@@ -51,16 +51,16 @@ module _ (w : Writer) (s : State) (moment : ℕ) (ms : Members) (said : Expressi
   -- that is so of the description that the table has, and of what is there
   pub changes_come : (d : TableSchema) (old : Option (List Pair)) → d ≡ t.description
       → old ≡ map.get t.items place
-      → changes w s moment ms said item t place ≡ at_place (decision w ms d said item old)
+      → changes_item w s moment ms said item t place ≡ at_place (decision w ms d said item old)
   changes_come d old same found =
-      judged_comes (map.get t.items place) (meets said.condition (map.get t.items place))
+      judged_comes (map.get t.items place) (meets_condition said.condition (map.get t.items place))
       ∙ (λ i. at_place (decision w ms (sym same i) said item (sym found i)))
 
 -- what is left is what the operation leaves
 pub decided_left : (w : Writer) (ms : Members) (d : TableSchema) (said : Expressions)
     (item : List Pair) (old new : Option (List Pair)) (a : Answer)
     → decision w ms d said item old ≡ leaves new a → w.leaves d said item old ≡ Ok new
-decided_left w ms d said item old new a e = by_met (meets said.condition old) e
+decided_left w ms d said item old new a e = by_met (meets_condition said.condition old) e
   where
     by_left : (r : Result (Option (List Pair)) Answer) (answer : Option (List Pair) → Answer)
         → left_or_told r answer ≡ leaves new a → r ≡ Ok new
@@ -80,7 +80,7 @@ pub left_answered : (w : Writer) (ms : Members) (d : TableSchema) (said : Expres
     (item : List Pair) (old new : Option (List Pair)) (a : Answer)
     → decision w ms d said item old ≡ leaves new a → a.status ≡ 200
 left_answered w ms d said item old new a e =
-    by_met (meets said.condition old) (w.leaves d said item old) e
+    by_met (meets_condition said.condition old) (w.leaves d said item old) e
   where
     shown_well : (o : Option (List Pair)) → (item_answer (codes "Attributes") o).status ≡ 200
     shown_well None = refl
@@ -102,7 +102,7 @@ left_answered w ms d said item old new a e =
 module _ (w : Writer) (ms : Members) (d : TableSchema) (said : Expressions) (item : List Pair)
     (old : Option (List Pair)) where
   -- where the condition holds, it is what the operation leaves
-  pub met_so : true ≡ meets said.condition old
+  pub met_so : true ≡ meets_condition said.condition old
       → decision w ms d said item old ≡ left_or_told (w.leaves d said item old)
       (λ new. item_answer (codes "Attributes") (w.shows ms said old new))
   met_so held = λ i. if sym held i then left_or_told (w.leaves d said item old)
@@ -110,7 +110,7 @@ module _ (w : Writer) (ms : Members) (d : TableSchema) (said : Expressions) (ite
       else tells (failed (asked (codes "ReturnValuesOnConditionCheckFailure") ms old))
 
   -- where it doesn't, the refusal is told
-  pub unmet_so : false ≡ meets said.condition old
+  pub unmet_so : false ≡ meets_condition said.condition old
       → decision w ms d said item old
       ≡ tells (failed (asked (codes "ReturnValuesOnConditionCheckFailure") ms old))
   unmet_so failed_so = λ i. if sym failed_so i then left_or_told (w.leaves d said item old)
@@ -143,7 +143,7 @@ pub comes_decided : (w : Writer) (s : State) (moment : ℕ) (ms : Members) (said
     (disk : DiskState) (tables : Tables) (name at : List ℕ) → name ≡ table_name ms → at ≡ place
     → Some d ≡ map.get (catalog_of tables) name → Stands disk tables s
     → map.get s.tables name ≡ Some t → old ≡ map.get t.items at
-    → changes w s moment ms said item t place
+    → changes_item w s moment ms said item t place
     ≡ comes_to s moment name t at (decision w ms d said item old)
 comes_decided w s moment ms said item t place d old disk tables name at named placed schema stands
     there found =

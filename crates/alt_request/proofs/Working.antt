@@ -6,7 +6,7 @@ use Rattle.alt_disk.specs.Disk.{DiskState, Goes}
 use Rattle.alt_machine.specs.Outcomes.{Outcome, a_number}
 use Rattle.alt_machine.specs.State.{State, Table}
 use Rattle.alt_machine.specs.Writes.{item_writes}
-use Rattle.alt_request.specs.private.Decided.{Decision, leaves, comes_to, Decides, Works}
+use Rattle.alt_request.specs.private.Decided.{Decision, leaves, comes_to, Decides, CarriesAndMoves}
 use Rattle.alt_request.specs.declared.deciding.Decided.TheVariants.{Told, Left}
 use Rattle.alt_said.specs.declared.stop.Stop.{Stop}
 use Rattle.alt_said.specs.declared.stop.Stop.TheVariants.{Refused, Fault}
@@ -31,7 +31,7 @@ module _ (outcome : State → Outcome) (old now : State → Type 0) (tables : Ta
   pub works_unfound : {A : Type 0} {file : ℕ} (f : TableFault) → ((s : State) → old s → IsFindFault f)
       → ((s : State) → old s → now s)
       → (IsErrOf {T = A} (Err f) Failed → Rose before.faults read.faults)
-      → Works file outcome old now before read (Err (Fault f))
+      → CarriesAndMoves file outcome old now before read (Err (Fault f))
   works_unfound f known stays cause = record {
     carries = unfound outcome old now f known stays;
     moves = reads_move outcome old tables before stood read (Err (Fault f)) reads
@@ -43,7 +43,7 @@ module _ (outcome : State → Outcome) (old now : State → Type 0) (tables : Ta
       (is : (s : State) → old s → outcome s ≡ comes_to s moment name t place d) where
     -- an answer without a write
     pub works_told : {file : ℕ} → ((s : State) → old s → now s) → (reply : Reply)
-        → Decides d (Ok (Told reply)) → Works file outcome old now before read (Ok reply)
+        → Decides d (Ok (Told reply)) → CarriesAndMoves file outcome old now before read (Ok reply)
     works_told stays reply h = record {
       carries = said outcome old now reply h.1
           (λ s o. is s o ∙ ap (comes_to s moment name t place) h.0) stays;
@@ -52,7 +52,7 @@ module _ (outcome : State → Outcome) (old now : State → Type 0) (tables : Ta
 
     -- a refusal, or want of memory
     pub works_stopped : {file : ℕ} → ((s : State) → old s → now s) → (stop : Stop)
-        → Decides d (Err stop) → Works file outcome old now before read (Err stop)
+        → Decides d (Err stop) → CarriesAndMoves file outcome old now before read (Err stop)
     works_stopped stays (Refused r) h = record {
       carries = refused_so outcome old now r h.1
           (λ s o. is s o ∙ ap (comes_to s moment name t place) h.0) stays;
@@ -80,7 +80,7 @@ module _ (outcome : State → Outcome) (old now : State → Type 0) (tables : Ta
         -- it was written
         pub works_wrote : {file : ℕ} → ((s : State) → old s
             → AreMade now a_number s (item_writes s moment name t place new))
-            → reply.status ≡ 200 → Works file outcome old now before after (Ok reply)
+            → reply.status ≡ 200 → CarriesAndMoves file outcome old now before after (Ok reply)
         works_wrote made well = record {
           carries = wrote outcome old now reply h.1 a_number
               (λ s o. (item_writes s moment name t place new, comes s o, made s o));
@@ -93,7 +93,7 @@ module _ (outcome : State → Outcome) (old now : State → Type 0) (tables : Ta
             → BreakOff file now a_number s (item_writes s moment name t place new) f)
             → (IsErrOf {T = A} (Err f) Failed → Rose read.faults after.faults)
             → (IsErrOf {T = A} (Err f) NoMemory → Reads read after)
-            → Works file outcome old now before after (Err (Fault f))
+            → CarriesAndMoves file outcome old now before after (Err (Fault f))
         works_broke f broke cause unwritten = record {
           carries = broke_off outcome old now f a_number (λ s o. (
             item_writes s moment name t place new,

@@ -30,34 +30,34 @@ pub record IsAnswered (now : State → Type 0) (s : State) (outcome : Outcome)
   pub enough : wanted s outcome ≡ None
 
 -- A refusal is the outcome's answer, and there is no write.
-pub record IsRefused (now : State → Type 0) (s : State) (outcome : Outcome)
+pub record OutcomeRefuses (now : State → Type 0) (s : State) (outcome : Outcome)
     (r : Refusal) : Type 0 where
   pub answered : IsAnswered now s outcome (refused r)
   pub unwritten : outcome.atoms ≡ []
 
 -- A reply and a refusal are the outcome's answer; after a fault the writes broke off.
-abbrev pub Does : ℕ → (State → Type 0) → State → Outcome → Result Reply Stop → Type 0
-Does file now s outcome (Ok reply) = IsAnswered now s outcome (answer_of reply)
-Does file now s outcome (Err (Refused r)) = IsRefused now s outcome r
-Does file now s outcome (Err (Fault fault)) = BreakOff file now outcome.wants s outcome.atoms fault
+abbrev pub FollowsOutcome : ℕ → (State → Type 0) → State → Outcome → Result Reply Stop → Type 0
+FollowsOutcome file now s outcome (Ok reply) = IsAnswered now s outcome (answer_of reply)
+FollowsOutcome file now s outcome (Err (Refused r)) = OutcomeRefuses now s outcome r
+FollowsOutcome file now s outcome (Err (Fault fault)) = BreakOff file now outcome.wants s outcome.atoms fault
 
 -- No float stands in a reply, so its text is the compact one, and a refusal has a message.
-abbrev pub IsPlain : Result Reply Stop → Type 0
-IsPlain (Ok reply) = has_float (body_json reply.body) ≡ false
-IsPlain (Err (Refused r)) = IsKnown r
-IsPlain (Err (Fault fault)) = Unit {0}
+abbrev pub IsPlainResult : Result Reply Stop → Type 0
+IsPlainResult (Ok reply) = has_float (body_json reply.body) ≡ false
+IsPlainResult (Err (Refused r)) = IsKnown r
+IsPlainResult (Err (Fault fault)) = Unit {0}
 
 -- A reply or a refusal is this answer, and no float stands in it; or memory was wanting for it.
-abbrev pub Says : Answer → Result Reply Stop → Type 0
-Says answer (Ok reply) = (answer_of reply ≡ answer) × (has_float (body_json reply.body) ≡ false)
-Says answer (Err (Refused r)) = (refused r ≡ answer) × IsKnown r
-Says answer (Err (Fault fault)) = fault ≡ NoMemory
+abbrev pub SaysAnswer : Answer → Result Reply Stop → Type 0
+SaysAnswer answer (Ok reply) = (answer_of reply ≡ answer) × (has_float (body_json reply.body) ≡ false)
+SaysAnswer answer (Err (Refused r)) = (refused r ≡ answer) × IsKnown r
+SaysAnswer answer (Err (Fault fault)) = fault ≡ NoMemory
 
 -- A call carries a request out, which has this outcome in each state for which the tables stood.
 pub record Carries (file : ℕ) (outcome : State → Outcome) (old now : State → Type 0)
     (result : Result Reply Stop) : Type 0 where
-  pub does : (s : State) → old s → Does file now s (outcome s) result
-  pub plain : IsPlain result
+  pub does : (s : State) → old s → FollowsOutcome file now s (outcome s) result
+  pub plain : IsPlainResult result
 
 -- ---- the disk
 

@@ -5,7 +5,7 @@ use Rattle.alt_request.specs.declared.body.Rules.{Rules}
 pub use Rattle.alt_said.specs.Steps.{Comes, IsMemory, Tested}
 
 -- the rules of the program, as the machine has them
-abbrev pub rules_of : Rules → machine.Rules
+abbrev pub rules_of : Rules → machine.MemberRules
 rules_of rules = record {
   legacy = map (λ w. w.now) rules.legacy.now;
   texts = map (λ w. w.now) rules.texts.now;

@@ -1,6 +1,6 @@
 //! What a body alone is refused for, and the table that it names.
 
-ghost use Rattle.std.specs.Prelude.{◌≡◌, is_some, map as each, IfOk};
+ghost use Rattle.std.specs.Prelude.{◌≡◌, is_some, map as each};
 ghost use Rattle.std.specs.List.{list_any, list_all};
 ghost use Rattle.std.specs.FinMap as map;
 ghost use Rattle.serde_json.specs.View.{members_view};

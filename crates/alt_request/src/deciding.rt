@@ -60,7 +60,7 @@ pub(crate) fn decide<W: ItemWrite>(
 
 /// Whether the condition holds of the item that is there; one that isn't there has no attributes.
 fn meets(alloc: Global, condition: &Option<Cond>, old: &Option<Item>) -> bool
-    ensures meets { result ≡ machine.meets condition.now old.now }
+    ensures meets { result ≡ machine.meets_condition condition.now old.now }
 {
     let Some(condition) = condition else {
         return true;

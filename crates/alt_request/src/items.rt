@@ -2,7 +2,7 @@
 
 ghost use Rattle.std.specs.Prelude.{◌≡◌};
 ghost use Rattle.serde_json.specs.View.{members_view};
-ghost use Rattle.alt_machine.specs.Keys.{place_of, key_count, byte_count, is_within, key_fits};
+ghost use Rattle.alt_machine.specs.Keys.{place_of, key_count, byte_count, is_key_value_within, key_fits};
 ghost use Rattle.alt_machine.specs.Members.{item_at};
 ghost use Rattle.alt_machine.specs.Ops.PutItem.{of_item};
 ghost use Rattle.alt_machine.specs.Targets.{member_of, place_in};
@@ -115,7 +115,7 @@ pub(crate) fn key_fits(schema: &TableSchema, item: &Item) -> bool
 }
 
 fn is_within(most: usize, item: &Item, key: &KeyAttr) -> bool
-    ensures { result ≡ is_within most item.now key.now }
+    ensures { result ≡ is_key_value_within most item.now key.now }
 {
     match item.get(key.name.as_str()) {
         Some(value) => byte_count(value) <= most,

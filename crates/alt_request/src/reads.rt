@@ -14,7 +14,7 @@ ghost use Rattle.alt_machine.specs.Members.{table_name};
 ghost use Rattle.alt_machine.specs.Outcomes.{says};
 ghost use Rattle.alt_machine.specs.State.{State, Table};
 ghost use Rattle.alt_machine.specs.Targets.{on_table, on_item};
-ghost use Rattle.alt_request.specs.Carried.{Carries, Does, IsPlain, Moves};
+ghost use Rattle.alt_request.specs.Carried.{Carries, FollowsOutcome, IsPlainResult, Moves};
 ghost use Rattle.alt_request.specs.Reads.{finds};
 ghost use Rattle.alt_request.specs.Steps.{IsMemory, rules_of};
 ghost use Rattle.alt_said.specs.Words.{texts_of};
@@ -43,7 +43,7 @@ pub trait TableRead {
     ghost shape: { Members → Option Broken };
 
     /// What the operation says of its members.
-    ghost rules: { machine.Rules };
+    ghost rules: { machine.MemberRules };
 
     /// What it answers of a table.
     ghost answer: { TableSchema → Answer };
@@ -96,7 +96,7 @@ pub trait ItemRead {
     ghost shape: { Members → Option Broken };
 
     /// What the operation says of its members.
-    ghost rules: { machine.Rules };
+    ghost rules: { machine.MemberRules };
 
     /// Which of its members are expressions.
     ghost texts: { words.Texts };
@@ -175,8 +175,8 @@ fn found_reply<R: ItemRead, D: Disk>(
         (table_name (members_view body.now.entries)) ≡ true }
     ensures does { (s : State) (t : Table) → Stands (D.state disk.old) tables.old s
         → map.get s.tables (table_name (members_view body.now.entries)) ≡ Some t
-        → Does (bounds_of tables.old).file (Stands (D.state disk.new) tables.new) s (finds R.answer said.now t place) result }
-    ensures plain { IsPlain result }
+        → FollowsOutcome (bounds_of tables.old).file (Stands (D.state disk.new) tables.new) s (finds R.answer said.now t place) result }
+    ensures plain { IsPlainResult result }
     ensures limits { bounds_of tables.new ≡ bounds_of tables.old }
     ensures moves { (t : Table) → Moves (λ s. finds R.answer said.now t place)
         (λ s. Stands (D.state disk.old) tables.old s

@@ -1,6 +1,5 @@
 //! What an operation goes on with: the table that its body names, or an item or a key and its place there.
 
-ghost use Rattle.std.specs.Prelude.{◌≡◌};
 ghost use Rattle.serde_json.specs.View.{members_view};
 ghost use Rattle.alt_machine.specs.Body.{body_refusals};
 ghost use Rattle.alt_request.specs.Steps.{Comes, rules_of};

@@ -11,8 +11,8 @@ ghost use Rattle.alt_machine.specs.Replies.{item_answer};
 ghost use Rattle.alt_machine.specs.State.{State, Table};
 ghost use Rattle.alt_machine.specs.Valid.{IsStored};
 ghost use Rattle.alt_request.specs.Carried.{Carries, Moves};
-ghost use Rattle.alt_request.specs.private.Decided.{Works};
-ghost use Rattle.alt_request.specs.ItemWrites.{Writer, AreSaid, IsAsked, LeavesStored, changes, writes_item};
+ghost use Rattle.alt_request.specs.private.Decided.{CarriesAndMoves};
+ghost use Rattle.alt_request.specs.ItemWrites.{Writer, AreSaid, IsAsked, LeavesStored, changes_item, writes_item};
 ghost use Rattle.alt_request.specs.Steps.{Comes, IsMemory, Tested, rules_of};
 ghost use Rattle.alt_said.specs.Words.{texts_of};
 ghost use Rattle.alt_shape.specs.Body.{body_json};
@@ -154,8 +154,8 @@ fn write_at<W: ItemWrite, D: Disk>(
         → (new : Option (List Pair))
         → W.says.leaves t.description said.now item (map.get t.items place) ≡ Ok new
         → IfSome new (IsStored t.description place) }
-    ensures works { (t : Table) → Works (bounds_of tables.old).file
-        (λ s. changes W.says s moment (members_view body.now.entries) said.now item t place)
+    ensures works { (t : Table) → CarriesAndMoves (bounds_of tables.old).file
+        (λ s. changes_item W.says s moment (members_view body.now.entries) said.now item t place)
         (λ s. Stands (D.state disk.old) tables.old s
         × (map.get s.tables (table_name (members_view body.now.entries)) ≡ Some t))
         (Stands (D.state disk.new) tables.new) (D.state disk.old) (D.state disk.new) result }

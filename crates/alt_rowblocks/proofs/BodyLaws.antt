@@ -5,7 +5,7 @@ use Rattle.std.specs.Int.{w64, to_be_bytes}
 use Rattle.std.specs.List.{flat_map}
 use Rattle.std.proofs.lemmas.List.{take_at, drop_at, take-append-drop, take-take, take_all, length-take-le, length-drop}
 use Rattle.alt_fields.proofs.Apart.{number-apart}
-use Rattle.alt_rowblocks.specs.Format.{Entry, Mark, header, front, rows_of, marks_from, mark_bytes, tail_bytes, body}
+use Rattle.alt_rowblocks.specs.Format.{Entry, Mark, row_file_header, front, rows_of, marks_from, mark_bytes, tail_bytes, body}
 use Rattle.alt_rowblocks.specs.Blocks.{AreBlocksOf, IsFoundAs, IsBody}
 use Rattle.alt_filter.specs.declared.filter.Filter.{Filter}
 use Rattle.alt_rowblocks.specs.declared.summary.Summary.{Summary}
@@ -51,12 +51,12 @@ body_long blocks =
 
 -- the header and the blocks have at least eight bytes
 pub front_long : (blocks : List (List Entry)) → 8 ≤ length (front blocks)
-unfolding header
+unfolding row_file_header
 front_long blocks = omega arith
 
 -- what stands before the digest begins with the header
-pub body_header : (blocks : List (List Entry)) → take 8 (body blocks) ≡ header
-unfolding header
+pub body_header : (blocks : List (List Entry)) → take 8 (body blocks) ≡ row_file_header
+unfolding row_file_header
 body_header blocks = refl
 
 -- ---- no body
@@ -68,7 +68,7 @@ too_short bytes short blocks is =
     omega (arith, short, ap length is.is, body_long blocks, front_long blocks)
 
 -- nor are bytes that begin otherwise
-pub other_header : (bytes head : List ℕ) → head ≡ take 8 bytes → head ≢ header
+pub other_header : (bytes head : List ℕ) → head ≡ take 8 bytes → head ≢ row_file_header
     → (blocks : List (List Entry)) → IsBody blocks bytes → ⊥
 other_header bytes head same other blocks is = other (same ∙ ap (take 8) is.is ∙ body_header blocks)
 
@@ -99,7 +99,7 @@ pub body_parts : (bytes : List ℕ) (end : ℕ) → end < 2 ^ 64
     → IsBody blocks bytes
     → AreBlocksOf blocks (drop 8 (take end bytes))
     × (drop end bytes ≡ tail_bytes (marks_from 8 blocks) (length (rows_of blocks)) end)
-unfolding header
+unfolding row_file_header
 body_parts bytes end fits last blocks is =
     let place = place_of bytes end fits last blocks is in
     let tail = tail_bytes (marks_from 8 blocks) (length (rows_of blocks)) (length (front blocks)) in
@@ -114,7 +114,7 @@ body_parts bytes end fits last blocks is =
 pub body_whole : {summary : Summary} {filters : List Filter} (bytes made : List ℕ) (end rows : ℕ)
     (marks : List Mark)
     (blocks : List (List Entry)) → 8 ≤ end → end ≤ length bytes → end < 2 ^ 64
-    → take 8 bytes ≡ header → AreBlocksOf blocks (drop 8 (take end bytes))
+    → take 8 bytes ≡ row_file_header → AreBlocksOf blocks (drop 8 (take end bytes))
     → IsFoundAs marks rows summary filters blocks → made ≡ tail_bytes marks rows end → made ≡ drop
     end bytes
     → IsBody blocks bytes × (marks ≡ marks_from 8 blocks) × (end ≡ length (front blocks))

@@ -8,14 +8,14 @@ use Rattle.alt_base.proofs.Orderings.{is_lt-holds}
 use Rattle.alt_cells.specs.Keys.{key_cmp}
 use Rattle.alt_cells.proofs.CellLaws.{key_total}
 use Rattle.alt_rowblocks.specs.Format.{Entry}
-use Rattle.alt_rowblocks.specs.Cut.{IsBelow, IsFrom}
+use Rattle.alt_rowblocks.specs.Cut.{IsBelowKey, IsFromKey}
 use Rattle.alt_rowblocks.proofs.SearchLaws.{at_or_above, first_below}
 
 module _ (key : List ℕ) where
   -- rows before one at or below the key are below it
   pub below_front : (xs : List Entry) (y : Entry) (ys : List Entry)
       → T (is_sorted key_cmp (xs ++ y ∷ ys)) → is_gt (key_cmp y.0 key) ≡ false
-      → AllByRecursion (IsBelow key) xs
+      → AllByRecursion (IsBelowKey key) xs
   below_front [] y ys h up = tt
   below_front (x ∷ xs) y ys h up = (
     at_or_above x.0 y.0 key (first_below x xs y ys h) up,
@@ -24,8 +24,8 @@ module _ (key : List ℕ) where
   )
 
   -- rows behind one that isn't below it aren't
-  from_behind : (y : Entry) (es : List Entry) → IsFrom key y → T (below_all key_cmp y.0 es)
-      → AllByRecursion (IsFrom key) es
+  from_behind : (y : Entry) (es : List Entry) → IsFromKey key y → T (below_all key_cmp y.0 es)
+      → AllByRecursion (IsFromKey key) es
   from_behind y [] n h = tt
   from_behind y (e ∷ es) n h = (
     (λ lower. n (key_total.trans y.0 e.0 key (is_lt-holds _ (first_holds _ _ h)) lower)),
@@ -33,6 +33,6 @@ module _ (key : List ℕ) where
   )
 
   -- where the first of sorted rows is at a key or behind it, all are
-  pub from_first : (y : Entry) (ys : List Entry) → T (is_sorted key_cmp (y ∷ ys)) → IsFrom key y
-      → AllByRecursion (IsFrom key) (y ∷ ys)
+  pub from_first : (y : Entry) (ys : List Entry) → T (is_sorted key_cmp (y ∷ ys)) → IsFromKey key y
+      → AllByRecursion (IsFromKey key) (y ∷ ys)
   from_first y ys h n = (n, from_behind y ys n (first_holds _ _ h))

@@ -12,7 +12,7 @@ use Rattle.alt_cells.specs.Keys.{key_cmp}
 use Rattle.alt_cells.proofs.CellLaws.{key_total}
 use Rattle.alt_fields.proofs.Apart.{field-apart, all_append, all_back, flat_map_snoc}
 use Rattle.alt_cells.proofs.Rising.{sorted_front, sorted_other}
-use Rattle.alt_rowblocks.specs.Format.{Entry, entry_bytes, rows_bytes, IsHeldEntry}
+use Rattle.alt_rowblocks.specs.Format.{Entry, row_entry_bytes, rows_bytes, IsHeldEntry}
 use Rattle.alt_rowblocks.specs.Decoding.{AreRows, IsNextKey, StandBefore, NoRows}
 use Rattle.alt_rowblocks.proofs.OneFile.{entry-apart, length-entry}
 
@@ -40,23 +40,23 @@ rest_of spell P apart some (k ∷ ks) (l ∷ ls) more a b e =
 -- the field of a key and that of its row are an entry
 pub entry_whole : (key row_bytes behind bytes rest : List ℕ) (row : RowCells)
     → bytes ≡ field key ++ behind → behind ≡ field row_bytes ++ rest → row_bytes ≡ bytes_of_row row
-    → bytes ≡ entry_bytes (key, row) ++ rest
-unfolding entry_bytes
+    → bytes ≡ row_entry_bytes (key, row) ++ rest
+unfolding row_entry_bytes
 entry_whole key row_bytes behind bytes rest row first then is =
     first ∙ ap (λ (l : List ℕ). field key ++ l) (then ∙ ap (λ (r : List ℕ). field r ++ rest) is)
     ∙ sym (append_assoc (field key) (field (bytes_of_row row)) rest)
 
 -- an entry begins with its key
 pub entry_key : (e : Entry) (x : List ℕ)
-    → entry_bytes e ++ x ≡ field e.0 ++ (field (bytes_of_row e.1) ++ x)
-unfolding entry_bytes
+    → row_entry_bytes e ++ x ≡ field e.0 ++ (field (bytes_of_row e.1) ++ x)
+unfolding row_entry_bytes
 entry_key e x = append_assoc (field e.0) (field (bytes_of_row e.1)) x
 
 -- a key with a field behind it that holds no row is no entry
 pub no_row_entry : (key row_bytes behind bytes rest : List ℕ) → length key < 2 ^ 64
     → length row_bytes < 2 ^ 64 → bytes ≡ field key ++ behind → behind ≡ field row_bytes ++ rest
     → NoRow row_bytes
-    → (e : Entry) (x : List ℕ) → IsHeldEntry e → bytes ≡ entry_bytes e ++ x → ⊥
+    → (e : Entry) (x : List ℕ) → IsHeldEntry e → bytes ≡ row_entry_bytes e ++ x → ⊥
 no_row_entry key row_bytes behind bytes rest short fits first then none e x held is =
     let k = field-apart key e.0 behind (field (bytes_of_row e.1) ++ x) short held.0 (sym first ∙ is
     ∙ entry_key e x) in
@@ -66,7 +66,7 @@ no_row_entry key row_bytes behind bytes rest short fits first then none e x held
 -- a key with no field behind it is no entry
 pub no_field_behind : (key behind bytes : List ℕ) → length key < 2 ^ 64
     → bytes ≡ field key ++ behind → ((s x : List ℕ) → length s < 2 ^ 64 → behind ≡ field s ++ x → ⊥)
-    → (e : Entry) (x : List ℕ) → IsHeldEntry e → bytes ≡ entry_bytes e ++ x → ⊥
+    → (e : Entry) (x : List ℕ) → IsHeldEntry e → bytes ≡ row_entry_bytes e ++ x → ⊥
 no_field_behind key behind bytes short first none e x held is =
     let k = field-apart key e.0 behind (field (bytes_of_row e.1) ++ x) short held.0 (sym first ∙ is
     ∙ entry_key e x) in
@@ -92,7 +92,7 @@ no_rows_yet bytes =
 pub one_row_more : (bytes rest behind : List ℕ) (before next : ℕ) (rows new : List Entry)
     (key : List ℕ) (row : RowCells) → RowsSoFar bytes rest before rows → IsHeldEntry (key, row)
     → IsNextKey rows key
-    → rest ≡ entry_bytes (key, row) ++ behind → next ≡ length bytes - length rest
+    → rest ≡ row_entry_bytes (key, row) ++ behind → next ≡ length bytes - length rest
     → new ≡ rows ++ (key, row) ∷ [] → RowsSoFar bytes behind next new
 one_row_more bytes rest behind before next rows new key row so_far held above is at added =
     let e : Entry = (key, row) in
@@ -104,7 +104,7 @@ one_row_more bytes rest behind before next rows new key row so_far held above is
     record {
       are = subst AreRows (sym added) are;
       is = so_far.is ∙ ap (λ (l : List ℕ). rows_bytes rows ++ l) is
-          ∙ flat_map_snoc entry_bytes IsHeldEntry rows e behind
+          ∙ flat_map_snoc row_entry_bytes IsHeldEntry rows e behind
           ∙ ap (λ (r : List Entry). rows_bytes r ++ behind) (sym added);
       place = λ front last same.
           let whole : rows ++ e ∷ [] ≡ front ++ last ∷ [] = sym added ∙ same in
@@ -121,9 +121,9 @@ one_row_more bytes rest behind before next rows new key row so_far held above is
 -- where no row stands next, the bytes are of no rows
 pub no_rows_next : (bytes rest : List ℕ) (before : ℕ) (rows : List Entry)
     → RowsSoFar bytes rest before rows → 0 < length rest
-    → ((e : Entry) (x : List ℕ) → IsHeldEntry e → rest ≡ entry_bytes e ++ x → ⊥) → NoRows bytes
+    → ((e : Entry) (x : List ℕ) → IsHeldEntry e → rest ≡ row_entry_bytes e ++ x → ⊥) → NoRows bytes
 no_rows_next bytes rest before rows so_far some none others are is =
-    let r = rest_of entry_bytes IsHeldEntry entry-apart
+    let r = rest_of row_entry_bytes IsHeldEntry entry-apart
     (λ e. omega (arith, length-entry e)) rows others rest so_far.are.0 are.0 (sym so_far.is
     ∙ is) in
     refute r.0 r.2 (subst (AllByRecursion IsHeldEntry) r.1 are.0)
@@ -137,9 +137,9 @@ no_rows_next bytes rest before rows so_far some none others are is =
 -- and where a key stands next that isn't above the last
 pub no_key_next : (bytes rest behind : List ℕ) (before : ℕ) (rows : List Entry) (key : List ℕ)
     (row : RowCells) → RowsSoFar bytes rest before rows → IsHeldEntry (key, row)
-    → rest ≡ entry_bytes (key, row) ++ behind → (IsNextKey rows key → ⊥) → NoRows bytes
+    → rest ≡ row_entry_bytes (key, row) ++ behind → (IsNextKey rows key → ⊥) → NoRows bytes
 no_key_next bytes rest behind before rows key row so_far held there low others are is =
-    let r = rest_of entry_bytes IsHeldEntry entry-apart
+    let r = rest_of row_entry_bytes IsHeldEntry entry-apart
     (λ e. omega (arith, length-entry e)) rows others rest so_far.are.0 are.0 (sym so_far.is
     ∙ is) in
     refute r.0 r.2 (subst AreRows r.1 are)
@@ -150,7 +150,7 @@ no_key_next bytes rest behind before rows key row so_far held there low others a
           arith,
           ap length same,
           ap length there,
-          length-append (entry_bytes (key, row)) behind,
+          length-append (row_entry_bytes (key, row)) behind,
           length-entry (key, row),
         )
     refute (e ∷ more) same here =
@@ -167,17 +167,17 @@ no_key_next bytes rest behind before rows key row so_far held there low others a
 
 -- bytes that hold no field hold no entry
 pub no_field_at : (bytes : List ℕ) → ((s x : List ℕ) → length s < 2 ^ 64 → bytes ≡ field s ++ x → ⊥)
-    → (e : Entry) (x : List ℕ) → IsHeldEntry e → bytes ≡ entry_bytes e ++ x → ⊥
+    → (e : Entry) (x : List ℕ) → IsHeldEntry e → bytes ≡ row_entry_bytes e ++ x → ⊥
 no_field_at bytes none e x held is =
     none e.0 (field (bytes_of_row e.1) ++ x) held.0 (is ∙ entry_key e x)
 
 -- behind an entry fewer bytes are left
 pub left_shorter : (rest behind key : List ℕ) (row : RowCells)
-    → rest ≡ entry_bytes (key, row) ++ behind → length behind < length rest
+    → rest ≡ row_entry_bytes (key, row) ++ behind → length behind < length rest
 left_shorter rest behind key row is =
     omega (
       arith,
       ap length is,
-      length-append (entry_bytes (key, row)) behind,
+      length-append (row_entry_bytes (key, row)) behind,
       length-entry (key, row),
     )

@@ -11,12 +11,12 @@ use Rattle.alt_cells.proofs.CellLaws.{key_exact}
 use Rattle.alt_fields.proofs.Apart.{all_append, all_map}
 use Rattle.alt_filter.specs.Filters.{Holds}
 use Rattle.alt_filter.specs.declared.filter.Filter.{Filter}
-use Rattle.alt_rowblocks.specs.Filtering.{AreFilters, HoldsRows, IsDenied}
+use Rattle.alt_rowblocks.specs.Filtering.{AreFilters, FilterHoldsRows, IsDenied}
 use Rattle.alt_rowblocks.specs.Format.{Entry}
 
 -- the filter of one block more
 pub filters-push : (filters : List Filter) (blocks : List (List Entry)) (f : Filter)
-    (b : List Entry) → AreFilters filters blocks → HoldsRows f b
+    (b : List Entry) → AreFilters filters blocks → FilterHoldsRows f b
     → AreFilters (filters ++ f ∷ []) (blocks ++ b ∷ [])
 filters-push [] [] f b are holds = (holds, tt)
 filters-push [] (c ∷ blocks) f b are holds = absurd are
@@ -26,8 +26,8 @@ filters-push (g ∷ filters) (c ∷ blocks) f b are holds =
 
 -- a filter that holds what another did, and a further key, holds rows with one more
 pub holds_more : (old new : Filter) (rows : List Entry) (e : Entry)
-    → ((key : List ℕ) → Holds old key → Holds new key) → Holds new e.0 → HoldsRows old rows
-    → HoldsRows new (rows ++ e ∷ [])
+    → ((key : List ℕ) → Holds old key → Holds new key) → Holds new e.0 → FilterHoldsRows old rows
+    → FilterHoldsRows new (rows ++ e ∷ [])
 holds_more old new rows e kept added holds =
     all_append (λ (x : Entry). Holds new x.0) rows (e ∷ [])
     (all_map (λ (x : Entry). Holds old x.0) (λ (x : Entry). Holds new x.0) rows
@@ -37,13 +37,13 @@ holds_more old new rows e kept added holds =
 pub holds_next : (old new : Filter) (rows : List Entry) (i : ℕ) (e : Entry) → i < length rows
     → e ≡ get_or rows i e
     → ((key : List ℕ) → Holds old key → Holds new key) → Holds new e.0
-    → HoldsRows old (take i rows) → HoldsRows new (take (i + 1) rows)
+    → FilterHoldsRows old (take i rows) → FilterHoldsRows new (take (i + 1) rows)
 holds_next old new rows i e less at kept added holds =
-    subst (HoldsRows new) (ap (λ (x : Entry). take i rows ++ x ∷ []) at
+    subst (FilterHoldsRows new) (ap (λ (x : Entry). take i rows ++ x ∷ []) at
     ∙ sym (take_more rows i e less)) (holds_more old new (take i rows) e kept added holds)
 
 -- a key that the filter of rows doesn't hold is at none of them
-none_held : (filter : Filter) (rows : List Entry) (key : List ℕ) → HoldsRows filter rows
+none_held : (filter : Filter) (rows : List Entry) (key : List ℕ) → FilterHoldsRows filter rows
     → (Holds filter key → ⊥) → find key_cmp key rows ≡ None
 none_held filter [] key holds denied = refl
 none_held filter (e ∷ rows) key holds denied =

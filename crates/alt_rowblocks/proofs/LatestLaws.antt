@@ -6,12 +6,12 @@ use Rattle.std.specs.FinMap.Entries.{find}
 use Rattle.std.specs.List.{fold}
 use Rattle.std.specs.Ordering.{eq_by_cmp}
 use Rattle.alt_cells.proofs.Searched.{get_entry}
-use Rattle.alt_cells.specs.Changes.{IsBelow}
+use Rattle.alt_cells.specs.Changes.{IsRowBelow}
 use Rattle.alt_cells.specs.Keys.{key_cmp}
 use Rattle.alt_cells.specs.Walks.{RowMap}
 use Rattle.alt_cells.specs.declared.cell.Cell.{Cell}
 use Rattle.alt_cells.specs.declared.row.RowCells.{RowCells}
-use Rattle.alt_rowblocks.specs.Summaries.{gone_at, latest_of, row_latest}
+use Rattle.alt_rowblocks.specs.Summaries.{tombstone_timestamp, latest_of, row_latest}
 
 -- the greatest of a number and of those of entries
 abbrev greatest : {X : Type 0} → (X → ℕ) → ℕ → List (List ℕ × X) → ℕ
@@ -73,24 +73,24 @@ reached {X} h n a (e ∷ es) high = ⊎_elim
     }
 
 -- a row is below what is above its greatest timestamp
-row_early : (n : ℕ) (row : RowCells) → row_latest row < n → IsBelow n row
+row_early : (n : ℕ) (row : RowCells) → row_latest row < n → IsRowBelow n row
 row_early n row low = record {
   gone = λ g is.
-      let first = first_within (λ (c : Cell). c.at) (gone_at row.gone) (entries row.cells) in
-      let here : gone_at row.gone ≡ g = ap gone_at is in
+      let first = first_within (λ (c : Cell). c.at) (tombstone_timestamp row.gone) (entries row.cells) in
+      let here : tombstone_timestamp row.gone ≡ g = ap tombstone_timestamp is in
       omega (arith, low, first, here);
   cells = λ q c there.
-      let here = found_within (λ (x : Cell). x.at) (gone_at row.gone) (entries row.cells) q c
+      let here = found_within (λ (x : Cell). x.at) (tombstone_timestamp row.gone) (entries row.cells) q c
       (sym (get-entries row.cells q) ∙ there) in
       omega (arith, low, here);
 }
 
 -- and below nothing else
-row_late : (n : ℕ) (row : RowCells) → 0 < n → n ≤ row_latest row → IsBelow n row → ⊥
+row_late : (n : ℕ) (row : RowCells) → 0 < n → n ≤ row_latest row → IsRowBelow n row → ⊥
 row_late n row some high below = ⊎_elim (by_gone row.gone refl) by_cell
-    (reached (λ (c : Cell). c.at) n (gone_at row.gone) (entries row.cells) high)
+    (reached (λ (c : Cell). c.at) n (tombstone_timestamp row.gone) (entries row.cells) high)
   where
-    by_gone : (gone : Option ℕ) → row.gone ≡ gone → n ≤ gone_at gone → ⊥
+    by_gone : (gone : Option ℕ) → row.gone ≡ gone → n ≤ tombstone_timestamp gone → ⊥
     by_gone None is high = omega (arith, some, high)
     by_gone (Some g) is high = omega (arith, below.gone g is, high)
 
@@ -103,14 +103,14 @@ row_late n row some high below = ⊎_elim (by_gone row.gone refl) by_cell
 
 -- all rows are below what is above their greatest timestamp
 pub latest_early : (n : ℕ) (m : RowMap) → latest_of (entries m) < n → (key : List ℕ)
-    (row : RowCells) → get m key ≡ Some row → IsBelow n row
+    (row : RowCells) → get m key ≡ Some row → IsRowBelow n row
 latest_early n m low key row there =
     let here = found_within row_latest 0 (entries m) key row (sym (get-entries m key) ∙ there) in
     row_early n row (omega (arith, low, here))
 
 -- and below nothing else
 pub latest_late : (n : ℕ) (m : RowMap) → 0 < n → n ≤ latest_of (entries m)
-    → ((key : List ℕ) (row : RowCells) → get m key ≡ Some row → IsBelow n row) → ⊥
+    → ((key : List ℕ) (row : RowCells) → get m key ≡ Some row → IsRowBelow n row) → ⊥
 latest_late n m some high below = ⊎_elim (λ (none : n ≤ 0). omega (arith, some, none)) by_row
     (reached row_latest n 0 (entries m) high)
   where

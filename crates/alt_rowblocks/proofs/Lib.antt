@@ -6,9 +6,11 @@ pub mod Loops
 pub mod TailLaws
 pub mod DecodeLaws
 pub mod BlockLaws
+pub mod BlockRuns
 pub mod BodyLaws
 pub mod SearchLaws
 pub mod HandLaws
+pub mod RowPlaces
 pub mod CutLaws
 pub mod StreamLaws
 pub mod PickLaws

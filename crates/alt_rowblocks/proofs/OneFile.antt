@@ -9,12 +9,12 @@ use Rattle.alt_cells.specs.Format.{bytes_of_row}
 use Rattle.alt_cells.proofs.OneRow.{row-apart}
 use Rattle.std.specs.List.{AllByRecursion}
 use Rattle.alt_fields.proofs.Apart.{same_fronts, number-apart, field-apart, length-field, same_whole, all_map, IsApart}
-use Rattle.alt_rowblocks.specs.Format.{Entry, entry_bytes, rows_bytes, block_bytes, front, rows_of, marks_from, tail_bytes, body, file_bytes, IsHeldEntry, IsHeldBlock, IsFileOf, IsRowFile}
+use Rattle.alt_rowblocks.specs.Format.{Entry, row_entry_bytes, rows_bytes, block_bytes, front, rows_of, marks_from, tail_bytes, body, IsHeldEntry, IsHeldBlock, IsFileOf, IsRowFile}
 
 -- how many bytes an entry has
 pub length-entry : (e : Entry)
-    → length (entry_bytes e) ≡ 16 + length e.0 + length (bytes_of_row e.1)
-unfolding entry_bytes
+    → length (row_entry_bytes e) ≡ 16 + length e.0 + length (bytes_of_row e.1)
+unfolding row_entry_bytes
 length-entry e =
     omega (
       arith,
@@ -30,8 +30,8 @@ length-block b = length-field (rows_bytes b)
 
 -- an entry's bytes end at one place, whatever follows them, and are those of one entry
 pub entry-apart : (a b : Entry) (x y : List ℕ) → IsHeldEntry a → IsHeldEntry b
-    → entry_bytes a ++ x ≡ entry_bytes b ++ y → (a ≡ b) × (x ≡ y)
-unfolding entry_bytes
+    → row_entry_bytes a ++ x ≡ row_entry_bytes b ++ y → (a ≡ b) × (x ≡ y)
+unfolding row_entry_bytes
 entry-apart a b x y h k e =
     let ra = bytes_of_row a.1 in
     let rb = bytes_of_row b.1 in
@@ -42,15 +42,15 @@ entry-apart a b x y h k e =
     ((λ i. (key.0 i, same.0 i)), row.1)
 
 -- an entry has bytes
-pub entry_some : (e : Entry) → 0 < length (entry_bytes e)
+pub entry_some : (e : Entry) → 0 < length (row_entry_bytes e)
 entry_some e = omega (arith, length-entry e)
 
 -- rows that fit their bytes are the only ones of these bytes
 pub one_block : (a b : List Entry) → AllByRecursion IsHeldEntry a → AllByRecursion IsHeldEntry b
     → rows_bytes a ≡ rows_bytes b → a ≡ b
 one_block a b h k e =
-    same_whole entry_bytes IsHeldEntry entry_some a b
-    (all_map IsHeldEntry (IsApart entry_bytes IsHeldEntry) a
+    same_whole row_entry_bytes IsHeldEntry entry_some a b
+    (all_map IsHeldEntry (IsApart row_entry_bytes IsHeldEntry) a
     (λ x held y p q other same. entry-apart x y p q held other same) h) k e
 
 -- a block has bytes
@@ -119,7 +119,7 @@ same_fronts_of a b ha hb e =
 -- the bytes are the file of one list of blocks
 pub one_file : (a b : List (List Entry)) (bytes : List ℕ) → IsFileOf a bytes → IsFileOf b bytes
     → a ≡ b
-unfolding Rattle.alt_rowblocks.specs.Format.header
+unfolding Rattle.alt_rowblocks.specs.Format.row_file_header
 one_file a b bytes first second =
     let fronts =
     same_fronts_of a b first.place second.place

@@ -17,7 +17,7 @@ use Rattle.alt_cells.proofs.CellLaws.{key_total}
 use Rattle.alt_rowblocks.specs.Blocks.{IsAbove}
 use Rattle.alt_rowblocks.specs.Summaries.{last_key}
 use Rattle.alt_rowblocks.specs.Decoding.{AreRows, NoRows}
-use Rattle.alt_rowblocks.specs.Format.{Entry, entry_bytes, rows_bytes, IsHeldEntry}
+use Rattle.alt_rowblocks.specs.Format.{Entry, row_entry_bytes, rows_bytes, IsHeldEntry}
 use Rattle.alt_rowblocks.specs.Picking.{Piece, piece_bytes, IsShortPiece, ArePieces, NoPieces, Picks}
 use Rattle.alt_rowblocks.proofs.BlockLaws.{last_key-append, sorted_join, above_join}
 use Rattle.alt_rowblocks.proofs.DecodeLaws.{rest_of}
@@ -210,9 +210,9 @@ sealed e = (e.0, bytes_of_row e.1)
 
 -- rows have the bytes of their pieces
 pub sealed_bytes : (rows : List Entry) → rows_bytes rows ≡ flat_map piece_bytes (map sealed rows)
-unfolding entry_bytes
+unfolding row_entry_bytes
 sealed_bytes [] = refl
-sealed_bytes (e ∷ rows) = ap (λ (l : List ℕ). entry_bytes e ++ l) (sealed_bytes rows)
+sealed_bytes (e ∷ rows) = ap (λ (l : List ℕ). row_entry_bytes e ++ l) (sealed_bytes rows)
 
 -- their pieces are short
 sealed_short : (rows : List Entry) → AllByRecursion IsHeldEntry rows

@@ -4,11 +4,12 @@ use Rattle.std.specs.Prelude.{Option, Some, None, IfNone, is_some, true}
 use Rattle.std.specs.List.{flat_map}
 use Rattle.std.proofs.lemmas.Grind.{flat_map-append}
 use Rattle.std.proofs.lemmas.List.{get_or_at, take_at, drop_at, length-take, length-drop, append-nil}
-use Rattle.alt_rowblocks.specs.Format.{Entry, Mark, block_bytes, rows_bytes, IsHeldBlock, header, front, rows_of, first_key, marks_from, tail_bytes, body, IsFileOf}
+use Rattle.alt_rowblocks.specs.Format.{Entry, Mark, block_bytes, rows_bytes, IsHeldBlock, row_file_header, front, rows_of, first_key, marks_from, tail_bytes, body, IsFileOf}
 use Rattle.alt_rowblocks.specs.Loading.{place_at, next_place, LoadedAt}
 use Rattle.alt_rowblocks.proofs.PushLaws.{length-front, front-push}
 use Rattle.alt_rowblocks.proofs.OneFile.{block_some}
-use Rattle.alt_rowblocks.proofs.BlockLaws.{sorted_back, rows_of-append}
+use Rattle.alt_rowblocks.proofs.BlockLaws.{sorted_back}
+use Rattle.alt_rowblocks.proofs.BlockRuns.{rows_of-append}
 use Rattle.alt_cells.proofs.Rising.{sorted_front}
 use Rattle.alt_cells.proofs.CellLaws.{key_total}
 use Rattle.alt_fields.proofs.Apart.{field-apart}
@@ -84,8 +85,8 @@ place_is blocks i xs b ys is size =
 
 front_split : (xs : List (List Entry)) (b : List Entry) (ys : List (List Entry))
     → front (xs ++ b ∷ ys) ≡ front xs ++ (block_bytes b ++ flat_map block_bytes ys)
-front_split xs b ys = ap (λ (l : List ℕ). header ++ l) (flat_map-append block_bytes xs (b ∷ ys))
-    ∙ sym (append_assoc header (flat_map block_bytes xs) (block_bytes b ++ flat_map block_bytes ys))
+front_split xs b ys = ap (λ (l : List ℕ). row_file_header ++ l) (flat_map-append block_bytes xs (b ∷ ys))
+    ∙ sym (append_assoc row_file_header (flat_map block_bytes xs) (block_bytes b ++ flat_map block_bytes ys))
 
 -- and the place behind it
 pub next_is : (blocks : List (List Entry)) (i end : ℕ) (xs : List (List Entry)) (b : List Entry)

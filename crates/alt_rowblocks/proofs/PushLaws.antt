@@ -3,13 +3,13 @@ use Rattle.std.proofs.Common.{◌≡◌, ℕ, ◌+◌, List, [], ◌∷◌, ◌+
 use Rattle.std.specs.List.{flat_map}
 use Rattle.std.proofs.lemmas.List.{append-nil}
 use Rattle.std.proofs.lemmas.Grind.{flat_map-append}
-use Rattle.alt_rowblocks.specs.Format.{Entry, Mark, entry_bytes, rows_bytes, block_bytes, header, front, rows_of, first_key, marks_from}
+use Rattle.alt_rowblocks.specs.Format.{Entry, Mark, row_entry_bytes, rows_bytes, block_bytes, row_file_header, front, rows_of, first_key, marks_from}
 
 -- the bytes of rows with one more are theirs, and its own behind them
 pub rows_bytes-push : (rows : List Entry) (e : Entry)
-    → rows_bytes (rows ++ e ∷ []) ≡ rows_bytes rows ++ entry_bytes e
-rows_bytes-push rows e = flat_map-append entry_bytes rows (e ∷ [])
-    ∙ ap (λ (l : List ℕ). rows_bytes rows ++ l) (append-nil (entry_bytes e))
+    → rows_bytes (rows ++ e ∷ []) ≡ rows_bytes rows ++ row_entry_bytes e
+rows_bytes-push rows e = flat_map-append row_entry_bytes rows (e ∷ [])
+    ∙ ap (λ (l : List ℕ). rows_bytes rows ++ l) (append-nil (row_entry_bytes e))
 
 -- the rows of blocks with one more are theirs, and its own behind them
 pub rows_of-push : (blocks : List (List Entry)) (b : List Entry)
@@ -26,13 +26,13 @@ blocks_bytes-push blocks b = flat_map-append block_bytes blocks (b ∷ [])
 -- a file before its index, with one block more, has that block behind what it had
 pub front-push : (blocks : List (List Entry)) (b : List Entry)
     → front (blocks ++ b ∷ []) ≡ front blocks ++ block_bytes b
-front-push blocks b = ap (λ (l : List ℕ). header ++ l) (blocks_bytes-push blocks b)
-    ∙ sym (append_assoc header (flat_map block_bytes blocks) (block_bytes b))
+front-push blocks b = ap (λ (l : List ℕ). row_file_header ++ l) (blocks_bytes-push blocks b)
+    ∙ sym (append_assoc row_file_header (flat_map block_bytes blocks) (block_bytes b))
 
 -- the header has eight bytes, and the blocks stand behind it
 pub length-front : (blocks : List (List Entry))
     → length (front blocks) ≡ 8 + length (flat_map block_bytes blocks)
-unfolding header
+unfolding row_file_header
 length-front blocks = omega arith
 
 -- the mark of one block more

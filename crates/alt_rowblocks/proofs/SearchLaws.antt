@@ -15,7 +15,8 @@ use Rattle.alt_cells.proofs.Entries.{turned_less, turned_greater, find_below, be
 use Rattle.alt_rowblocks.specs.Format.{Entry, Mark, block_bytes, rows_of, first_key, marks_from, IsBlock, AreBlocks}
 use Rattle.alt_rowblocks.specs.Searching.{key_at, EndsAt, EndsBelow}
 use Rattle.alt_rowblocks.specs.Summaries.{last_key}
-use Rattle.alt_rowblocks.proofs.BlockLaws.{rows_of-append, block_within, block_key, sorted_back}
+use Rattle.alt_rowblocks.proofs.BlockLaws.{sorted_back}
+use Rattle.alt_rowblocks.proofs.BlockRuns.{rows_of-append, block_within, block_key}
 use Rattle.alt_rowblocks.proofs.PlaceLaws.{length-marks, marks-append}
 
 -- ---- halving

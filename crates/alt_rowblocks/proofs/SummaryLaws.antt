@@ -3,7 +3,7 @@ use Rattle.std.proofs.Common.{◌≡◌, ◌∙◌, ◌++◌, ◌||◌, ℕ, Boo
 use Rattle.std.proofs.lemmas.List.{append-nil}
 use Rattle.std.specs.List.{fold}
 use Rattle.alt_rowblocks.specs.Format.{Entry}
-use Rattle.alt_rowblocks.specs.Summaries.{any_tombstone, has_tombstone, joined, last_key, later, latest_of, row_latest, summary_of}
+use Rattle.alt_rowblocks.specs.Summaries.{any_tombstone, has_tombstone, joined_summary, last_key, joined_last_key, latest_of, row_latest, summary_of}
 
 -- a greatest number that begins with one is that number or the greatest of the others
 latest_from : (n : ℕ) (rows : List Entry)
@@ -33,7 +33,7 @@ any-append (e ∷ xs) ys = by (has_tombstone e.1) (any-append xs ys)
     by false rest = rest
 
 -- the last key of rows in two parts is that of the second, if it has one
-last-append : (xs ys : List Entry) → last_key (xs ++ ys) ≡ later (last_key xs) (last_key ys)
+last-append : (xs ys : List Entry) → last_key (xs ++ ys) ≡ joined_last_key (last_key xs) (last_key ys)
 last-append xs [] = ap last_key (append-nil xs)
 last-append xs (y ∷ ys) = behind xs ∙ there (last_of y ys)
   where
@@ -47,12 +47,12 @@ last-append xs (y ∷ ys) = behind xs ∙ there (last_of y ys)
     last_of y (z ∷ ys) = last_of z ys
 
     there : (l : List ℕ) × (last_key (y ∷ ys) ≡ Some l)
-        → last_key (y ∷ ys) ≡ later (last_key xs) (last_key (y ∷ ys))
-    there l = l.1 ∙ ap (later (last_key xs)) (sym l.1)
+        → last_key (y ∷ ys) ≡ joined_last_key (last_key xs) (last_key (y ∷ ys))
+    there l = l.1 ∙ ap (joined_last_key (last_key xs)) (sym l.1)
 
 -- it joins those of both
 pub summary-append : (xs ys : List Entry)
-    → summary_of (xs ++ ys) ≡ joined (summary_of xs) (summary_of ys)
+    → summary_of (xs ++ ys) ≡ joined_summary (summary_of xs) (summary_of ys)
 summary-append xs ys = λ i. record {
   latest = latest-append xs ys i;
   tombstone = any-append xs ys i;

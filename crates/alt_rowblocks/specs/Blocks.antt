@@ -5,7 +5,7 @@ use Rattle.std.specs.List.{AllByRecursion, flat_map}
 use Rattle.std.specs.FinMap.Entries.{is_sorted}
 use Rattle.alt_cells.specs.Keys.{key_cmp}
 use Rattle.alt_filter.specs.declared.filter.Filter.{Filter}
-use Rattle.alt_rowblocks.specs.Filtering.{AreFilters, HoldsRows}
+use Rattle.alt_rowblocks.specs.Filtering.{AreFilters, FilterHoldsRows}
 use Rattle.alt_rowblocks.specs.Format.{Entry, Mark, rows_bytes, block_bytes, front, rows_of, body, first_key, marks_from, IsBlock, IsFull, AreBlocks, IsHeldBlock}
 use Rattle.alt_rowblocks.specs.Summaries.{last_key, summary_of}
 use Rattle.alt_rowblocks.specs.declared.summary.Summary.{Summary}
@@ -32,7 +32,7 @@ pub record IsReadBlock (first last : List ℕ) (rows : ℕ) (summary : Summary) 
   pub last_is : Some last ≡ last_key b
   pub rows_is : rows ≡ length b
   pub summary_is : summary ≡ summary_of b
-  pub filter_is : HoldsRows filter b
+  pub filter_is : FilterHoldsRows filter b
 
 -- blocks of this file's front
 pub record AreBlocksOf (blocks : List (List Entry)) (bytes : List ℕ) : Type 0 where
@@ -50,7 +50,7 @@ pub record IsFoundAs (marks : List Mark) (rows : ℕ) (summary : Summary) (filte
   pub filters_are : AreFilters filters blocks
 
 -- a block stands in front of these bytes that may come next there
-pub record IsNext (after : Option (List ℕ)) (bytes behind : List ℕ) (b : List Entry) : Type 0 where
+pub record BeginsWithNextBlock (after : Option (List ℕ)) (bytes behind : List ℕ) (b : List Entry) : Type 0 where
   pub block : IsBlock b
   pub full : 0 < length behind → IsFull b
   pub held : IsHeldBlock b

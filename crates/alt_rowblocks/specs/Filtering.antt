@@ -6,15 +6,15 @@ use Rattle.alt_filter.specs.declared.filter.Filter.{Filter}
 use Rattle.alt_rowblocks.specs.Format.{Entry}
 
 -- the filter holds the keys of these rows
-abbrev pub HoldsRows : Filter → List Entry → Type 0
-HoldsRows filter rows = AllByRecursion (λ e. Holds filter e.0) rows
+abbrev pub FilterHoldsRows : Filter → List Entry → Type 0
+FilterHoldsRows filter rows = AllByRecursion (λ e. Holds filter e.0) rows
 
 -- one filter a block, in their order, and each holds the keys of its block
 abbrev pub AreFilters : List Filter → List (List Entry) → Type 0
 AreFilters [] [] = Unit {0}
 AreFilters [] (b ∷ bs) = ⊥
 AreFilters (f ∷ fs) [] = ⊥
-AreFilters (f ∷ fs) (b ∷ bs) = HoldsRows f b × AreFilters fs bs
+AreFilters (f ∷ fs) (b ∷ bs) = FilterHoldsRows f b × AreFilters fs bs
 
 -- there is a filter, and it doesn't hold this key
 abbrev pub IsDenied : Option Filter → List ℕ → Type 0

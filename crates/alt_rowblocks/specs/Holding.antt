@@ -3,8 +3,8 @@ use Rattle.std.specs.Prelude.{◌≡◌, ℕ, Bool, true, false, List, [], ◌�
 use Rattle.std.specs.List.{AllByRecursion}
 use Rattle.alt_fields.specs.declared.bytes.BytesFault.{BytesFault}
 use Rattle.alt_fields.specs.declared.bytes.BytesFault.TheVariants.{Bad, NoMemory}
-use Rattle.alt_rowblocks.specs.Cut.{IsCut}
-use Rattle.alt_rowblocks.specs.Format.{Entry, entry_bytes, rows_bytes, IsHeldEntry}
+use Rattle.alt_rowblocks.specs.Cut.{IsCutAtKey}
+use Rattle.alt_rowblocks.specs.Format.{Entry, row_entry_bytes, rows_bytes, IsHeldEntry}
 use Rattle.alt_rowblocks.specs.declared.hand.Hand.{Hand}
 
 -- from each of these places on stand the bytes of one of these, in their order
@@ -21,14 +21,14 @@ pub record IsCutIn (bytes places : List ℕ) (at : ℕ) (from : Option (List ℕ
   pub front : List Entry
   pub back : List Entry
   pub is : rows ≡ front ++ back
-  pub cut : IsCut from forward front back
-  pub before : StandAt entry_bytes bytes places front
+  pub cut : IsCutAtKey from forward front back
+  pub before : StandAt row_entry_bytes bytes places front
   pub behind : drop at bytes ≡ rows_bytes back
 
 -- rows that fit their bytes stand at these places
 abbrev pub AreRowsAt : List ℕ → List ℕ → List Entry → Type 0
 AreRowsAt bytes places rows =
-    AllByRecursion IsHeldEntry rows × StandAt entry_bytes bytes places rows
+    AllByRecursion IsHeldEntry rows × StandAt row_entry_bytes bytes places rows
 
 -- in a direction these rows are in hand: upwards they stand behind the place, and downwards before it
 abbrev pub IsInHand : Hand → Bool → List Entry → Type 0

@@ -7,13 +7,13 @@ use Rattle.alt_rowblocks.specs.Format.{Entry}
 use Rattle.alt_rowblocks.specs.declared.summary.Summary.{Summary}
 
 -- the timestamp of a row tombstone, 0 where there is none
-abbrev pub gone_at : Option ℕ → ℕ
-gone_at None = 0
-gone_at (Some at) = at
+abbrev pub tombstone_timestamp : Option ℕ → ℕ
+tombstone_timestamp None = 0
+tombstone_timestamp (Some at) = at
 
 -- the greatest timestamp of a row
 abbrev pub row_latest : RowCells → ℕ
-row_latest row = fold (λ n e. max n e.1.at) (gone_at row.gone) (entries row.cells)
+row_latest row = fold (λ n e. max n e.1.at) (tombstone_timestamp row.gone) (entries row.cells)
 
 -- the greatest timestamp of rows, 0 where they have none
 abbrev pub latest_of : List Entry → ℕ
@@ -39,15 +39,15 @@ summary_of rows =
     record { latest = latest_of rows; tombstone = any_tombstone rows; last = last_key rows }
 
 -- the last key of rows in two parts: that of the second part, if it has one
-abbrev pub later : Option (List ℕ) → Option (List ℕ) → Option (List ℕ)
-later before None = before
-later before (Some last) = Some last
+abbrev pub joined_last_key : Option (List ℕ) → Option (List ℕ) → Option (List ℕ)
+joined_last_key before None = before
+joined_last_key before (Some last) = Some last
 
 -- the summary of rows in two parts
-abbrev pub joined : Summary → Summary → Summary
-joined a b =
+abbrev pub joined_summary : Summary → Summary → Summary
+joined_summary a b =
     record {
       latest = max a.latest b.latest;
       tombstone = a.tombstone || b.tombstone;
-      last = later a.last b.last;
+      last = joined_last_key a.last b.last;
     }

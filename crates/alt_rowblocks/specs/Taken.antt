@@ -4,7 +4,7 @@ use Rattle.std.specs.List.{AllByRecursion, flat_map}
 use Rattle.alt_fields.specs.Field.{field}
 use Rattle.alt_cells.specs.declared.row.RowCells.{RowCells}
 use Rattle.alt_rowblocks.specs.Cut.{IsPassed}
-use Rattle.alt_rowblocks.specs.Format.{Entry, entry_bytes, IsHeldEntry}
+use Rattle.alt_rowblocks.specs.Format.{Entry, row_entry_bytes, IsHeldEntry}
 use Rattle.alt_rowblocks.specs.Holding.{IsInHand, StandAt}
 use Rattle.alt_rowblocks.specs.Picking.{Piece, piece_bytes, IsShortPiece, IsPicked}
 use Rattle.alt_rowblocks.specs.declared.hand.Hand.{Hand}
@@ -16,10 +16,10 @@ pub record IsFoundIn (bytes key : List ℕ) (row : Option RowCells) : Type 0 whe
   pub picked : IsPicked rows key row
 
 -- nothing is left, or a piece stands next that isn't passed
-pub data IsAhead (to : Option (List ℕ)) (rest : List ℕ) : Type 0 where
-  at_end : rest ≡ [] → IsAhead to rest
+pub data PassesNoMore (to : Option (List ℕ)) (rest : List ℕ) : Type 0 where
+  at_end : rest ≡ [] → PassesNoMore to rest
   stays : (p : Piece) (behind : List ℕ) → IsShortPiece p → rest ≡ piece_bytes p ++ behind
-      → (IsPassed to p.0 → ⊥) → IsAhead to rest
+      → (IsPassed to p.0 → ⊥) → PassesNoMore to rest
 
 -- Of the bytes of rows at the end of these, the pieces that a walk passes stand at these places, and what it doesn't from this place on.
 pub record IsPassedBy (bytes all : List ℕ) (to : Option (List ℕ)) (places : List ℕ) (at : ℕ)
@@ -29,7 +29,7 @@ pub record IsPassedBy (bytes all : List ℕ) (to : Option (List ℕ)) (places : 
   pub short : AllByRecursion IsShortPiece pieces
   pub is : all ≡ flat_map piece_bytes pieces ++ rest
   pub passed : AllByRecursion (λ p. IsPassed to p.0) pieces
-  pub ahead : IsAhead to rest
+  pub ahead : PassesNoMore to rest
   pub before : StandAt piece_bytes bytes places pieces
   pub behind : drop at bytes ≡ rest
 
@@ -54,10 +54,10 @@ IsBegun hand from forward = IsBegunIn hand.bytes.items hand.before.items hand.at
 -- before, which is gone then.
 abbrev pub IsTakenAt : Hand → Bool → Entry → Hand → Type 0
 IsTakenAt hand true row after =
-    drop hand.at hand.bytes.items ≡ entry_bytes row ++ drop after.at hand.bytes.items
+    drop hand.at hand.bytes.items ≡ row_entry_bytes row ++ drop after.at hand.bytes.items
 IsTakenAt hand false row after = (place : ℕ)
     × (hand.before.items ≡ after.before.items ++ place ∷ [])
-    × StandAt entry_bytes hand.bytes.items (place ∷ []) (row ∷ [])
+    × StandAt row_entry_bytes hand.bytes.items (place ∷ []) (row ∷ [])
 
 -- The row was taken of what is in hand: its lengths fit, and the bytes stay.
 pub record IsTaken (hand : Hand) (forward : Bool) (row : Entry) (after : Hand) : Type 0 where

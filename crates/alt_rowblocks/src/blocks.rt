@@ -1,13 +1,13 @@
 //! The blocks of a row file, read one behind another: what a writer would have made of their rows, and nothing else.
 
-ghost use Rattle.std.specs.Prelude.{◌≡◌, ◌<◌, ◌≤◌, ◌+◌, ◌^◌, ◌++◌, ℕ, List, true, false, Some, Option, length, take, drop, IfOk, IfSome, IfNone, OnErr, IsErrOf, IsTrue, is_ok, ◌↔◌};
+ghost use Rattle.std.specs.Prelude.{◌≡◌, ◌<◌, ◌≤◌, ◌+◌, ◌^◌, ◌++◌, ℕ, List, true, Some, Option, length, take, drop, IfOk, IfSome, IfNone, OnErr, IsErrOf, IsTrue, is_ok, ◌↔◌};
 ghost use Rattle.std.specs.Int.{w64, to_be_bytes};
 ghost use Rattle.alt_base.specs.Counts.{Rose};
 ghost use Rattle.alt_fields.specs.Field.{field};
 ghost use Rattle.alt_disk.specs.Disk.{Goes, contents};
 ghost use Rattle.alt_disk.specs.Runs.{Quiet};
-ghost use Rattle.alt_rowblocks.specs.Format.{Entry, Mark, rows_bytes, block_bytes};
-ghost use Rattle.alt_rowblocks.specs.Blocks.{IsNext, IsNextBlock, IsReadBlock, AreBlocksOf, IsFoundAs, IsAbove};
+ghost use Rattle.alt_rowblocks.specs.Format.{Entry};
+ghost use Rattle.alt_rowblocks.specs.Blocks.{BeginsWithNextBlock, IsNextBlock, IsReadBlock, AreBlocksOf, IsFoundAs, IsAbove};
 
 use crate::decode::decode;
 use crate::filters::filter_of;
@@ -107,12 +107,12 @@ fn next_block<D: Disk>(
     requires { at ≤ end }
     ensures some { IsTrue (D.state disk.old).tells → end ≤ length (contents (D.state disk.old) f)
         → IfOk result (λ o. IfSome o (λ p. (b : List Entry)
-        × IsNext after.now (drop at (take end (contents (D.state disk.old) f)))
+        × BeginsWithNextBlock after.now (drop at (take end (contents (D.state disk.old) f)))
         (drop p.1 (take end (contents (D.state disk.old) f))) b
         × IsReadBlock p.0.first p.0.last p.0.rows p.0.summary p.0.filter b)) }
     ensures none { IsTrue (D.state disk.old).tells → end ≤ length (contents (D.state disk.old) f)
         → IfOk result (λ o. IfNone o ((b : List Entry) (behind : List ℕ)
-        → IsNext after.now (drop at (take end (contents (D.state disk.old) f))) behind b → ⊥)) }
+        → BeginsWithNextBlock after.now (drop at (take end (contents (D.state disk.old) f))) behind b → ⊥)) }
     ensures place { IfOk result (λ o. IfSome o (λ p. (at + 8 + p.0.rows ≤ p.1) × (p.1 ≤ end))) }
     ensures quiet { IsTrue (D.state disk.old).tells
         → Quiet (D.state disk.old) (D.state disk.new) }

@@ -1,12 +1,12 @@
 //! All of a row file before its digest: what a writer makes of its rows, and nothing else. It is read piece by piece, and the index is
 //! never taken from the file: it is made of the blocks, and compared.
 
-ghost use Rattle.std.specs.Prelude.{◌≡◌, ◌≢◌, true, false, ◌<◌, ◌≤◌, ◌+◌, ◌^◌, ◌-◌, ℕ, List, length, take, drop, IfOk, IfSome, IfNone, OnErr, IsErrOf, IsTrue, is_ok};
+ghost use Rattle.std.specs.Prelude.{◌≡◌, ◌≢◌, true, false, ◌<◌, ◌≤◌, ◌-◌, ℕ, List, length, take, drop, IfOk, IfSome, IfNone, OnErr, IsErrOf, IsTrue, is_ok};
 ghost use Rattle.std.specs.Int.{w64, to_be_bytes};
 ghost use Rattle.alt_base.specs.Counts.{Rose};
 ghost use Rattle.alt_disk.specs.Disk.{Goes, contents};
 ghost use Rattle.alt_disk.specs.Runs.{Quiet};
-ghost use Rattle.alt_rowblocks.specs.Format.{Entry, front, header, marks_from, rows_of, tail_bytes};
+ghost use Rattle.alt_rowblocks.specs.Format.{Entry, front, row_file_header, marks_from, rows_of, tail_bytes};
 ghost use Rattle.alt_rowblocks.specs.Blocks.{IsBody};
 ghost use Rattle.alt_rowblocks.specs.Filtering.{AreFilters};
 ghost use Rattle.alt_rowblocks.specs.Summaries.{summary_of};
@@ -90,7 +90,7 @@ fn is_tail<D: Disk>(
 fn index_place<D: Disk>(disk: &mut D, f: u32, size: u64) -> Result<Option<u64>, Failed>
     ensures some { IsTrue (D.state disk.old).tells → size ≤ length (contents (D.state disk.old) f)
         → IfOk result (λ o. IfSome o (λ p.
-        (take 8 (take size (contents (D.state disk.old) f)) ≡ header)
+        (take 8 (take size (contents (D.state disk.old) f)) ≡ row_file_header)
         × (drop (size - 8) (take size (contents (D.state disk.old) f)) ≡ to_be_bytes w64 p))) }
     ensures bounds { IfOk result (λ o. IfSome o (λ p. (8 ≤ p) × (p ≤ size))) }
     ensures none { IsTrue (D.state disk.old).tells → size ≤ length (contents (D.state disk.old) f)
@@ -120,7 +120,7 @@ fn index_place<D: Disk>(disk: &mut D, f: u32, size: u64) -> Result<Option<u64>, 
 // The place that the last eight bytes tell, where it can be one and the first eight are the header.
 fn place_in(head: &[u8], last: &[u8], size: u64) -> Option<u64>
     requires { length last.now ≡ 8 }
-    ensures some { IfSome result (λ p. (head.now ≡ header) × (last.now ≡ to_be_bytes w64 p)) }
+    ensures some { IfSome result (λ p. (head.now ≡ row_file_header) × (last.now ≡ to_be_bytes w64 p)) }
     ensures bounds { IfSome result (λ p. (8 ≤ p) × (p ≤ size)) }
     ensures none { IfNone result ((bytes : List ℕ) → size ≡ length bytes
         → head.now ≡ take 8 bytes → last.now ≡ drop (size - 8) bytes
@@ -182,8 +182,8 @@ pub fn is_same(left: &[u8], right: &[u8]) -> bool
 
 // Whether these bytes are the header of a row file.
 fn is_header(head: &[u8]) -> bool
-    ensures yes { result ≡ true → head.now ≡ header }
-    ensures no { result ≡ false → head.now ≢ header }
+    ensures yes { result ≡ true → head.now ≡ row_file_header }
+    ensures no { result ≡ false → head.now ≢ row_file_header }
 {
     head == b"ALTROW01".as_slice()
 }

@@ -1,11 +1,8 @@
 //! The rows of a block, read from its bytes.
 
-ghost use Rattle.std.specs.Prelude.{◌≡◌, ◌<◌, ◌^◌, ◌∷◌, ◌++◌, [], ℕ, List, ◌↔◌, length, IsTrue, IfOk, IfSome, IfNone, T};
-ghost use Rattle.std.specs.List.{AllByRecursion};
-ghost use Rattle.std.specs.FinMap.Entries.{is_sorted};
+ghost use Rattle.std.specs.Prelude.{◌≡◌, ◌<◌, ◌^◌, ◌++◌, ℕ, List, ◌↔◌, length, IsTrue, IfOk, IfSome, IfNone};
 ghost use Rattle.alt_fields.specs.Field.{field};
-ghost use Rattle.alt_cells.specs.Keys.{key_cmp};
-ghost use Rattle.alt_rowblocks.specs.Format.{Entry, entry_bytes, rows_bytes, IsHeldEntry};
+ghost use Rattle.alt_rowblocks.specs.Format.{Entry, row_entry_bytes, rows_bytes, IsHeldEntry};
 ghost use Rattle.alt_rowblocks.specs.Decoding.{AreRows, IsNextKey, StandBefore, NoRows};
 
 use alt_base::NoMemory;
@@ -63,9 +60,9 @@ pub(crate) fn take_entry(
 ) -> Result<Option<(Bytes, RowCells, &[u8])>, NoMemory>
     ensures some { IfOk result
         (λ o. IfSome o (λ p. IsHeldEntry (p.0, p.1)
-        × (bytes.now ≡ entry_bytes (p.0, p.1) ++ p.2.now))) }
+        × (bytes.now ≡ row_entry_bytes (p.0, p.1) ++ p.2.now))) }
     ensures none { IfOk result
-        (λ o. IfNone o ((e : Entry) (x : List ℕ) → IsHeldEntry e → bytes.now ≡ entry_bytes e ++ x
+        (λ o. IfNone o ((e : Entry) (x : List ℕ) → IsHeldEntry e → bytes.now ≡ row_entry_bytes e ++ x
         → ⊥)) }
 {
     match take_field(bytes) {

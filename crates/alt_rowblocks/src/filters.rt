@@ -1,7 +1,7 @@
 //! The filters of blocks, in memory beside their marks: a look for a key that a block can't have asks for no read.
 
 ghost use Rattle.std.specs.Prelude.{IsTrue, ◌↔◌, slice_get};
-ghost use Rattle.alt_rowblocks.specs.Filtering.{HoldsRows, IsDenied};
+ghost use Rattle.alt_rowblocks.specs.Filtering.{FilterHoldsRows, IsDenied};
 
 use alt_cells::RowCells;
 use alt_fields::Bytes;
@@ -9,7 +9,7 @@ use alt_filter::Filter;
 
 /// The filter of a block's rows.
 pub(crate) fn filter_of(rows: &[(Bytes, RowCells)]) -> Filter
-    ensures { HoldsRows result rows.now }
+    ensures { FilterHoldsRows result rows.now }
 {
     let mut filter = Filter::new();
     for entry in rows {

@@ -7,7 +7,7 @@ ghost use Rattle.alt_cells.specs.Keys.{key_cmp};
 ghost use Rattle.alt_cells.specs.Walks.{Gives};
 ghost use Rattle.alt_rowblocks.specs.Cut.{IsPassed};
 ghost use Rattle.alt_rowblocks.specs.Decoding.{AreRows, NoRows};
-ghost use Rattle.alt_rowblocks.specs.Format.{Entry, entry_bytes, rows_bytes, block_bytes, IsHeldEntry, IsHeldBlock};
+ghost use Rattle.alt_rowblocks.specs.Format.{Entry, row_entry_bytes, rows_bytes, block_bytes, IsHeldEntry, IsHeldBlock};
 ghost use Rattle.alt_rowblocks.specs.Taken.{HandGives, IsBegun, IsBegunIn, IsPassedBy};
 ghost use Rattle.alt_rowblocks.specs.Holding.{IsCutBlock, IsCutIn, IsInHand, IsUnread, StandAt};
 
@@ -207,12 +207,12 @@ fn entry_at(
     bytes: &[u8],
     place: usize,
 ) -> Result<Option<(Bytes, RowCells)>, NoMemory>
-    ensures some { (e : Entry) → IsHeldEntry e → StandAt entry_bytes bytes.now (place ∷ []) (e ∷ [])
+    ensures some { (e : Entry) → IsHeldEntry e → StandAt row_entry_bytes bytes.now (place ∷ []) (e ∷ [])
         → IfOk result (λ o. IfSome o (λ given. given ≡ e)) }
-    ensures none { (e : Entry) → IsHeldEntry e → StandAt entry_bytes bytes.now (place ∷ []) (e ∷ [])
+    ensures none { (e : Entry) → IsHeldEntry e → StandAt row_entry_bytes bytes.now (place ∷ []) (e ∷ [])
         → IfOk result (λ o. IfNone o ⊥) }
     ensures given { IfOk result (λ o. IfSome o (λ row. IsHeldEntry row
-        × StandAt entry_bytes bytes.now (place ∷ []) (row ∷ []))) }
+        × StandAt row_entry_bytes bytes.now (place ∷ []) (row ∷ []))) }
 {
     if place > bytes.len() {
         return Ok(None);

@@ -1,8 +1,8 @@
 //! What a row file in hand keeps of its rows, so that nobody walks over them to learn it.
 
-ghost use Rattle.std.specs.Prelude.{◌≡◌, ◌∷◌, [], ℕ, List, Option, is_none, IfOk};
+ghost use Rattle.std.specs.Prelude.{◌≡◌, ◌∷◌, [], Option, is_none, IfOk};
 ghost use Rattle.std.specs.List.{list_any};
-ghost use Rattle.alt_rowblocks.specs.Summaries.{any_tombstone, has_tombstone, joined, last_key, later, latest_of, row_latest, summary_of};
+ghost use Rattle.alt_rowblocks.specs.Summaries.{any_tombstone, has_tombstone, joined_summary, last_key, joined_last_key, latest_of, row_latest, summary_of};
 
 use alt_base::NoMemory;
 use alt_cells::{Cell, RowCells};
@@ -41,7 +41,7 @@ impl Summary {
 
     /// Takes that of further rows in.
     pub(crate) fn join(&mut self, more: Summary)
-        ensures { self.new ≡ joined self.old more }
+        ensures { self.new ≡ joined_summary self.old more }
     {
         let Summary {
             latest,
@@ -55,7 +55,7 @@ impl Summary {
 
     /// Takes a further row in.
     pub fn add(&mut self, key: Bytes, row: &RowCells)
-        ensures { self.new ≡ joined self.old (summary_of ((key, row.now) ∷ [])) }
+        ensures { self.new ≡ joined_summary self.old (summary_of ((key, row.now) ∷ [])) }
     {
         self.join(Summary {
             latest: row_latest(row),
@@ -66,7 +66,7 @@ impl Summary {
 }
 
 fn put_last(last: &mut Option<Bytes>, more: Option<Bytes>)
-    ensures { last.new ≡ later last.old more }
+    ensures { last.new ≡ joined_last_key last.old more }
 {
     if more.is_some() {
         *last = more;

@@ -23,7 +23,7 @@ use Rattle.alt_machine.specs.Ops.UpdateTable.{redescribed, with_description}
 use Rattle.alt_machine.specs.Sources.{index_at}
 use Rattle.alt_machine.specs.Outcomes.{a_family, a_number}
 use Rattle.alt_machine.specs.State.{State, Table, Texts, families_of}
-use Rattle.alt_machine.specs.Valid.{IsHeldChange, IsMade, IsTable, IsValid}
+use Rattle.alt_machine.specs.Valid.{IsChangeOfValues, IsMade, IsTable, IsValid}
 use Rattle.alt_machine.specs.Wanted.{lack_of}
 use Rattle.alt_machine.proofs.Added.{alike_added, differ_added, families_added, own_added}
 use Rattle.alt_machine.proofs.Building.{get-built_part}
@@ -191,7 +191,7 @@ module _ (s : State) (name : List ℕ) (t : Table) (at : map.get s.tables name �
               | inr old ↦ held.items.items other q x item old here
             ];
         changes = λ other x at_x. elim (at_insert s.tables name other x (redescribed e t) at_x) [
-          | inl new ↦ subst (λ (y : Table). All IsHeldChange y.changes) new.1
+          | inl new ↦ subst (λ (y : Table). All IsChangeOfValues y.changes) new.1
               (held.items.changes name t at)
           | inr old ↦ held.items.changes other x old
         ];

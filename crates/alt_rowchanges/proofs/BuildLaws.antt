@@ -25,7 +25,7 @@ use Rattle.alt_machine.specs.Indexed.{index_entry, index_items}
 use Rattle.alt_machine.specs.Ops.UpdateTable.{redescribed, with_description}
 use Rattle.alt_machine.specs.Sources.{index_at}
 use Rattle.alt_machine.specs.State.{State, Table, Texts, families_of}
-use Rattle.alt_machine.specs.Valid.{IsHeldChange, IsTable, IsValid, IsStored}
+use Rattle.alt_machine.specs.Valid.{IsChangeOfValues, IsTable, IsValid, IsStored}
 use Rattle.alt_machine.specs.Writes.{with_item}
 use Rattle.alt_machine.specs.declared.TheConstants.{NUMBERS_END}
 use Rattle.alt_machine.proofs.BuildParts.{Placed, built_after-is, in_order, sorted_taken, with_all}
@@ -355,7 +355,7 @@ module _ (s : State) (valid : IsValid s) (held : IsHeldWhole s) (name : List ℕ
           | inr old ↦ held.items.items other q x item old here
         ];
         changes = λ other x at_x. elim (at_insert s.tables name other x u at_x) [
-          | inl new ↦ subst (λ (y : Table). All IsHeldChange y.changes) new.1
+          | inl new ↦ subst (λ (y : Table). All IsChangeOfValues y.changes) new.1
               (held.items.changes name t at)
           | inr old ↦ held.items.changes other x old
         ];

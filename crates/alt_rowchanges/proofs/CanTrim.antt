@@ -16,7 +16,7 @@ use Rattle.alt_opening.proofs.StreamKeys.{key_one}
 use Rattle.alt_schema.specs.declared.schema.TableSchema.{TableSchema}
 use Rattle.alt_rowchanges.specs.RowChanges.{item_changes}
 use Rattle.alt_rowchanges.specs.declared.trimming.Trim.{Trim}
-use Rattle.alt_rowchanges.specs.Trims.{CanTrim, IsWithin}
+use Rattle.alt_rowchanges.specs.Trims.{CanTrim, TrimIsWithin}
 use Rattle.alt_rowchanges.proofs.StreamShows.{change_new}
 use Rattle.alt_value.specs.Tree.{Pair}
 use Rattle.alt_views.specs.IndexRows.{index_changes}
@@ -67,7 +67,7 @@ no_lesser_row d own number moment writer place old new family stream k less smal
 pub can_trim : (d : TableSchema) → HasOwnFamilies d → (number moment : ℕ) (writer : Writer)
     (place : List ℕ) (old new : Option (List Pair)) (batch : List RowChange)
     → batch ≡ item_changes d number moment writer place old new → (before : ℕ) (r : Trim)
-    → IsWithin before number r → number < 2 ^ 64 → (family : ℕ) → d.stream_family ≡ Some family
+    → TrimIsWithin before number r → number < 2 ^ 64 → (family : ℕ) → d.stream_family ≡ Some family
     → CanTrim before r batch family
 can_trim d own number moment writer place old new batch is before r within small family stream =
     record {

@@ -27,7 +27,7 @@ use Rattle.alt_machine.specs.Indexed.{index_entry, index_items}
 use Rattle.alt_machine.specs.Rekeyed.{rekeyed}
 use Rattle.alt_machine.specs.Sources.{index_at}
 use Rattle.alt_machine.specs.State.{Texts, State, Table, Change, new_table, families_of}
-use Rattle.alt_machine.specs.Valid.{IsHeldChange, IsMade, IsValid}
+use Rattle.alt_machine.specs.Valid.{IsChangeOfValues, IsMade, IsValid}
 use Rattle.alt_machine.specs.Ops.CreateTable.{with_table}
 use Rattle.alt_machine.specs.Ops.DeleteTable.{without_table}
 use Rattle.alt_machine.proofs.Building.{get-built_part}
@@ -352,8 +352,8 @@ creation_turns s d after counted valid held absent made new is_held number famil
                 | inr old ↦ held.items.items other q u item old here
               ];
           changes = λ other u at. elim (at_insert s.tables d.name other u (new_table d) at) [
-            | inl made ↦ subst (λ (x : Table). All IsHeldChange x.changes) made.1
-                (All-nil IsHeldChange)
+            | inl made ↦ subst (λ (x : Table). All IsChangeOfValues x.changes) made.1
+                (All-nil IsChangeOfValues)
             | inr old ↦ held.items.changes other u old
           ];
         };

@@ -20,7 +20,7 @@ use Rattle.alt_rowchanges.proofs.ChangeLaws.{AreOthers, others-append}
 use Rattle.alt_rowchanges.proofs.Moving.{others-moved_changes}
 use Rattle.alt_value.specs.Tree.{Pair}
 use Rattle.alt_views.specs.Batches.{AreNew, AreOfOwnFamilies}
-use Rattle.alt_views.specs.IndexRows.{changes_in, index_changes, built_row}
+use Rattle.alt_views.specs.IndexRows.{built_row_changes, index_changes, built_row}
 
 -- the families of the indexes of a table
 abbrev pub index_families : TableSchema → List ℕ
@@ -88,10 +88,10 @@ own_families d differ a b x below within = rewritten
 pub others-index_changes : (d : TableSchema) (old new : Option (List Pair)) (family : ℕ)
     (is : List IndexSchema)
     → ((n : ℕ) (i : IndexSchema) → slice_get is n ≡ Some i → i.family ≢ family)
-    → AreOthers family (flat_map (changes_in d old new) is)
+    → AreOthers family (flat_map (built_row_changes d old new) is)
 others-index_changes d old new family [] h = tt
 others-index_changes d old new family (i ∷ is) h =
-    others-append family (changes_in d old new i) (flat_map (changes_in d old new) is)
+    others-append family (built_row_changes d old new i) (flat_map (built_row_changes d old new) is)
     (others-moved_changes i.family family (option_and_then (built_row d i) old)
     (option_and_then (built_row d i) new) (h 0 i refl))
     (others-index_changes d old new family is (λ n j at. h (suc n) j at))

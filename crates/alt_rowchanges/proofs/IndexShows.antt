@@ -20,7 +20,7 @@ use Rattle.alt_schema.specs.declared.schema.TableSchema.{TableSchema}
 use Rattle.alt_rowchanges.proofs.ChangeLaws.{ShowsWrite, AreOthers, others-append, change_of-behind, change_of-front}
 use Rattle.alt_rowchanges.proofs.Moving.{WasShown, RowCanShow, shown-moved_changes, others-moved_changes}
 use Rattle.alt_value.specs.Tree.{Pair}
-use Rattle.alt_views.specs.IndexRows.{KeyedRow, beside_keys, built_row, changes_in, index_columns, moved_changes, moves_in, row_in_index}
+use Rattle.alt_views.specs.IndexRows.{KeyedRow, beside_keys, built_row, built_row_changes, index_columns, moved_changes, moves_in, row_in_index}
 use Rattle.alt_views.proofs.ItemRowLaws.{item_can_show}
 
 -- ---- the changes of one index among those of all
@@ -28,10 +28,10 @@ use Rattle.alt_views.proofs.ItemRowLaws.{item_can_show}
 -- the changes of the other indexes are of other families
 others-changes_in : (d : TableSchema) (old new : Option (List Pair)) (family : ℕ)
     (is : List IndexSchema) → All (λ f. f ≢ family) (map (λ (i : IndexSchema). i.family) is)
-    → AreOthers family (flat_map (changes_in d old new) is)
+    → AreOthers family (flat_map (built_row_changes d old new) is)
 others-changes_in d old new family [] h = tt
 others-changes_in d old new family (i ∷ is) h =
-    others-append family (changes_in d old new i) (flat_map (changes_in d old new) is)
+    others-append family (built_row_changes d old new i) (flat_map (built_row_changes d old new) is)
     (others-moved_changes i.family family (option_and_then (built_row d i) old)
     (option_and_then (built_row d i) new)
     (All-head (λ f. f ≢ family) i.family (map (λ (i : IndexSchema). i.family) is) h))
@@ -53,19 +53,19 @@ family_at is n i x at =
 pub change_of-index : (d : TableSchema) (old new : Option (List Pair)) (is : List IndexSchema)
     (n : ℕ) (i : IndexSchema) → AllPairs (λ f g. f ≢ g) (map (λ (i : IndexSchema). i.family) is)
     → slice_get is n ≡ Some i → (key : List ℕ)
-    → change_of i.family key (flat_map (changes_in d old new) is)
-    ≡ change_of i.family key (changes_in d old new i)
+    → change_of i.family key (flat_map (built_row_changes d old new) is)
+    ≡ change_of i.family key (built_row_changes d old new i)
 change_of-index d old new [] n i differ at key = absurd (let no : None ≡ Some i = at in cc no)
 change_of-index d old new (j ∷ is) zero i differ at key =
     let same : j ≡ i = ap (λ o. unwrap_or o j) at in
-    change_of-front i.family key (changes_in d old new j) (flat_map (changes_in d old new) is)
+    change_of-front i.family key (built_row_changes d old new j) (flat_map (built_row_changes d old new) is)
     (others-changes_in d old new i.family is (λ k x within same_family.
     differ 0 (suc k) x (omega arith) (omega (arith, within))
     (ap (λ (i : IndexSchema). i.family) same ∙ sym same_family)))
-    ∙ ap (λ i'. change_of i.family key (changes_in d old new i')) same
+    ∙ ap (λ i'. change_of i.family key (built_row_changes d old new i')) same
 change_of-index d old new (j ∷ is) (suc n) i differ at key =
     let there = family_at is n i j.family at in
-    change_of-behind i.family key (changes_in d old new j) (flat_map (changes_in d old new) is)
+    change_of-behind i.family key (built_row_changes d old new j) (flat_map (built_row_changes d old new) is)
     (others-moved_changes j.family i.family (option_and_then (built_row d j) old)
     (option_and_then (built_row d j) new) (λ same. differ 0 (suc n) j.family (omega arith)
     (omega (arith, there.0)) (same ∙ sym there.1)))

@@ -9,7 +9,7 @@ use Rattle.alt_machine.specs.State.{Change}
 use Rattle.alt_machine.specs.Trimming.{is_past, kept, trimmed_at}
 use Rattle.alt_machine.proofs.Trimming.{Above, Rise, rise_first, rise_rest}
 use Rattle.alt_rowchanges.specs.Fronts.{first_moment}
-use Rattle.alt_rowchanges.specs.Trims.{IsKeptFrom, is_over}
+use Rattle.alt_rowchanges.specs.Trims.{IsKeptFrom, is_over_a_day_before}
 
 -- ---- the change of the write itself
 
@@ -50,7 +50,7 @@ first_more (d ∷ ds) c = refl
 
 -- ---- where the oldest isn't too old
 
-pub young : (moment before : ℕ) (cs : List Change) → is_over (first_moment cs) moment ≡ false
+pub young : (moment before : ℕ) (cs : List Change) → is_over_a_day_before (first_moment cs) moment ≡ false
     → (trimmed_at moment before cs ≡ before) × (kept moment cs ≡ cs)
 young moment before [] not = (refl, refl)
 young moment before (c ∷ cs) not = (

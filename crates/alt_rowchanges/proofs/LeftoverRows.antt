@@ -28,7 +28,7 @@ use Rattle.alt_opening.specs.StateRows.{IsLeftover, change_rows, keyed_changes}
 use Rattle.alt_opening.proofs.OneStream.{leftover_or_not}
 use Rattle.alt_opening.proofs.StreamKeys.{IsSmall, found_keyed, get_keyed, is_le-nat, key_one, key_order}
 use Rattle.alt_rowchanges.specs.Leftovers.{leftovers}
-use Rattle.alt_rowchanges.specs.Trims.{AreNumbersOf, AreTwo, IsLowest, IsLowestFrom, behind, leftovers_from}
+use Rattle.alt_rowchanges.specs.Trims.{AreNumbersOf, AreTwo, IsLowest, IsLowestFrom, number_behind_second, leftovers_from}
 use Rattle.alt_rowchanges.proofs.Rising.{behind_low, drop_behind, drop_two, filter_rising, none_past, range_skip, rising_later, take_two}
 
 -- ---- numbers at their keys
@@ -305,7 +305,7 @@ module _ (l : Layout) (family : ℕ) (t : Table) (small : t.trimmed < 2 ^ 64)
     -- So where none below is left over, the lowest are read, and what is behind them is known.
     pub lowest_read : All (λ n. from ≤ n) (leftovers l family number) → (v : Vec ℕ Global)
         → AreNumbersOf page v.items → AreTwo number v.items → (end : ℕ)
-        → end ≡ behind number v.items → IsLowest l family number (v, end)
+        → end ≡ number_behind_second number v.items → IsLowest l family number (v, end)
     lowest_read above v numbers two end is_end =
         let skipped : leftovers l family number ≡ there =
         range_skip has (from - 1) 1 (number + 1 - from) number from (omega (arith, low, some))
@@ -321,14 +321,14 @@ module _ (l : Layout) (family : ℕ) (t : Table) (small : t.trimmed < 2 ^ 64)
             subst (λ n. n ≤ number + 1) (sym is_end) of_end.1,
           );
           above = subst (λ n. All (λ k. n ≤ k) (drop 2 (leftovers l family number)))
-              (sym (is_end ∙ ap (behind number) lowest))
+              (sym (is_end ∙ ap (number_behind_second number) lowest))
               (drop_behind number (leftovers l family number)
               (filter_rising has 1 number (number + 1) (omega arith)));
         }
 
     -- Of those in the range the lowest are read, whatever is below, and what is behind them is known.
     pub range_read : (v : Vec ℕ Global) → AreNumbersOf page v.items → AreTwo number v.items
-        → (end : ℕ) → end ≡ behind number v.items → IsLowestFrom l family from number (v, end)
+        → (end : ℕ) → end ≡ number_behind_second number v.items → IsLowestFrom l family from number (v, end)
     range_read v numbers two end is_end =
         let lowest : v.items ≡ take 2 there =
         one_numbers page v.items (take 2 there) numbers read_numbers in
@@ -341,7 +341,7 @@ module _ (l : Layout) (family : ℕ) (t : Table) (small : t.trimmed < 2 ^ 64)
           );
           rest = drop_two has from (number + 1 - from) number (omega (arith, low))
               ∙ ap (λ n. filter has (range_with_len n (number + 1 - n)))
-              (sym (is_end ∙ ap (behind number) lowest));
+              (sym (is_end ∙ ap (number_behind_second number) lowest));
         }
 
 -- where none is below a number, those from there on are all that is left over

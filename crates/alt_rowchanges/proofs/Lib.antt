@@ -11,6 +11,7 @@ pub mod FrontTrims
 pub mod HasFamily
 pub mod IndexFamilies
 pub mod IndexShows
+pub mod ItemTurns
 pub mod KeptFrom
 pub mod LeftoverLaws
 pub mod LeftoverRows

@@ -4,7 +4,7 @@ use Rattle.std.proofs.lemmas.List.Elements.{All-cons, All-head, All-nil, All-tai
 use Rattle.std.specs.List.{range_with_len}
 use Rattle.std.specs.Prelude.{◌≢◌, AllPairs, filter}
 use Rattle.alt_changes.specs.TrimRows.{AreLeft}
-use Rattle.alt_rowchanges.specs.Trims.{AreTwo, behind}
+use Rattle.alt_rowchanges.specs.Trims.{AreTwo, number_behind_second}
 
 -- they rise from one on and stay below another
 abbrev pub AreRising : ℕ → ℕ → List ℕ → Type 0
@@ -52,14 +52,14 @@ take_two most (m ∷ n ∷ ns) rise =
 
 -- the others aren't below what is behind them
 pub drop_behind : (most : ℕ) (ns : List ℕ) → AreRising 1 (most + 1) ns
-    → All (λ n. behind most (take 2 ns) ≤ n) (drop 2 ns)
+    → All (λ n. number_behind_second most (take 2 ns) ≤ n) (drop 2 ns)
 drop_behind most [] rise = All-nil (λ n. most + 1 ≤ n)
 drop_behind most (m ∷ []) rise = All-nil (λ n. most + 1 ≤ n)
 drop_behind most (m ∷ n ∷ ns) rise = rising_least (n + 1) (most + 1) ns rise.2.2
 
 -- which is one of a few numbers
 pub behind_low : (most : ℕ) (ns : List ℕ) → AreTwo most ns
-    → (1 ≤ behind most ns) × (behind most ns ≤ most + 1)
+    → (1 ≤ number_behind_second most ns) × (number_behind_second most ns ≤ most + 1)
 behind_low most [] two = (omega arith, omega arith)
 behind_low most (m ∷ []) two = (omega arith, omega arith)
 behind_low most (m ∷ n ∷ []) two = let high = two.2 in (omega arith, omega (arith, high))
@@ -176,8 +176,8 @@ next_rising p a (suc k) x xs is = by (p a) is (next_rising p (a + 1) k x xs)
 -- Behind the first two are those from the number behind these on.
 pub drop_two : (p : ℕ → Bool) (a k most : ℕ) → a + k ≡ most + 1
     → drop 2 (filter p (range_with_len a k))
-    ≡ filter p (range_with_len (behind most (take 2 (filter p (range_with_len a k))))
-    (most + 1 - behind most (take 2 (filter p (range_with_len a k)))))
+    ≡ filter p (range_with_len (number_behind_second most (take 2 (filter p (range_with_len a k))))
+    (most + 1 - number_behind_second most (take 2 (filter p (range_with_len a k)))))
 drop_two p a k most whole =
     by (filter p (range_with_len a k)) refl (filter_rising p a k (a + k) (omega arith))
   where
@@ -186,8 +186,8 @@ drop_two p a k most whole =
         ap (λ n. filter p (range_with_len (most + 1) n)) zero_left
 
     by : (xs : List ℕ) → filter p (range_with_len a k) ≡ xs → AreRising a (a + k) xs
-        → drop 2 xs ≡ filter p (range_with_len (behind most (take 2 xs))
-        (most + 1 - behind most (take 2 xs)))
+        → drop 2 xs ≡ filter p (range_with_len (number_behind_second most (take 2 xs))
+        (most + 1 - number_behind_second most (take 2 xs)))
     by [] e rise = sym none
     by (x ∷ []) e rise = sym none
     by (x ∷ y ∷ ys) e rise =

@@ -9,7 +9,7 @@ use Rattle.alt_cells.specs.declared.batch.RowChange.{RowChange}
 use Rattle.alt_machine.specs.Building.{building_in}
 use Rattle.alt_machine.specs.Indexed.{index_entry}
 use Rattle.alt_opening.specs.StateRows.{catalog_family}
-use Rattle.alt_rowchanges.specs.Steps.{AreApartIn, step_of}
+use Rattle.alt_rowchanges.specs.Steps.{AreApartIn, step_row_changes}
 use Rattle.alt_value.specs.Tree.{Pair}
 use Rattle.alt_views.specs.IndexRows.{index_columns, moved_changes, moves_in, row_in_index}
 use Rattle.std.proofs.lemmas.Bool.Decides.{nat_tests}
@@ -117,7 +117,7 @@ module _ (d e : TableSchema) (i : IndexSchema) (low : 1 ≤ i.family) where
       (none_of_all key ys (λ m z w at is. none (suc m) z w at is))
 
   abbrev so_far : List (List Pair) → List RowChange
-  so_far items = step_of d e i items
+  so_far items = step_row_changes d e i items
 
   -- the row of the next item is none of those before it
   step_free : (items : List (List Pair)) → AreApartIn d i items → (n : ℕ) (x : List Pair)

@@ -21,7 +21,7 @@ use Rattle.alt_machine.specs.Indexed.{index_items}
 use Rattle.alt_machine.specs.Ops.UpdateTimeToLive.{timed, with_time}
 use Rattle.alt_machine.specs.Sources.{index_at}
 use Rattle.alt_machine.specs.State.{State, Table}
-use Rattle.alt_machine.specs.Valid.{IsHeldChange, IsValid}
+use Rattle.alt_machine.specs.Valid.{IsChangeOfValues, IsValid}
 use Rattle.alt_machine.proofs.Looks.{at_insert}
 use Rattle.alt_machine.proofs.Redescribed.{built_part-alike}
 use Rattle.alt_machine.proofs.Timing.{alike_same, with_time_valid}
@@ -181,7 +181,7 @@ time_turns s name t ttl valid held room at text = record {
         | inr old ↦ held.items.items other q x item old here
       ];
       changes = λ other x at_x. elim (at_insert s.tables name other x (timed ttl t) at_x) [
-        | inl new ↦ subst (λ (y : Table). All IsHeldChange y.changes) new.1
+        | inl new ↦ subst (λ (y : Table). All IsChangeOfValues y.changes) new.1
             (held.items.changes name t at)
         | inr old ↦ held.items.changes other x old
       ];

@@ -7,7 +7,7 @@ use Rattle.alt_schema.specs.declared.stated.StatedIndex.{StatedIndex}
 use Rattle.alt_machine.specs.Outcomes.{Wants, a_family, a_number}
 
 -- one has an index of that family more
-pub record HasMore (family : ℕ) (d e : TableSchema) : Type 0 where
+pub record HasOneMoreIndex (family : ℕ) (d e : TableSchema) : Type 0 where
   pub definitions : List KeyAttr
   pub index : StatedIndex
   pub is : e ≡ with_index d definitions family index
@@ -19,7 +19,7 @@ pub record HasLess (d e : TableSchema) : Type 0 where
 
 -- one may take the place of the other
 abbrev pub MayAlter : ℕ → TableSchema → TableSchema → Type 0
-MayAlter family d e = HasMore family d e ⊎ HasLess d e
+MayAlter family d e = HasOneMoreIndex family d e ⊎ HasLess d e
 
 -- there is an index more
 abbrev pub has_more : TableSchema → TableSchema → Bool

@@ -1,6 +1,6 @@
 -- What a call that gives no answer tells.
 use Rattle.alt_faults.specs.Faults as view
-use Rattle.alt_faults.specs.Faults.{Fault, failed, no_memory, spent, damaged, bad_bytes, bad_row, IsMemory, IsOutside}
+use Rattle.alt_faults.specs.Faults.{Fault, failed, no_memory, spent, damaged, bad_bytes, bad_row, IsMemoryRefused, IsOutside}
 use Rattle.alt_rowchanges.specs.declared.faults.TableFault.{TableFault}
 use Rattle.alt_rowchanges.specs.declared.faults.TableFault.TheVariants.{Spent, Damaged, BadRow, Failed, NoMemory}
 
@@ -14,12 +14,12 @@ told_by_tables NoMemory = no_memory
 
 -- a fault of a step that asks nothing of the disk and writes nothing: memory was wanting
 abbrev pub IsReadFault : TableFault → Type 0
-IsReadFault fault = IsMemory (told_by_tables fault)
+IsReadFault fault = IsMemoryRefused (told_by_tables fault)
 
 -- a fault of a call that reads rows which stand for a state: the device failed, or memory was wanting
 abbrev pub IsFindFault : TableFault → Type 0
 IsFindFault fault = IsOutside (told_by_tables fault)
 
 -- a fault for which no number or family was wanting
-abbrev pub IsUnspent : TableFault → Type 0
-IsUnspent fault = view.IsUnspent (told_by_tables fault)
+abbrev pub TableFaultIsUnspent : TableFault → Type 0
+TableFaultIsUnspent fault = view.IsUnspent (told_by_tables fault)

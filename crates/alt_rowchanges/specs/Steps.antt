@@ -31,6 +31,6 @@ AreApartIn d i items = (n m : ℕ) (x y : List Pair) (key : List ℕ) (v w : Lis
     → index_entry d i x ≡ Some (key, v) → index_entry d i y ≡ Some (key, w) → n ≡ m
 
 -- the row changes of a step with these items
-abbrev pub step_of : TableSchema → TableSchema → IndexSchema → List (List Pair) → List RowChange
-step_of d e i items = change_between catalog_family d.name (Some (table_row d)) (Some (table_row e))
+abbrev pub step_row_changes : TableSchema → TableSchema → IndexSchema → List (List Pair) → List RowChange
+step_row_changes d e i items = change_between catalog_family d.name (Some (table_row d)) (Some (table_row e))
     ∷ flat_map (λ x. moves_in d None (Some x) i) items

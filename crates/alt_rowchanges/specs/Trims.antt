@@ -35,7 +35,7 @@ pub record IsTrim (l : Layout) (t : Table) (moment : ℕ) (r : Trim) : Type 0 wh
 
 -- Whatever the disk gave, the rows that go are different ones which may be left over, and the number lies between the one from before
 -- and that of the write.
-pub record IsWithin (before next : ℕ) (r : Trim) : Type 0 where
+pub record TrimIsWithin (before next : ℕ) (r : Trim) : Type 0 where
   pub rise : before ≤ r.number
   pub below : r.number < next
   pub left : AreLeft r.number r.leftovers.items
@@ -58,21 +58,21 @@ AreTwo most (m ∷ n ∷ []) = (1 ≤ m) × (m < n) × (n ≤ most)
 AreTwo most (m ∷ n ∷ k ∷ ks) = ⊥
 
 -- the number behind the second of two, and behind another one where there are fewer
-abbrev pub behind : ℕ → List ℕ → ℕ
-behind most [] = most + 1
-behind most (m ∷ []) = most + 1
-behind most (m ∷ n ∷ ns) = n + 1
+abbrev pub number_behind_second : ℕ → List ℕ → ℕ
+number_behind_second most [] = most + 1
+number_behind_second most (m ∷ []) = most + 1
+number_behind_second most (m ∷ n ∷ ns) = n + 1
 
 -- ---- what is read of a front
 
 -- the moment of the oldest change, if there is one, is over a day before another one
-abbrev pub is_over : Option ℕ → ℕ → Bool
-is_over oldest moment = option_map_or (λ m. nat_lt (m + a_day) moment) oldest false
+abbrev pub is_over_a_day_before : Option ℕ → ℕ → Bool
+is_over_a_day_before oldest moment = option_map_or (λ m. nat_lt (m + a_day) moment) oldest false
 
 -- It is known of a table that this is the moment of the oldest change of its stream, and it isn't too old.
 abbrev pub IsYoung : List ℕ → ℕ → List Front → Option ℕ → Type 0
 IsYoung name moment known oldest = (f : Front) × (front_at name known ≡ Some f)
-    × (f.oldest ≡ oldest) × (is_over oldest moment ≡ false)
+    × (f.oldest ≡ oldest) × (is_over_a_day_before oldest moment ≡ false)
 
 -- of these changes, before which that number was trimmed, the number of the last that is trimmed by a moment, and the moment of the first
 -- that is kept

@@ -9,7 +9,7 @@ ghost use Rattle.alt_schema.specs.declared.schema.IndexSchema.{IndexSchema};
 ghost use Rattle.alt_cells.specs.Batches.{has_row};
 ghost use Rattle.alt_cells.specs.Changes.{change_between};
 ghost use Rattle.alt_changes.specs.KeyOf.{with_attribute};
-ghost use Rattle.alt_rowchanges.specs.Steps.{AreApartIn, built_to, first_behind, step_of};
+ghost use Rattle.alt_rowchanges.specs.Steps.{AreApartIn, built_to, first_behind, step_row_changes};
 ghost use Rattle.alt_value.specs.Item.{at_name};
 
 use alt_base::NoMemory;
@@ -145,7 +145,7 @@ pub fn step(
     requires building { IsSome (building_in schema.now) }
     ensures changes { (i : IndexSchema) → building_in schema.now ≡ Some i → 1 ≤ i.family
         → AreApartIn schema.now i items.now
-        → IfOk result (λ batch. batch ≡ step_of schema.now later.now i items.now) }
+        → IfOk result (λ batch. batch ≡ step_row_changes schema.now later.now i items.now) }
 {
     let old = row_of_schema(alloc, schema)?;
     let new = row_of_schema(alloc, later)?;

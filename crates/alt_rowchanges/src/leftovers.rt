@@ -2,8 +2,8 @@
 
 ghost use Rattle.std.specs.Prelude.{◌≡◌, ◌↔◌, ◌<◌, ◌-◌, ◌^◌, ℕ, List, Some, None, IfOk, IfErr, IsErrOf, IsTrue};
 ghost use Rattle.alt_changes.specs.ChangeRows.{row_key};
-ghost use Rattle.alt_rowchanges.specs.Faults.{IsReadFault, IsUnspent};
-ghost use Rattle.alt_rowchanges.specs.Trims.{AreNumbersOf, AreTwo, behind};
+ghost use Rattle.alt_rowchanges.specs.Faults.{IsReadFault, TableFaultIsUnspent};
+ghost use Rattle.alt_rowchanges.specs.Trims.{AreNumbersOf, AreTwo, number_behind_second};
 
 use crate::faults::TableFault;
 use alt_base::NoMemory;
@@ -55,7 +55,7 @@ pub fn numbers_of(
 ) -> Result<Vec<u64>, TableFault>
     ensures numbers { IfOk result (λ numbers. AreNumbersOf page.items numbers.items) }
     ensures two { IfOk result (λ numbers. AreTwo most numbers.items) }
-    ensures unspent { IfErr result IsUnspent }
+    ensures unspent { IfErr result TableFaultIsUnspent }
     ensures fault { (numbers : List ℕ) → AreNumbersOf page.items numbers → AreTwo most numbers
         → IfErr result IsReadFault }
     ensures unfailed { IsErrOf result TableFault.Failed → ⊥ }
@@ -78,7 +78,7 @@ fn numbers_at(
     page: Vec<(Bytes, ShownRow)>,
 ) -> Result<Vec<u64>, TableFault>
     ensures numbers { IfOk result (λ numbers. AreNumbersOf page.items numbers.items) }
-    ensures unspent { IfErr result IsUnspent }
+    ensures unspent { IfErr result TableFaultIsUnspent }
     ensures fault { (numbers : List ℕ) → AreNumbersOf page.items numbers → IfErr result IsReadFault }
     ensures unfailed { IsErrOf result TableFault.Failed → ⊥ }
 {
@@ -109,7 +109,7 @@ fn are_two(numbers: &[u64], most: u64) -> bool
 pub fn behind(numbers: &[u64], most: u64) -> u64
     requires two { AreTwo most numbers.now }
     requires room { most < 2 ^ 64 - 1 }
-    ensures { result ≡ behind most numbers.now }
+    ensures { result ≡ number_behind_second most numbers.now }
 {
     if numbers.len() == 2 {
         numbers[1] + 1

@@ -3,7 +3,7 @@
 ghost use Rattle.std.specs.Prelude.{◌≡◌, ◌++◌, ◌+◌, map as each, List, None, IfOk, IfErr, IfSome, OnOk, OnErr, IsErrOf, Err, Option, option_map};
 ghost use Rattle.std.specs.List.{last_or};
 ghost use Rattle.alt_base.specs.Prefix.{IsPrefix};
-ghost use Rattle.alt_rowchanges.specs.Faults.{IsReadFault, IsUnspent};
+ghost use Rattle.alt_rowchanges.specs.Faults.{IsReadFault, TableFaultIsUnspent};
 ghost use Rattle.alt_rowchanges.specs.Pages.{AreItemsOf, AreKept, ArePut, AreChangesOf};
 ghost use Rattle.alt_value.specs.Tree.{Pair};
 ghost use Rattle.alt_changes.specs.ChangeRows.{change_in};
@@ -18,7 +18,7 @@ use alt_fields::Bytes;
 use alt_opening::change_at;
 use alt_schema::{IndexSchema, TableSchema};
 use alt_value::Item;
-use alt_views::{Unread, item_of_index_row, item_of_row};
+use alt_views::{Unread, item_from_row, item_of_index_row, item_of_row};
 use std::alloc::Global;
 
 /// The item of a row, where one is shown.
@@ -44,14 +44,14 @@ pub fn read_page(
     ensures items { OnOk result (ArePut page.items out.old.items out.new.items) }
     ensures last { IfOk result (λ last. last ≡ last_or None (each (λ e. e.0) page.items)) }
     ensures begun { OnErr result (IsPrefix out.old.items out.new.items) }
-    ensures unspent { IfErr result IsUnspent }
+    ensures unspent { IfErr result TableFaultIsUnspent }
     ensures fault { (items : List (List Pair)) → AreItemsOf page.items items
         → IfErr result IsReadFault }
     ensures unfailed { IsErrOf result TableFault.Failed → ⊥ }
 {
     let mut last = None;
     for (place, row) in page {
-        match item_of_row(alloc, &row) {
+        match item_from_row(alloc, row) {
             Ok(item) => out.push(item)?,
             Err(Unread::Bad) => return Err(TableFault::BadRow { family, key: place }),
             Err(Unread::NoMemory) => return Err(TableFault::NoMemory),
@@ -74,7 +74,7 @@ pub fn read_index_page(
         → OnOk result (out.new.items ≡ out.old.items ++ items) }
     ensures last { IfOk result (λ last. last ≡ last_or None (each (λ e. e.0) page.items)) }
     ensures begun { OnErr result (IsPrefix out.old.items out.new.items) }
-    ensures unspent { IfErr result IsUnspent }
+    ensures unspent { IfErr result TableFaultIsUnspent }
     ensures fault { (items : List (List Pair)) → AreKept schema.now index.now page.items items
         → IfErr result IsReadFault }
     ensures unfailed { IsErrOf result TableFault.Failed → ⊥ }
@@ -100,7 +100,7 @@ pub fn read_changes(
 ) -> Result<Vec<Change>, TableFault>
     ensures changes { IfOk result (λ changes. AreChangesOf page.items
         (each change_in changes.items)) }
-    ensures unspent { IfErr result IsUnspent }
+    ensures unspent { IfErr result TableFaultIsUnspent }
     ensures fault { (changes : List machine.Change) → AreChangesOf page.items changes
         → IfErr result IsReadFault }
     ensures unfailed { IsErrOf result TableFault.Failed → ⊥ }

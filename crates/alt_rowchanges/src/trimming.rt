@@ -2,7 +2,7 @@
 
 ghost use Rattle.std.specs.Prelude.{◌≡◌, ◌≤◌, ◌<◌, ◌+◌, ◌^◌, ◌&&◌, nat_le, nat_lt, map as each, ℕ, Some, ◌++◌, max, OnOk};
 ghost use Rattle.alt_changes.specs.ChangeRows.{change_in};
-ghost use Rattle.alt_rowchanges.specs.Trims.{IsKeptFrom, is_over, CanTrim};
+ghost use Rattle.alt_rowchanges.specs.Trims.{IsKeptFrom, is_over_a_day_before, CanTrim};
 ghost use Rattle.alt_changes.specs.TrimRows.{trim_changes};
 
 use alt_base::NoMemory;
@@ -47,7 +47,7 @@ pub fn kept_in(changes: &[Change], moment: u64, before: u64) -> (u64, Option<u64
 
 /// Whether the moment of the oldest change is over a day before another one.
 pub fn is_over(oldest: Option<u64>, moment: u64) -> bool
-    ensures { result ≡ is_over oldest moment }
+    ensures { result ≡ is_over_a_day_before oldest moment }
 {
     match oldest {
         Some(oldest) => oldest < moment.saturating_sub(DAY),

@@ -6,7 +6,7 @@ use Rattle.sha2.proofs.Facts256.{length-sha256}
 use Rattle.alt_rowblocks.specs.Filtering.{AreFilters}
 use Rattle.alt_rowblocks.specs.Format.{Entry, Mark, body, front, rows_of, marks_from, IsFileOf}
 use Rattle.alt_rowblocks.specs.Blocks.{IsBody}
-use Rattle.alt_rowfile.specs.InHand.{FileAs, ReadsAs}
+use Rattle.alt_rowfile.specs.InHand.{FileAs, ReadsAsRowFile}
 use Rattle.alt_disk.specs.Disk.{DiskState, contents, bytes_or_none}
 use Rattle.alt_rowfile.specs.Recovery.{HasDigest, NoRowFile}
 use Rattle.alt_rowblocks.specs.Summaries.{summary_of}
@@ -76,7 +76,7 @@ there_is (Some bytes) some = refl
 pub reads_after : {summary : Summary} {filters : List Filter} (s t : DiskState) (f : ℕ)
     (marks : List Mark) (end : ℕ) (rows : List Entry)
     → t.file f ≡ s.file f → FileAs (contents s f) marks end summary filters rows
-    → ReadsAs t f marks end summary filters rows
+    → ReadsAsRowFile t f marks end summary filters rows
 reads_after s t f marks end rows same is =
     let size : 0 < length (contents s f) =
     omega (

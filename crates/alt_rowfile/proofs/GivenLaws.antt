@@ -5,11 +5,11 @@ use Rattle.alt_disk.specs.Disk.{DiskState}
 use Rattle.alt_cells.specs.declared.row.RowCells.{RowCells}
 use Rattle.alt_cells.specs.declared.source.SourceFault.{SourceFault}
 use Rattle.alt_rowblocks.specs.Format.{Entry}
-use Rattle.alt_rowfile.specs.Given.{AreRead, IsBeyond, IsRowGiven, IsRowRead, walk_nexts}
+use Rattle.alt_rowfile.specs.Given.{AreRead, GivesBeyondHand, IsRowGiven, IsRowRead, walk_nexts}
 use Rattle.alt_rowblocks.specs.Taken.{HandGives, IsBegun}
 use Rattle.alt_rowblocks.specs.Holding.{IsInHand}
-use Rattle.alt_rowfile.specs.InHand.{count_of}
-use Rattle.alt_rowfile.specs.Walking.{IsNext, passed}
+use Rattle.alt_rowfile.specs.InHand.{block_count}
+use Rattle.alt_rowfile.specs.Walking.{IsNext, place_behind_block}
 use Rattle.alt_rowblocks.specs.declared.hand.Hand.{Hand}
 use Rattle.alt_rowfile.specs.declared.rowfile.RowFile.{RowFile}
 use Rattle.alt_rowfile.specs.declared.walk.RowFileWalk.{RowFileWalk}
@@ -26,11 +26,11 @@ given_by old new file block key (Err e) read = read
 -- what the next block gives when it is in hand
 pub block_gives : (s t : DiskState) (walk new : RowFileWalk) (i : ℕ) (loaded : Hand)
     (r : Result (Option Entry) SourceFault)
-    → IsNext walk.forward walk.next (count_of walk.file.now) i
+    → IsNext walk.forward walk.next (block_count walk.file.now) i
     → AreRead s walk.file.now i loaded.bytes.items → IsBegun loaded None walk.forward
-    → new.next ≡ passed walk.forward i
+    → new.next ≡ place_behind_block walk.forward i
     → IfOk r (λ row. HandGives loaded walk.forward row new.hand)
-    → IfOk r (λ row. IsBeyond s t walk row new)
+    → IfOk r (λ row. GivesBeyondHand s t walk row new)
 block_gives s t walk new i loaded (Err e) next read begun behind gives = gives
 block_gives s t walk new i loaded (Ok row) next read begun behind gives =
     inr (record {
@@ -47,10 +47,10 @@ block_gives s t walk new i loaded (Ok row) next read begun behind gives =
 pub beyond_gives : (s t : DiskState) (walk mid new : RowFileWalk)
     (r : Result (Option Entry) SourceFault) → mid ≡ walk → IsInHand walk.hand walk.forward []
     → new.file ≡ mid.file → new.forward ≡ mid.forward
-    → IfOk r (λ row. IsBeyond s t mid row new) → IfOk r (λ row. walk_nexts s t walk row new)
+    → IfOk r (λ row. GivesBeyondHand s t mid row new) → IfOk r (λ row. walk_nexts s t walk row new)
 beyond_gives s t walk mid new (Err e) same none file way beyond = beyond
 beyond_gives s t walk mid new (Ok row) same none file way beyond = (
   file ∙ ap (λ (w : RowFileWalk). w.file) same,
   way ∙ ap (λ (w : RowFileWalk). w.forward) same,
-  inr (none, subst (λ (w : RowFileWalk). IsBeyond s t w row new) same beyond),
+  inr (none, subst (λ (w : RowFileWalk). GivesBeyondHand s t w row new) same beyond),
 )

@@ -2,9 +2,9 @@
 use Rattle.std.proofs.Common.{◌≡◌, ⊎_elim, inl, inr, sym, ap, subst, ◌∙◌, ℕ, ◌+◌, ◌<◌, List, [], ◌∷◌, length, take, drop, get_or, arith, T}
 use Rattle.std.specs.List.{AllByRecursion}
 use Rattle.alt_rowblocks.specs.Format.{Entry, Mark, block_bytes, IsHeldBlock, front, rows_of}
-use Rattle.alt_rowfile.specs.InHand.{FileAs, ReadsAs, count_of, file_of}
+use Rattle.alt_rowfile.specs.InHand.{FileAs, ReadsAsRowFile, block_count, file_of}
 use Rattle.alt_rowblocks.specs.Pieces.{ReadIs, ReadsOnce}
-use Rattle.alt_rowfile.specs.Reading.{ReadsAtMostABlock, place_of, length_of}
+use Rattle.alt_rowfile.specs.Reading.{ReadsAtMostABlock, place_of_block, length_of_block}
 use Rattle.alt_rowfile.specs.declared.rowfile.RowFile.{RowFile}
 use Rattle.alt_rowblocks.specs.Loading.{place_at, next_place, LoadedAt}
 use Rattle.alt_filter.specs.declared.filter.Filter.{Filter}
@@ -44,7 +44,7 @@ loaded_at bytes marks end i rows is less =
 
 module _ {summary : Summary} {filters : List Filter} (s : DiskState) (f : ℕ) (marks : List Mark)
     (end i : ℕ)
-    (rows : List Entry) (reads : ReadsAs s f marks end summary filters rows)
+    (rows : List Entry) (reads : ReadsAsRowFile s f marks end summary filters rows)
     (less : i < length marks) where
   -- the block at hand
   abbrev pub here : List Entry
@@ -56,13 +56,13 @@ module _ {summary : Summary} {filters : List Filter} (s : DiskState) (f : ℕ) (
       (loaded_at reads.bytes marks end i rows reads.as_file less)
 
 -- a read from its place on, of its length, is of a block
-pub asked : (s t : DiskState) (file : RowFile) (i at n : ℕ) → i < count_of file
-    → at ≡ place_of file i → n ≡ length_of file i → ReadsOnce s t (file_of file) at n
+pub asked : (s t : DiskState) (file : RowFile) (i at n : ℕ) → i < block_count file
+    → at ≡ place_of_block file i → n ≡ length_of_block file i → ReadsOnce s t (file_of file) at n
     → ReadsAtMostABlock s t file
 asked s t file i at n within is_at is_n one = ⊎_elim (λ none. inl none)
     (λ read. inr (record {
       block = i;
       within = within;
-      read = subst (λ (p : ℕ). ReadIs s t (file_of file) p (length_of file i)) is_at
+      read = subst (λ (p : ℕ). ReadIs s t (file_of file) p (length_of_block file i)) is_at
           (subst (λ (k : ℕ). ReadIs s t (file_of file) at k) is_n read);
     })) one

@@ -8,7 +8,7 @@ use Rattle.alt_rowfile.specs.InHand.{FileAs}
 use Rattle.alt_rowblocks.specs.Searching.{key_at, EndsAt}
 use Rattle.alt_filter.specs.declared.filter.Filter.{Filter}
 use Rattle.alt_rowblocks.specs.declared.summary.Summary.{Summary}
-use Rattle.alt_rowblocks.proofs.BlockLaws.{block_within}
+use Rattle.alt_rowblocks.proofs.BlockRuns.{block_within}
 use Rattle.alt_rowblocks.proofs.PlaceLaws.{split_at, length-marks}
 use Rattle.alt_rowblocks.proofs.SearchLaws.{key_is, none_behind, in_block, cut_behind}
 

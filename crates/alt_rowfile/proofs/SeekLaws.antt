@@ -15,14 +15,15 @@ use Rattle.alt_disk.specs.Disk.{DiskState}
 use Rattle.alt_cells.specs.Keys.{key_cmp}
 use Rattle.alt_cells.proofs.CellLaws.{key_total}
 use Rattle.alt_rowblocks.specs.Format.{Entry, rows_of, first_key, AreBlocks, IsHeldEntry}
-use Rattle.alt_rowfile.specs.InHand.{Reads}
-use Rattle.alt_rowblocks.specs.Cut.{IsBelow, IsFrom}
+use Rattle.alt_rowfile.specs.InHand.{ReadsRows}
+use Rattle.alt_rowblocks.specs.Cut.{IsBelowKey, IsFromKey}
 use Rattle.alt_rowblocks.specs.Searching.{EndsAt}
 use Rattle.alt_rowblocks.specs.Holding.{IsCutBlock, IsInHand}
-use Rattle.alt_rowfile.specs.Walking.{list_from, LeftAs, IsLeft}
+use Rattle.alt_rowfile.specs.Walking.{list_from, LeftAs, RowsAreLeft}
 use Rattle.alt_rowblocks.specs.declared.hand.Hand.{Hand}
 use Rattle.alt_rowfile.specs.declared.rowfile.RowFile.{RowFile}
-use Rattle.alt_rowblocks.proofs.BlockLaws.{rows_of-append, block_key, sorted_back}
+use Rattle.alt_rowblocks.proofs.BlockLaws.{sorted_back}
+use Rattle.alt_rowblocks.proofs.BlockRuns.{rows_of-append, block_key}
 use Rattle.alt_rowfile.proofs.SearchLaws.{above_first, AtBlock, at_block}
 use Rattle.alt_rowblocks.proofs.CutLaws.{below_front, from_first}
 use Rattle.alt_rowblocks.proofs.HandLaws.{from_cut, cut_in_hand}
@@ -75,34 +76,34 @@ not_le_turned Equal e = absurd (cc e)
 not_le_turned Greater e = absurd (cc e)
 
 module _ (key : List ℕ) where
-  from_le : (e : Entry) → IsFrom key e → is_le (key_cmp key e.0) ≡ true
+  from_le : (e : Entry) → IsFromKey key e → is_le (key_cmp key e.0) ≡ true
   from_le e h = ap is_le (key_total.antisymm key e.0) ∙ le_turned (key_cmp e.0 key) h
 
-  below_le : (e : Entry) → IsBelow key e → is_le (key_cmp key e.0) ≡ false
+  below_le : (e : Entry) → IsBelowKey key e → is_le (key_cmp key e.0) ≡ false
   below_le e h = ap is_le (key_total.antisymm key e.0) ∙ not_le_turned (key_cmp e.0 key) h
 
   -- forward from a key are the rows that aren't below it
-  pub cut_forward : (front back : List Entry) → AllByRecursion (IsBelow key) front
-      → AllByRecursion (IsFrom key) back
+  pub cut_forward : (front back : List Entry) → AllByRecursion (IsBelowKey key) front
+      → AllByRecursion (IsFromKey key) back
       → list_from (front ++ back) (Some key) true ≡ back
   cut_forward front back h k =
       let p = λ (e : Entry). range_contains key_cmp (Included key) Unbounded e.0 in
       filter_back p front back
-      (all_leads (IsBelow key) (λ e. p e ≡ false)
+      (all_leads (IsBelowKey key) (λ e. p e ≡ false)
       (λ e b. ap (λ t. t && not false) (below_le e b)) front h)
-      (all_leads (IsFrom key) (λ e. p e ≡ true)
+      (all_leads (IsFromKey key) (λ e. p e ≡ true)
       (λ e b. ap (λ t. t && not false) (from_le e b)) back k)
 
   -- and backward the rows below it
-  pub cut_backward : (front back : List Entry) → AllByRecursion (IsBelow key) front
-      → AllByRecursion (IsFrom key) back
+  pub cut_backward : (front back : List Entry) → AllByRecursion (IsBelowKey key) front
+      → AllByRecursion (IsFromKey key) back
       → list_from (front ++ back) (Some key) false ≡ reverse front
   cut_backward front back h k =
       let p = λ (e : Entry). range_contains key_cmp Unbounded (Excluded key) e.0 in
       ap reverse (filter_front p front back
-      (all_leads (IsBelow key) (λ e. p e ≡ true)
+      (all_leads (IsBelowKey key) (λ e. p e ≡ true)
       (λ e b. ap (λ t. true && not t) (below_le e b)) front h)
-      (all_leads (IsFrom key) (λ e. p e ≡ false)
+      (all_leads (IsFromKey key) (λ e. p e ≡ false)
       (λ e b. ap (λ t. true && not t) (from_le e b)) back k))
 
 -- with no bounds each row is in the range
@@ -134,15 +135,15 @@ module _ (key : List ℕ) where
   pub from_blocks : (ys : List (List Entry)) → AreBlocks ys → T (is_sorted key_cmp (rows_of ys))
       → ((y : List Entry) (more : List (List Entry)) → ys ≡ y ∷ more
       → is_gt (key_cmp (first_key y) key) ≡ true)
-      → AllByRecursion (IsFrom key) (rows_of ys)
+      → AllByRecursion (IsFromKey key) (rows_of ys)
   from_blocks [] cut h up = tt
   from_blocks (y ∷ ys) cut h up =
-      let k = block_key y (Rattle.alt_rowblocks.proofs.BlockLaws.block_within [] y ys cut) in
+      let k = block_key y (Rattle.alt_rowblocks.proofs.BlockRuns.block_within [] y ys cut) in
       let same : rows_of (y ∷ ys) ≡ k.0 ∷ (k.1 ++ rows_of ys) =
       ap (λ (l : List Entry). l ++ rows_of ys) k.2 in
       let above : is_gt (key_cmp k.0.0 key) ≡ true =
       subst (λ (l : List Entry). is_gt (key_cmp (first_key l) key) ≡ true) k.2 (up y ys refl) in
-      subst (AllByRecursion (IsFrom key)) (sym same)
+      subst (AllByRecursion (IsFromKey key)) (sym same)
       (from_first key k.0 (k.1 ++ rows_of ys)
       (subst (λ (l : List Entry). T (is_sorted key_cmp l)) same h)
       (not_lower (key_cmp k.0.0 key) above))
@@ -150,13 +151,13 @@ module _ (key : List ℕ) where
   -- the rows of a file in two parts, cut within a block
   pub record InTwo (rows front back : List Entry) : Type 0 where
     pub is : rows ≡ front ++ back
-    pub below : AllByRecursion (IsBelow key) front
-    pub from : AllByRecursion (IsFrom key) back
+    pub below : AllByRecursion (IsBelowKey key) front
+    pub from : AllByRecursion (IsFromKey key) back
 
   -- where a key cuts a block, it cuts all rows there
   pub cut_block : (blocks : List (List Entry)) (i : ℕ) (at : AtBlock blocks i key)
-      → (front back : List Entry) → at.here ≡ front ++ back → AllByRecursion (IsBelow key) front
-      → AllByRecursion (IsFrom key) back
+      → (front back : List Entry) → at.here ≡ front ++ back → AllByRecursion (IsBelowKey key) front
+      → AllByRecursion (IsFromKey key) back
       → InTwo (rows_of blocks) (rows_of at.before ++ front) (back ++ rows_of at.behind)
   cut_block blocks i at front back parts below from =
       let b = at.here in
@@ -172,12 +173,12 @@ module _ (key : List ℕ) where
         is = ap rows_of at.is ∙ whole
             ∙ ap (λ (l : List Entry). rows_of at.before ++ (l ++ rows_of at.behind)) parts
             ∙ regroup (rows_of at.before) front back (rows_of at.behind);
-        below = all_append (IsBelow key) (rows_of at.before) front
+        below = all_append (IsBelowKey key) (rows_of at.before) front
             (below_front key (rows_of at.before) k.0 (k.1 ++ rows_of at.behind)
             (subst (λ (l : List Entry). T (is_sorted key_cmp l)) opened sorted)
             (subst (λ (l : List Entry). is_gt (key_cmp (first_key l) key) ≡ false) k.2 at.low))
             below;
-        from = all_append (IsFrom key) back (rows_of at.behind) from
+        from = all_append (IsFromKey key) back (rows_of at.behind) from
             (from_blocks at.behind at.cut
             (sorted_back b (rows_of at.behind)
             (sorted_back (rows_of at.before) (b ++ rows_of at.behind) sorted)) at.high);
@@ -195,14 +196,14 @@ drop_behind xs b ys n is =
     ∙ drop_at (xs ++ b ∷ []) ys n (omega (arith, is, length-append xs (b ∷ [])))
 
 module _ (s t : DiskState) (file : RowFile) (key : List ℕ) (rows : List Entry)
-    (r : Reads s file rows)
+    (r : ReadsRows s file rows)
     (same : t.file file.file ≡ s.file file.file)
     (n i : ℕ) (ends : EndsAt file.marks.items key n) (place : n ≡ i + 1) where
   at : AtBlock r.as_file.blocks i key
   at = at_block r.bytes file.marks.items file.end n i rows r.as_file key ends place
 
   module _ (front back : List Entry) (parts : get_or r.as_file.blocks i [] ≡ front ++ back)
-      (below : AllByRecursion (IsBelow key) front) (from : AllByRecursion (IsFrom key) back) where
+      (below : AllByRecursion (IsBelowKey key) front) (from : AllByRecursion (IsFromKey key) back) where
     two : InTwo key (rows_of r.as_file.blocks) (rows_of at.before ++ front)
         (back ++ rows_of at.behind)
     two = cut_block key r.as_file.blocks i at front back (sym at.at ∙ parts) below from
@@ -247,7 +248,7 @@ module _ (s t : DiskState) (file : RowFile) (key : List ℕ) (rows : List Entry)
       → IsCutBlock hand (Some key) forward (get_or r.as_file.blocks i [])
       → AllByRecursion IsHeldEntry (get_or r.as_file.blocks i [])
       → (forward ≡ true → next ≡ n) → (forward ≡ false → next ≡ i)
-      → IsLeft t file forward next hand (list_from rows (Some key) forward)
+      → RowsAreLeft t file forward next hand (list_from rows (Some key) forward)
   sought_in hand forward next c held up down = record {
     held = from_cut forward c.front c.back;
     in_hand = cut_in_hand hand (Some key) forward (get_or r.as_file.blocks i []) c held;
@@ -257,16 +258,16 @@ module _ (s t : DiskState) (file : RowFile) (key : List ℕ) (rows : List Entry)
 -- with nothing in hand what is ahead is left
 pub nothing_held : (s : DiskState) (file : RowFile) (forward : Bool) (next : ℕ) (hand : Hand)
     (rows : List Entry) → IsInHand hand forward [] → LeftAs s file forward next [] rows
-    → IsLeft s file forward next hand rows
+    → RowsAreLeft s file forward next hand rows
 nothing_held s file forward next hand rows h left =
     record { held = []; in_hand = h; left = left }
 
 -- below the first block there is nothing, and all is from there on
 module _ (s t : DiskState) (file : RowFile) (key : List ℕ) (rows : List Entry)
-    (r : Reads s file rows)
+    (r : ReadsRows s file rows)
     (same : t.file file.file ≡ s.file file.file)
     (n : ℕ) (ends : EndsAt file.marks.items key n) (none : n ≡ 0) where
-  all_from : AllByRecursion (IsFrom key) (rows_of r.as_file.blocks)
+  all_from : AllByRecursion (IsFromKey key) (rows_of r.as_file.blocks)
   all_from = from_blocks key r.as_file.blocks r.as_file.file.cut r.as_file.file.rising
       (above_first r.bytes file.marks.items file.end n rows r.as_file key ends none)
 
@@ -290,7 +291,7 @@ module _ (s t : DiskState) (file : RowFile) (key : List ℕ) (rows : List Entry)
 
 -- with no key all is left
 module _ (s : DiskState) (file : RowFile) (rows : List Entry)
-    (r : Reads s file rows) where
+    (r : ReadsRows s file rows) where
   -- from the first block on, or down from the last one
   pub left_all : (forward : Bool) (n : ℕ) → (forward ≡ true → n ≡ 0)
       → (forward ≡ false → n ≡ length file.marks.items)

@@ -6,12 +6,12 @@ use Rattle.std.specs.Result.{IsErrOf}
 use Rattle.std.proofs.lemmas.Bool.{false≢true}
 use Rattle.alt_disk.specs.declared.disk.DiskFault.{DiskFault}
 use Rattle.alt_disk.specs.declared.disk.DiskFault.TheVariants.{Failed, NoMemory}
-use Rattle.alt_disk.specs.Disk.{DiskState, answered, Call, Written, Synced, contents, bytes_or_none, overwritten}
+use Rattle.alt_disk.specs.Disk.{DiskState, call_answered, Call, Written, Synced, contents, bytes_or_none, overwritten}
 use Rattle.alt_disk.specs.Runs.{Run, Spans}
 use Rattle.alt_cells.specs.Walks.{Anything as All}
 use Rattle.alt_rowfile.specs.Writing.{itself}
 use Rattle.alt_disk.proofs.Runs.{RunSoFar, begun, started, run_spans, after_call, after_sync}
-use Rattle.alt_rowfile.specs.Sinks.{Anything, Lasts}
+use Rattle.alt_rowfile.specs.Sinks.{AnyFileContents, Lasts}
 
 -- bytes put at the end
 pub put_end : (old bytes : List ℕ) (at : ℕ) → at ≡ length old
@@ -24,16 +24,16 @@ put_end old bytes at is =
 
 -- one write leaves what a run of calls on the file may
 pub wrote_run : (s0 s1 : DiskState) (f at : ℕ) (bytes : List ℕ) (ok : Bool) → Call s0 s1 ok
-    → Written s0 s1 f at bytes ok → RunSoFar s0 s1 f Anything
+    → Written s0 s1 f at bytes ok → RunSoFar s0 s1 f AnyFileContents
 wrote_run s0 s1 f at bytes ok call written =
-    after_call s0 s0 s1 f Anything ok (begun s0 f Anything (λ left fits. tt)) call written.others
+    after_call s0 s0 s1 f AnyFileContents ok (begun s0 f AnyFileContents (λ left fits. tt)) call written.others
     (λ left fits. tt)
 
 -- a sync behind a run of them does so too
-pub synced_run : (s0 s1 s2 : DiskState) (f : ℕ) (ok : Bool) → RunSoFar s0 s1 f Anything
-    → Call s1 s2 ok → Synced s1 s2 f ok → RunSoFar s0 s2 f Anything
+pub synced_run : (s0 s1 s2 : DiskState) (f : ℕ) (ok : Bool) → RunSoFar s0 s1 f AnyFileContents
+    → Call s1 s2 ok → Synced s1 s2 f ok → RunSoFar s0 s2 f AnyFileContents
 synced_run s0 s1 s2 f ok so_far call synced =
-    after_sync s0 s1 s2 f Anything ok so_far call synced (λ left p. tt)
+    after_sync s0 s1 s2 f AnyFileContents ok so_far call synced (λ left p. tt)
 
 -- what a write leaves of a file that had these bytes
 pub put_file : (s0 s1 : DiskState) (f at : ℕ) (done bytes : List ℕ) → contents s0 f ≡ done
@@ -58,18 +58,18 @@ lasts_after s0 s1 s2 f at done bytes is place written synced same =
     record { file = same ∙ there; kept = synced.there (done ++ bytes) refl there }
 
 -- a run on the file, as one that leaves all others
-pub writer_spans : (s t : DiskState) (f : ℕ) → Run s t f Anything
+pub writer_spans : (s t : DiskState) (f : ℕ) → Run s t f AnyFileContents
     → Spans s t (λ g. IsTrue (g == f)) All
 writer_spans s t f run =
-    run_spans s t f Anything (λ g. IsTrue (g == f)) All run (itself f) (λ t image here others. tt)
+    run_spans s t f AnyFileContents (λ g. IsTrue (g == f)) All run (itself f) (λ t image here others. tt)
 
 -- where no call is made the other files stay
 pub none_spans : (s : DiskState) (f : ℕ) → Spans s s (λ g. IsTrue (g == f)) All
-none_spans s f = writer_spans s s f (started s f Anything (λ left fits. tt))
+none_spans s f = writer_spans s s f (started s f AnyFileContents (λ left fits. tt))
 
 -- any answer but Failed leaves the count of faults
 pub well_answered : {P : Type 0} (r : Result Unit DiskFault) → ((IsErrOf r Failed → ⊥) → P)
-    → IsTrue (answered r) → P
+    → IsTrue (call_answered r) → P
 well_answered (Ok done) w told = w (λ e. cc e)
 well_answered (Err Failed) w told = absurd (false≢true told)
 well_answered (Err NoMemory) w told = w (λ e. cc e)

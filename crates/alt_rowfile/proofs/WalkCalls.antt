@@ -7,20 +7,20 @@ use Rattle.std.specs.FinMap.{entries}
 use Rattle.alt_base.specs.Counts.{Rose}
 use Rattle.alt_disk.specs.Disk.{DiskState, Goes}
 use Rattle.alt_disk.specs.Runs.{Quiet}
-use Rattle.alt_cells.specs.Walks.{Keeps, Fails, HasCause, IsDamaged, answered_by}
+use Rattle.alt_cells.specs.Walks.{KeepsSource, Fails, HasCause, IsDamaged, answered_by}
 use Rattle.alt_cells.specs.declared.source.SourceFault.{SourceFault}
 use Rattle.alt_cells.specs.declared.source.SourceFault.TheVariants.{Damaged, Failed, NoMemory}
 use Rattle.alt_rowblocks.specs.Format.{Entry}
-use Rattle.alt_rowfile.specs.InHand.{Reads}
+use Rattle.alt_rowfile.specs.InHand.{ReadsRows}
 use Rattle.alt_rowfile.specs.Damage.{IsDamageIn}
 use Rattle.alt_rowfile.specs.Walking.{walk_reads, walk_holds, reads_on, itself}
 use Rattle.alt_rowfile.specs.declared.walk.RowFileWalk.{RowFileWalk}
 
 -- a walk over the same file stands for the same rows, and reads the same file
 pub walk_keeps : (s t : DiskState) (w v : RowFileWalk) → v.file ≡ w.file → Goes s t
-    → (IsTrue s.tells → Quiet s t) → Keeps walk_holds walk_reads s t w v
+    → (IsTrue s.tells → Quiet s t) → KeepsSource walk_holds walk_reads s t w v
 walk_keeps s t w v same goes quiet = record {
-  holds = λ told rows h. subst (λ f. Reads t f.now (entries rows)) (sym same)
+  holds = λ told rows h. subst (λ f. ReadsRows t f.now (entries rows)) (sym same)
       (reads_on s t w.file.now (entries rows) (λ g is. (quiet told).file g) h);
   reads = ap (λ file. (λ (g : ℕ). g == file.now.file)) same;
   goes = goes;
@@ -40,7 +40,7 @@ module _ {T : Type 0} where
   -- a call failed by the disk or for want of memory
   pub walk_fails : (s t : DiskState) (w : RowFileWalk) (fault : SourceFault)
       → (IsErrOf {T = T} (Err fault) Failed → Rose s.faults t.faults)
-      → (IsTrue s.tells → (rows : List Entry) → Reads s w.file.now rows → IsDamaged fault → ⊥)
+      → (IsTrue s.tells → (rows : List Entry) → ReadsRows s w.file.now rows → IsDamaged fault → ⊥)
       → IsDamageIn s w.file.now fault → Fails walk_holds walk_reads s t w fault
   walk_fails s t w fault cause sound damage = record {
     cause = cause_of s t w fault cause damage;
@@ -58,7 +58,7 @@ module _ {T : Type 0} where
   -- the same where it isn't known yet whether it failed
   pub result_fails : (s t : DiskState) (w : RowFileWalk) (r : Result T SourceFault)
       → (IsErrOf r Failed → Rose s.faults t.faults)
-      → (IsTrue s.tells → (rows : List Entry) → Reads s w.file.now rows
+      → (IsTrue s.tells → (rows : List Entry) → ReadsRows s w.file.now rows
       → IfErr r (λ fault. IsDamaged fault → ⊥))
       → IfErr r (IsDamageIn s w.file.now) → IfErr r (Fails walk_holds walk_reads s t w)
   result_fails s t w (Ok v) cause sound damage = damage

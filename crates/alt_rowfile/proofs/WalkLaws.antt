@@ -9,9 +9,9 @@ use Rattle.alt_cells.specs.declared.source.SourceFault.TheVariants.{Damaged, Fai
 use Rattle.alt_rowfile.specs.Damage.{IsDamageIn}
 use Rattle.alt_rowblocks.specs.Format.{Entry, Mark, rows_of, AreBlocks}
 use Rattle.alt_rowblocks.specs.Holding.{IsCutBlock, IsInHand}
-use Rattle.alt_rowfile.specs.InHand.{ReadsAs, count_of, file_of}
+use Rattle.alt_rowfile.specs.InHand.{ReadsAsRowFile, block_count, file_of}
 use Rattle.alt_rowblocks.specs.Loading.{LoadedAt}
-use Rattle.alt_rowfile.specs.Walking.{rows_ahead, walk_left, LeftAs, IsLeft, IsNext, IsEnd, IsUnreadIn, passed}
+use Rattle.alt_rowfile.specs.Walking.{rows_ahead, walk_left, LeftAs, RowsAreLeft, IsNext, IsEnd, IsUnreadIn, place_behind_block}
 use Rattle.alt_rowblocks.specs.declared.hand.Hand.{Hand}
 use Rattle.alt_rowfile.specs.declared.rowfile.RowFile.{RowFile}
 use Rattle.alt_filter.specs.declared.filter.Filter.{Filter}
@@ -19,7 +19,8 @@ use Rattle.alt_rowblocks.specs.declared.summary.Summary.{Summary}
 use Rattle.alt_rowfile.specs.declared.walk.RowFileWalk.{RowFileWalk}
 use Rattle.alt_rowblocks.proofs.HandLaws.{all_in_hand}
 use Rattle.alt_rowblocks.proofs.PlaceLaws.{length-marks, split_at}
-use Rattle.alt_rowblocks.proofs.BlockLaws.{no_block, block_within}
+use Rattle.alt_rowblocks.proofs.BlockLaws.{no_block}
+use Rattle.alt_rowblocks.proofs.BlockRuns.{block_within}
 use Rattle.alt_rowblocks.proofs.PushLaws.{rows_of-push}
 
 -- ---- the next block, and none
@@ -35,7 +36,7 @@ end_down at count within end = omega (arith, end, within)
 -- the next block comes in front of the others
 ahead_next : (forward : Bool) (blocks : List (List Entry)) (n i : ℕ) → n ≤ length blocks
     → IsNext forward n (length blocks) i → rows_ahead forward n blocks
-    ≡ turned forward (get_or blocks i []) ++ rows_ahead forward (passed forward i) blocks
+    ≡ turned forward (get_or blocks i []) ++ rows_ahead forward (place_behind_block forward i) blocks
 ahead_next true blocks n i within next =
     ap (λ (k : ℕ). rows_of (drop k blocks)) (sym next.0) ∙ ap rows_of (drop_more blocks i [] next.1)
 ahead_next false blocks n i within next =
@@ -54,7 +55,7 @@ ahead_end false blocks n within end =
 
 -- the place behind one of them lies within
 passed_within : (forward : Bool) (at count i : ℕ) → IsNext forward at count i
-    → passed forward i ≤ count
+    → place_behind_block forward i ≤ count
 passed_within true at count i next = omega (arith, next.1)
 passed_within false at count i next = omega (arith, next.1)
 
@@ -68,21 +69,21 @@ next_within false at count i next = next.1
 -- a file that reads the same is the same file
 abbrev pub reads_at : {summary : Summary} {filters : List Filter} (s t : DiskState) (f : ℕ)
     (marks : List Mark) (end : ℕ) (rows : List Entry)
-    → t.file f ≡ s.file f → ReadsAs s f marks end summary filters rows
-    → ReadsAs t f marks end summary filters rows
+    → t.file f ≡ s.file f → ReadsAsRowFile s f marks end summary filters rows
+    → ReadsAsRowFile t f marks end summary filters rows
 reads_at s t f marks end rows same r =
     record { bytes = r.bytes; there = same ∙ r.there; as_file = r.as_file }
 
 -- there are as many marks as blocks
 pub count_blocks : {summary : Summary} {filters : List Filter} (s : DiskState) (f : ℕ)
     (marks : List Mark) (end : ℕ) (rows : List Entry)
-    (r : ReadsAs s f marks end summary filters rows) → length marks ≡ length r.as_file.blocks
+    (r : ReadsAsRowFile s f marks end summary filters rows) → length marks ≡ length r.as_file.blocks
 count_blocks s f marks end rows r = ap length r.as_file.marks_are ∙ length-marks 8 r.as_file.blocks
 
 -- no block is empty
 some_block : {summary : Summary} {filters : List Filter} (s : DiskState) (f : ℕ)
     (marks : List Mark) (end : ℕ) (rows : List Entry)
-    (r : ReadsAs s f marks end summary filters rows) (i : ℕ) → i < length marks → get_or
+    (r : ReadsAsRowFile s f marks end summary filters rows) (i : ℕ) → i < length marks → get_or
     r.as_file.blocks i [] ≡ []
     → ⊥
 some_block s f marks end rows r i less none =
@@ -101,10 +102,10 @@ module _ (s : DiskState) (file : RowFile) (forward : Bool) (next : ℕ) (hand : 
   -- a row in hand is given
   pub left_next : (held : List Entry) (given : Entry) → LeftAs s file forward next held rows
       → Gives (IsInHand hand forward) held (Some given)
-      → Gives (IsLeft s file forward next hand) rows (Some given)
+      → Gives (RowsAreLeft s file forward next hand) rows (Some given)
   left_next [] given l g = absurd g
   left_next (x ∷ held) given l g =
-      subst (λ (r : List Entry). Gives (IsLeft s file forward next hand) r (Some given)) (sym l.is) (
+      subst (λ (r : List Entry). Gives (RowsAreLeft s file forward next hand) r (Some given)) (sym l.is) (
         g.0,
         record {
           held = held;
@@ -123,13 +124,13 @@ module _ (s : DiskState) (file : RowFile) (forward : Bool) (next : ℕ) (hand : 
   -- and where no block is ahead, nothing is left
   pub left_end : IsInHand hand forward [] → LeftAs s file forward next [] rows
       → IsEnd forward next (length file.marks.items)
-      → Gives (IsLeft s file forward next hand) rows None
+      → Gives (RowsAreLeft s file forward next hand) rows None
   left_end h l end =
       let size = count_blocks s file.file file.marks.items file.end l.all l.reads in
       let none : rows ≡ [] = l.is
       ∙ ahead_end forward l.reads.as_file.blocks next (omega (arith, l.within, size))
       (subst (λ (n : ℕ). IsEnd forward next n) size end) in
-      subst (λ (r : List Entry). Gives (IsLeft s file forward next hand) r None) (sym none) (record {
+      subst (λ (r : List Entry). Gives (RowsAreLeft s file forward next hand) r None) (sym none) (record {
         held = [];
         in_hand = h;
         left = subst (LeftAs s file forward next []) none l;
@@ -143,7 +144,7 @@ module _ (s t : DiskState) (file : RowFile) (forward : Bool) (next i : ℕ) (row
   abbrev pub block_ahead : List Entry
   block_ahead = get_or l.reads.as_file.blocks i []
 
-  left_then : LeftAs t file forward (passed forward i) (turned forward block_ahead) rows
+  left_then : LeftAs t file forward (place_behind_block forward i) (turned forward block_ahead) rows
   left_then =
       let size = count_blocks s file.file file.marks.items file.end l.all l.reads in
       record {
@@ -158,9 +159,9 @@ module _ (s t : DiskState) (file : RowFile) (forward : Bool) (next i : ℕ) (row
   -- its first row is given, since it has one
   pub left_first : (hand : Hand) (o : Option Entry)
       → Gives (IsInHand hand forward) (turned forward block_ahead) o
-      → Gives (IsLeft t file forward (passed forward i) hand) rows o
+      → Gives (RowsAreLeft t file forward (place_behind_block forward i) hand) rows o
   left_first hand (Some given) g =
-      left_next t file forward (passed forward i) hand rows (turned forward block_ahead) given
+      left_next t file forward (place_behind_block forward i) hand rows (turned forward block_ahead) given
       left_then g
   left_first hand None g =
       absurd (some_block s file.file file.marks.items file.end l.all l.reads i
@@ -177,23 +178,23 @@ module _ (s t : DiskState) (walk new : RowFileWalk) (i : ℕ) (rows : List Entry
     (same : t.file walk.file.now.file ≡ s.file walk.file.now.file)
     (found : IsNext walk.forward walk.next (length walk.file.now.marks.items) i) where
   pub walk_gives : (r : Result (Option Entry) SourceFault) → new.file ≡ walk.file
-      → new.forward ≡ walk.forward → new.next ≡ passed walk.forward i
+      → new.forward ≡ walk.forward → new.next ≡ place_behind_block walk.forward i
       → IfOk r (Gives (IsInHand new.hand walk.forward)
       (turned walk.forward (get_or l.reads.as_file.blocks i [])))
       → IfOk r (Gives (walk_left t new) rows)
   walk_gives (Err e) file way next g = g
   walk_gives (Ok o) file way next g =
-      subst (λ f. Gives (λ (r : RowList). IsLeft t f.now new.forward new.next new.hand r) rows o)
+      subst (λ f. Gives (λ (r : RowList). RowsAreLeft t f.now new.forward new.next new.hand r) rows o)
       (sym file)
       (subst (λ (b : Bool). Gives (λ (r : RowList).
-      IsLeft t walk.file.now b new.next new.hand r) rows o) (sym way)
+      RowsAreLeft t walk.file.now b new.next new.hand r) rows o) (sym way)
       (subst (λ (n : ℕ). Gives (λ (r : RowList).
-      IsLeft t walk.file.now walk.forward n new.hand r) rows o) (sym next)
+      RowsAreLeft t walk.file.now walk.forward n new.hand r) rows o) (sym next)
       (left_first s t walk.file.now walk.forward walk.next i rows l same found new.hand o g)))
 
 -- where no row of a block could be read, no block stands there
 module _ (s : DiskState) (file : RowFile) (i : ℕ) (forward : Bool) (hand : Hand)
-    (less : i < count_of file)
+    (less : i < block_count file)
     (cut : IsTrue s.tells → (b : List Entry)
     → LoadedAt (contents s (file_of file)) file.marks.items file.end i b
     → IsCutBlock hand None forward b) where

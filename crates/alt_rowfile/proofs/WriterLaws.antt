@@ -11,14 +11,14 @@ use Rattle.alt_cells.specs.Keys.{key_cmp}
 use Rattle.alt_fields.proofs.Apart.{all_append}
 use Rattle.alt_filter.specs.Filters.{Holds}
 use Rattle.alt_filter.specs.declared.filter.Filter.{Filter}
-use Rattle.alt_rowblocks.specs.Format.{Entry, Mark, entry_bytes, rows_bytes, block_bytes, front, rows_of, first_key, marks_from, tail_bytes, body, file_bytes, IsBlock, IsFull, AreBlocks, IsHeldEntry, IsHeldBlock}
+use Rattle.alt_rowblocks.specs.Format.{Entry, Mark, row_entry_bytes, rows_bytes, block_bytes, front, rows_of, first_key, marks_from, tail_bytes, body, row_file_bytes, IsBlock, IsFull, AreBlocks, IsHeldEntry, IsHeldBlock}
 use Rattle.alt_rowblocks.specs.Filtering.{AreFilters}
 use Rattle.alt_rowfile.specs.Sinks.{IsPut, Lasts}
-use Rattle.alt_rowfile.specs.InHand.{StandsAs}
+use Rattle.alt_rowfile.specs.InHand.{StandsAsRowFile}
 use Rattle.sha2.specs.Sha256.{sha256}
 use Rattle.alt_disk.proofs.Settled.{synced_settled}
-use Rattle.alt_rowfile.specs.Writing.{piece, IsOpen, WritesAs}
-use Rattle.alt_rowblocks.specs.Summaries.{joined, summary_of}
+use Rattle.alt_rowfile.specs.Writing.{piece, IsOpenBlock, WritesAs}
+use Rattle.alt_rowblocks.specs.Summaries.{joined_summary, summary_of}
 use Rattle.alt_rowfile.specs.declared.sink.Sink.{Sink}
 use Rattle.alt_rowblocks.specs.declared.summary.Summary.{Summary}
 use Rattle.alt_rowblocks.proofs.OneFile.{length-entry}
@@ -38,7 +38,7 @@ first-push waiting e x = refl
 
 -- an open block that isn't full stays open with one row more
 pub open_push : (waiting : List Entry) (e : Entry) → length (rows_bytes waiting) < 4096
-    → IsOpen (waiting ++ e ∷ [])
+    → IsOpenBlock (waiting ++ e ∷ [])
 open_push [] e short = record { rows = []; last = e; is = refl; short = short }
 open_push (x ∷ waiting) e short = record { rows = x ∷ waiting; last = e; is = refl; short = short }
 
@@ -51,11 +51,11 @@ block_push waiting e short = record { rows = waiting; last = e; is = refl; short
 pub rows_none : (rows : List Entry) → length (rows_bytes rows) ≡ 0 → rows ≡ []
 rows_none [] e = refl
 rows_none (x ∷ rows) e =
-    absurd (omega (arith, e, length-append (entry_bytes x) (rows_bytes rows), length-entry x))
+    absurd (omega (arith, e, length-append (row_entry_bytes x) (rows_bytes rows), length-entry x))
 
 -- rows of which there are some have bytes
 pub rows_some : (x : Entry) (rows : List Entry) → 0 < length (rows_bytes (x ∷ rows))
-rows_some x rows = omega (arith, length-append (entry_bytes x) (rows_bytes rows), length-entry x)
+rows_some x rows = omega (arith, length-append (row_entry_bytes x) (rows_bytes rows), length-entry x)
 
 -- the marks with one row more: at the first row of a block a mark is set
 pub marks_more : (closed : List (List Entry)) (waiting : List Entry) (e : Entry) (at : ℕ)
@@ -81,10 +81,10 @@ pub row_more : (s : DiskState) (sink : Sink) (block new_block : List ℕ)
     → WritesAs s sink block marks count summary filters filter closed waiting → length
     (rows_bytes waiting) < 4096
     → T (is_sorted key_cmp (rows_of closed ++ (waiting ++ e ∷ []))) → IsHeldEntry e
-    → new_block ≡ block ++ entry_bytes e
+    → new_block ≡ block ++ row_entry_bytes e
     → (length block ≡ 0 → new_marks ≡ marks ++ (sink.at, e.0) ∷ [])
     → (0 < length block → new_marks ≡ marks) → new_count ≡ count + 1
-    → new_summary ≡ joined summary (summary_of (e ∷ []))
+    → new_summary ≡ joined_summary summary (summary_of (e ∷ []))
     → ((key : List ℕ) → Holds filter key → Holds new_filter key) → Holds new_filter e.0
     → WritesAs s sink new_block new_marks new_count new_summary filters new_filter closed
     (waiting ++ e ∷ [])
@@ -97,7 +97,7 @@ row_more s sink block new_block marks new_marks count new_count summary new_summ
       opens = open_push waiting e short;
       open_held = all_append IsHeldEntry waiting (e ∷ []) w.open_held (held, tt);
       rising = rising;
-      bytes = bytes ∙ ap (λ (l : List ℕ). l ++ entry_bytes e) w.bytes
+      bytes = bytes ∙ ap (λ (l : List ℕ). l ++ row_entry_bytes e) w.bytes
           ∙ sym (rows_bytes-push waiting e);
       marks_are = marks_more closed waiting e sink.at block marks new_marks w.put.at w.bytes
           w.marks_are set kept;
@@ -109,7 +109,7 @@ row_more s sink block new_block marks new_marks count new_count summary new_summ
         length-append waiting (e ∷ []),
         length-append (rows_of closed) waiting,
       );
-      summary_is = told ∙ ap (λ (x : Summary). joined x (summary_of (e ∷ []))) w.summary_is
+      summary_is = told ∙ ap (λ (x : Summary). joined_summary x (summary_of (e ∷ []))) w.summary_is
           ∙ sym (summary-append (rows_of closed ++ waiting) (e ∷ []))
           ∙ ap summary_of (append_assoc (rows_of closed) waiting (e ∷ []));
       filters_are = w.filters_are;
@@ -160,7 +160,7 @@ block_more s t sink new_sink block written cleared marks count filters new_filte
 
 -- the open block may be the last, with less
 pub are_blocks : (closed : List (List Entry)) (waiting : List Entry) → AllByRecursion IsBlock closed
-    → AllByRecursion IsFull closed → IsOpen waiting → AreBlocks (closed ++ piece waiting)
+    → AllByRecursion IsFull closed → IsOpenBlock waiting → AreBlocks (closed ++ piece waiting)
 are_blocks [] [] blocks full opens = tt
 are_blocks [] (x ∷ waiting) blocks full opens = opens
 are_blocks (b ∷ []) [] blocks full opens = blocks.0
@@ -206,7 +206,7 @@ pub stands_after : {summary : Summary} {filters : List Filter} {filter : Filter}
     → AreBlocks closed
     → sink.at ≤ 2 ^ 62 → tail ≡ tail_bytes marks count sink.at
     → Lasts t sink.file ((front closed ++ tail) ++ sha256 (front closed ++ tail))
-    → StandsAs t sink.file marks sink.at summary filters (rows_of closed)
+    → StandsAsRowFile t sink.file marks sink.at summary filters (rows_of closed)
 stands_after s t sink block tail marks count closed w cut small is lasts =
     let here : marks ≡ marks_from 8 closed = w.marks_are ∙ ap (marks_from 8) (append-nil closed) in
     let rows : count ≡ length (rows_of closed) = w.count_is
@@ -214,7 +214,7 @@ stands_after s t sink block tail marks count closed w cut small is lasts =
     let whole : front closed ++ tail ≡ body closed =
     ap (λ (l : List ℕ). front closed ++ l) (is
     ∙ (λ i. tail_bytes (here i) (rows i) (w.put.at i))) in
-    let all : (front closed ++ tail) ++ sha256 (front closed ++ tail) ≡ file_bytes closed =
+    let all : (front closed ++ tail) ++ sha256 (front closed ++ tail) ≡ row_file_bytes closed =
     ap (λ (l : List ℕ). l ++ sha256 l) whole in
     record {
       reads = record {
@@ -246,8 +246,8 @@ stands_after s t sink block tail marks count closed w cut small is lasts =
 -- a row put down in two fields is its entry
 pub two_put : (block one two key row_bytes : List ℕ) (row : RowCells) → row_bytes ≡ bytes_of_row row
     → one ≡ block ++ field key → two ≡ one ++ field row_bytes
-    → two ≡ block ++ entry_bytes (key, row)
-unfolding entry_bytes
+    → two ≡ block ++ row_entry_bytes (key, row)
+unfolding row_entry_bytes
 two_put block one two key row_bytes row is first then =
     then ∙ ap (λ (l : List ℕ). l ++ field row_bytes) first
     ∙ append_assoc block (field key) (field row_bytes)

@@ -7,7 +7,7 @@ use Rattle.alt_disk.specs.Disk.{DiskState, bytes_or_none}
 use Rattle.alt_cells.specs.Walks.{SameFiles}
 use Rattle.alt_cells.specs.Keys.{key_cmp}
 use Rattle.alt_filter.specs.declared.filter.Filter.{Filter}
-use Rattle.alt_rowblocks.specs.Filtering.{AreFilters, HoldsRows}
+use Rattle.alt_rowblocks.specs.Filtering.{AreFilters, FilterHoldsRows}
 use Rattle.alt_rowblocks.specs.Format.{Entry, Mark, rows_bytes, front, rows_of, marks_from, IsBlock, IsFull, IsHeldEntry, IsHeldBlock}
 use Rattle.alt_rowfile.specs.Sinks.{IsPut}
 use Rattle.alt_rowblocks.specs.Summaries.{summary_of}
@@ -25,9 +25,9 @@ piece [] = []
 piece (e ∷ es) = (e ∷ es) ∷ []
 
 -- an open block without rows, or one
-abbrev pub IsOpen : List Entry → Type 0
-IsOpen [] = Unit {0}
-IsOpen (e ∷ es) = IsBlock (e ∷ es)
+abbrev pub IsOpenBlock : List Entry → Type 0
+IsOpenBlock [] = Unit {0}
+IsOpenBlock (e ∷ es) = IsBlock (e ∷ es)
 
 -- These blocks were written, and these rows wait in the open one.
 pub record WritesAs (s : DiskState) (sink : Sink) (block : List ℕ) (marks : List Mark) (count : ℕ)
@@ -36,7 +36,7 @@ pub record WritesAs (s : DiskState) (sink : Sink) (block : List ℕ) (marks : Li
   pub put : IsPut s sink (front closed)
   pub blocks : AllByRecursion IsBlock closed
   pub held : AllByRecursion IsHeldBlock closed
-  pub opens : IsOpen waiting
+  pub opens : IsOpenBlock waiting
   pub open_held : AllByRecursion IsHeldEntry waiting
   pub rising : T (is_sorted key_cmp (rows_of closed ++ waiting))
   pub bytes : block ≡ rows_bytes waiting
@@ -44,7 +44,7 @@ pub record WritesAs (s : DiskState) (sink : Sink) (block : List ℕ) (marks : Li
   pub count_is : count ≡ length (rows_of closed ++ waiting)
   pub summary_is : summary ≡ summary_of (rows_of closed ++ waiting)
   pub filters_are : AreFilters filters closed
-  pub open_holds : HoldsRows filter waiting
+  pub open_holds : FilterHoldsRows filter waiting
 
 -- the same of a writer, by its parts
 abbrev pub WritesTo : DiskState → RowFileWriter → List (List Entry) → List Entry → Type 0
@@ -53,7 +53,7 @@ WritesTo s w closed waiting =
     waiting
 
 -- The writer has added these rows: full blocks, and an open one that isn't full.
-pub record Writes (s : DiskState) (w : RowFileWriter) (rows : List Entry) : Type 0 where
+pub record WritesRows (s : DiskState) (w : RowFileWriter) (rows : List Entry) : Type 0 where
   pub closed : List (List Entry)
   pub waiting : List Entry
   pub to : WritesTo s w closed waiting
@@ -71,7 +71,7 @@ itself n = grind arith
 
 -- what it has added lasts while the file reads the same
 pub writes_on : (old new : DiskState) (w : RowFileWriter) (rows : List Entry)
-    → SameFiles (writer_writes w) old new → Writes old w rows → Writes new w rows
+    → SameFiles (writer_writes w) old new → WritesRows old w rows → WritesRows new w rows
 writes_on old new w rows same writes = record {
   closed = writes.closed;
   waiting = writes.waiting;

@@ -1,6 +1,6 @@
 //! One block of a row file, read from the disk: in hand for its rows, or for the one of a key.
 
-ghost use Rattle.std.specs.Prelude.{◌≡◌, ◌≤◌, ◌<◌, ◌+◌, ◌==◌, if◌then◌else◌, ℕ, List, [], length, get_or, IfOk, IfErr, IsErrOf, IsTrue};
+ghost use Rattle.std.specs.Prelude.{◌≡◌, ◌≤◌, ◌<◌, ◌+◌, ◌==◌, List, [], get_or, IfOk, IfErr, IsErrOf, IsTrue};
 ghost use Rattle.std.specs.FinMap.Entries.{find};
 ghost use Rattle.std.specs.Option.{option_copied};
 ghost use Rattle.alt_base.specs.Counts.{Rose};
@@ -14,9 +14,9 @@ ghost use Rattle.alt_rowfile.specs.Damage.{IsDamageIn};
 ghost use Rattle.alt_rowfile.specs.Given.{AreRead, IsRowRead};
 ghost use Rattle.alt_rowblocks.specs.Taken.{IsBegun};
 ghost use Rattle.alt_rowblocks.specs.Holding.{IsCutBlock};
-ghost use Rattle.alt_rowfile.specs.InHand.{Reads, count_of, file_of};
+ghost use Rattle.alt_rowfile.specs.InHand.{ReadsRows, block_count, file_of};
 ghost use Rattle.alt_rowblocks.specs.Loading.{next_place, LoadedAt};
-ghost use Rattle.alt_rowfile.specs.Reading.{ReadsAtMostABlock, place_of};
+ghost use Rattle.alt_rowfile.specs.Reading.{ReadsAtMostABlock, place_of_block};
 
 use crate::rowfile::RowFile;
 use alt_cells::{RowCells, SourceFault};
@@ -31,13 +31,13 @@ pub(crate) fn load<D: Disk>(
     from: Option<&[u8]>,
     forward: bool,
 ) -> Result<Hand, SourceFault>
-    requires { i < count_of file.now }
+    requires { i < block_count file.now }
     ensures block { IsTrue (D.state disk.old).tells → (b : List Entry)
         → LoadedAt (contents (D.state disk.old) (file_of file.now)) file.now.marks.items
         file.now.end i b
         → IfOk result (λ hand. IsCutBlock hand (option_copied from.entry) forward b) }
     ensures undamaged { IsTrue (D.state disk.old).tells
-        → (rows : List Entry) → Reads (D.state disk.old) file.now rows
+        → (rows : List Entry) → ReadsRows (D.state disk.old) file.now rows
         → IfErr result (λ fault. IsDamaged fault → ⊥) }
     ensures given { IfOk result (λ hand. AreRead (D.state disk.old) file.now i hand.bytes.items) }
     ensures begun { IfOk result (λ hand. IsBegun hand (option_copied from.entry) forward) }
@@ -64,9 +64,9 @@ pub(crate) fn load<D: Disk>(
 
 /// Reads a block and tests each of its rows.
 pub(crate) fn test<D: Disk>(file: &RowFile, disk: &mut D, i: usize) -> Result<(), SourceFault>
-    requires { i < count_of file.now }
+    requires { i < block_count file.now }
     ensures undamaged { IsTrue (D.state disk.old).tells
-        → (rows : List Entry) → Reads (D.state disk.old) file.now rows
+        → (rows : List Entry) → ReadsRows (D.state disk.old) file.now rows
         → IfErr result (λ fault. IsDamaged fault → ⊥) }
     ensures damage { IfErr result (IsDamageIn (D.state disk.old) file.now) }
     ensures quiet { IsTrue (D.state disk.old).tells
@@ -96,13 +96,13 @@ pub(crate) fn load_row<D: Disk>(
     i: usize,
     key: &[u8],
 ) -> Result<Option<RowCells>, SourceFault>
-    requires { i < count_of file.now }
+    requires { i < block_count file.now }
     ensures row { IsTrue (D.state disk.old).tells
-        → (rows : List Entry) (reads : Reads (D.state disk.old) file.now rows)
+        → (rows : List Entry) (reads : ReadsRows (D.state disk.old) file.now rows)
         → IfOk result (λ row. row ≡ find key_cmp key.now (get_or reads.as_file.blocks i [])) }
     ensures given { IfOk result (IsRowRead (D.state disk.old) file.now i key.now) }
     ensures undamaged { IsTrue (D.state disk.old).tells
-        → (rows : List Entry) → Reads (D.state disk.old) file.now rows
+        → (rows : List Entry) → ReadsRows (D.state disk.old) file.now rows
         → IfErr result (λ fault. IsDamaged fault → ⊥) }
     ensures damage { IfErr result (IsDamageIn (D.state disk.old) file.now) }
     ensures quiet { IsTrue (D.state disk.old).tells
@@ -127,13 +127,13 @@ pub(crate) fn load_row<D: Disk>(
 
 // The bytes of a block.
 fn block_at<D: Disk>(file: &RowFile, disk: &mut D, i: usize) -> Result<Vec<u8>, SourceFault>
-    requires { i < count_of file.now }
+    requires { i < block_count file.now }
     ensures bytes { IsTrue (D.state disk.old).tells → (b : List Entry)
         → LoadedAt (contents (D.state disk.old) (file_of file.now)) file.now.marks.items
         file.now.end i b → IfOk result (λ v. v.items ≡ block_bytes b) }
     ensures given { IfOk result (λ v. AreRead (D.state disk.old) file.now i v.items) }
     ensures undamaged { IsTrue (D.state disk.old).tells
-        → (rows : List Entry) → Reads (D.state disk.old) file.now rows
+        → (rows : List Entry) → ReadsRows (D.state disk.old) file.now rows
         → IfErr result (λ fault. IsDamaged fault → ⊥) }
     ensures damage { IfErr result (IsDamageIn (D.state disk.old) file.now) }
     ensures quiet { IsTrue (D.state disk.old).tells
@@ -159,8 +159,8 @@ fn block_at<D: Disk>(file: &RowFile, disk: &mut D, i: usize) -> Result<Vec<u8>, 
 
 /// Damage, of this block.
 pub(crate) fn damaged(file: &RowFile, i: usize) -> SourceFault
-    requires { i < count_of file.now }
-    ensures { result ≡ Damaged (file_of file.now) (place_of file.now i) }
+    requires { i < block_count file.now }
+    ensures { result ≡ Damaged (file_of file.now) (place_of_block file.now i) }
 {
     SourceFault::Damaged {
         file: file.file,
@@ -170,7 +170,7 @@ pub(crate) fn damaged(file: &RowFile, i: usize) -> SourceFault
 
 // The place behind a block.
 fn next_place(file: &RowFile, i: usize) -> u64
-    requires { i < count_of file.now }
+    requires { i < block_count file.now }
     ensures { result ≡ next_place file.now.marks.items file.now.end i }
 {
     if i + 1 == file.marks.len() {

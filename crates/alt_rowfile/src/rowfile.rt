@@ -31,7 +31,7 @@ impl RowFile {
     ghost use Rattle.alt_rowblocks.specs.Format.{Entry};
     ghost use Rattle.alt_rowfile.specs.Damage.{IsDamageIn};
     ghost use Rattle.alt_rowfile.specs.Given.{IsRowGiven};
-    ghost use Rattle.alt_rowfile.specs.InHand.{Reads, file_of};
+    ghost use Rattle.alt_rowfile.specs.InHand.{ReadsRows, file_of};
     ghost use Rattle.alt_rowfile.specs.Reading.{ReadsAtMostABlock};
     ghost use Rattle.alt_rowblocks.specs.Summaries.{any_tombstone, latest_of};
     ghost use Rattle.alt_rowfile.specs.Walking.{walk_holds, walk_reads};
@@ -45,7 +45,7 @@ impl RowFile {
     pub fn recover<D: Disk>(alloc: Global, disk: &mut D, f: u32) -> Result<RowFile, RowFileFault>
         ensures file { IfOk result (λ file. file_of file ≡ f) }
         ensures reads { IfOk result (λ file. IsTrue (D.state disk.old).tells → (rows : List Entry)
-            × Reads (D.state disk.new) file rows) }
+            × ReadsRows (D.state disk.new) file rows) }
         ensures explained { IsTrue (D.state disk.old).tells
             → IfErr result (ExplainsFile f (contents (D.state disk.old) f)) }
         ensures quiet { IsTrue (D.state disk.old).tells
@@ -63,12 +63,12 @@ impl RowFile {
     /// the last, or not in the filter of its block.
     pub fn row<D: Disk>(&self, disk: &mut D, key: &[u8]) -> Result<Option<RowCells>, SourceFault>
         ensures row { IsTrue (D.state disk.old).tells → (rows : List Entry)
-            → Reads (D.state disk.old) self.now rows
+            → ReadsRows (D.state disk.old) self.now rows
             → IfOk result (λ row. row ≡ find key_cmp key.now rows) }
         ensures given { IfOk result
             (IsRowGiven (D.state disk.old) (D.state disk.new) self.now key.now) }
         ensures undamaged { IsTrue (D.state disk.old).tells → (rows : List Entry)
-            → Reads (D.state disk.old) self.now rows → IfErr result (λ fault. IsDamaged fault → ⊥) }
+            → ReadsRows (D.state disk.old) self.now rows → IfErr result (λ fault. IsDamaged fault → ⊥) }
         ensures damage { IfErr result (IsDamageIn (D.state disk.old) self.now) }
         ensures quiet { IsTrue (D.state disk.old).tells
             → Quiet (D.state disk.old) (D.state disk.new) }
@@ -95,7 +95,7 @@ impl RowFile {
 
     /// The greatest timestamp of its rows, 0 where they have none.
     pub fn latest(&self) -> u64
-        ensures { (s : DiskState) (rows : List Entry) → Reads s self.now rows
+        ensures { (s : DiskState) (rows : List Entry) → ReadsRows s self.now rows
             → result ≡ latest_of rows }
     {
         self.summary.latest
@@ -103,7 +103,7 @@ impl RowFile {
 
     /// Whether a row of it has a tombstone, its own or one of a cell.
     pub fn has_tombstone(&self) -> bool
-        ensures { (s : DiskState) (rows : List Entry) → Reads s self.now rows
+        ensures { (s : DiskState) (rows : List Entry) → ReadsRows s self.now rows
             → result ≡ any_tombstone rows }
     {
         self.summary.tombstone
@@ -111,7 +111,7 @@ impl RowFile {
 
     /// A walk over its rows, which is to be sought first.
     pub fn walk(&self) -> RowFileWalk<'_>
-        ensures holds { (s : DiskState) (rows : RowMap) → Reads s self.now (entries rows)
+        ensures holds { (s : DiskState) (rows : RowMap) → ReadsRows s self.now (entries rows)
             → walk_holds s result rows }
         ensures reads { (f : ℕ) → walk_reads result f ≡ (f == file_of self.now) }
     {

@@ -9,9 +9,9 @@ ghost use Rattle.alt_cells.specs.Walks.{IsDamaged};
 ghost use Rattle.alt_rowblocks.specs.Format.{Entry};
 ghost use Rattle.alt_rowfile.specs.Damage.{IsDamageIn};
 ghost use Rattle.alt_rowfile.specs.Given.{IsSought};
-ghost use Rattle.alt_rowfile.specs.InHand.{Reads};
+ghost use Rattle.alt_rowfile.specs.InHand.{ReadsRows};
 ghost use Rattle.alt_rowfile.specs.Reading.{ReadsAtMostABlock};
-ghost use Rattle.alt_rowfile.specs.Walking.{IsLeft, list_from};
+ghost use Rattle.alt_rowfile.specs.Walking.{RowsAreLeft, list_from};
 
 use crate::load::load;
 use crate::rowfile::RowFile;
@@ -28,13 +28,13 @@ pub(crate) fn start<D: Disk>(
     forward: bool,
 ) -> Result<(usize, Hand), SourceFault>
     ensures left { IsTrue (D.state disk.old).tells
-        → (rows : List Entry) → Reads (D.state disk.old) file.now rows
-        → IfOk result (λ p. IsLeft (D.state disk.new) file.now forward p.0 p.1
+        → (rows : List Entry) → ReadsRows (D.state disk.old) file.now rows
+        → IfOk result (λ p. RowsAreLeft (D.state disk.new) file.now forward p.0 p.1
         (list_from rows (option_copied from.entry) forward)) }
     ensures given { IfOk result (λ p. IsSought (D.state disk.old) (D.state disk.new) file.now
         (option_copied from.entry) forward p.0 p.1) }
     ensures undamaged { IsTrue (D.state disk.old).tells
-        → (rows : List Entry) → Reads (D.state disk.old) file.now rows
+        → (rows : List Entry) → ReadsRows (D.state disk.old) file.now rows
         → IfErr result (λ fault. IsDamaged fault → ⊥) }
     ensures damage { IfErr result (IsDamageIn (D.state disk.old) file.now) }
     ensures quiet { IsTrue (D.state disk.old).tells
@@ -68,13 +68,13 @@ fn start_at<D: Disk>(
     forward: bool,
 ) -> Result<(usize, Hand), SourceFault>
     ensures left { IsTrue (D.state disk.old).tells
-        → (rows : List Entry) → Reads (D.state disk.old) file.now rows
-        → IfOk result (λ p. IsLeft (D.state disk.new) file.now forward p.0 p.1
+        → (rows : List Entry) → ReadsRows (D.state disk.old) file.now rows
+        → IfOk result (λ p. RowsAreLeft (D.state disk.new) file.now forward p.0 p.1
         (list_from rows (Some key.now) forward)) }
     ensures given { IfOk result (λ p. IsSought (D.state disk.old) (D.state disk.new) file.now
         (Some key.now) forward p.0 p.1) }
     ensures undamaged { IsTrue (D.state disk.old).tells
-        → (rows : List Entry) → Reads (D.state disk.old) file.now rows
+        → (rows : List Entry) → ReadsRows (D.state disk.old) file.now rows
         → IfErr result (λ fault. IsDamaged fault → ⊥) }
     ensures damage { IfErr result (IsDamageIn (D.state disk.old) file.now) }
     ensures quiet { IsTrue (D.state disk.old).tells

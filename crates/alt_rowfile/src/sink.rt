@@ -20,7 +20,7 @@ impl Sink {
     ghost use Rattle.alt_disk.specs.Disk.{DiskState, IsTrusted, Goes};
     ghost use Rattle.alt_disk.specs.Runs.{Run};
     ghost use Rattle.sha2.specs.Sha256.{sha256};
-    ghost use Rattle.alt_rowfile.specs.Sinks.{IsPut, Lasts, Anything};
+    ghost use Rattle.alt_rowfile.specs.Sinks.{IsPut, Lasts, AnyFileContents};
 
     /// Nothing of a file yet.
     pub(crate) fn new(file: u32) -> Sink
@@ -45,7 +45,7 @@ impl Sink {
         ensures still { OnErr result (self.new.at ≡ self.old.at) }
         ensures file { self.new.file ≡ self.old.file }
         ensures any_moment { IsTrusted (D.state disk.old)
-            → Run (D.state disk.old) (D.state disk.new) self.old.file Anything }
+            → Run (D.state disk.old) (D.state disk.new) self.old.file AnyFileContents }
         ensures goes { Goes (D.state disk.old) (D.state disk.new) }
         ensures cause { OnErr result (Rose (D.state disk.old).faults (D.state disk.new).faults) }
         ensures well { is_ok result ≡ true
@@ -66,7 +66,7 @@ impl Sink {
             → Lasts (D.state disk.new) self.file
             ((done ++ bytes.items) ++ sha256 (done ++ bytes.items))) }
         ensures any_moment { IsTrusted (D.state disk.old)
-            → Run (D.state disk.old) (D.state disk.new) self.file Anything }
+            → Run (D.state disk.old) (D.state disk.new) self.file AnyFileContents }
         ensures goes { Goes (D.state disk.old) (D.state disk.new) }
         ensures cause { IsErrOf result DiskFault.Failed
             → Rose (D.state disk.old).faults (D.state disk.new).faults }

@@ -1,6 +1,6 @@
 //! A walk over the rows of a file, in either direction, with one block in hand, of which a row is decoded when it is given.
 
-ghost use Rattle.std.specs.Prelude.{◌≡◌, ◌<◌, ◌≤◌, ◌+◌, ◌^◌, ℕ, [], List, IfOk, IfErr, IfSome, IfNone, OnOk, IsErrOf, IsTrue};
+ghost use Rattle.std.specs.Prelude.{◌≡◌, ◌<◌, ◌≤◌, ◌+◌, ◌^◌, [], List, IfOk, IfErr, IfSome, IfNone, OnOk, IsErrOf, IsTrue};
 ghost use Rattle.alt_base.specs.Counts.{Rose};
 ghost use Rattle.alt_disk.specs.Disk.{Goes};
 ghost use Rattle.alt_disk.specs.Runs.{Quiet};
@@ -8,11 +8,11 @@ ghost use Rattle.alt_cells.specs.Walks.{Gives, IsDamaged, RowList, answered_by};
 ghost use Rattle.alt_rowfile.specs.Damage.{IsDamageIn};
 ghost use Rattle.alt_rowblocks.specs.Format.{Entry};
 ghost use Rattle.alt_rowblocks.specs.Taken.{HandGives};
-ghost use Rattle.alt_rowfile.specs.Given.{IsBeyond};
+ghost use Rattle.alt_rowfile.specs.Given.{GivesBeyondHand};
 ghost use Rattle.alt_rowblocks.specs.Holding.{IsInHand};
-ghost use Rattle.alt_rowfile.specs.InHand.{Reads, count_of};
+ghost use Rattle.alt_rowfile.specs.InHand.{ReadsRows, block_count};
 ghost use Rattle.alt_rowfile.specs.Reading.{ReadsAtMostABlock};
-ghost use Rattle.alt_rowfile.specs.Walking.{IsEnd, IsNext, IsUnreadIn, LeftAs, passed, walk_file, walk_left};
+ghost use Rattle.alt_rowfile.specs.Walking.{IsEnd, IsNext, IsUnreadIn, LeftAs, place_behind_block, walk_file, walk_left};
 
 use crate::load::{damaged, load, test};
 use crate::rowfile::RowFile;
@@ -34,7 +34,7 @@ pub struct RowFileWalk<'a> {
 impl<'a, D: Disk> RowSource<D> for RowFileWalk<'a> {
     ghost use Rattle.std.specs.Prelude.{IfOk};
     ghost use Rattle.std.specs.Option.{option_copied};
-    ghost use Rattle.alt_cells.specs.Walks.{RowMap, RowList, rows_from, Gives, Keeps, Fails};
+    ghost use Rattle.alt_cells.specs.Walks.{RowMap, RowList, rows_from, Gives, KeepsSource, Fails};
     ghost use Rattle.alt_rowfile.specs.Given.{walk_nexts, walk_seeks};
     ghost use Rattle.alt_rowfile.specs.Walking.{walk_reads, walk_width, walk_holds, walk_left, walk_holds_on, walk_left_on};
 
@@ -61,7 +61,7 @@ impl<'a, D: Disk> RowSource<D> for RowFileWalk<'a> {
             (rows_from rows (option_copied from.entry) forward)) }
         ensures given { OnOk result (walk_seeks (D.state disk.old) (D.state disk.new) self.old
             (option_copied from.entry) forward self.new) }
-        ensures keeps { Keeps walk_holds walk_reads (D.state disk.old) (D.state disk.new)
+        ensures keeps { KeepsSource walk_holds walk_reads (D.state disk.old) (D.state disk.new)
             self.old self.new }
         ensures reads { (D.state disk.new).reads ≤ (D.state disk.old).reads + walk_width self.old }
         ensures width { walk_width self.new ≡ walk_width self.old }
@@ -90,7 +90,7 @@ impl<'a, D: Disk> RowSource<D> for RowFileWalk<'a> {
             → IfOk result (Gives (walk_left (D.state disk.new) self.new) rows) }
         ensures given { IfOk result (λ row. walk_nexts (D.state disk.old) (D.state disk.new) self.old
             row self.new) }
-        ensures keeps { Keeps walk_holds walk_reads (D.state disk.old) (D.state disk.new)
+        ensures keeps { KeepsSource walk_holds walk_reads (D.state disk.old) (D.state disk.new)
             self.old self.new }
         ensures reads { (D.state disk.new).reads ≤ (D.state disk.old).reads + walk_width self.old }
         ensures width { walk_width self.new ≡ walk_width self.old }
@@ -123,10 +123,10 @@ impl<'a> RowFileWalk<'a> {
             → LeftAs (D.state disk.old) self.old.file.now self.old.forward self.old.next [] rows
             → IfOk result (Gives (walk_left (D.state disk.new) self.new) rows) }
         ensures forward { self.new.forward ≡ self.old.forward }
-        ensures given { IfOk result (λ row. IsBeyond (D.state disk.old) (D.state disk.new) self.old
+        ensures given { IfOk result (λ row. GivesBeyondHand (D.state disk.old) (D.state disk.new) self.old
             row self.new) }
         ensures undamaged { IsTrue (D.state disk.old).tells
-            → (rows : List Entry) → Reads (D.state disk.old) self.old.file.now rows
+            → (rows : List Entry) → ReadsRows (D.state disk.old) self.old.file.now rows
             → IfErr result (λ fault. IsDamaged fault → ⊥) }
         ensures damage { IfErr result (IsDamageIn (D.state disk.old) (walk_file self.old)) }
         ensures quiet { IsTrue (D.state disk.old).tells
@@ -151,10 +151,10 @@ impl<'a> RowFileWalk<'a> {
 
     // Takes a block in hand, and gives its first row.
     fn begin(&mut self, i: usize, hand: Hand) -> Result<Option<(Bytes, RowCells)>, SourceFault>
-        requires { i < count_of (walk_file self.old) }
+        requires { i < block_count (walk_file self.old) }
         ensures file { self.new.file ≡ self.old.file }
         ensures forward { self.new.forward ≡ self.old.forward }
-        ensures next { self.new.next ≡ passed self.old.forward i }
+        ensures next { self.new.next ≡ place_behind_block self.old.forward i }
         ensures gives { (rows : List Entry) → IsInHand hand self.old.forward rows
             → IfOk result (Gives (IsInHand self.new.hand self.old.forward) rows) }
         ensures given { IfOk result (λ row. HandGives hand self.old.forward row self.new.hand) }
@@ -172,7 +172,7 @@ impl<'a> RowFileWalk<'a> {
     // Where what is in hand is no row, its block is read again: a disk that tells what it has gives the same bytes.
     fn test_held<D: Disk>(&self, disk: &mut D) -> Result<(), SourceFault>
         ensures undamaged { IsTrue (D.state disk.old).tells
-            → (rows : List Entry) → Reads (D.state disk.old) self.now.file.now rows
+            → (rows : List Entry) → ReadsRows (D.state disk.old) self.now.file.now rows
             → IfErr result (λ fault. IsDamaged fault → ⊥) }
         ensures damage { IfErr result (IsDamageIn (D.state disk.old) (walk_file self.now)) }
         ensures quiet { IsTrue (D.state disk.old).tells
@@ -213,7 +213,7 @@ fn following(forward: bool, at: usize, count: usize) -> Option<usize>
 // The place behind one of them.
 fn passed(forward: bool, i: usize) -> usize
     requires { i + 1 < 2 ^ 64 }
-    ensures { result ≡ passed forward i }
+    ensures { result ≡ place_behind_block forward i }
 {
     if forward { i + 1 } else { i }
 }

@@ -28,25 +28,25 @@ pub struct RowFileWriter {
 }
 
 impl RowFileWriter {
-    ghost use Rattle.std.specs.Prelude.{ℕ, List, ◌<◌, None, IfOk, OnErr, IsErrOf, T};
+    ghost use Rattle.std.specs.Prelude.{List, ◌<◌, None, IfOk, IsErrOf, T};
     ghost use Rattle.std.specs.FinMap.Entries.{is_sorted};
     ghost use Rattle.alt_base.specs.Counts.{Rose};
     ghost use Rattle.alt_disk.specs.Disk.{DiskState, IsTrusted, Goes};
     ghost use Rattle.alt_disk.specs.Runs.{Run};
     ghost use Rattle.alt_cells.specs.Keys.{key_cmp};
     ghost use Rattle.alt_rowblocks.specs.Format.{Entry, rows_bytes, rows_of, IsBlock, AreBlocks};
-    ghost use Rattle.alt_rowfile.specs.Sinks.{Anything};
-    ghost use Rattle.alt_rowfile.specs.Writing.{piece, WritesTo, Writes, writer_file};
-    ghost use Rattle.alt_rowfile.specs.InHand.{Stands, file_of};
+    ghost use Rattle.alt_rowfile.specs.Sinks.{AnyFileContents};
+    ghost use Rattle.alt_rowfile.specs.Writing.{piece, WritesTo, WritesRows, writer_file};
+    ghost use Rattle.alt_rowfile.specs.InHand.{StandsForRows, file_of};
 
     /// Begins a row file in a missing file.
     pub fn make<D: Disk>(alloc: Global, disk: &mut D, f: u32) -> Result<RowFileWriter, DiskFault>
         requires { IsTrusted (D.state disk.old) → (D.state disk.old).file f ≡ None }
         ensures file { IfOk result (λ w. writer_file w ≡ f) }
         ensures made { IfOk result (λ w. IsTrusted (D.state disk.old)
-            → Writes (D.state disk.new) w []) }
+            → WritesRows (D.state disk.new) w []) }
         ensures any_moment { IsTrusted (D.state disk.old)
-            → Run (D.state disk.old) (D.state disk.new) f Anything }
+            → Run (D.state disk.old) (D.state disk.new) f AnyFileContents }
         ensures goes { Goes (D.state disk.old) (D.state disk.new) }
         ensures cause { IsErrOf result DiskFault.Failed
             → Rose (D.state disk.old).faults (D.state disk.new).faults }
@@ -100,7 +100,7 @@ impl RowFileWriter {
             → WritesTo (D.state disk.old) self.old closed waiting
             → IsBlock waiting → WritesTo (D.state disk.new) self.new (closed ++ waiting ∷ []) []) }
         ensures any_moment { IsTrusted (D.state disk.old)
-            → Run (D.state disk.old) (D.state disk.new) (writer_file self.old) Anything }
+            → Run (D.state disk.old) (D.state disk.new) (writer_file self.old) AnyFileContents }
         ensures goes { Goes (D.state disk.old) (D.state disk.new) }
         ensures cause { IsErrOf result DiskFault.Failed
             → Rose (D.state disk.old).faults (D.state disk.new).faults }
@@ -122,13 +122,13 @@ impl RowFileWriter {
     /// Writes what waits, the index and the digest, and syncs the file. At Ok it stands in every image.
     pub fn finish<D: Disk>(self, disk: &mut D) -> Result<RowFile, DiskFault>
         requires { IsTrusted (D.state disk.old) → (rows : List Entry)
-            × Writes (D.state disk.old) self rows }
+            × WritesRows (D.state disk.old) self rows }
         ensures file { IfOk result (λ file. file_of file ≡ writer_file self) }
         ensures finished { IfOk result (λ file. IsTrusted (D.state disk.old) → (rows : List Entry)
-            → Writes (D.state disk.old) self rows
-            → Stands (D.state disk.new) file rows) }
+            → WritesRows (D.state disk.old) self rows
+            → StandsForRows (D.state disk.new) file rows) }
         ensures any_moment { IsTrusted (D.state disk.old)
-            → Run (D.state disk.old) (D.state disk.new) (writer_file self) Anything }
+            → Run (D.state disk.old) (D.state disk.new) (writer_file self) AnyFileContents }
         ensures goes { Goes (D.state disk.old) (D.state disk.new) }
         ensures cause { IsErrOf result DiskFault.Failed
             → Rose (D.state disk.old).faults (D.state disk.new).faults }
@@ -152,7 +152,7 @@ impl RowFileWriter {
             → WritesTo (D.state disk.old) self.old closed waiting
             → WritesTo (D.state disk.new) self.new (closed ++ piece waiting) []) }
         ensures any_moment { IsTrusted (D.state disk.old)
-            → Run (D.state disk.old) (D.state disk.new) (writer_file self.old) Anything }
+            → Run (D.state disk.old) (D.state disk.new) (writer_file self.old) AnyFileContents }
         ensures goes { Goes (D.state disk.old) (D.state disk.new) }
         ensures cause { IsErrOf result DiskFault.Failed
             → Rose (D.state disk.old).faults (D.state disk.new).faults }
@@ -172,9 +172,9 @@ impl RowFileWriter {
         ensures file { IfOk result (λ file. file_of file ≡ writer_file self) }
         ensures closed { IfOk result (λ file. IsTrusted (D.state disk.old)
             → (closed : List (List Entry)) → WritesTo (D.state disk.old) self closed []
-            → AreBlocks closed → Stands (D.state disk.new) file (rows_of closed)) }
+            → AreBlocks closed → StandsForRows (D.state disk.new) file (rows_of closed)) }
         ensures any_moment { IsTrusted (D.state disk.old)
-            → Run (D.state disk.old) (D.state disk.new) (writer_file self) Anything }
+            → Run (D.state disk.old) (D.state disk.new) (writer_file self) AnyFileContents }
         ensures goes { Goes (D.state disk.old) (D.state disk.new) }
         ensures cause { IsErrOf result DiskFault.Failed
             → Rose (D.state disk.old).faults (D.state disk.new).faults }
@@ -201,11 +201,11 @@ impl RowFileWriter {
 }
 
 impl<D: Disk> RowWriter<D> for RowFileWriter {
-    ghost use Rattle.alt_rowfile.specs.Writing.{writer_writes, Writes, writes_on};
+    ghost use Rattle.alt_rowfile.specs.Writing.{writer_writes, WritesRows, writes_on};
 
     ghost writes = { writer_writes };
 
-    ghost written = { Writes };
+    ghost written = { WritesRows };
 
     ghost written_on = { writes_on };
 

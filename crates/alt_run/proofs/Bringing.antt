@@ -17,10 +17,11 @@ use Rattle.alt_run.specs.Behind.{AfterJob, ComesWithin, SaysSummary, LastLine, l
 use Rattle.alt_run.specs.private.Brought.{Brings, BringsAtHand, BringsSome, BringsRest}
 use Rattle.alt_run.specs.Endings.{IsReadable}
 use Rattle.alt_run.specs.private.Rungs.{HandsOut, asked_now, asked_later}
-use Rattle.alt_run.specs.Turns.{Asked, request, control, unread, asks}
+use Rattle.alt_run.specs.Turns.{AskedLine, request, control, unread, asks}
 use Rattle.alt_run.specs.declared.lines.Control.TheVariants.{Flush, Merge, Step, Reopen}
 use Rattle.alt_talks.specs.declared.fault.RunFault.{RunFault}
-use Rattle.alt_run.proofs.Pulling.{fresh, took_is_no_end, given_later, ended_now}
+use Rattle.alt_run.proofs.Pulling.{fresh}
+use Rattle.alt_run.proofs.TakeServing.{took_is_no_end, given_later, ended_now}
 use Rattle.alt_talks.proofs.Arriving.{all_behind, all_before, most_behind, most_before, most_silent}
 use Rattle.alt_talks.proofs.Stretching.{taken-append, ended-append}
 use Rattle.alt_run.proofs.Serving.{rests_then}
@@ -28,20 +29,20 @@ use Rattle.alt_run.proofs.Serving.{rests_then}
 -- ---- which line is the last
 
 -- the last of lines and more lines
-pub last-append : (was : Option Asked) (ls ks : List Asked)
+pub last-append : (was : Option AskedLine) (ls ks : List AskedLine)
     → last_of was (ls ++ ks) ≡ last_of (last_of was ls) ks
 last-append was [] ks = refl
 last-append was (l ∷ ls) ks = last-append (Some l) ls ks
 
 -- one list of lines after another
-pub brings_then : (flush : ℕ) (a b c : DiskState) (ls ks : List Asked) → Brings flush ls a b
+pub brings_then : (flush : ℕ) (a b c : DiskState) (ls ks : List AskedLine) → Brings flush ls a b
     → Brings flush ks b c → Brings flush (ls ++ ks) a c
 brings_then flush a b c ls ks p q = λ was given.
-    subst (λ (l : Option Asked). Behind flush l c) (sym (last-append was ls ks))
+    subst (λ (l : Option AskedLine). Behind flush l c) (sym (last-append was ls ks))
     (q (last_of was ls) (p was given))
 
 -- one line, whatever was before it
-pub brings_line : (flush : ℕ) (l : Asked) (a b : DiskState) → Behind flush (Some l) b
+pub brings_line : (flush : ℕ) (l : AskedLine) (a b : DiskState) → Behind flush (Some l) b
     → Brings flush (l ∷ []) a b
 brings_line flush l a b is was given = is
 
@@ -77,7 +78,7 @@ readable_kept a b keeps h = λ tells. subst IsReadable (sym (same_files a b keep
     (h (subst IsTrue keeps.tells tells))
 
 -- and what a line promises
-pub behind_kept : (flush : ℕ) (a b : DiskState) → Keeps a b → (l : Option Asked)
+pub behind_kept : (flush : ℕ) (a b : DiskState) → Keeps a b → (l : Option AskedLine)
     → Behind flush l a → Behind flush l b
 behind_kept flush a b keeps None h = h
 behind_kept flush a b keeps (Some (request name body)) h = few_kept flush a b keeps h
@@ -99,7 +100,7 @@ at_hand_none flush a = record {
 }
 
 -- a line whose reply was said
-pub at_hand_said : (flush : ℕ) (a b c : DiskState) (bytes : List ℕ) (ls : List Asked)
+pub at_hand_said : (flush : ℕ) (a b c : DiskState) (bytes : List ℕ) (ls : List AskedLine)
     → Grows a.beside b.beside [] → Adds b c (said bytes) → Brings flush ls a c
     → BringsAtHand flush ls a c
 at_hand_said flush a b c bytes ls quiet adds brings = record {
@@ -111,7 +112,7 @@ at_hand_said flush a b c bytes ls quiet adds brings = record {
 }
 
 -- and behind it work was done
-pub at_hand_worked : (flush : ℕ) (a b c d : DiskState) (bytes : List ℕ) (l : Asked)
+pub at_hand_worked : (flush : ℕ) (a b c d : DiskState) (bytes : List ℕ) (l : AskedLine)
     → Grows a.beside b.beside [] → Adds b c (said bytes) → Goes c d → Behind flush (Some l) d
     → BringsAtHand flush (l ∷ []) a d
 at_hand_worked flush a b c d bytes l quiet adds goes is = record {
@@ -136,7 +137,7 @@ silent_then a b c quiet goes =
     subst (λ (log : Log). Grows a.beside log []) (sym goes.beside) quiet
 
 -- lines and more lines
-pub at_hand_then : (flush : ℕ) (a b c : DiskState) (ls ks : List Asked) → BringsAtHand flush ls a b
+pub at_hand_then : (flush : ℕ) (a b c : DiskState) (ls ks : List AskedLine) → BringsAtHand flush ls a b
     → BringsAtHand flush ks b c → BringsAtHand flush (ls ++ ks) a c
 at_hand_then flush a b c ls ks p q = record {
   entries = p.entries ++ q.entries;
@@ -149,7 +150,7 @@ at_hand_then flush a b c ls ks p q = record {
 
 module _ (flush : ℕ) (a b c : DiskState) (keeps : Keeps a b) (u : Unread) where
   -- lines that were served behind a take
-  behind_take : (ls : List Asked) → Brings flush ls b c → Brings flush ls a c
+  behind_take : (ls : List AskedLine) → Brings flush ls b c → Brings flush ls a c
   behind_take ls p = λ was given. p was (behind_kept flush a b keeps was given)
 
   -- some bytes were taken, and the lines that were whole then were served
@@ -182,7 +183,7 @@ module _ (flush : ℕ) (a b c : DiskState) (keeps : Keeps a b) (u : Unread) wher
         (entry b.moment (told_count a.beside) (took []) ∷ []) p.entries
         (subst (λ (bs : List ℕ). Adds a b (took bs)) none adds) p.grows;
     at_end = refl;
-    brings = subst (λ (ls : List Asked). Brings flush ls a c)
+    brings = subst (λ (ls : List AskedLine). Brings flush ls a c)
         (ap asked_now same ∙ ended_now u
         ∙ ap (λ (bs : List ℕ). asked_later u bs true) (sym p.rests.silent))
         (behind_take (asked_now w) p.brings);
@@ -213,7 +214,7 @@ module _ (flush : ℕ) (a b c : DiskState) (u v : Unread) (p : BringsSome flush 
         ∙ ap (λ (bs : List ℕ). asked_later u bs e)
         (append_assoc (taken p.entries) (taken q.entries) more)
         ∙ p.lines (taken q.entries ++ more) e
-        ∙ ap (λ (ls : List Asked). p.done ++ ls) (q.lines more e)
+        ∙ ap (λ (ls : List AskedLine). p.done ++ ls) (q.lines more e)
         ∙ sym (append_assoc p.done q.done (asked_later w more e));
     goes_on = ended-append p.entries q.entries
         ∙ ap (λ (e : Bool). e || ended q.entries) p.goes_on ∙ q.goes_on;
@@ -227,7 +228,7 @@ module _ (flush : ℕ) (a b c : DiskState) (u v : Unread) (p : BringsSome flush 
     grows = Grows-then a.beside b.beside c.beside p.entries q.entries p.grows q.grows;
     at_end = ended-append p.entries q.entries
         ∙ ap (λ (e : Bool). e || ended q.entries) p.goes_on ∙ q.at_end;
-    brings = subst (λ (ls : List Asked). Brings flush ls a c)
+    brings = subst (λ (ls : List AskedLine). Brings flush ls a c)
         (sym (ap (λ (bs : List ℕ). asked_later u bs true) (taken-append p.entries q.entries)
         ∙ p.lines (taken q.entries) true))
         (brings_then flush a b c p.done (asked_later v (taken q.entries) true) p.brings q.brings);

@@ -6,22 +6,23 @@ use Rattle.alt_disk.specs.Fates.{Fates, Fits}
 use Rattle.alt_disk.specs.Disk.{DiskState, IsImage, IsTrusted}
 use Rattle.alt_disk.proofs.Runs.{tells_of}
 use Rattle.alt_machine.specs.State.{State}
-use Rattle.alt_shell.specs.Log.{Log, Grows, Tells, moments_of, entry, accepted}
+use Rattle.alt_shell.specs.Log.{Log, Grows, TellsMoments, moments_of, entry, accepted}
 use Rattle.alt_shell.proofs.Telling.{Grows-then}
-use Rattle.alt_talks.specs.Connections.{Connection, entries_of}
+use Rattle.alt_talks.specs.Connections.{Connection, connection_entries}
 use Rattle.alt_talks.specs.Own.{last_told}
 use Rattle.alt_talks.specs.Stops.{Image, AtEach, AreWithin}
-use Rattle.alt_talks.specs.TalkRules.{rules}
+use Rattle.alt_talks.specs.TalkRules.{talk_rules}
 use Rattle.alt_talks.specs.TalkStops.{LeftAmong}
 use Rattle.alt_talks.specs.Talks.{Rules}
-use Rattle.alt_talks.proofs.Stopping.{leaves-weaker, until-before}
+use Rattle.alt_talks.proofs.Stopping.{until-before}
+use Rattle.alt_talks.proofs.StretchLeaving.{leaves-weaker}
 use Rattle.alt_talks.specs.declared.fault.RunFault.{RunFault}
 use Rattle.alt_talks.specs.declared.fault.RunFault.TheVariants as why
-use Rattle.alt_run.proofs.EndingLaws.{honest_of}
-use Rattle.alt_run.specs.Chains.{Step, behind, IsChain, LeftOf, LeftEarly, LeftLater, Holds}
+use Rattle.alt_run.proofs.EndingMemory.{honest_of}
+use Rattle.alt_run.specs.Chains.{Step, disk_behind_steps, IsChain, LeftOf, LeftEarly, LeftLater, ChainHolds}
 use Rattle.alt_run.specs.Endings.{BrokenFrom, HasRun, Done, Broken, BreaksOff, WasDamaged, IsReadable}
 use Rattle.alt_run.specs.Runs.{IsOpening, Opened}
-use Rattle.alt_run.specs.Wholes.{IsWhole}
+use Rattle.alt_run.specs.Wholes.{DiskIsWhole}
 use Rattle.alt_run.specs.declared.ending.Ending.{Ending}
 use Rattle.alt_run.specs.declared.ending.Ending.TheVariants.{Whole, Words, NotEmpty, Damaged, DigestDiffers, BadRow, Device, Memory, Spent}
 use Rattle.alt_run.specs.declared.words.Job.{Job}
@@ -41,7 +42,7 @@ left_stands : (job : Job) (s : State) (t : ℕ) (es : Log) (ms : List ℕ) (imag
     → LeftOf job s t es ms image → IsReadable image
 left_stands Replay s t es ms image left = (_, left.behind.stands)
 left_stands (Serve per count) s t es ms image left =
-    among_stands rules per 1 None left.0 s t image left.4
+    among_stands talk_rules per 1 None left.0 s t image left.4
 left_stands (Trial seed count) s t es ms image left = (_, left.behind.stands)
 
 -- ---- what a job leaves behind an opening, done or broken off
@@ -50,7 +51,7 @@ record LeavesBehind (job : Job) (s : State) (b c : DiskState) : Type 0 where
   entries : Log
   told : List ℕ
   grows : Grows b.beside c.beside entries
-  tells : Tells (moments_of b.beside) (moments_of c.beside) told
+  tells : TellsMoments (moments_of b.beside) (moments_of c.beside) told
   within : AreWithin b.moment c.moment entries
   leaves : AtEach b c (λ t image. LeftOf job s t entries told image)
 
@@ -71,7 +72,7 @@ done_leaves (Serve per count) s b c x = record {
   within = x.within;
   leaves =
       let served = x.holds.1 in
-      leaves-weaker b c (LeftAmong rules per 1 None s served.0.all)
+      leaves-weaker b c (LeftAmong talk_rules per 1 None s served.0.all)
       (λ t image. LeftOf (Serve per count) s t x.entries x.told image)
       (λ t image left. (served.0.all, served.0.last, served.0.made, served.0.moments, left))
       served.1;
@@ -103,14 +104,14 @@ broken_leaves next fault (Serve per count) s b c x = record {
   within = x.within;
   leaves =
       let served = x.holds.0 in
-      leaves-weaker b c (LeftAmong rules per 1 None s (served.all ++ served.last))
+      leaves-weaker b c (LeftAmong talk_rules per 1 None s (served.all ++ served.last))
       (λ t image. LeftOf (Serve per count) s t x.entries x.told image)
       (λ t image left. (
         served.all ++ served.last,
         [],
         served.made ∙ sym (flat_map-append
             (λ (k : Connection). entry k.moment k.clocked accepted ∷ k.entries)
-            served.all served.last) ∙ sym (append-nil (entries_of (served.all ++ served.last))),
+            served.all served.last) ∙ sym (append-nil (connection_entries (served.all ++ served.last))),
         served.moments ∙ sym (flat_map-append (λ (k : Connection). k.told) served.all served.last),
         left,
       ))
@@ -184,7 +185,7 @@ module _ (old : DiskState) (step : Step) (trusted : IsTrusted old)
           entries = all.entries;
           told = all.told;
           grows = grows;
-          tells = subst (λ (m : Option (List ℕ)). Tells m (moments_of step.new.beside) all.told)
+          tells = subst (λ (m : Option (List ℕ)). TellsMoments m (moments_of step.new.beside) all.told)
               x.opening.unasked all.tells;
           left = (all.leaves (x.opening.trusts trusted)).each step.at image behind_it to is;
         }),
@@ -215,7 +216,7 @@ module _ (old : DiskState) (step : Step) (trusted : IsTrusted old)
       (λ s b x. broken_leaves x.0 (why.Spent number) step.job s b step.new x.2) (x.1 trusted)
 
 -- what a stop leaves of a run over a whole disk stands for a state
-pub left_whole : (old : DiskState) (step : Step) (image : Image) → IsWhole old old.moment
+pub left_whole : (old : DiskState) (step : Step) (image : Image) → DiskIsWhole old old.moment
     → LeftOver old step image → IsReadable image
 left_whole old step image whole over = ⊎_elim
     (λ early. let state = whole.each over.0 over.1 in (state.0, early.same state.0 state.1))
@@ -224,8 +225,8 @@ left_whole old step image whole over = ⊎_elim
 
 -- ---- chains
 
-pub chains_hold : (first : DiskState) (steps : List Step) → IsWhole first first.moment
-    → IsImage first first.moment first.file → IsChain first steps → Holds first steps
+pub chains_hold : (first : DiskState) (steps : List Step) → DiskIsWhole first first.moment
+    → IsImage first first.moment first.file → IsChain first steps → ChainHolds first steps
 chains_hold first [] whole reads chain = record {
   whole = whole;
   reads = reads;
@@ -233,7 +234,7 @@ chains_hold first [] whole reads chain = record {
 }
 chains_hold first (step ∷ steps) whole reads chain =
     let held = chains_hold first steps whole reads chain.0 in
-    let old : DiskState = behind first steps in
+    let old : DiskState = disk_behind_steps first steps in
     let over : (image : Image) → IsImage step.next step.next.moment image → LeftOver old step image =
     λ image is. run_left old step held.whole.trusted held.reads chain.1.from chain.1.to image
     (chain.1.found.left image is) step.ending chain.1.ran in

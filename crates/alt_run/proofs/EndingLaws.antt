@@ -1,21 +1,16 @@
--- A note changes nothing that a run has done, and what each ending tells of completeness.
-use Rattle.std.proofs.Common.{◌≡◌, ◌⊎◌, inl, inr, ⊎_elim, ℕ, List, [], ◌++◌, Bool, false, Option, Some, None, refl, sym, ap, subst, ◌∙◌, arith, append-nil, true, IsTrue, ◌&&◌}
+-- A note behind an ending changes nothing that the run has done, kind by kind.
+use Rattle.std.proofs.Common.{◌≡◌, inl, inr, ⊎_elim, ℕ, List, [], ◌++◌, Bool, Option, Some, None, sym, ap, subst, ◌∙◌, arith, append-nil, true, IsTrue, ◌&&◌}
 use Rattle.alt_base.specs.Counts.{Rose}
 use Rattle.alt_disk.specs.Fates.{Fates, Fits}
-use Rattle.alt_disk.specs.Disk.{DiskState, IsTrusted}
-use Rattle.alt_disk.proofs.Runs.{tells_of}
+use Rattle.alt_disk.specs.Disk.{DiskState}
 use Rattle.alt_machine.specs.State.{State}
 use Rattle.alt_shell.specs.Calls.{Aside}
 use Rattle.alt_shell.specs.Log.{Log, Grows, moments_of, taken}
 use Rattle.alt_shell.proofs.Telling.{Grows-then}
-use Rattle.alt_talks.specs.Connections.{ServedSome, turns_of}
-use Rattle.alt_run.specs.Endings.{BrokenFrom, status_of, HasDone, HasMade, HasRun, Makes, BreaksOff, WasDamaged, IsReadable, Done, Broken, LacksNumber, SaysNothing, SaysSome}
-use Rattle.alt_run.specs.private.EndingOf.{HasNumbers}
-use Rattle.alt_run.specs.Runs.{Answers, AnswersSome, LeftThen, IsOpening, Opened}
-use Rattle.alt_talks.specs.Stretches.{DoesSome}
-use Rattle.alt_talks.specs.TalkRules.{rules}
+use Rattle.alt_run.specs.Endings.{BrokenFrom, HasDone, HasRun, MakesStore, BreaksOff, WasDamaged, Done, Broken, SaysNothing, SaysSome}
+use Rattle.alt_run.specs.Runs.{AnswersAllLines, AnswersSomeLines, LeftThen, IsOpening, Opened}
+use Rattle.alt_talks.specs.TalkRules.{talk_rules}
 use Rattle.alt_talks.specs.TalkStops.{LeftAmong, ServedOn, ServedSomeOn, LeavesNow}
-use Rattle.alt_talks.specs.Talks.{Rules, Turn}
 use Rattle.alt_run.specs.Trials.{Tries, TriesSome, LeftOfTrial, all_turns}
 use Rattle.alt_tables.specs.OpeningRecovery.{WasLeft}
 use Rattle.alt_talks.specs.declared.fault.RunFault.{RunFault}
@@ -26,186 +21,11 @@ use Rattle.alt_run.specs.declared.words.Command.{Command}
 use Rattle.alt_run.specs.declared.words.Command.TheVariants.{Init, Over}
 use Rattle.alt_run.specs.declared.words.Job.{Job}
 use Rattle.alt_run.specs.declared.words.Job.TheVariants.{Replay, Serve, Trial}
-use Rattle.alt_talks.proofs.Stretching.{stretch_quiet, stretch_as}
+use Rattle.alt_talks.proofs.Stretching.{stretch_quiet}
 use Rattle.alt_run.proofs.Initing.{quiet_behind}
-use Rattle.alt_talks.proofs.Stopping.{leaves-before-aside}
+use Rattle.alt_talks.proofs.StretchLeaving.{leaves-before-aside}
 use Rattle.alt_talks.specs.Turns.{after}
-use Rattle.alt_run.specs.Turns.{turns, asks}
-
--- ---- what was done, whatever the cause was
-
--- a run that was broken off is one that was broken off for want of memory
-pub some_answers : (a b : DiskState) (fault : RunFault) (next : ℕ) (s : State) (es : Log) (ms : List ℕ)
-    → AnswersSome fault next s a b es ms → AnswersSome why.NoMemory next s a b es ms
-some_answers a b fault next s es ms x = record {
-  breaks = record {
-    done = x.breaks.done;
-    begun = x.breaks.begun;
-    rest = x.breaks.rest;
-    lines = x.breaks.lines;
-    few = x.breaks.few;
-    all = x.breaks.all;
-    said = x.breaks.said;
-    count = x.breaks.count;
-    enough = x.breaks.enough;
-    wants = inl tt;
-  };
-  inside = x.inside;
-  said = x.said;
-  leaves = x.leaves;
-}
-
--- so are turns that broke off
-does_some : (r : Rules) (fault : RunFault) (next : ℕ) (s : State) (m : Bool) (ts : List Turn) (es : Log)
-    (ms : List ℕ) → DoesSome r fault next s m ts es ms → DoesSome r why.NoMemory next s m ts es ms
-does_some r fault next s m ts es ms x =
-    record {
-      said = x.said;
-      most = x.most;
-      wants = inl tt;
-      silent = x.silent;
-      hush = x.hush;
-      still = x.still;
-      begins = x.begins;
-    }
-
--- and connections
-some_served : (r : Rules) (per count : ℕ) (fault : RunFault) (next : ℕ) (s : State) (es : Log)
-    (ms : List ℕ) → ServedSome r per count fault next s es ms
-    → ServedSome r per count why.NoMemory next s es ms
-some_served r per count fault next s es ms x = record {
-  all = x.all;
-  halfway = x.halfway;
-  each = x.each;
-  last = x.last;
-  made = x.made;
-  moments = x.moments;
-  some = elim x.some [
-    | inl none ↦ inl (none.0, tt)
-    | inr (inl one) ↦ inr (inl (
-      one.0,
-      one.1,
-      record {
-        some = does_some r fault _ x.halfway _ (turns_of r per one.0) _ _ one.2.some;
-        idle = one.2.idle;
-        before = one.2.before;
-        at = one.2.at;
-        clocked = one.2.clocked;
-        hung = one.2.hung;
-        inside = one.2.inside;
-      },
-    ))
-    | inr (inr one) ↦ inr (inr (
-      one.0,
-      one.1,
-      record { left = one.2.left; serves = one.2.serves; cause = inl tt },
-    ))
-  ];
-  most = x.most;
-}
-
--- and a trial
-some_tries : (a b : DiskState) (fault : RunFault) (next : ℕ) (s : State) (seed count : ℕ) (es : Log)
-    (ms : List ℕ) → TriesSome fault next s seed count a b es ms
-    → TriesSome why.NoMemory next s seed count a b es ms
-some_tries a b fault next s seed count es ms x = record {
-  said = x.said;
-  rests = x.rests;
-  unasked = x.unasked;
-  begun = x.begun;
-  rest = x.rest;
-  lines = x.lines;
-  wants = inl tt;
-  leaves = x.leaves;
-}
-
-broken_memory : (job : Job) (next : ℕ) (fault : RunFault) (s : State) (a b : DiskState)
-    → BrokenFrom next fault job s a b → BrokenFrom next why.NoMemory job s a b
-unfolding some_served
-broken_memory Replay next fault s a b x = stretch_as a b {P = AnswersSome fault next s}
-    {Q = AnswersSome why.NoMemory next s}
-    (λ es ms within y. some_answers a b fault next s es ms y) x
-broken_memory (Serve per count) next fault s a b x = stretch_as a b
-    {P = ServedSomeOn rules per count fault next s}
-    {Q = ServedSomeOn rules per count why.NoMemory next s}
-    (λ es ms within y. (some_served rules per count fault next s es ms y.0, y.1)) x
-broken_memory (Trial seed count) next fault s a b x = stretch_as a b
-    {P = TriesSome fault next s seed count} {Q = TriesSome why.NoMemory next s seed count}
-    (λ es ms within y. some_tries a b fault next s seed count es ms y) x
-
-opened_memory : (a b : DiskState) (fault : RunFault) (job : Job)
-    → Opened a b (Broken a.file fault job) → Opened a b (Broken a.file why.NoMemory job)
-opened_memory a b fault job h = record {
-  from = h.from;
-  stood = h.stood;
-  opened = h.opened;
-  opening = h.opening;
-  behind = (
-    h.behind.0,
-    h.behind.1,
-    broken_memory job h.behind.0 fault h.from h.opened b h.behind.2,
-  );
-}
-
--- a disk that can be relied on is honest
-pub honest_of : (s : DiskState) → IsTrusted s → s.honest ≡ false → ⊥
-honest_of s trusted e = grind (arith, trusted, e)
-
--- on such a disk damage is found in the opening alone
-damaged_early : (fault : RunFault) (a b : DiskState) → WasDamaged fault a b → IsTrusted a
-    → IsOpening a b
-damaged_early fault a b h trusted = ⊎_elim
-    (λ x. x.0)
-    (λ x. absurd (honest_of a trusted x.1))
-    (h (tells_of a trusted))
-
--- where there was no memory for the numbers of a note, the run has done what one does that ends for want of memory
-made_memory : (a b : DiskState) (ending : Ending) → HasNumbers ending → HasMade ending a b
-    → HasMade Memory a b
-made_memory a b Whole n h = absurd n
-made_memory a b Words n h = absurd n
-made_memory a b (NotEmpty first) n h = h.0
-made_memory a b (Damaged file at) n h = absurd h
-made_memory a b (DigestDiffers file kept found) n h = absurd h
-made_memory a b (BadRow family key) n h = absurd h
-made_memory a b Device n h = absurd n
-made_memory a b Memory n h = absurd n
-made_memory a b (Spent number) n h = absurd h
-
-run_memory : (a b : DiskState) (job : Job) (ending : Ending) → HasNumbers ending
-    → HasRun job ending a b → HasRun job Memory a b
-run_memory a b job Whole n h = absurd n
-run_memory a b job Words n h = absurd n
-run_memory a b job (NotEmpty first) n h = absurd h
-run_memory a b job (Damaged file at) n h = λ trusted.
-    inl (damaged_early (why.Damaged file at) a b h trusted)
-run_memory a b job (DigestDiffers file kept found) n h = λ trusted.
-    inl (damaged_early (why.DigestDiffers file kept found) a b h trusted)
-run_memory a b job (BadRow family key) n h = λ trusted.
-    inl (damaged_early (why.BadRow family key) a b h trusted)
-run_memory a b job Device n h = absurd n
-run_memory a b job Memory n h = absurd n
-run_memory a b job (Spent number) n h = λ trusted.
-    inr (opened_memory a b (why.Spent number) job (h.1 trusted))
-
-none_memory : (a b : DiskState) (ending : Ending) → HasNumbers ending → HasDone None ending a b → ⊥
-none_memory a b Whole n h = h
-none_memory a b Words n h = n
-none_memory a b (NotEmpty first) n h = h
-none_memory a b (Damaged file at) n h = h
-none_memory a b (DigestDiffers file kept found) n h = h
-none_memory a b (BadRow family key) n h = h
-none_memory a b Device n h = h
-none_memory a b Memory n h = h
-none_memory a b (Spent number) n h = h
-
-as_memory : (a b : DiskState) (command : Option Command) (ending : Ending) → HasNumbers ending
-    → HasDone command ending a b → HasDone command Memory a b
-as_memory a b None ending n h = absurd (none_memory a b ending n h)
-as_memory a b (Some Init) ending n h = made_memory a b ending n h
-as_memory a b (Some (Over job limits)) ending n h = run_memory a b job ending n h
-
--- ---- behind a note
+use Rattle.alt_run.specs.Turns.{turns_of_lines, asks}
 
 module _ (b c : DiskState) (g : Grows b.beside c.beside [])
     (m : moments_of c.beside ≡ moments_of b.beside) (aside : Aside b c) where
@@ -218,8 +38,8 @@ module _ (b c : DiskState) (g : Grows b.beside c.beside [])
       (ap (λ (t : ℕ). c.fates t f) aside.moment ∙ aside.keeps.past b.moment f (omega arith))
       (is_image f))
 
-  all_behind : (a : DiskState) (s : State) (es : Log) (ms : List ℕ) → Answers s a b es ms
-      → Answers s a c es ms
+  all_behind : (a : DiskState) (s : State) (es : Log) (ms : List ℕ) → AnswersAllLines s a b es ms
+      → AnswersAllLines s a c es ms
   all_behind a s es ms x = record {
     at_end = x.at_end;
     inside = x.inside;
@@ -227,11 +47,11 @@ module _ (b c : DiskState) (g : Grows b.beside c.beside [])
     count = x.count;
     enough = x.enough;
     leaves = leaves-before-aside a b c (LeftThen s es ms) aside x.leaves;
-    last = last_behind (after s (turns s (asks true (taken es)) ms)) x.last;
+    last = last_behind (after s (turns_of_lines s (asks true (taken es)) ms)) x.last;
   }
 
   some_behind : (a : DiskState) (fault : RunFault) (next : ℕ) (s : State) (es : Log) (ms : List ℕ)
-      → AnswersSome fault next s a b es ms → AnswersSome fault next s a c es ms
+      → AnswersSomeLines fault next s a b es ms → AnswersSomeLines fault next s a c es ms
   some_behind a fault next s es ms x = record {
     breaks = x.breaks;
     inside = x.inside;
@@ -264,7 +84,7 @@ module _ (b c : DiskState) (g : Grows b.beside c.beside [])
     leaves = leaves-before-aside a b c (LeftOfTrial s seed count es) aside x.leaves;
   }
 
-  makes_behind : (a : DiskState) (es : Log) (ms : List ℕ) → Makes a b es ms → Makes a c es ms
+  makes_behind : (a : DiskState) (es : Log) (ms : List ℕ) → MakesStore a b es ms → MakesStore a c es ms
   makes_behind a es ms x = record {
     said = x.said;
     untaken = x.untaken;
@@ -308,14 +128,14 @@ module _ (b c : DiskState) (g : Grows b.beside c.beside [])
   }
 
   done_behind : (job : Job) (s : State) (o : DiskState) → Done job s o b → Done job s o c
-  done_behind Replay s o x = stretch_quiet o b c {P = Answers s} (all_behind o s) x aside g m
+  done_behind Replay s o x = stretch_quiet o b c {P = AnswersAllLines s} (all_behind o s) x aside g m
   done_behind (Serve per count) s o x = stretch_quiet o b c
-      {P = λ old new es ms. (t : State) × ServedOn rules per count s t old new es ms × LeavesNow new t}
+      {P = λ old new es ms. (t : State) × ServedOn talk_rules per count s t old new es ms × LeavesNow new t}
       (λ es ms y. (
         y.0,
         (
           y.1.0,
-          leaves-before-aside o b c (LeftAmong rules per 1 None s y.1.0.all) aside y.1.1,
+          leaves-before-aside o b c (LeftAmong talk_rules per 1 None s y.1.0.all) aside y.1.1,
         ),
         last_behind y.0 y.2,
       ))
@@ -326,12 +146,12 @@ module _ (b c : DiskState) (g : Grows b.beside c.beside [])
   from_behind : (next : ℕ) (fault : RunFault) (job : Job) (s : State) (o : DiskState)
       → BrokenFrom next fault job s o b → BrokenFrom next fault job s o c
   from_behind next fault Replay s o x =
-      stretch_quiet o b c {P = AnswersSome fault next s} (some_behind o fault next s) x aside g m
+      stretch_quiet o b c {P = AnswersSomeLines fault next s} (some_behind o fault next s) x aside g m
   from_behind next fault (Serve per count) s o x = stretch_quiet o b c
-      {P = ServedSomeOn rules per count fault next s}
+      {P = ServedSomeOn talk_rules per count fault next s}
       (λ es ms y. (
         y.0,
-        leaves-before-aside o b c (LeftAmong rules per 1 None s (y.0.all ++ y.0.last)) aside y.1,
+        leaves-before-aside o b c (LeftAmong talk_rules per 1 None s (y.0.all ++ y.0.last)) aside y.1,
       ))
       x aside g m
   from_behind next fault (Trial seed count) s o x = stretch_quiet o b c
@@ -388,7 +208,7 @@ module _ (b c : DiskState) (g : Grows b.beside c.beside [])
   )
 
   -- what was done is still done behind the note
-  still_done : (a : DiskState) (command : Option Command) (ending : Ending)
+  pub still_done : (a : DiskState) (command : Option Command) (ending : Ending)
       → HasDone command ending a b → HasDone command ending a c
   still_done a None Whole h = absurd h
   still_done a None Words h = record {
@@ -404,7 +224,7 @@ module _ (b c : DiskState) (g : Grows b.beside c.beside [])
   still_done a None Device h = absurd h
   still_done a None Memory h = absurd h
   still_done a None (Spent number) h = absurd h
-  still_done a (Some Init) Whole h = stretch_quiet a b c {P = Makes} (makes_behind a) h aside g m
+  still_done a (Some Init) Whole h = stretch_quiet a b c {P = MakesStore} (makes_behind a) h aside g m
   still_done a (Some Init) Words h = absurd h
   still_done a (Some Init) (NotEmpty first) h = (
     silent_behind a h.0,
@@ -420,111 +240,3 @@ module _ (b c : DiskState) (g : Grows b.beside c.beside [])
   still_done a (Some Init) Memory h = silent_behind a h
   still_done a (Some Init) (Spent number) h = absurd h
   still_done a (Some (Over job limits)) ending h = run_behind a job ending h
-
-abbrev IsNoted : Ending → Ending → Type 0
-IsNoted ending noted = (noted ≡ ending) ⊎ ((noted ≡ Memory) × HasNumbers ending)
-
--- with the ending that was noted
-pub noted_done : (a b c : DiskState) (job : Option Command) (ending noted : Ending) → IsNoted ending noted
-    → Grows b.beside c.beside [] → moments_of c.beside ≡ moments_of b.beside → Aside b c
-    → HasDone job ending a b → HasDone job noted a c
-noted_done a b c job ending noted (inl same) g m aside h =
-    subst (λ (e : Ending). HasDone job e a c) (sym same) (still_done b c g m aside a job ending h)
-noted_done a b c job ending noted (inr memory) g m aside h =
-    subst (λ (e : Ending). HasDone job e a c) (sym memory.0)
-    (still_done b c g m aside a job Memory (as_memory a b job ending memory.1 h))
-
--- an ending with the status 0 was noted as it is
-pub noted_whole : (ending noted : Ending) → IsNoted ending noted → status_of noted ≡ 0
-    → ending ≡ Whole
-noted_whole ending noted (inl same) e = sym same ∙ whole_only noted e
-  where
-    whole_only : (noted : Ending) → status_of noted ≡ 0 → noted ≡ Whole
-    whole_only Whole e = refl
-    whole_only Words e = absurd (omega (arith, e))
-    whole_only (NotEmpty first) e = absurd (omega (arith, e))
-    whole_only (Damaged file at) e = absurd (omega (arith, e))
-    whole_only (DigestDiffers file kept found) e = absurd (omega (arith, e))
-    whole_only (BadRow family key) e = absurd (omega (arith, e))
-    whole_only Device e = absurd (omega (arith, e))
-    whole_only Memory e = absurd (omega (arith, e))
-    whole_only (Spent number) e = absurd (omega (arith, e))
-noted_whole ending noted (inr memory) e =
-    absurd (let s : 5 ≡ 0 = ap status_of (sym memory.0) ∙ e in let f : ⊥ = omega (arith, s) in f)
-
--- ---- what the status tells
-
--- wrong words end so, and no other words do
-pub words_end : (a b : DiskState) (job : Option Command) (ending : Ending) → HasDone job ending a b
-    → (status_of ending ≡ 1 → job ≡ None) × (job ≡ None → status_of ending ≡ 1)
-words_end a b None Words h = (λ e. refl, λ e. refl)
-words_end a b None Whole h = absurd h
-words_end a b None (NotEmpty first) h = absurd h
-words_end a b None (Damaged file at) h = absurd h
-words_end a b None (DigestDiffers file kept found) h = absurd h
-words_end a b None (BadRow family key) h = absurd h
-words_end a b None Device h = absurd h
-words_end a b None Memory h = absurd h
-words_end a b None (Spent number) h = absurd h
-words_end a b (Some job) ending h = (
-  λ e. absurd (never_words a b job ending h (words_only ending e)),
-  λ e. absurd (let f : ⊥ = cc in f),
-)
-  where
-    -- the status of wrong words is theirs alone
-    words_only : (ending : Ending) → status_of ending ≡ 1 → ending ≡ Words
-    words_only Whole e = absurd (omega (arith, e))
-    words_only Words e = refl
-    words_only (NotEmpty first) e = absurd (omega (arith, e))
-    words_only (Damaged file at) e = absurd (omega (arith, e))
-    words_only (DigestDiffers file kept found) e = absurd (omega (arith, e))
-    words_only (BadRow family key) e = absurd (omega (arith, e))
-    words_only Device e = absurd (omega (arith, e))
-    words_only Memory e = absurd (omega (arith, e))
-    words_only (Spent number) e = absurd (omega (arith, e))
-
-    -- and a job has none
-    never_words : (a b : DiskState) (job : Command) (ending : Ending) → HasDone (Some job) ending a b
-        → ending ≡ Words → ⊥
-    never_words a b Init ending h e = subst (λ (x : Ending). HasMade x a b) e h
-    never_words a b (Over job limits) ending h e = subst (λ (x : Ending). HasRun job x a b) e h
-
--- a run over a store ends whole, or a device failed, or memory was refused, or numbers are spent
-pub completes : (a b : DiskState) (job : Job) (ending : Ending) (status : ℕ)
-    → status ≡ status_of ending
-    → HasRun job ending a b → IsTrusted a → IsReadable a.file
-    → (Rose a.faults b.faults → ⊥)
-    → ((status ≡ 0) × Opened a b (Done job)) ⊎ (status ≡ 5)
-    ⊎ ((status ≡ 6) × LacksNumber job a b)
-completes a b job Whole status e h trusted readable well = inl (e, h.1 trusted)
-completes a b job Words status e h trusted readable well = absurd h
-completes a b job (NotEmpty first) status e h trusted readable well = absurd h
-completes a b job (Damaged file at) status e h trusted readable well =
-    absurd (⊎_elim (λ x. x.1.1 readable.0 readable.1) (λ x. honest_of a trusted x.1)
-    (h (tells_of a trusted)))
-completes a b job (DigestDiffers file kept found) status e h trusted readable well =
-    absurd (⊎_elim (λ x. x.1.1 readable.0 readable.1) (λ x. honest_of a trusted x.1)
-    (h (tells_of a trusted)))
-completes a b job (BadRow family key) status e h trusted readable well =
-    absurd (⊎_elim (λ x. x.1.1 readable.0 readable.1) (λ x. honest_of a trusted x.1)
-    (h (tells_of a trusted)))
-completes a b job Device status e h trusted readable well = absurd (well h.0)
-completes a b job Memory status e h trusted readable well = inr (inl e)
-completes a b job (Spent n) status e h trusted readable well =
-    inr (inr (e, (n, h.1 trusted)))
-
--- a run of `init` over no files makes a store, or a device failed, or memory was refused
-pub makes_all : (a b : DiskState) (ending : Ending) (status : ℕ) → status ≡ status_of ending
-    → HasMade ending a b → IsTrusted a → ((f : ℕ) → a.file f ≡ None)
-    → (Rose a.faults b.faults → ⊥)
-    → (status ≡ 0) ⊎ (status ≡ 5)
-makes_all a b Whole status e h trusted none well = inl e
-makes_all a b Words status e h trusted none well = absurd h
-makes_all a b (NotEmpty first) status e h trusted none well =
-    absurd ((h.1 (tells_of a trusted)).0.there (none first))
-makes_all a b (Damaged file at) status e h trusted none well = absurd h
-makes_all a b (DigestDiffers file kept found) status e h trusted none well = absurd h
-makes_all a b (BadRow family key) status e h trusted none well = absurd h
-makes_all a b Device status e h trusted none well = absurd (well h.1)
-makes_all a b Memory status e h trusted none well = inr e
-makes_all a b (Spent n) status e h trusted none well = absurd h

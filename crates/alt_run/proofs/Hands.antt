@@ -5,7 +5,7 @@ use Rattle.std.specs.Prelude.{IfSome, IfNone, OnOk, Result, Ok, Err}
 use Rattle.alt_disk.specs.Disk.{DiskState}
 use Rattle.alt_lines.specs.Lines.{Line, whole, too_long, lines_of}
 use Rattle.alt_lines.specs.declared.feed.Cut.TheVariants.{Whole, TooLong}
-use Rattle.alt_lines.specs.Unread.{Unread, lines_now, lines_later, HasNone, TakesLine, Tells}
+use Rattle.alt_lines.specs.Unread.{Unread, lines_now, lines_later, HasNone, TakesLine, TellsLine}
 use Rattle.alt_machine.specs.State.{State}
 use Rattle.alt_tables.specs.FilesLeft.{most_files}
 use Rattle.alt_tables.specs.Stands.{Stands, bounds_of}
@@ -13,7 +13,7 @@ use Rattle.alt_tables.specs.declared.tables.Tables.{Tables}
 use Rattle.alt_run.specs.private.Brought.{BringsAtHand}
 use Rattle.alt_talks.specs.Runs.{Stretch, Leads}
 use Rattle.alt_run.specs.private.Rungs.{ServesAtHand, BreaksAtHand, HandsOut, asked_now, asked_later}
-use Rattle.alt_run.specs.Turns.{Asked, asked_of, control_of, tasks}
+use Rattle.alt_run.specs.Turns.{AskedLine, asked_of, control_of, tasks}
 use Rattle.alt_talks.specs.declared.fault.RunFault.{RunFault}
 use Rattle.alt_talks.specs.declared.fault.RunFault.TheVariants.{NoMemory}
 use Rattle.alt_run.proofs.Bringing.{at_hand_none, at_hand_then}
@@ -30,7 +30,7 @@ pub at_none : {X : Type 0} (o : Option X) (P : Type 0) → o ≡ None → IfNone
 at_none {X} o P e h = subst (λ (q : Option X). IfNone q P) e h
 
 -- a line that is read has one task
-pub tasks_read : (taken : Line) (line : List ℕ) → Tells taken Whole [] line → {T E : Type 0}
+pub tasks_read : (taken : Line) (line : List ℕ) → TellsLine taken Whole [] line → {T E : Type 0}
     (result : Result T E) (new old : ℕ) → OnOk result (new ≤ old + most_files)
     → OnOk result (new ≤ old + tasks (asked_of taken ∷ []) * most_files)
 tasks_read (whole text) line tells (Ok x) new old le =
@@ -92,7 +92,7 @@ module _ (flush : ℕ) (a : DiskState) (t0 : Tables) (b : DiskState) (t1 : Table
         record {
           to = q.to;
           stands = q.stands;
-          calls = subst (λ (ls : List Asked). Stretch a c (ServesAtHand s ls q.to))
+          calls = subst (λ (ls : List AskedLine). Stretch a c (ServesAtHand s ls q.to))
               (sym (map-append asked_of p.done (line ∷ [])))
               (stretch_then a b c {P = ServesAtHand s (map asked_of p.done) front.to} {Q =
               ServesAtHand front.to (asked_of line ∷ []) q.to}
@@ -108,7 +108,7 @@ module _ (flush : ℕ) (a : DiskState) (t0 : Tables) (b : DiskState) (t1 : Table
         let same = ap tasks (map-append asked_of p.done (line ∷ [])) in
         let both = tasks-append (map asked_of p.done) (asked_of line ∷ []) in
         omega (arith, first, one, same, both);
-    brings = subst (λ (ls : List Asked). BringsAtHand flush ls a c)
+    brings = subst (λ (ls : List AskedLine). BringsAtHand flush ls a c)
         (sym (map-append asked_of p.done (line ∷ [])))
         (at_hand_then flush a b c (map asked_of p.done) (asked_of line ∷ []) p.brings again);
     now = p.now ∙ ap (λ (ls : List Line). p.done ++ ls) takes.now
@@ -133,7 +133,7 @@ module _ (flush : ℕ) (a : DiskState) (t0 : Tables) (b : DiskState) (t1 : Table
       let next = (bounds_of t0).file in
       let now = (bounds_of t1).file in
       let front = p.serves s stands in
-      subst (λ (ls : List Asked). Stretch a c (BreaksAtHand fault next s ls)) (sym all_lines)
+      subst (λ (ls : List AskedLine). Stretch a c (BreaksAtHand fault next s ls)) (sym all_lines)
       (stretch_then a b c {P = ServesAtHand s (map asked_of p.done) front.to} {Q =
       BreaksAtHand fault now front.to (asked_of line ∷ [])}
       {R = BreaksAtHand fault next s (map asked_of p.done ++ (asked_of line ∷ asked_now w))}
@@ -153,7 +153,7 @@ module _ (flush : ℕ) (a : DiskState) (t0 : Tables) (b : DiskState) (t1 : Table
       → Stretch a b (BreaksAtHand NoMemory next s (asked_now u))
   hands_memory next s stands =
       let front = p.serves s stands in
-      subst (λ (ls : List Asked). Stretch a b (BreaksAtHand NoMemory next s ls))
+      subst (λ (ls : List AskedLine). Stretch a b (BreaksAtHand NoMemory next s ls))
       (sym (ap (map asked_of) p.now ∙ map-append asked_of p.done (lines_now v)))
       (stretch_as a b {P = ServesAtHand s (map asked_of p.done) front.to}
       {Q = BreaksAtHand NoMemory next s (map asked_of p.done ++ asked_now v)}
@@ -167,19 +167,19 @@ module _ (flush : ℕ) (a : DiskState) (t0 : Tables) (b : DiskState) (t1 : Table
 
     -- no line is left
     pub hands_all : (s : State) → Stands a t0 s → Leads a b t1 (ServesAtHand s (asked_now u))
-    hands_all s stands = subst (λ (ls : List Asked). Leads a b t1 (ServesAtHand s ls))
+    hands_all s stands = subst (λ (ls : List AskedLine). Leads a b t1 (ServesAtHand s ls))
         served_lines (p.serves s stands)
 
     -- its tasks took no more numbers
     pub hands_files : (s : State) → Stands a t0 s
         → (bounds_of t1).file ≤ (bounds_of t0).file + tasks (asked_now u) * most_files
-    hands_files s stands = subst (λ (ls : List Asked).
+    hands_files s stands = subst (λ (ls : List AskedLine).
         (bounds_of t1).file ≤ (bounds_of t0).file + tasks ls * most_files)
         served_lines (p.files s stands)
 
     -- and the disk is as the last promises
     pub hands_brings : BringsAtHand flush (asked_now u) a b
-    hands_brings = subst (λ (ls : List Asked). BringsAtHand flush ls a b) served_lines p.brings
+    hands_brings = subst (λ (ls : List AskedLine). BringsAtHand flush ls a b) served_lines p.brings
 
     nothing_more : lines_now w ≡ []
     nothing_more =
@@ -199,5 +199,5 @@ module _ (flush : ℕ) (a : DiskState) (t0 : Tables) (b : DiskState) (t1 : Table
           ap (map asked_of) (p.later unended more ended
           ∙ ap (λ (ls : List Line). p.done ++ ls) (sym (none.later more ended)))
           ∙ map-append asked_of p.done (lines_later w more ended)
-          ∙ ap (λ (ls : List Asked). ls ++ asked_later w more ended) served_lines;
+          ∙ ap (λ (ls : List AskedLine). ls ++ asked_later w more ended) served_lines;
     }

@@ -12,7 +12,7 @@ use Rattle.alt_tables.specs.HandDeclaredMakeFault.TheVariants.{NotEmpty}
 use Rattle.alt_shell.specs.Calls.{Adds, Aside, ShellCall, Untold, RoseBy}
 use Rattle.alt_shell.specs.Log.{Log, Grows, moments_of, entry, told_count, said, say_failed, says_failed, says_missed, talks}
 use Rattle.alt_shell.proofs.Telling.{Grows-then, Grows-nil, Tells-nil}
-use Rattle.alt_run.specs.Endings.{Makes, IsFirstFile, SaysNothing, SaysSome}
+use Rattle.alt_run.specs.Endings.{MakesStore, IsFirstFileThere, SaysNothing, SaysSome}
 use Rattle.alt_talks.specs.Runs.{Stretch}
 use Rattle.alt_talks.proofs.Stopping.{trusts-kept, within-wider}
 use Rattle.alt_base.specs.Counts.{Rose}
@@ -23,7 +23,7 @@ pub makes : (a b c : DiskState) → Goes a b → ShellCall b c true → Adds b c
     → (IsTrue a.tells → (f : ℕ) → a.file f ≡ None)
     → (IsTrusted a → (image : ℕ → Option (List ℕ)) → IsImage b b.moment image
     → IsLayout image no_rows)
-    → Stretch a c Makes
+    → Stretch a c MakesStore
 makes a b c goes call added m none images = record {
   entries = entry c.moment (told_count b.beside) (said (codes "ok\n")) ∷ [];
   told = [];
@@ -127,7 +127,7 @@ pub none_made : (a b : DiskState) (fault : MakeFault) (first : ℕ) → Goes a b
     → fault ≡ NotEmpty first
     → (IsTrue a.tells → NamesFirst a.file fault)
     → (IsTrue a.tells → (f : ℕ) → a.file f ≢ None → Quiet a b)
-    → SaysNothing a b × (IsTrue a.tells → IsFirstFile a.file first × Quiet a b)
+    → SaysNothing a b × (IsTrue a.tells → IsFirstFileThere a.file first × Quiet a b)
 none_made a b fault first goes same names left = (
   silent_by a b goes,
   λ tells.

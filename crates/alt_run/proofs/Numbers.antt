@@ -5,7 +5,7 @@ use Rattle.std.specs.Char.{is_ascii_digit}
 use Rattle.std.specs.Prelude.{option_and_then, nat_le, ◌&&◌, Bool}
 use Rattle.std.proofs.lemmas.Bool.{cases_lt, lt-leb}
 use Rattle.std.proofs.Math.Bool.{and-false}
-use Rattle.alt_run.specs.Words.{digits_from, small_port, within, small_seed, serve_of, trial_of}
+use Rattle.alt_run.specs.Words.{digits_from, small_port, number_between, small_seed, serve_of, trial_of}
 
 abbrev pub capped : Option ℕ → Option ℕ
 capped o = option_map (λ n. min n (2 ^ 64 - 1)) o
@@ -30,9 +30,9 @@ capped_digits (d ∷ ds) m n e =
 pub digit_more : (word : List ℕ) (i n x r : ℕ) → i < length word → x ≡ get_or word i 0
     → is_ascii_digit x ≡ true → min r (2 ^ 64 - 1) ≡ min (10 * n + (x - 48)) (2 ^ 64 - 1)
     → capped (digits_from r (drop (i + 1) word)) ≡ capped (digits_from n (drop i word))
-digit_more word i n x r within is digit e =
+digit_more word i n x r number_between is digit e =
     let parts : drop i word ≡ x ∷ drop (i + 1) word =
-    drop-cons word i 0 within ∙ ap (λ y. y ∷ drop (suc i) word) (sym is)
+    drop-cons word i 0 number_between ∙ ap (λ y. y ∷ drop (suc i) word) (sym is)
     ∙ ap (λ j. x ∷ drop j word) (sym (add-one i)) in
     capped_digits (drop (i + 1) word) r (10 * n + (x - 48)) e
     ∙ ap (λ b. capped (cond b (digits_from (10 * n + (x - 48)) (drop (i + 1) word)) None))
@@ -99,25 +99,25 @@ trial_many (a ∷ b ∷ c ∷ d ∷ e ∷ []) many = absurd (omega arith)
 trial_many (a ∷ b ∷ c ∷ d ∷ e ∷ f ∷ ws) many = refl
 
 -- a number past the most is none of those up to it
-none_within : (least most n : ℕ) → most < n → within least most n ≡ None
+none_within : (least most n : ℕ) → most < n → number_between least most n ≡ None
 none_within least most n large =
     ap (λ (b : Bool). cond (nat_le least n && b) (Some n) None) (lt-leb n most large)
     ∙ ap (λ (b : Bool). cond b (Some n) None) (and-false (nat_le least n))
 
 within_stopped : (least most n : ℕ) → most < 2 ^ 64 - 1
-    → within least most (min n (2 ^ 64 - 1)) ≡ within least most n
+    → number_between least most (min n (2 ^ 64 - 1)) ≡ number_between least most n
 within_stopped least most n fits = elim (cases_lt most n) [
-  | inr small ↦ ap (within least most) (let e : min n (2 ^ 64 - 1) ≡ n = omega (arith, fits, small) in e)
+  | inr small ↦ ap (number_between least most) (let e : min n (2 ^ 64 - 1) ≡ n = omega (arith, fits, small) in e)
   | inl large ↦ none_within least most (min n (2 ^ 64 - 1)) (omega (arith, fits, large))
       ∙ sym (none_within least most n large)
 ]
 
 -- a number that stops at the end of 64 bits is in a range below that exactly where the number is
 pub within_capped : (least most : ℕ) (o p : Option ℕ) → most < 2 ^ 64 - 1 → p ≡ capped o
-    → option_and_then (within least most) p ≡ option_and_then (within least most) o
-within_capped least most None p fits e = ap (option_and_then (within least most)) e
+    → option_and_then (number_between least most) p ≡ option_and_then (number_between least most) o
+within_capped least most None p fits e = ap (option_and_then (number_between least most)) e
 within_capped least most (Some n) p fits e =
-    ap (option_and_then (within least most)) e ∙ within_stopped least most n fits
+    ap (option_and_then (number_between least most)) e ∙ within_stopped least most n fits
 
 -- ---- numbers below 2^64
 
@@ -141,9 +141,9 @@ seed_large (d ∷ ds) n large =
 pub seed_more : (word : List ℕ) (i n x : ℕ) → i < length word → x ≡ get_or word i 0
     → is_ascii_digit x ≡ true
     → digits_from n (drop i word) ≡ digits_from (10 * n + (x - 48)) (drop (i + 1) word)
-seed_more word i n x within is digit =
+seed_more word i n x number_between is digit =
     let parts : drop i word ≡ x ∷ drop (i + 1) word =
-    drop-cons word i 0 within ∙ ap (λ y. y ∷ drop (suc i) word) (sym is)
+    drop-cons word i 0 number_between ∙ ap (λ y. y ∷ drop (suc i) word) (sym is)
     ∙ ap (λ j. x ∷ drop j word) (sym (add-one i)) in
     ap (digits_from n) parts
     ∙ ap (λ b. cond b (digits_from (10 * n + (x - 48)) (drop (i + 1) word)) None) digit

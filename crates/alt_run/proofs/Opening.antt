@@ -26,8 +26,8 @@ use Rattle.alt_tables.specs.Images.{StandsFor}
 use Rattle.alt_tables.specs.OpeningRecovery.{IsExplained, IsOfFiles, HasNoState, WasLeft}
 use Rattle.alt_tables.specs.OpeningDeclaredOpenFault.{OpenFault}
 use Rattle.alt_tables.proofs.Left.{stands_left, stands_read, stands_trusted}
-use Rattle.alt_talks.proofs.Stopping.{leaves-weaker}
-use Rattle.alt_talks.specs.Works.{Works}
+use Rattle.alt_talks.proofs.StretchLeaving.{leaves-weaker}
+use Rattle.alt_talks.specs.Works.{WorksOnStore}
 use Rattle.alt_tables.specs.declared.tables.Tables.{Tables}
 
 -- calls of the disk alone, which leave what a stop left before, are an opening
@@ -58,7 +58,7 @@ still_stands a b tables opened s stands again =
 
 -- so whatever a stop leaves on the way stands for it
 pub opening_works : (a b : DiskState) (tables : Tables) (s : State) → Stands a tables s → Goes a b
-    → AtEach a b (WasLeft a) → Works a b s
+    → AtEach a b (WasLeft a) → WorksOnStore a b s
 opening_works a b tables s stands goes leaves = record {
   goes = goes;
   leaves = leaves-weaker a b (WasLeft a) (λ _ image. StandsFor image s)

@@ -1,344 +1,39 @@
--- Taking and serving, until the end of the input.
-use Rattle.std.proofs.Common.{◌≡◌, ◌≤◌, ◌<◌, ◌+◌, ◌*◌, ◌⊎◌, cond, inl, inr, ℕ, List, [], ◌∷◌, ◌++◌, map, length, Bool, true, false, Option, refl, sym, ap, subst, ◌∙◌, append_assoc, append-nil, arith}
-use Rattle.std.specs.Prelude.{◌||◌, nat_le}
-use Rattle.std.proofs.lemmas.Bool.{le-leb}
+-- Taking and serving, one turn after another, until the end of the input.
+use Rattle.std.proofs.Common.{◌≡◌, ◌⊎◌, inl, inr, ℕ, List, [], ◌∷◌, ◌++◌, Bool, true, false, refl, sym, ap, subst, ◌∙◌, append_assoc, append-nil, arith}
+use Rattle.std.specs.Prelude.{◌||◌}
 use Rattle.alt_base.specs.Prefix.{IsPrefix}
-use Rattle.alt_base.proofs.Lists.{length-none}
-use Rattle.alt_disk.specs.Disk.{DiskState, IsTrusted, IsImage}
-use Rattle.alt_lines.specs.Lines.{lines_of}
+use Rattle.alt_disk.specs.Disk.{DiskState}
 use Rattle.alt_lines.specs.Unread.{Unread}
 use Rattle.alt_machine.specs.State.{State}
-use Rattle.alt_shell.specs.Calls.{Adds, Keeps, ShellCall, Untold}
+use Rattle.alt_shell.specs.Calls.{Adds, ShellCall, Untold}
 use Rattle.alt_shell.proofs.Keeping.{keeps-none}
-use Rattle.alt_shell.specs.Log.{Log, Grows, Tells, moments_of, until, entry, told_count, event_of, took, take_failed, takes_failed, takes_missed, is_end, taken, said_in, ended, crosses}
-use Rattle.alt_tables.specs.FilesLeft.{most_files}
+use Rattle.alt_shell.specs.Log.{Log, Grows, moments_of, until, entry, told_count, take_failed, takes_failed, takes_missed, taken, said_in, ended, crosses}
 use Rattle.alt_tables.specs.Stands.{Stands, bounds_of}
 use Rattle.alt_tables.specs.declared.tables.Tables.{Tables}
-use Rattle.alt_talks.specs.Turns.{Turn, text_of, after}
-use Rattle.alt_talks.specs.Runs.{OfStretch, Stretch, Leads}
-use Rattle.alt_run.specs.Runs.{Rests, Breaks, Answers, AnswersSome}
-use Rattle.alt_run.specs.private.Rungs.{Serves, ServesAtHand, BreaksAtHand, HandsOut, Goes, Ends, GoesOrEnds, GoesSome, LeftBy, asked_now, asked_later, LeftAtHand}
-use Rattle.alt_talks.specs.Stops.{Image, IsLeft, AtEach, AreWithin}
-use Rattle.alt_tables.specs.Images.{StandsFor}
+use Rattle.alt_talks.specs.Turns.{Turn, turns_text, after}
+use Rattle.alt_talks.specs.Runs.{Stretch, Leads}
+use Rattle.alt_run.specs.Runs.{Breaks, AnswersAllLines, AnswersSomeLines}
+use Rattle.alt_run.specs.private.Rungs.{ServesLines, ServesInput, EndsInput, ServesSomeInput, LeftBy, asked_later}
+use Rattle.alt_talks.specs.Stops.{IsLeft, AtEach}
 use Rattle.alt_tables.proofs.Left.{stands_left}
-use Rattle.alt_talks.proofs.Stopping.{Meet, IsPrefix-longer, until-append, until-before, until-behind, said-by, taken-until, ended-until, within-wider, left-more, left-behind, spans_two, keeps-spans, trusts-kept}
-use Rattle.alt_run.proofs.TurnLaws.{turns-more, left-nothing-said, tasks-append, turns-append}
+use Rattle.alt_talks.proofs.Stopping.{IsPrefix-longer, until-append, until-before, until-behind, left-more, left-behind, trusts-kept}
+use Rattle.alt_talks.proofs.StretchLeaving.{Meet, spans_two}
+use Rattle.alt_run.proofs.TurnLaws.{turns-more, tasks-append, turns-append}
 use Rattle.alt_talks.specs.declared.fault.RunFault.{RunFault}
-use Rattle.alt_talks.specs.declared.fault.RunFault.TheVariants.{Failed, NoMemory}
-use Rattle.alt_run.specs.Turns.{Asked, turns, tasks, asks, asked_of, longest_line}
-use Rattle.alt_shell.proofs.Telling.{Grows-then, Tells-nil}
+use Rattle.alt_talks.specs.declared.fault.RunFault.TheVariants.{Failed}
+use Rattle.alt_run.specs.Turns.{AskedLine, turns_of_lines, asks, longest_line}
+use Rattle.alt_shell.proofs.Telling.{Tells-nil}
 use Rattle.alt_talks.proofs.Stretching.{said_in-append, taken-append, ended-append, stretch_none, stretch_then}
-use Rattle.alt_run.proofs.Serving.{breaks_same, turns_both, serves_none, serves_then, serves_break, breaks_none}
+use Rattle.alt_run.proofs.Serving.{turns_both, serves_none, serves_then, serves_break, breaks_none}
+use Rattle.alt_run.proofs.TakeServing.{leaves_silent}
 use Rattle.alt_talks.proofs.TurnLaws.{text_of-append}
 use Rattle.alt_talks.proofs.TalkLogs.{crosses-append}
 use Rattle.alt_talks.specs.TalkStops.{LeavesNow}
 
-some_is_no_end : (bytes : List ℕ) → 0 < length bytes → is_end (event_of (0 ∷ 0 ∷ bytes)) ≡ false
-some_is_no_end [] h = absurd (omega arith)
-some_is_no_end (b ∷ bytes) h = refl
-
-pub took_is_no_end : (told : ℕ) (bytes : List ℕ) → 0 < length bytes
-    → is_end (event_of (0 ∷ told ∷ bytes)) ≡ false
-took_is_no_end told [] h = absurd (omega arith)
-took_is_no_end told (b ∷ bytes) h = refl
-
--- calls behind a take, which gave these bytes
-module _ (a b c : DiskState) (call : ShellCall a b true) (bytes : List ℕ) (g : Adds a b (took bytes))
-    (m : moments_of b.beside ≡ moments_of a.beside) where
-  abbrev first : ℕ × List ℕ
-  first = entry b.moment (told_count a.beside) (took bytes)
-
-  -- the calls with the take in front
-  pub with_take : {P Q : OfStretch}
-      → ((es : Log) (ms : List ℕ) → AreWithin b.moment c.moment es → P b c es ms
-      → Q a c (first ∷ es) ms)
-      → Stretch b c P → Stretch a c Q
-  with_take law q = record {
-    entries = first ∷ q.entries;
-    told = q.told;
-    grows = Grows-then a.beside b.beside c.beside (first ∷ []) q.entries g q.grows;
-    tells = subst (λ (k : Option (List ℕ)). Tells k (moments_of c.beside) q.told) m q.tells;
-    within = (
-      call.keeps.later,
-      q.later,
-      within-wider a.moment b.moment c.moment c.moment q.entries q.within call.keeps.later
-          (omega arith),
-    );
-    later = let k = call.keeps.later in omega (arith, k, q.later);
-    trusts = λ trusted. q.trusts (trusts-kept a b call.keeps trusted);
-    holds = law q.entries q.told q.within q.holds;
-  }
-
-  -- nothing is said by the take
-  said-take : (t : ℕ) (es : Log) → said_in (until t (first ∷ es)) ≡ said_in (until t es)
-  said-take t es = by_test (nat_le b.moment t)
-    where
-      by_test : (x : Bool) → said_in (cond x (first ∷ until t es) (until t es))
-          ≡ said_in (until t es)
-      by_test true = refl
-      by_test false = refl
-
-  -- what a stop leaves while lines are served that were whole behind the take
-  pub leaves_take : (s : State) (u : Unread) (ls : List Asked) (es : Log) (ms : List ℕ)
-      → AreWithin b.moment c.moment es → Rests es
-      → ((IsTrusted a) → (image : Image) → IsImage a a.moment image → StandsFor image s)
-      → asked_later u (taken (first ∷ [])) (ended (first ∷ [])) ≡ ls
-      → AtEach b c (LeftAtHand s ls es ms) → AtEach a c (LeftBy s u (first ∷ es) ms)
-  leaves_take s u ls es ms within rests stands lines leaves trusted =
-      spans_two a b c (λ _ image. StandsFor image s) (LeftAtHand s ls es ms)
-      (LeftBy s u (first ∷ es) ms)
-      (keeps-spans a b (λ _ image. StandsFor image s) call.keeps
-      (λ t image low is_image. stands trusted image is_image))
-      (leaves (trusts-kept a b call.keeps trusted))
-      (λ t image before x. left-nothing-said s
-      (asked_later u (taken (until t (first ∷ es))) (ended (until t (first ∷ es)))) ms
-      (said_in (until t (first ∷ es))) image
-      (said-take t es ∙ ap said_in (until-before b.moment c.moment t es within before)) x)
-      (λ t image from x.
-      let front : until t (first ∷ es) ≡ first ∷ until t es =
-      ap (λ (y : Bool). cond y (first ∷ until t es) (until t es)) (le-leb b.moment t from) in
-      let silent : taken (until t es) ≡ [] = taken-until t es rests.silent in
-      let going : ended (until t es) ≡ false = ended-until t es rests.goes_on in
-      subst (λ (bs : List ℕ). IsLeft s
-      (turns s (asked_later u (taken (until t (first ∷ es))) (ended (until t (first ∷ es)))) ms) bs
-      image)
-      (sym (said-take t es))
-      (subst (λ (ks : List Asked). IsLeft s (turns s ks ms) (said_in (until t es)) image)
-      (sym lines
-      ∙ sym (ap (λ (bs : List ℕ). asked_later u bs (ended (first ∷ [])))
-      (ap taken front ∙ ap (λ (bs : List ℕ). bytes ++ bs) silent))
-      ∙ sym (ap (asked_later u (taken (until t (first ∷ es))))
-      (ap ended front ∙ ap (λ (y : Bool). is_end (event_of first.1) || y) going)))
-      x))
-
--- calls that leave all files, where nothing was said, leave what stood
-pub leaves_silent : (a b : DiskState) (tables : Tables) (s : State) (u : Unread) (es : Log)
-    → Stands a tables s → Keeps a b → said_in es ≡ [] → AtEach a b (LeftBy s u es [])
-leaves_silent a b tables s u es stands keeps silent trusted =
-    keeps-spans a b (LeftBy s u es []) keeps
-    (λ t image low is_image. left-nothing-said s
-    (asked_later u (taken (until t es)) (ended (until t es))) []
-    (said_in (until t es)) image
-    (length-none (said_in (until t es))
-    (let h = said-by t es in let k = ap length silent in omega (arith, h, k)))
-    (stands_left a tables s stands image is_image))
-
--- what a reader asks once it was given a piece
-pub given_now : (u : Unread) (piece : List ℕ) → u.ended ≡ false
-    → asked_now (record u { bytes = u.bytes ++ piece }) ≡ asked_later u piece false
-given_now u piece unended = ap (λ (e : Bool). map asked_of (lines_of u.most e (u.bytes ++ piece)))
-    unended
-
-pub given_later : (u : Unread) (piece more : List ℕ) (e : Bool)
-    → asked_later (record u { bytes = u.bytes ++ piece }) more e ≡ asked_later u (piece ++ more) e
-given_later u piece more e = ap (λ (bs : List ℕ). map asked_of (lines_of u.most e bs))
-    (append_assoc u.bytes piece more)
-
--- what it asks once the input has ended
-pub ended_now : (u : Unread) → asked_now (record u { ended = true }) ≡ asked_later u [] true
-ended_now u = ap (λ (bs : List ℕ). map asked_of (lines_of u.most true bs))
-    (sym (append-nil u.bytes))
-
-module _ (a b c : DiskState) (call : ShellCall a b true) (t1 : Tables) (s : State)
-    (stands : Stands a t1 s) (u : Unread) (unended : u.ended ≡ false) where
-  abbrev here : IsTrusted a → (image : Image) → IsImage a a.moment image → StandsFor image s
-  here = λ trusted image is_image. stands_left a t1 s stands image is_image
-
-  -- some bytes were taken
-  module _ (piece : List ℕ) (some : 0 < length piece) (g : Adds a b (took piece))
-      (m : moments_of b.beside ≡ moments_of a.beside) where
-    abbrev one : ℕ × List ℕ
-    one = entry b.moment (told_count a.beside) (took piece)
-
-    abbrev given : Unread
-    given = record u { bytes = u.bytes ++ piece }
-
-    all : (es : Log) → taken es ≡ [] → taken (one ∷ es) ≡ piece
-    all es silent = ap (λ (bs : List ℕ). piece ++ bs) silent ∙ append-nil piece
-
-    going : (es : Log) → ended es ≡ false → ended (one ∷ es) ≡ false
-    going es e = ap (λ (x : Bool). x || ended es) (took_is_no_end (told_count a.beside) piece some)
-        ∙ e
-
-    lines_now_given : asked_later u (taken (one ∷ [])) (ended (one ∷ [])) ≡ asked_now given
-    lines_now_given = ap (λ (bs : List ℕ). asked_later u bs (ended (one ∷ []))) (all [] refl)
-        ∙ ap (asked_later u piece) (going [] refl)
-        ∙ sym (given_now u piece unended)
-
-    goes_given : (t2 : Tables) (v : Unread) (next now : ℕ)
-        → now ≤ next + tasks (asked_now given) * most_files
-        → Leads b c t2 (ServesAtHand s (asked_now given)) → HandsOut given v
-        → Leads a c t2 (λ t. GoesOrEnds true next s u now t v)
-    goes_given t2 v next now files q outs = record {
-      to = q.to;
-      stands = q.stands;
-      calls = with_take a b c call piece g m
-          {P = ServesAtHand s (asked_now given) q.to} {Q = Goes next s u now q.to v}
-          (λ es ms within x. record {
-            done = asked_now given;
-            serves = record {
-              said = x.serves.said;
-              state = x.serves.state;
-              count =
-                  x.serves.count;
-              enough = x.serves.enough;
-            };
-            lines = λ more e.
-                ap (λ (bs : List ℕ). asked_later u (bs ++ more) e) (all es x.rests.silent)
-                ∙ sym (given_later u piece more e) ∙ outs.later unended more e;
-            goes_on = going es x.rests.goes_on;
-            inside = x.rests.inside;
-            leaves = leaves_take a b c call piece g m s u (asked_now given) es ms within x.rests here
-                lines_now_given x.leaves;
-            files = files;
-          })
-          q.calls;
-    }
-
-    -- and all lines that were whole then were served
-    pub pull_goes : (t2 : Tables) (w v : Unread) (next now : ℕ) → w ≡ given
-        → now ≤ next + tasks (asked_now w) * most_files
-        → Leads b c t2 (ServesAtHand s (asked_now w)) → HandsOut w v
-        → Leads a c t2 (λ t. GoesOrEnds true next s u now t v)
-    pull_goes t2 w v next now same files q outs =
-        goes_given t2 v next now
-        (subst (λ (x : Unread). now ≤ next + tasks (asked_now x) * most_files) same files)
-        (subst (λ (x : Unread). Leads b c t2 (ServesAtHand s (asked_now x))) same
-        q)
-        (subst (λ (x : Unread). HandsOut x v) same outs)
-
-    -- that broke off
-    pub pull_breaks : (fault : RunFault) (next : ℕ) → Stretch b c (BreaksAtHand fault next s (asked_now given))
-        → Stretch a c (GoesSome fault next s u)
-    pull_breaks fault next q = with_take a b c call piece g m
-        {P = BreaksAtHand fault next s (asked_now given)} {Q = GoesSome fault next s u}
-        (λ es ms within x. record {
-          breaks = subst (λ (ls : List Asked). Breaks fault next s ls (one ∷ es) ms)
-              (given_now u piece unended
-              ∙ ap (λ (bs : List ℕ). asked_later u bs false) (sym (all es x.rests.silent))
-              ∙ ap (asked_later u (taken (one ∷ es))) (sym (going es x.rests.goes_on)))
-              (record {
-                done = x.breaks.done;
-                begun = x.breaks.begun;
-                rest = x.breaks.rest;
-                lines = x.breaks.lines;
-                few = x.breaks.few;
-                all = x.breaks.all;
-                said = x.breaks.said;
-                count = x.breaks.count;
-                enough = x.breaks.enough;
-                wants = breaks_same fault next s x.breaks.done x.breaks.begun es (one ∷ es) ms refl x.breaks.wants;
-              });
-          inside = x.rests.inside;
-          leaves = leaves_take a b c call piece g m s u (asked_now given) es ms within x.rests here
-              lines_now_given x.leaves;
-        })
-        q
-
-    -- there was no memory for them
-    pub pull_memory : (next : ℕ) → Stretch a b (GoesSome NoMemory next s u)
-    pull_memory next = record {
-      entries = one ∷ [];
-      told = [];
-      grows = g;
-      tells = Tells-nil (moments_of a.beside) (moments_of b.beside) m;
-      within = (call.keeps.later, omega arith, tt);
-      later = call.keeps.later;
-      trusts = trusts-kept a b call.keeps;
-      holds = record {
-        breaks = breaks_took next (asked_later u (taken (one ∷ [])) (ended (one ∷ [])));
-        inside = refl;
-        leaves = leaves_silent a b t1 s u (one ∷ []) stands call.keeps refl;
-      };
-    }
-      where
-        breaks_took : (next : ℕ) (ls : List Asked) → Breaks NoMemory next s ls (one ∷ []) []
-        breaks_took next ls = record {
-          done = [];
-          begun = [];
-          rest = ls;
-          lines = refl;
-          few =
-              omega arith;
-          all = ([], refl);
-          said = ([], refl);
-          count = refl;
-          enough = refl;
-          wants = inl tt;
-        }
-
-  -- the end was taken
-  module _ (piece : List ℕ) (none : piece ≡ []) (g : Adds a b (took piece))
-      (m : moments_of b.beside ≡ moments_of a.beside) where
-    abbrev last : ℕ × List ℕ
-    last = entry b.moment (told_count a.beside) (took [])
-
-    at_end : Adds a b (took [])
-    at_end = subst (λ (bs : List ℕ). Adds a b (took bs)) none g
-
-    lines_at_end : asked_later u (taken (last ∷ [])) (ended (last ∷ []))
-        ≡ asked_now (record u { ended = true })
-    lines_at_end = sym (ended_now u)
-
-    -- and the last lines were served
-    pub pull_ends : (t2 : Tables) (v : Unread)
-        → Leads b c t2 (ServesAtHand s (asked_now (record u { ended = true })))
-        → (next now : ℕ) → Leads a c t2 (λ t. GoesOrEnds false next s u now t v)
-    pull_ends t2 v q next now = record {
-      to = q.to;
-      stands = q.stands;
-      calls = with_take a b c call [] at_end m
-          {P = ServesAtHand s (asked_now (record u { ended = true })) q.to} {Q = Ends s u q.to}
-          (λ es ms within x. record {
-            serves = subst (λ (ls : List Asked). Serves s ls q.to (last ∷ es) ms)
-                (ended_now u ∙ ap (λ (bs : List ℕ). asked_later u bs true) (sym x.rests.silent))
-                (record {
-                  said = x.serves.said;
-                  state = x.serves.state;
-                  count =
-                      x.serves.count;
-                  enough = x.serves.enough;
-                });
-            at_end = refl;
-            inside = x.rests.inside;
-            leaves = leaves_take a b c call [] at_end m s u (asked_now (record u { ended = true })) es
-                ms within x.rests here lines_at_end x.leaves;
-          })
-          q.calls;
-    }
-
-    -- that broke off
-    pub pull_end_breaks : (fault : RunFault) (next : ℕ)
-        → Stretch b c (BreaksAtHand fault next s (asked_now (record u { ended = true })))
-        → Stretch a c (GoesSome fault next s u)
-    pull_end_breaks fault next q = with_take a b c call [] at_end m
-        {P = BreaksAtHand fault next s (asked_now (record u { ended = true }))} {Q =
-        GoesSome fault next s u}
-        (λ es ms within x. record {
-          breaks = subst (λ (ls : List Asked). Breaks fault next s ls (last ∷ es) ms)
-              (ended_now u ∙ ap (λ (bs : List ℕ). asked_later u bs true) (sym x.rests.silent))
-              (record {
-                done = x.breaks.done;
-                begun = x.breaks.begun;
-                rest = x.breaks.rest;
-                lines = x.breaks.lines;
-                few = x.breaks.few;
-                all = x.breaks.all;
-                said = x.breaks.said;
-                count = x.breaks.count;
-                enough = x.breaks.enough;
-                wants = breaks_same fault next s x.breaks.done x.breaks.begun es (last ∷ es) ms refl x.breaks.wants;
-              });
-          inside = x.rests.inside;
-          leaves = leaves_take a b c call [] at_end m s u (asked_now (record u { ended = true })) es ms
-              within x.rests here lines_at_end x.leaves;
-        })
-        q
-
 -- the take failed
 module _ (a b : DiskState) (call : ShellCall a b false) (tables : Tables) (next : ℕ) (s : State)
     (stands : Stands a tables s) (u : Unread) (m : moments_of b.beside ≡ moments_of a.beside) where
-  pull_untold : Grows a.beside b.beside [] → Stretch a b (GoesSome Failed next s u)
+  pull_untold : Grows a.beside b.beside [] → Stretch a b (ServesSomeInput Failed next s u)
   pull_untold g = record {
     entries = [];
     told = [];
@@ -354,7 +49,7 @@ module _ (a b : DiskState) (call : ShellCall a b false) (tables : Tables) (next 
     };
   }
 
-  pull_told : Adds a b take_failed → Stretch a b (GoesSome Failed next s u)
+  pull_told : Adds a b take_failed → Stretch a b (ServesSomeInput Failed next s u)
   pull_told g = record {
     entries = entry b.moment (told_count a.beside) take_failed ∷ [];
     told = [];
@@ -385,19 +80,19 @@ module _ (a b : DiskState) (call : ShellCall a b false) (tables : Tables) (next 
   }
 
   pub pull_failed : (Adds a b take_failed ⊎ Untold a b takes_failed takes_missed)
-      → Stretch a b (GoesSome Failed next s u)
+      → Stretch a b (ServesSomeInput Failed next s u)
   pull_failed (inl g) = pull_told g
   pull_failed (inr untold) = pull_untold untold.log
 
 -- ---- one turn of taking after another
 
 pub goes_none : (a : DiskState) (tables : Tables) (s : State) (u : Unread) → Stands a tables s
-    → Leads a a tables (λ t. Goes (bounds_of tables).file s u (bounds_of tables).file t u)
+    → Leads a a tables (λ t. ServesInput (bounds_of tables).file s u (bounds_of tables).file t u)
 goes_none a tables s u stands = record {
   to = s;
   stands = stands;
   calls = stretch_none a
-      {P = Goes (bounds_of tables).file s u (bounds_of tables).file s u} (record {
+      {P = ServesInput (bounds_of tables).file s u (bounds_of tables).file s u} (record {
         done = [];
         serves = serves_none s;
         lines = λ more e. refl;
@@ -410,7 +105,7 @@ goes_none a tables s u stands = record {
 
 -- what a stop leaves while more is taken and served behind what was
 goes_leaves : (a b c : DiskState) (next now : ℕ) (s r : State) (u v : Unread) (es fs : Log) (ms ns : List ℕ)
-    → Meet a b c es fs → Goes next s u now r v a b es ms → AtEach b c (LeftBy r v fs ns)
+    → Meet a b c es fs → ServesInput next s u now r v a b es ms → AtEach b c (LeftBy r v fs ns)
     → AtEach a c (LeftBy s u (es ++ fs) (ms ++ ns))
 goes_leaves a b c next now s r u v es fs ms ns meet x q trusted =
     spans_two a b c (LeftBy s u es ms) (LeftBy r v fs ns) (LeftBy s u (es ++ fs) (ms ++ ns))
@@ -420,48 +115,48 @@ goes_leaves a b c next now s r u v es fs ms ns meet x q trusted =
     until-append t es fs
     ∙ ap (λ (gs : Log). until t es ++ gs) (until-before b.moment c.moment t fs meet.behind before)
     ∙ append-nil (until t es) in
-    let ls : List Asked = asked_later u (taken (until t es)) (ended (until t es)) in
+    let ls : List AskedLine = asked_later u (taken (until t es)) (ended (until t es)) in
     let more = turns-more s ls [] ms ns in
-    subst (λ (gs : Log). IsLeft s (turns s (asked_later u (taken gs) (ended gs)) (ms ++ ns))
+    subst (λ (gs : Log). IsLeft s (turns_of_lines s (asked_later u (taken gs) (ended gs)) (ms ++ ns))
     (said_in gs) image)
     (sym same)
     (subst (λ (vs : List Turn). IsLeft s vs (said_in (until t es)) image)
-    (sym more.2 ∙ ap (λ (ks : List Asked). turns s ks (ms ++ ns)) (append-nil ls))
-    (left-more s (turns s ls ms) more.0 (said_in (until t es)) image more.1 y)))
+    (sym more.2 ∙ ap (λ (ks : List AskedLine). turns_of_lines s ks (ms ++ ns)) (append-nil ls))
+    (left-more s (turns_of_lines s ls ms) more.0 (said_in (until t es)) image more.1 y)))
     (λ t image from y.
     let same : until t (es ++ fs) ≡ es ++ until t fs =
     until-append t es fs
     ∙ ap (λ (gs : Log). gs ++ until t fs) (until-behind a.moment b.moment t es meet.before from) in
     let gs : Log = until t fs in
-    let ks : List Asked = asked_later v (taken gs) (ended gs) in
+    let ks : List AskedLine = asked_later v (taken gs) (ended gs) in
     let lines : asked_later u (taken (es ++ gs)) (ended (es ++ gs)) ≡ x.done ++ ks =
     ap (λ (e : Bool). asked_later u (taken (es ++ gs)) e)
     (ended-append es gs ∙ ap (λ (e : Bool). e || ended gs) x.goes_on)
     ∙ ap (λ (bs : List ℕ). asked_later u bs (ended gs)) (taken-append es gs)
     ∙ x.lines (taken gs) (ended gs) in
-    subst (λ (hs : Log). IsLeft s (turns s (asked_later u (taken hs) (ended hs)) (ms ++ ns))
+    subst (λ (hs : Log). IsLeft s (turns_of_lines s (asked_later u (taken hs) (ended hs)) (ms ++ ns))
     (said_in hs) image)
     (sym same)
-    (subst (λ (ls : List Asked). IsLeft s (turns s ls (ms ++ ns)) (said_in (es ++ gs)) image)
+    (subst (λ (ls : List AskedLine). IsLeft s (turns_of_lines s ls (ms ++ ns)) (said_in (es ++ gs)) image)
     (sym lines)
     (subst (λ (vs : List Turn). IsLeft s vs (said_in (es ++ gs)) image)
     (sym (turns_both s r r x.done ks es gs ms ns x.serves))
-    (subst (λ (bs : List ℕ). IsLeft s (turns s x.done ms ++ turns r ks ns) bs image)
+    (subst (λ (bs : List ℕ). IsLeft s (turns_of_lines s x.done ms ++ turns_of_lines r ks ns) bs image)
     (ap (λ (bs : List ℕ). bs ++ said_in gs) (sym x.serves.said) ∙ sym (said_in-append es gs))
-    (left-behind s (turns s x.done ms) (turns r ks ns) (said_in gs) image
-    (subst (λ (z : State). IsLeft z (turns r ks ns) (said_in gs) image) x.serves.state y))))))
+    (left-behind s (turns_of_lines s x.done ms) (turns_of_lines r ks ns) (said_in gs) image
+    (subst (λ (z : State). IsLeft z (turns_of_lines r ks ns) (said_in gs) image) x.serves.state y))))))
 
 module _ (a b c : DiskState) (t1 : Tables) (next now : ℕ) (s : State) (u v : Unread)
-    (p : Leads a b t1 (λ t. Goes next s u now t v)) where
+    (p : Leads a b t1 (λ t. ServesInput next s u now t v)) where
   -- once more
   pub goes_then : (t2 : Tables) (w : Unread) (last : ℕ)
-      → Leads b c t2 (λ t. Goes now p.to v last t w)
-      → Leads a c t2 (λ t. Goes next s u last t w)
+      → Leads b c t2 (λ t. ServesInput now p.to v last t w)
+      → Leads a c t2 (λ t. ServesInput next s u last t w)
   goes_then t2 w last q = record {
     to = q.to;
     stands = q.stands;
-    calls = stretch_then a b c {P = Goes next s u now p.to v} {Q = Goes now p.to v last q.to w}
-        {R = Goes next s u last q.to w}
+    calls = stretch_then a b c {P = ServesInput next s u now p.to v} {Q = ServesInput now p.to v last q.to w}
+        {R = ServesInput next s u last q.to w}
         (λ es fs ms ns meet x y. record {
           done = x.done ++ y.done;
           serves = serves_then s p.to q.to x.done y.done es fs ms ns x.serves y.serves;
@@ -469,7 +164,7 @@ module _ (a b c : DiskState) (t1 : Tables) (next now : ℕ) (s : State) (u v : U
               ap (λ (bs : List ℕ). asked_later u (bs ++ more) e) (taken-append es fs)
               ∙ ap (λ (bs : List ℕ). asked_later u bs e) (append_assoc (taken es) (taken fs) more)
               ∙ x.lines (taken fs ++ more) e
-              ∙ ap (λ (ls : List Asked). x.done ++ ls) (y.lines more e)
+              ∙ ap (λ (ls : List AskedLine). x.done ++ ls) (y.lines more e)
               ∙ sym (append_assoc x.done y.done (asked_later w more e));
           goes_on = ended-append es fs ∙ ap (λ (e : Bool). e || ended fs) x.goes_on ∙ y.goes_on;
           inside = crosses-append es fs ∙ ap (λ (e : Bool). e || crosses fs) x.inside ∙ y.inside;
@@ -481,14 +176,14 @@ module _ (a b c : DiskState) (t1 : Tables) (next now : ℕ) (s : State) (u v : U
   }
 
   -- and then to the end
-  pub goes_ends : (t2 : Tables) → Leads b c t2 (λ t. Ends p.to v t)
-      → Stretch a c (λ old new es ms. (t : State) × Ends s u t old new es ms × LeavesNow new t)
-  goes_ends t2 q = stretch_then a b c {P = Goes next s u now p.to v} {Q = Ends p.to v q.to} {R =
-      λ old new es ms. (t : State) × Ends s u t old new es ms × LeavesNow new t}
+  pub goes_ends : (t2 : Tables) → Leads b c t2 (λ t. EndsInput p.to v t)
+      → Stretch a c (λ old new es ms. (t : State) × EndsInput s u t old new es ms × LeavesNow new t)
+  goes_ends t2 q = stretch_then a b c {P = ServesInput next s u now p.to v} {Q = EndsInput p.to v q.to} {R =
+      λ old new es ms. (t : State) × EndsInput s u t old new es ms × LeavesNow new t}
       (λ es fs ms ns meet x y. (
         q.to,
         record {
-          serves = subst (λ (ls : List Asked). Serves s ls q.to (es ++ fs) (ms ++ ns))
+          serves = subst (λ (ls : List AskedLine). ServesLines s ls q.to (es ++ fs) (ms ++ ns))
               (sym (ap (λ (bs : List ℕ). asked_later u bs true) (taken-append es fs)
               ∙ x.lines (taken fs) true))
               (serves_then s p.to q.to x.done (asked_later v (taken fs) true) es fs ms ns x.serves
@@ -502,12 +197,12 @@ module _ (a b c : DiskState) (t1 : Tables) (next now : ℕ) (s : State) (u v : U
       p.calls q.calls
 
   -- and then a break
-  pub goes_breaks : (fault : RunFault) → Stretch b c (GoesSome fault now p.to v)
-      → Stretch a c (GoesSome fault next s u)
-  goes_breaks fault q = stretch_then a b c {P = Goes next s u now p.to v} {Q = GoesSome fault now p.to v} {R =
-      GoesSome fault next s u}
+  pub goes_breaks : (fault : RunFault) → Stretch b c (ServesSomeInput fault now p.to v)
+      → Stretch a c (ServesSomeInput fault next s u)
+  goes_breaks fault q = stretch_then a b c {P = ServesInput next s u now p.to v} {Q = ServesSomeInput fault now p.to v} {R =
+      ServesSomeInput fault next s u}
       (λ es fs ms ns meet x y. record {
-        breaks = subst (λ (ls : List Asked). Breaks fault next s ls (es ++ fs) (ms ++ ns))
+        breaks = subst (λ (ls : List AskedLine). Breaks fault next s ls (es ++ fs) (ms ++ ns))
             (sym (ap (λ (e : Bool). asked_later u (taken (es ++ fs)) e)
             (ended-append es fs ∙ ap (λ (e : Bool). e || ended fs) x.goes_on)
             ∙ ap (λ (bs : List ℕ). asked_later u bs (ended fs)) (taken-append es fs)
@@ -527,7 +222,7 @@ fresh = record { most = longest_line; bytes = []; ended = false }
 
 -- all was answered
 pub answers_all : (a b : DiskState) (s t : State) (es : Log) (ms : List ℕ)
-    → Ends s fresh t a b es ms → LeavesNow b t → Answers s a b es ms
+    → EndsInput s fresh t a b es ms → LeavesNow b t → AnswersAllLines s a b es ms
 answers_all a b s t es ms x last = record {
   at_end = x.at_end;
   inside = x.inside;
@@ -540,23 +235,23 @@ answers_all a b s t es ms x last = record {
 
 -- some was
 pub answers_some : (a b : DiskState) (fault : RunFault) (next : ℕ) (s : State) (es : Log) (ms : List ℕ)
-    → GoesSome fault next s fresh a b es ms → AnswersSome fault next s a b es ms
+    → ServesSomeInput fault next s fresh a b es ms → AnswersSomeLines fault next s a b es ms
 answers_some a b fault next s es ms x =
     let br = x.breaks in
-    let front : List Asked = br.done ++ br.begun in
+    let front : List AskedLine = br.done ++ br.begun in
     let lines : asks (ended es) (taken es) ≡ front ++ br.rest =
     br.lines ∙ sym (append_assoc br.done br.begun br.rest) in
     record {
       breaks = br;
       inside = x.inside;
-      said = subst (λ (ls : List Asked). IsPrefix (said_in es) (text_of (turns s ls ms)))
+      said = subst (λ (ls : List AskedLine). IsPrefix (said_in es) (turns_text (turns_of_lines s ls ms)))
           (sym lines)
-          (subst (λ (ns : List ℕ). IsPrefix (said_in es) (text_of (turns s (front ++ br.rest) ns)))
+          (subst (λ (ns : List ℕ). IsPrefix (said_in es) (turns_text (turns_of_lines s (front ++ br.rest) ns)))
           (append-nil ms)
           (subst (IsPrefix (said_in es))
-          (sym (ap text_of (turns-append s front br.rest ms [] br.count)
-          ∙ text_of-append (turns s front ms) (turns (after s (turns s front ms)) br.rest [])))
-          (IsPrefix-longer (said_in es) (text_of (turns s front ms))
-          (text_of (turns (after s (turns s front ms)) br.rest [])) br.said)));
+          (sym (ap turns_text (turns-append s front br.rest ms [] br.count)
+          ∙ text_of-append (turns_of_lines s front ms) (turns_of_lines (after s (turns_of_lines s front ms)) br.rest [])))
+          (IsPrefix-longer (said_in es) (turns_text (turns_of_lines s front ms))
+          (turns_text (turns_of_lines (after s (turns_of_lines s front ms)) br.rest [])) br.said)));
       leaves = x.leaves;
     }

@@ -7,7 +7,7 @@ use Rattle.std.proofs.lemmas.Bool.{true≢false}
 use Rattle.alt_disk.specs.Disk.{DiskState}
 use Rattle.alt_layout.specs.Fresh.{versions_file}
 use Rattle.alt_machine.specs.State.{State}
-use Rattle.alt_manifest.specs.InHand.{file_of, Reads, version_of}
+use Rattle.alt_manifest.specs.InHand.{file_of_manifest, ReadsVersion, version_of}
 use Rattle.alt_manifest.specs.Versions.{HasVersion}
 use Rattle.alt_manifest.specs.declared.manifest.Manifest.{Manifest}
 use Rattle.alt_manifest.proofs.AppendLaws.{has_version}
@@ -52,8 +52,8 @@ there_below file most f fresh there = ⊎_elim (λ (low : f < most). low)
 
 -- the next file that an opening of these files has is none behind this one, where none is there from this one on; a segment that the first write
 -- makes comes before the first file of work
-version_again : (a : DiskState) (m : Manifest) (most n : ℕ) → Reads a m
-    → file_of m ≡ versions_file → (version_of m).next_file ≤ most
+version_again : (a : DiskState) (m : Manifest) (most n : ℕ) → ReadsVersion a m
+    → file_of_manifest m ≡ versions_file → (version_of m).next_file ≤ most
     → ((f : ℕ) → most ≤ f → a.file f ≡ None) → IsFirstGiven a.file n → n ≤ most + 1
 version_again a m most n reads first low fresh given =
     let found = given (version_of m)

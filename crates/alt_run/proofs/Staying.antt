@@ -12,7 +12,7 @@ use Rattle.alt_talks.specs.Runs.{Passes}
 use Rattle.alt_talks.specs.Stops.{Image}
 use Rattle.alt_run.specs.Chains.{Step}
 use Rattle.alt_run.specs.Endings.{HasDone, HasRefused, HasRun, IsReadable}
-use Rattle.alt_run.specs.Wholes.{IsWhole, StaysWhole}
+use Rattle.alt_run.specs.Wholes.{DiskIsWhole, StaysWhole}
 use Rattle.alt_run.specs.declared.ending.Ending.{Ending}
 use Rattle.alt_run.specs.declared.ending.Ending.TheVariants.{Whole, Words, NotEmpty, Damaged, DigestDiffers, BadRow, Device, Memory, Spent}
 use Rattle.alt_run.specs.declared.words.Command.{Command}
@@ -44,7 +44,7 @@ kept_past a b c passes aside t f le =
 module _ (old new : DiskState) (kept : IsTrusted old → IsTrusted new)
     (past : (t f : ℕ) → t ≤ old.moment → new.fates t f ≡ old.fates t f)
     (reads : IsTrusted old → IsImage old old.moment old.file)
-    (whole : IsWhole old old.moment) (t : ℕ) (from : old.moment ≤ t) (to : t ≤ new.moment)
+    (whole : DiskIsWhole old old.moment) (t : ℕ) (from : old.moment ≤ t) (to : t ≤ new.moment)
     (image : Image) (is : IsImage new t image) where
   -- where no call was made
   untouched_each : new.moment ≡ old.moment → IsReadable image

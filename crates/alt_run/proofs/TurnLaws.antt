@@ -3,21 +3,21 @@ use Rattle.std.proofs.Common.{◌≡◌, ◌+◌, ℕ, Option, None, Some, List,
 use Rattle.std.proofs.Math.Nat.{suc_inj}
 use Rattle.alt_machine.specs.State.{State}
 use Rattle.alt_talks.specs.Turns.{Turn, after, after_turn}
-use Rattle.alt_run.specs.Turns.{Asked, request, control, unread, turns, obeyed, turned_away, carried_out, requests, tasks, asked_as}
+use Rattle.alt_run.specs.Turns.{AskedLine, request, control, unread, turns_of_lines, obeyed, turned_away, carried_out, requests, tasks, asked_as}
 use Rattle.alt_run.specs.declared.lines.Control.{Control}
 use Rattle.alt_talks.specs.Stops.{Image, IsLeft}
 use Rattle.alt_tables.specs.Images.{StandsFor}
 use Rattle.alt_talks.proofs.Stopping.{AllSay, left-nothing-of}
 
 -- requests of lines and more lines
-pub requests-append : (ls ks : List Asked) → requests (ls ++ ks) ≡ requests ls + requests ks
+pub requests-append : (ls ks : List AskedLine) → requests (ls ++ ks) ≡ requests ls + requests ks
 requests-append [] ks = omega arith
 requests-append (request name body ∷ ls) ks = let h = requests-append ls ks in omega (arith, h)
 requests-append (control word ∷ ls) ks = requests-append ls ks
 requests-append (unread ∷ ls) ks = requests-append ls ks
 
 -- tasks of lines and more lines
-pub tasks-append : (ls ks : List Asked) → tasks (ls ++ ks) ≡ tasks ls + tasks ks
+pub tasks-append : (ls ks : List AskedLine) → tasks (ls ++ ks) ≡ tasks ls + tasks ks
 tasks-append [] ks = omega arith
 tasks-append (request name body ∷ ls) ks = let h = tasks-append ls ks in omega (arith, h)
 tasks-append (control word ∷ ls) ks = let h = tasks-append ls ks in omega (arith, h)
@@ -29,8 +29,8 @@ one_task text None = refl
 one_task text (Some word) = refl
 
 -- the turns of lines and more lines are those of the first, and then those of the others from the state that the first left
-pub turns-append : (s : State) (ls ks : List Asked) (ms ns : List ℕ) → length ms ≡ requests ls
-    → turns s (ls ++ ks) (ms ++ ns) ≡ turns s ls ms ++ turns (after s (turns s ls ms)) ks ns
+pub turns-append : (s : State) (ls ks : List AskedLine) (ms ns : List ℕ) → length ms ≡ requests ls
+    → turns_of_lines s (ls ++ ks) (ms ++ ns) ≡ turns_of_lines s ls ms ++ turns_of_lines (after s (turns_of_lines s ls ms)) ks ns
 turns-append s [] ks [] ns e = refl
 turns-append s [] ks (m ∷ ms) ns e = absurd (omega arith)
 turns-append s (request name body ∷ ls) ks [] ns e = absurd (omega arith)
@@ -47,7 +47,7 @@ line_says : (front bytes : List ℕ) → 0 < length (front ++ (32 ∷ bytes))
 line_says front bytes = let e = length-append front (32 ∷ bytes) in omega (arith, e)
 
 -- so do those of any lines
-pub turns_say : (s : State) (ls : List Asked) (ms : List ℕ) → AllSay (turns s ls ms)
+pub turns_say : (s : State) (ls : List AskedLine) (ms : List ℕ) → AllSay (turns_of_lines s ls ms)
 turns_say s [] ms = tt
 turns_say s (request name body ∷ ls) [] = tt
 turns_say s (request name body ∷ ls) (m ∷ ms) = (
@@ -59,23 +59,23 @@ turns_say s (unread ∷ ls) ms = (omega arith, turns_say s ls ms)
 
 -- ---- what is left
 
-pub left-nothing : (s : State) (ls : List Asked) (ms : List ℕ) (image : Image)
-    → StandsFor image s → IsLeft s (turns s ls ms) [] image
+pub left-nothing : (s : State) (ls : List AskedLine) (ms : List ℕ) (image : Image)
+    → StandsFor image s → IsLeft s (turns_of_lines s ls ms) [] image
 left-nothing s ls ms image stands =
-    left-nothing-of s (turns s ls ms) image (turns_say s ls ms) stands
+    left-nothing-of s (turns_of_lines s ls ms) image (turns_say s ls ms) stands
 
-pub left-nothing-said : (s : State) (ls : List Asked) (ms : List ℕ) (said : List ℕ) (image : Image)
-    → said ≡ [] → StandsFor image s → IsLeft s (turns s ls ms) said image
+pub left-nothing-said : (s : State) (ls : List AskedLine) (ms : List ℕ) (said : List ℕ) (image : Image)
+    → said ≡ [] → StandsFor image s → IsLeft s (turns_of_lines s ls ms) said image
 left-nothing-said s ls ms said image none stands =
-    subst (λ (bs : List ℕ). IsLeft s (turns s ls ms) bs image) (sym none)
+    subst (λ (bs : List ℕ). IsLeft s (turns_of_lines s ls ms) bs image) (sym none)
     (left-nothing s ls ms image stands)
 
 -- the turns of lines begin those of more lines and more moments
-pub turns-more : (s : State) (ls ks : List Asked) (ms ns : List ℕ)
-    → (us : List Turn) × AllSay us × (turns s (ls ++ ks) (ms ++ ns) ≡ turns s ls ms ++ us)
-turns-more s [] ks ms ns = (turns s ks (ms ++ ns), turns_say s ks (ms ++ ns), refl)
+pub turns-more : (s : State) (ls ks : List AskedLine) (ms ns : List ℕ)
+    → (us : List Turn) × AllSay us × (turns_of_lines s (ls ++ ks) (ms ++ ns) ≡ turns_of_lines s ls ms ++ us)
+turns-more s [] ks ms ns = (turns_of_lines s ks (ms ++ ns), turns_say s ks (ms ++ ns), refl)
 turns-more s (request name body ∷ ls) ks [] ns = (
-  turns s (request name body ∷ (ls ++ ks)) ns,
+  turns_of_lines s (request name body ∷ (ls ++ ks)) ns,
   turns_say s (request name body ∷ (ls ++ ks)) ns,
   refl,
 )

@@ -7,7 +7,7 @@ use Rattle.alt_talks.specs.Works.{HasFewEntries, HasMergedFiles, HasNoEntries}
 use Rattle.alt_run.specs.Endings.{IsReadable}
 use Rattle.alt_run.specs.Runs.{Rests}
 use Rattle.alt_run.specs.Trials.{IsSummary}
-use Rattle.alt_run.specs.Turns.{Asked, request, control, unread, asks}
+use Rattle.alt_run.specs.Turns.{AskedLine, request, control, unread, asks}
 use Rattle.alt_run.specs.declared.lines.Control.TheVariants.{Flush, Merge, Step, Reopen}
 use Rattle.alt_run.specs.declared.words.Job.{Job}
 use Rattle.alt_run.specs.declared.words.Job.TheVariants.{Replay, Serve, Trial}
@@ -21,7 +21,7 @@ AreReadable disk = IsTrue disk.tells → IsReadable disk.file
 -- What is so of the disk behind a line that was answered, where a family is flushed from so many bytes on. Behind a request and behind
 -- `@step` the entries of the log are few, behind `@flush` there are none, behind `@merge` each live family has one file at most, without
 -- tombstones, and behind `@reopen` the files stand for a state, as they read on any disk that tells them: they were read again.
-abbrev pub Behind : ℕ → Option Asked → DiskState → Type 0
+abbrev pub Behind : ℕ → Option AskedLine → DiskState → Type 0
 Behind flush None disk = ⊤
 Behind flush (Some (request name body)) disk = HasFewEntries flush disk
 Behind flush (Some (control Flush)) disk = HasNoEntries disk
@@ -31,7 +31,7 @@ Behind flush (Some (control Reopen)) disk = AreReadable disk
 Behind flush (Some unread) disk = ⊤
 
 -- the last of these lines; without lines, the last before them
-abbrev pub last_of : Option Asked → List Asked → Option Asked
+abbrev pub last_of : Option AskedLine → List AskedLine → Option AskedLine
 last_of was [] = was
 last_of was (l ∷ ls) = last_of (Some l) ls
 

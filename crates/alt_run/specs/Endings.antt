@@ -10,8 +10,8 @@ use Rattle.alt_run.specs.Faults.{IsUnreadable}
 use Rattle.alt_tables.specs.FilesLeft.{IsFirstGiven}
 use Rattle.alt_tables.specs.Images.{StandsFor}
 use Rattle.alt_talks.specs.Runs.{Stretch}
-use Rattle.alt_run.specs.Runs.{Answers, AnswersSome, IsOpening, Opened}
-use Rattle.alt_talks.specs.TalkRules.{rules}
+use Rattle.alt_run.specs.Runs.{AnswersAllLines, AnswersSomeLines, IsOpening, Opened}
+use Rattle.alt_talks.specs.TalkRules.{talk_rules}
 use Rattle.alt_talks.specs.TalkStops.{ServedOn, ServedSomeOn, LeavesNow}
 use Rattle.alt_run.specs.Trials.{Tries, TriesSome}
 use Rattle.alt_talks.specs.declared.fault.RunFault.{RunFault}
@@ -63,7 +63,7 @@ pub record Untouched (old new : DiskState) : Type 0 where
 
 -- A store was made where no file was, and that was said on standard output, since no connection came or went. From then on what a stop leaves
 -- stands for the empty store.
-pub record Makes (old new : DiskState) (entries : Log) (told : List ℕ) : Type 0 where
+pub record MakesStore (old new : DiskState) (entries : Log) (told : List ℕ) : Type 0 where
   pub said : said_in entries ≡ codes "ok\n"
   pub untaken : taken entries ≡ []
   pub inside : crosses entries ≡ false
@@ -90,17 +90,17 @@ pub record SaysSome (old new : DiskState) : Type 0 where
       → IsImage new new.moment image → StandsFor image start
 
 -- this file was there, and none before it
-pub record IsFirstFile (files : ℕ → Option (List ℕ)) (first : ℕ) : Type 0 where
+pub record IsFirstFileThere (files : ℕ → Option (List ℕ)) (first : ℕ) : Type 0 where
   pub there : files first ≢ None
   pub none : (f : ℕ) → f < first → files f ≡ None
 
 -- What a run of `init` has done that ended so. Where a file was there it said nothing and left all of them, in reads and in what a stop leaves
 -- at each moment.
 abbrev pub HasMade : Ending → DiskState → DiskState → Type 0
-HasMade Whole old new = Stretch old new Makes
+HasMade Whole old new = Stretch old new MakesStore
 HasMade Words old new = ⊥
 HasMade (NotEmpty first) old new = SaysNothing old new
-    × (IsTrue old.tells → IsFirstFile old.file first × Quiet old new)
+    × (IsTrue old.tells → IsFirstFileThere old.file first × Quiet old new)
 HasMade (Damaged file at) old new = ⊥
 HasMade (DigestDiffers file kept found) old new = ⊥
 HasMade (BadRow family key) old new = ⊥
@@ -118,18 +118,18 @@ IsReadable files = (s : State) × StandsFor files s
 -- was answered, or every connection served, or every request of a trial carried out and the four lines said. A stop at the end leaves the state
 -- after all requests, answered or not.
 abbrev pub Done : Job → State → DiskState → DiskState → Type 0
-Done Replay s opened new = Stretch opened new (Answers s)
+Done Replay s opened new = Stretch opened new (AnswersAllLines s)
 Done (Serve per connections) s opened new = Stretch opened new
-    (λ old new es ms. (t : State) × ServedOn rules per connections s t old new es ms × LeavesNow new t)
+    (λ old new es ms. (t : State) × ServedOn talk_rules per connections s t old new es ms × LeavesNow new t)
 Done (Trial seed count) s opened new = Stretch opened new (Tries s seed count)
 
 -- What a job has done that was broken off behind the opening: what it said is a prefix of what there was to say, on each connection by
 -- itself. For a number: the first that a request wanted and is never given out, or that of a file that work or a first write wanted, where this is
 -- the number of the first file that work makes once the store was opened.
 abbrev pub BrokenFrom : ℕ → RunFault → Job → State → DiskState → DiskState → Type 0
-BrokenFrom next why Replay s opened new = Stretch opened new (AnswersSome why next s)
+BrokenFrom next why Replay s opened new = Stretch opened new (AnswersSomeLines why next s)
 BrokenFrom next why (Serve per connections) s opened new = Stretch opened new
-    (ServedSomeOn rules per connections why next s)
+    (ServedSomeOn talk_rules per connections why next s)
 BrokenFrom next why (Trial seed count) s opened new = Stretch opened new
     (TriesSome why next s seed count)
 

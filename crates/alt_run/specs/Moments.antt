@@ -3,8 +3,8 @@ use Rattle.std.specs.Prelude.{ℕ, List, Bool}
 use Rattle.alt_shell.specs.Log.{Log, until, said_in, taken, ended}
 
 -- the bytes said by a moment, of the entries that a run added
-abbrev pub said_by : ℕ → Log → List ℕ
-said_by t entries = said_in (until t entries)
+abbrev pub said_by_moment : ℕ → Log → List ℕ
+said_by_moment t entries = said_in (until t entries)
 
 -- the bytes taken by a moment
 abbrev pub taken_by : ℕ → Log → List ℕ

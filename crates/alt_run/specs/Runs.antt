@@ -9,17 +9,17 @@ use Rattle.alt_tables.specs.FilesLeft.{most_files}
 use Rattle.alt_tables.specs.Images.{StandsFor}
 use Rattle.alt_talks.specs.Faults.{IsCausedBy, IsFileFault}
 use Rattle.alt_talks.specs.declared.fault.RunFault.{RunFault}
-use Rattle.alt_talks.specs.Turns.{WritesLast, text_of, after, wanted}
-use Rattle.alt_run.specs.Moments.{said_by, taken_by, ended_by}
+use Rattle.alt_talks.specs.Turns.{WritesLast, turns_text, after, wanted_by_turns}
+use Rattle.alt_run.specs.Moments.{said_by_moment, taken_by, ended_by}
 use Rattle.alt_talks.specs.Stops.{Image, IsLeft, AtEach}
-use Rattle.alt_run.specs.Turns.{Asked, request, control, unread, turns, requests, tasks, asks, out}
+use Rattle.alt_run.specs.Turns.{AskedLine, request, control, unread, turns_of_lines, requests, tasks, asks, out}
 use Rattle.alt_run.specs.declared.lines.Control.TheVariants.{Flush, Merge, Step, Reopen}
 use Rattle.alt_talks.specs.TalkStops.{LeavesNow}
 
 -- ---- lines that were at hand
 
 -- Work was under way for a line: for one of the words of control that ask for it, or behind a request, once this was said.
-abbrev pub IsAtWork : Asked → Type 0 → Type 0
+abbrev pub IsAtWork : AskedLine → Type 0 → Type 0
 IsAtWork (request name body) said = said
 IsAtWork (control Flush) said = Unit {0}
 IsAtWork (control Merge) said = Unit {0}
@@ -28,43 +28,43 @@ IsAtWork (control Reopen) said = ⊥
 IsAtWork unread said = ⊥
 
 -- So it was for the line that was begun behind these: a request's reply had been said. None of the requests lacked anything.
-pub record IsWorking (s : State) (done begun : List Asked) (entries : Log)
+pub record LineIsWorking (s : State) (done begun : List AskedLine) (entries : Log)
     (told : List ℕ) : Type 0 where
-  pub line : Asked
+  pub line : AskedLine
   pub last : begun ≡ line ∷ []
-  pub enough : wanted (turns s (done ++ begun) told) ≡ None
-  pub at : IsAtWork line (said_in entries ≡ text_of (turns s (done ++ begun) told))
+  pub enough : wanted_by_turns (turns_of_lines s (done ++ begun) told) ≡ None
+  pub at : IsAtWork line (said_in entries ≡ turns_text (turns_of_lines s (done ++ begun) told))
 
 -- A request was under way, the line that was begun behind these: the last of their turns is its, and writes something, or the server does behind
 -- it. Nothing before that lacked anything.
-pub record IsWriting (s : State) (done begun : List Asked) (told : List ℕ) : Type 0 where
-  pub line : Asked
+pub record LineIsWriting (s : State) (done begun : List AskedLine) (told : List ℕ) : Type 0 where
+  pub line : AskedLine
   pub last : begun ≡ line ∷ []
   pub asks : requests begun ≡ 1
-  pub writes : WritesLast (turns s (done ++ begun) told)
+  pub writes : WritesLast (turns_of_lines s (done ++ begun) told)
 
 -- Why serving broke off: a request has no answer, or the server's own request behind it, for want of a number that is the first that one
 -- wanted, or of the file of a first write, or work broke off. A file was wanted then only where nothing before that lacked anything, and as many
 -- numbers as the tasks of the lines that were begun take at most, from the first file that work made before them on, reach the last.
-abbrev pub BreaksFor : RunFault → ℕ → State → List Asked → List Asked → Log → List ℕ → Type 0
+abbrev pub BreaksFor : RunFault → ℕ → State → List AskedLine → List AskedLine → Log → List ℕ → Type 0
 BreaksFor fault next s done begun entries told =
-    IsCausedBy (wanted (turns s (done ++ begun) told)) fault
+    IsCausedBy (wanted_by_turns (turns_of_lines s (done ++ begun) told)) fault
     ⊎ (IsFileFault (next + tasks (done ++ begun) * most_files) fault
-    × (IsWriting s done begun told ⊎ IsWorking s done begun entries told))
+    × (LineIsWriting s done begun told ⊎ LineIsWorking s done begun entries told))
 
 -- Serving these lines broke off. Those that were done were answered, at most one more was begun, and just these had a moment
 -- each. The fault has its cause.
-pub record Breaks (fault : RunFault) (next : ℕ) (s : State) (ls : List Asked) (entries : Log)
+pub record Breaks (fault : RunFault) (next : ℕ) (s : State) (ls : List AskedLine) (entries : Log)
     (told : List ℕ) : Type 0 where
-  pub done : List Asked
-  pub begun : List Asked
-  pub rest : List Asked
+  pub done : List AskedLine
+  pub begun : List AskedLine
+  pub rest : List AskedLine
   pub lines : ls ≡ done ++ (begun ++ rest)
   pub few : length begun ≤ 1
-  pub all : IsPrefix (text_of (turns s done told)) (said_in entries)
-  pub said : IsPrefix (said_in entries) (text_of (turns s (done ++ begun) told))
+  pub all : IsPrefix (turns_text (turns_of_lines s done told)) (said_in entries)
+  pub said : IsPrefix (said_in entries) (turns_text (turns_of_lines s (done ++ begun) told))
   pub count : length told ≡ requests (done ++ begun)
-  pub enough : wanted (turns s done told) ≡ None
+  pub enough : wanted_by_turns (turns_of_lines s done told) ≡ None
   pub wants : BreaksFor fault next s done begun entries told
 
 -- nothing was taken, and no connection came or went: what was said was said on standard output
@@ -79,24 +79,24 @@ pub record Rests (entries : Log) : Type 0 where
 -- every one that was answered by then.
 abbrev pub LeftThen : State → Log → List ℕ → ℕ → Image → Type 0
 LeftThen s entries told t image =
-    IsLeft s (turns s (asks (ended_by t entries) (taken_by t entries)) told)
-    (said_by t entries) image
+    IsLeft s (turns_of_lines s (asks (ended_by t entries) (taken_by t entries)) told)
+    (said_by_moment t entries) image
 
 -- The whole input was taken, and each line of it was answered, each request at a moment of its own, no more and no fewer. What was
 -- said is all of its Out, on standard output, since no connection came or went. A stop at any moment leaves every request that was answered by
 -- then, and one at the end all of them.
-pub record Answers (s : State) (old new : DiskState) (entries : Log)
+pub record AnswersAllLines (s : State) (old new : DiskState) (entries : Log)
     (told : List ℕ) : Type 0 where
   pub at_end : ended entries ≡ true
   pub inside : crosses entries ≡ false
   pub said : said_in entries ≡ out s true (taken entries) told
   pub count : length told ≡ requests (asks true (taken entries))
-  pub enough : wanted (turns s (asks true (taken entries)) told) ≡ None
+  pub enough : wanted_by_turns (turns_of_lines s (asks true (taken entries)) told) ≡ None
   pub leaves : AtEach old new (LeftThen s entries told)
-  pub last : LeavesNow new (after s (turns s (asks true (taken entries)) told))
+  pub last : LeavesNow new (after s (turns_of_lines s (asks true (taken entries)) told))
 
 -- It broke off among the lines that were whole in what was taken. What was said is a prefix of their Out.
-pub record AnswersSome (fault : RunFault) (next : ℕ) (s : State) (old new : DiskState) (entries : Log)
+pub record AnswersSomeLines (fault : RunFault) (next : ℕ) (s : State) (old new : DiskState) (entries : Log)
     (told : List ℕ) : Type 0 where
   pub breaks : Breaks fault next s (asks (ended entries) (taken entries)) entries told
   pub inside : crosses entries ≡ false

@@ -13,15 +13,15 @@ use Rattle.alt_tables.specs.Images.{StandsFor}
 use Rattle.alt_talks.specs.Faults.{IsCausedBy, IsFileFault}
 use Rattle.alt_run.specs.Runs.{Rests}
 use Rattle.alt_talks.specs.Stops.{Image, StandsBehind, AtEach}
-use Rattle.alt_run.specs.Turns.{Asked, asked_by, turns, requests}
-use Rattle.alt_talks.specs.Turns.{Turn, WritesLast, text_of, after, wanted}
+use Rattle.alt_run.specs.Turns.{AskedLine, asked_by, turns_of_lines, requests}
+use Rattle.alt_talks.specs.Turns.{Turn, WritesLast, turns_text, after, wanted_by_turns}
 use Rattle.alt_talks.specs.declared.fault.RunFault.{RunFault}
 use Rattle.alt_talks.specs.TalkStops.{LeavesNow}
 
 -- ---- the requests, and what they come to
 
 -- what so many lines of a seed ask (docs/formats/trial.md)
-abbrev pub trial_asks : ℕ → ℕ → List Asked
+abbrev pub trial_asks : ℕ → ℕ → List AskedLine
 trial_asks seed count = map asked_by (trial_lines seed count)
 
 -- the moment of each request
@@ -29,8 +29,8 @@ abbrev pub trial_moment : ℕ
 trial_moment = 1700000000
 
 -- their turns from a state
-abbrev pub trial_turns : State → List Asked → List Turn
-trial_turns s ls = turns s ls (replicate (requests ls) trial_moment)
+abbrev pub trial_turns : State → List AskedLine → List Turn
+trial_turns s ls = turns_of_lines s ls (replicate (requests ls) trial_moment)
 
 -- ---- the four lines
 
@@ -48,7 +48,7 @@ four_lines count good bad digest = codes "requests " ++ (decimal count
 -- those of these turns, with the SHA-256 of the lines of all replies
 abbrev pub summary : ℕ → List Turn → List ℕ
 summary count ts = four_lines count (length (beginning (codes "200 ") ts))
-    (length (beginning (codes "400 ") ts)) (sha256 (text_of ts))
+    (length (beginning (codes "400 ") ts)) (sha256 (turns_text ts))
 
 -- the four lines of so many requests, whatever was replied
 pub record IsSummary (count : ℕ) (text : List ℕ) : Type 0 where
@@ -61,10 +61,10 @@ pub record IsSummary (count : ℕ) (text : List ℕ) : Type 0 where
 -- number that one wanted, or of the file of a first write, or work behind one broke off; in these two cases nothing before that lacked a number or
 -- a family. A file was wanted then only where as many numbers as work behind each of these takes at most, from the first file that work made
 -- before them on, reach the last.
-abbrev pub TriesFor : RunFault → ℕ → State → List Asked → Type 0
-TriesFor fault next s begun = IsCausedBy (wanted (trial_turns s begun)) fault
+abbrev pub TriesFor : RunFault → ℕ → State → List AskedLine → Type 0
+TriesFor fault next s begun = IsCausedBy (wanted_by_turns (trial_turns s begun)) fault
     ⊎ (IsFileFault (next + length begun * most_files) fault
-    × (WritesLast (trial_turns s begun) ⊎ ((wanted (trial_turns s begun) ≡ None) × (0 < length begun))))
+    × (WritesLast (trial_turns s begun) ⊎ ((wanted_by_turns (trial_turns s begun) ≡ None) × (0 < length begun))))
 
 -- the turns of all requests of a seed, one after the other
 abbrev pub all_turns : State → ℕ → ℕ → List Turn
@@ -94,15 +94,15 @@ pub record Tries (s : State) (seed count : ℕ) (old new : DiskState) (entries :
   pub said : said_in entries ≡ trial_text s seed count
   pub rests : Rests entries
   pub unasked : told ≡ []
-  pub enough : wanted (all_turns s seed count) ≡ None
+  pub enough : wanted_by_turns (all_turns s seed count) ≡ None
   pub leaves : AtEach old new (LeftOfTrial s seed count entries)
   pub last : LeavesNow new (after s (all_turns s seed count))
 
 -- That broke off: what was said is the front of the four lines, and so many requests were begun.
 pub record TriesSome (fault : RunFault) (next : ℕ) (s : State) (seed count : ℕ)
     (old new : DiskState) (entries : Log) (told : List ℕ) : Type 0 where
-  pub begun : List Asked
-  pub rest : List Asked
+  pub begun : List AskedLine
+  pub rest : List AskedLine
   pub lines : trial_asks seed count ≡ begun ++ rest
   pub said : IsPrefix (said_in entries) (trial_text s seed count)
   pub rests : Rests entries

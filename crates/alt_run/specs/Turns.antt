@@ -11,17 +11,17 @@ use Rattle.alt_machine.specs.Step.{step}
 use Rattle.alt_machine.specs.Wanted.{wanted as wanted_by}
 use Rattle.alt_shape.specs.Refusals.{Answer}
 use Rattle.alt_talks.specs.Own.{own_behind}
-use Rattle.alt_talks.specs.Turns.{Turn, after_turn, or_next, text_of}
+use Rattle.alt_talks.specs.Turns.{Turn, after_turn, or_next, turns_text}
 use Rattle.alt_run.specs.declared.lines.Control.{Control}
 use Rattle.alt_run.specs.declared.lines.Control.TheVariants.{Flush, Merge, Step, Reopen}
 
 -- ---- what lines ask
 
 -- what a line asks for: a request, by its operation's name and its body; a word of control; or nothing, since it is too long to be read
-pub data Asked : Type 0 where
-  request : List ℕ → List ℕ → Asked
-  control : Control → Asked
-  unread : Asked
+pub data AskedLine : Type 0 where
+  request : List ℕ → List ℕ → AskedLine
+  control : Control → AskedLine
+  unread : AskedLine
 
 -- whether a byte is a space
 abbrev pub is_space : ℕ → Bool
@@ -37,16 +37,16 @@ control_of text =
     else (if bytes_eq text (codes "@reopen") then Some Reopen else None)))
 
 -- that word; or a request, whose name stands before the first space and its body behind it, and a line without a space is all name
-abbrev pub asked_as : List ℕ → Option Control → Asked
+abbrev pub asked_as : List ℕ → Option Control → AskedLine
 asked_as text None = request (before_first is_space text) (after_first is_space text)
 asked_as text (Some word) = control word
 
 -- what a line asks for that is read
-abbrev pub asked_by : List ℕ → Asked
+abbrev pub asked_by : List ℕ → AskedLine
 asked_by text = asked_as text (control_of text)
 
 -- what a line asks for
-abbrev pub asked_of : Line → Asked
+abbrev pub asked_of : Line → AskedLine
 asked_of (whole text) = asked_by text
 asked_of too_long = unread
 
@@ -55,18 +55,18 @@ abbrev pub longest_line : ℕ
 longest_line = 16777280
 
 -- what an input asks, of which the end was taken or not
-abbrev pub asks : Bool → List ℕ → List Asked
+abbrev pub asks : Bool → List ℕ → List AskedLine
 asks ended bytes = map asked_of (lines_of longest_line ended bytes)
 
 -- how many of them are requests: each of these has a moment of its own
-abbrev pub requests : List Asked → ℕ
+abbrev pub requests : List AskedLine → ℕ
 requests [] = 0
 requests (request name body ∷ ls) = suc (requests ls)
 requests (control word ∷ ls) = requests ls
 requests (unread ∷ ls) = requests ls
 
 -- how many of them may have a task: a request, which has a step behind its reply, and a word of control
-abbrev pub tasks : List Asked → ℕ
+abbrev pub tasks : List AskedLine → ℕ
 tasks [] = 0
 tasks (request name body ∷ ls) = suc (tasks ls)
 tasks (control word ∷ ls) = suc (tasks ls)
@@ -79,8 +79,8 @@ abbrev pub line_of : Answer → List ℕ
 line_of a = decimal a.status ++ (32 ∷ (compact_text a.body ++ 10 ∷ []))
 
 -- what a request comes to at a moment
-abbrev pub outcome_of : State → List ℕ → List ℕ → ℕ → Outcome
-outcome_of s name body moment = step s (operation_named name) body moment
+abbrev pub outcome_by_name : State → List ℕ → List ℕ → ℕ → Outcome
+outcome_by_name s name body moment = step s (operation_named name) body moment
 
 -- the turn that an outcome makes from a state, with what the server does behind it
 abbrev pub turn_of : State → Outcome → Turn
@@ -94,7 +94,7 @@ turn_of s o = record {
 
 -- a request that is carried out at a moment
 abbrev pub carried_out : State → List ℕ → List ℕ → ℕ → Turn
-carried_out s name body moment = turn_of s (outcome_of s name body moment)
+carried_out s name body moment = turn_of s (outcome_by_name s name body moment)
 
 -- a line that is too long
 abbrev pub turned_away : Turn
@@ -111,16 +111,16 @@ abbrev pub obeyed : Turn
 obeyed = record { text = codes "ok\n"; atoms = []; own = []; alone = None; lacks = None }
 
 -- The turns of these lines, each request at the next moment, as long as there are moments.
-abbrev pub turns : State → List Asked → List ℕ → List Turn
-turns s [] moments = []
-turns s (request name body ∷ ls) [] = []
-turns s (request name body ∷ ls) (m ∷ ms) =
-    carried_out s name body m ∷ turns (after_turn s (carried_out s name body m)) ls ms
-turns s (control word ∷ ls) moments = obeyed ∷ turns s ls moments
-turns s (unread ∷ ls) moments = turned_away ∷ turns s ls moments
+abbrev pub turns_of_lines : State → List AskedLine → List ℕ → List Turn
+turns_of_lines s [] moments = []
+turns_of_lines s (request name body ∷ ls) [] = []
+turns_of_lines s (request name body ∷ ls) (m ∷ ms) =
+    carried_out s name body m ∷ turns_of_lines (after_turn s (carried_out s name body m)) ls ms
+turns_of_lines s (control word ∷ ls) moments = obeyed ∷ turns_of_lines s ls moments
+turns_of_lines s (unread ∷ ls) moments = turned_away ∷ turns_of_lines s ls moments
 
 -- ---- what they come to together
 
 -- Out: what is said to an input, from a state
 abbrev pub out : State → Bool → List ℕ → List ℕ → List ℕ
-out s ended bytes moments = text_of (turns s (asks ended bytes) moments)
+out s ended bytes moments = turns_text (turns_of_lines s (asks ended bytes) moments)

@@ -5,7 +5,7 @@ use Rattle.alt_talks.specs.Stops.{Image}
 use Rattle.alt_run.specs.Endings.{IsReadable}
 
 -- A disk that can be relied on, and whatever a stop at that moment leaves of it stands for a state, though not always for the same.
-pub record IsWhole (disk : DiskState) (t : ℕ) : Type 0 where
+pub record DiskIsWhole (disk : DiskState) (t : ℕ) : Type 0 where
   pub trusted : IsTrusted disk
   pub each : (image : Image) → IsImage disk t image → IsReadable image
 
@@ -18,6 +18,6 @@ pub record IsFoundBehind (old : DiskState) (t : ℕ) (next : DiskState) : Type 0
 
 -- Where a disk was whole as a run began, it is at each moment of the run, and so is what the next program finds behind a stop then.
 abbrev pub StaysWhole : DiskState → DiskState → Type 0
-StaysWhole old new = IsWhole old old.moment → (t : ℕ) → old.moment ≤ t → t ≤ new.moment
-    → IsWhole new t
-    × ((next : DiskState) → IsFoundBehind new t next → IsWhole next next.moment)
+StaysWhole old new = DiskIsWhole old old.moment → (t : ℕ) → old.moment ≤ t → t ≤ new.moment
+    → DiskIsWhole new t
+    × ((next : DiskState) → IsFoundBehind new t next → DiskIsWhole next next.moment)

@@ -1,6 +1,6 @@
 //! How a run ends: its status and its note.
 
-ghost use Rattle.std.specs.Prelude.{◌≡◌, ◌⊎◌, ℕ, [], string_bytes, IfOk, IfSome, IfNone};
+ghost use Rattle.std.specs.Prelude.{◌≡◌, ◌⊎◌, [], string_bytes, IfOk, IfSome, IfNone};
 ghost use Rattle.alt_shell.specs.Calls.{Aside};
 ghost use Rattle.alt_shell.specs.Log.{Grows, StillGrows, notes_of, moments_of, talks};
 ghost use Rattle.alt_run.specs.Endings.{status_of, note_of};

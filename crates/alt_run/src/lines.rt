@@ -1,7 +1,6 @@
 //! The parts of a line, and the words of control.
 
-ghost use Rattle.std.specs.Prelude.{◌≡◌, codes};
-ghost use Rattle.std.specs.Str.{bytes_eq};
+ghost use Rattle.std.specs.Prelude.{◌≡◌};
 ghost use Rattle.std.specs.List.{position, before_first, after_first};
 ghost use Rattle.alt_run.specs.Turns.{control_of, is_space};
 

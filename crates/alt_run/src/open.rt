@@ -1,11 +1,11 @@
 //! Opening the store: where a run begins, and again at the line `@reopen`.
 
-ghost use Rattle.std.specs.Prelude.{◌≡◌, IfOk, IfErr, OnErr, IsErrOf, IsTrue};
+ghost use Rattle.std.specs.Prelude.{◌≡◌, IfOk, IfErr, IsErrOf, IsTrue};
 ghost use Rattle.alt_base.specs.Counts.{Rose};
 ghost use Rattle.alt_disk.specs.Disk.{IsTrusted, Goes};
 ghost use Rattle.alt_machine.specs.State.{State};
 ghost use Rattle.alt_tables.specs.FilesLeft.{IsFirstGiven};
-ghost use Rattle.alt_tables.specs.Stands.{Stands, bounds_of, limits_of};
+ghost use Rattle.alt_tables.specs.Stands.{Stands, bounds_of, limits_of_tables};
 ghost use Rattle.alt_run.specs.Faults.{IsUnreadable};
 ghost use Rattle.alt_talks.specs.Stops.{AtEach};
 ghost use Rattle.alt_tables.specs.Images.{StandsFor};
@@ -22,7 +22,7 @@ pub(crate) fn open<D: Disk>(alloc: Global, disk: &mut D, limits: Limits) -> Resu
         → (s : State) × StandsFor (D.state disk.old).file s) }
     ensures stands { IfOk result (λ t. IsTrusted (D.state disk.old) → (s : State)
         → StandsFor (D.state disk.old).file s → Stands (D.state disk.new) t s) }
-    ensures limits { IfOk result (λ t. limits_of t ≡ limits) }
+    ensures limits { IfOk result (λ t. limits_of_tables t ≡ limits) }
     ensures next_file { IfOk result (λ t. IsTrue (D.state disk.old).tells
         → IsFirstGiven (D.state disk.old).file (bounds_of t).file) }
     ensures files { IsTrue (D.state disk.old).tells → (s : State)

@@ -12,8 +12,8 @@ ghost use Rattle.alt_tables.specs.Stands.{AreReady, Stands, bounds_of};
 ghost use Rattle.alt_talks.specs.Faults.{IsAnswerFault};
 ghost use Rattle.alt_talks.specs.declared.fault.RunFault.TheVariants.{Failed};
 ghost use Rattle.alt_talks.specs.Stops.{AtEach, IsUncut};
-ghost use Rattle.alt_run.specs.Turns.{carried_out, line_of, outcome_of};
-ghost use Rattle.alt_run.specs.private.Rungs.{left_by};
+ghost use Rattle.alt_run.specs.Turns.{carried_out, line_of, outcome_by_name};
+ghost use Rattle.alt_run.specs.private.Rungs.{left_by_named_request};
 
 use alt_base::NoMemory;
 use alt_disk::Disk;
@@ -48,13 +48,13 @@ pub(crate) fn reply_text<D: Disk>(
         (λ text. string_bytes text ≡ (carried_out s name.now body.now moment).text) }
     ensures state { (s : State) → Stands (D.state disk.old) tables.old s → OnOk result
         (Stands (D.state disk.new) tables.new
-        (left_by s name.now body.now moment)) }
+        (left_by_named_request s name.now body.now moment)) }
     ensures enough { (s : State) → Stands (D.state disk.old) tables.old s → OnOk result
-        (wanted s (outcome_of s name.now body.now moment) ≡ None) }
+        (wanted s (outcome_by_name s name.now body.now moment) ≡ None) }
     ensures cause { (s : State) → Stands (D.state disk.old) tables.old s → IfErr result
         (IsAnswerFault (bounds_of tables.old).file
-        (wanted s (outcome_of s name.now body.now moment))
-        (outcome_of s name.now body.now moment).atoms) }
+        (wanted s (outcome_by_name s name.now body.now moment))
+        (outcome_by_name s name.now body.now moment).atoms) }
     ensures device { IsErrOf result Failed
         → Rose (D.state disk.old).faults (D.state disk.new).faults }
     ensures limits { bounds_of tables.new ≡ bounds_of tables.old }

@@ -1,20 +1,20 @@
 //! A run of the program, but for what `main` takes off the front.
 
-ghost use Rattle.std.specs.Prelude.{◌≡◌, ◌≢◌, ◌⊎◌, ◌↔◌, ◌<◌, ℕ, List, Option, true, false, Some, None, length, IsTrue, IfOk, IfErr, OnOk, IsErrOf, MatchResult};
+ghost use Rattle.std.specs.Prelude.{◌≡◌, ◌≢◌, ◌⊎◌, ◌↔◌, ◌<◌, ℕ, List, Option, true, false, Some, None, length, IsTrue, IfOk, OnOk, IsErrOf, MatchResult};
 ghost use Rattle.alt_base.specs.Counts.{Rose};
 ghost use Rattle.alt_disk.specs.Disk.{IsTrusted};
 ghost use Rattle.alt_disk.specs.Runs.{Quiet};
 ghost use Rattle.alt_machine.specs.State.{State};
 ghost use Rattle.alt_shell.specs.Log.{talks};
 ghost use Rattle.alt_tables.specs.FilesLeft.{IsFirstGiven};
-ghost use Rattle.alt_tables.specs.Stands.{AreReady, Stands, bounds_of, limits_of};
+ghost use Rattle.alt_tables.specs.Stands.{AreReady, Stands, bounds_of, limits_of_tables};
 ghost use Rattle.alt_run.specs.Endings.{Ended, HasDone, HasRun, Done, Broken, IsReadable, LacksNumber};
 ghost use Rattle.alt_run.specs.Faults.{IsUnreadable};
 ghost use Rattle.alt_run.specs.Behind.{AfterJob, ComesWithin, LastLine};
 ghost use Rattle.alt_talks.specs.Arrivals.{CameAll, CameAtMost};
 ghost use Rattle.alt_talks.specs.Runs.{Stretch, Passes};
-ghost use Rattle.alt_run.specs.Runs.{Answers, AnswersSome, IsOpening, Opened};
-ghost use Rattle.alt_talks.specs.TalkRules.{rules};
+ghost use Rattle.alt_run.specs.Runs.{AnswersAllLines, AnswersSomeLines, IsOpening, Opened};
+ghost use Rattle.alt_talks.specs.TalkRules.{talk_rules};
 ghost use Rattle.alt_talks.specs.TalkStops.{LeavesNow, ServedOn, ServedSomeOn};
 ghost use Rattle.alt_run.specs.Wholes.{StaysWhole};
 ghost use Rattle.alt_run.specs.Words.{command_of, bytes_of, IsServable};
@@ -60,13 +60,13 @@ fn pulls<S: Shell>(
     shell: &mut S,
 ) -> Result<(), RunFault>
     requires ready { AreReady (S.state shell.old) tables.old }
-    requires known { limits_of tables.old ≡ limits }
+    requires known { limits_of_tables tables.old ≡ limits }
     requires room { 0 < length buf.old }
     requires quiet { talks (S.state shell.old).beside ≡ false }
     ensures answered { (s : State) → Stands (S.state shell.old) tables.old s → MatchResult result
-        (λ _. Stretch (S.state shell.old) (S.state shell.new) (Answers s))
+        (λ _. Stretch (S.state shell.old) (S.state shell.new) (AnswersAllLines s))
         (λ f. Stretch (S.state shell.old) (S.state shell.new)
-        (AnswersSome f (bounds_of tables.old).file s)) }
+        (AnswersSomeLines f (bounds_of tables.old).file s)) }
     ensures last { OnOk result (LastLine limits.flush (S.state shell.old) (S.state shell.new)) }
     ensures cause { IsErrOf result RunFault.Failed
         → Rose (S.state shell.old).faults (S.state shell.new).faults }
@@ -101,12 +101,12 @@ fn replay<S: Shell>(
     shell: &mut S,
 ) -> Result<(), RunFault>
     requires ready { AreReady (S.state shell.old) tables.old }
-    requires known { limits_of tables.old ≡ limits }
+    requires known { limits_of_tables tables.old ≡ limits }
     requires quiet { talks (S.state shell.old).beside ≡ false }
     ensures answered { (s : State) → Stands (S.state shell.old) tables.old s → MatchResult result
-        (λ _. Stretch (S.state shell.old) (S.state shell.new) (Answers s))
+        (λ _. Stretch (S.state shell.old) (S.state shell.new) (AnswersAllLines s))
         (λ f. Stretch (S.state shell.old) (S.state shell.new)
-        (AnswersSome f (bounds_of tables.old).file s)) }
+        (AnswersSomeLines f (bounds_of tables.old).file s)) }
     ensures last { OnOk result (LastLine limits.flush (S.state shell.old) (S.state shell.new)) }
     ensures cause { IsErrOf result RunFault.Failed
         → Rose (S.state shell.old).faults (S.state shell.new).faults }
@@ -131,9 +131,9 @@ fn serve<S: Shell>(
     requires quiet { talks (S.state shell.old).beside ≡ false }
     ensures served { (s : State) → Stands (S.state shell.old) tables.old s → MatchResult result
         (λ _. Stretch (S.state shell.old) (S.state shell.new)
-        (λ a b es ms. (t : State) × ServedOn rules per count s t a b es ms × LeavesNow b t))
+        (λ a b es ms. (t : State) × ServedOn talk_rules per count s t a b es ms × LeavesNow b t))
         (λ f. Stretch (S.state shell.old) (S.state shell.new)
-        (ServedSomeOn rules per count f (bounds_of tables.old).file s)) }
+        (ServedSomeOn talk_rules per count f (bounds_of tables.old).file s)) }
     ensures came { OnOk result (CameAll count (S.state shell.old) (S.state shell.new)) }
     ensures most { CameAtMost count (S.state shell.old) (S.state shell.new) }
     ensures cause { IsErrOf result RunFault.Failed
@@ -155,7 +155,7 @@ fn carry_out<S: Shell>(
     shell: &mut S,
 ) -> Result<(), RunFault>
     requires ready { AreReady (S.state shell.old) tables.old }
-    requires known { limits_of tables.old ≡ limits }
+    requires known { limits_of_tables tables.old ≡ limits }
     requires quiet { talks (S.state shell.old).beside ≡ false }
     requires some { IsServable job }
     ensures done { (files : ℕ → Option (List ℕ)) → IsFirstGiven files (bounds_of tables.old).file

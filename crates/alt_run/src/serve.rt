@@ -6,18 +6,18 @@ ghost use Rattle.alt_base.specs.Counts.{Rose};
 ghost use Rattle.alt_disk.specs.Disk.{Goes, IsTrusted};
 ghost use Rattle.alt_lines.specs.Lines.{Line};
 ghost use Rattle.alt_lines.specs.Reader.{unread};
-ghost use Rattle.alt_lines.specs.Unread.{HasNone, TakesLine, Tells};
+ghost use Rattle.alt_lines.specs.Unread.{HasNone, TakesLine, TellsLine};
 ghost use Rattle.alt_machine.specs.State.{State};
 ghost use Rattle.alt_shell.specs.Log.{talks};
 ghost use Rattle.alt_tables.specs.FilesLeft.{most_files};
 ghost use Rattle.alt_tables.specs.Images.{StandsFor};
-ghost use Rattle.alt_tables.specs.Stands.{AreReady, Stands, bounds_of, limits_of};
+ghost use Rattle.alt_tables.specs.Stands.{AreReady, Stands, bounds_of, limits_of_tables};
 ghost use Rattle.alt_talks.specs.Faults.{IsCausedBy};
 ghost use Rattle.alt_talks.specs.Runs.{Stretch, Passes, Leads};
-ghost use Rattle.alt_talks.specs.Works.{Works};
+ghost use Rattle.alt_talks.specs.Works.{WorksOnStore};
 ghost use Rattle.alt_run.specs.Behind.{AreReadable, Behind};
 ghost use Rattle.alt_run.specs.private.Brought.{BringsAtHand, BringsOn};
-ghost use Rattle.alt_run.specs.private.Rungs.{IsControlFault, ServesAtHand, BreaksAtHand, HandsOut, GoesOrEnds, GoesSome, asked_now};
+ghost use Rattle.alt_run.specs.private.Rungs.{IsControlFault, ServesAtHand, BreaksAtHand, HandsOut, GoesOrEnds, ServesSomeInput, asked_now};
 ghost use Rattle.alt_run.specs.Turns.{request, control, unread as no_request, asked_by, asked_of, tasks};
 
 use crate::lines::{Control, control_of, parts};
@@ -47,11 +47,11 @@ fn answer_request<S: Shell>(
         (ServesAtHand s (request name.now body.now ∷ [])))
         (λ f. Stretch (S.state shell.old) (S.state shell.new)
         (BreaksAtHand f (bounds_of tables.old).file s (request name.now body.now ∷ []))) }
-    ensures brings { OnOk result (BringsAtHand (limits_of tables.old).flush
+    ensures brings { OnOk result (BringsAtHand (limits_of_tables tables.old).flush
         (request name.now body.now ∷ []) (S.state shell.old) (S.state shell.new)) }
     ensures files { (s : State) → Stands (S.state shell.old) tables.old s → OnOk result
         ((bounds_of tables.new).file ≤ (bounds_of tables.old).file + most_files) }
-    ensures limits { limits_of tables.new ≡ limits_of tables.old }
+    ensures limits { limits_of_tables tables.new ≡ limits_of_tables tables.old }
     ensures cause { IsErrOf result RunFault.Failed
         → Rose (S.state shell.old).faults (S.state shell.new).faults }
     ensures passes { Passes (S.state shell.old) (S.state shell.new) }
@@ -106,13 +106,13 @@ fn reopen<D: Disk>(
     // And the files stand for a state, as they read on any disk that tells them.
     ensures readable { OnOk result (AreReadable (D.state disk.new)) }
     ensures works { (s : State) → Stands (D.state disk.old) tables.old s
-        → Works (D.state disk.old) (D.state disk.new) s }
+        → WorksOnStore (D.state disk.old) (D.state disk.new) s }
     ensures fault { (s : State) → Stands (D.state disk.old) tables.old s
         → IfErr result (IsCausedBy None) }
     // A segment that the first write makes may come before the first file of work.
     ensures files { (s : State) → Stands (D.state disk.old) tables.old s → OnOk result
         ((bounds_of tables.new).file ≤ (bounds_of tables.old).file + 1) }
-    ensures known { OnOk result (limits_of tables.new ≡ limits) }
+    ensures known { OnOk result (limits_of_tables tables.new ≡ limits) }
     ensures goes { Goes (D.state disk.old) (D.state disk.new) }
     ensures cause { IsErrOf result RunFault.Failed
         → Rose (D.state disk.old).faults (D.state disk.new).faults }
@@ -135,17 +135,17 @@ fn obey<D: Disk>(
     disk: &mut D,
 ) -> Result<(), RunFault>
     requires ready { AreReady (D.state disk.old) tables.old }
-    requires known { limits_of tables.old ≡ limits }
+    requires known { limits_of_tables tables.old ≡ limits }
     ensures stands { (s : State) → Stands (D.state disk.old) tables.old s
         → OnOk result (Stands (D.state disk.new) tables.new s) }
     ensures works { (s : State) → Stands (D.state disk.old) tables.old s
-        → Works (D.state disk.old) (D.state disk.new) s }
+        → WorksOnStore (D.state disk.old) (D.state disk.new) s }
     ensures fault { (s : State) → Stands (D.state disk.old) tables.old s
         → IfErr result (IsControlFault (bounds_of tables.old).file word) }
     ensures behind { OnOk result (Behind limits.flush (Some (control word)) (D.state disk.new)) }
     ensures files { (s : State) → Stands (D.state disk.old) tables.old s → OnOk result
         ((bounds_of tables.new).file ≤ (bounds_of tables.old).file + most_files) }
-    ensures known { OnOk result (limits_of tables.new ≡ limits) }
+    ensures known { OnOk result (limits_of_tables tables.new ≡ limits) }
     ensures goes { Goes (D.state disk.old) (D.state disk.new) }
     ensures cause { IsErrOf result RunFault.Failed
         → Rose (D.state disk.old).faults (D.state disk.new).faults }
@@ -167,7 +167,7 @@ fn answer_control<S: Shell>(
     shell: &mut S,
 ) -> Result<(), RunFault>
     requires ready { AreReady (S.state shell.old) tables.old }
-    requires known { limits_of tables.old ≡ limits }
+    requires known { limits_of_tables tables.old ≡ limits }
     requires quiet { talks (S.state shell.old).beside ≡ false }
     ensures served { (s : State) → Stands (S.state shell.old) tables.old s → MatchResult result
         (λ _. Leads (S.state shell.old) (S.state shell.new) tables.new
@@ -178,7 +178,7 @@ fn answer_control<S: Shell>(
         (S.state shell.old) (S.state shell.new)) }
     ensures files { (s : State) → Stands (S.state shell.old) tables.old s → OnOk result
         ((bounds_of tables.new).file ≤ (bounds_of tables.old).file + most_files) }
-    ensures known { OnOk result (limits_of tables.new ≡ limits) }
+    ensures known { OnOk result (limits_of_tables tables.new ≡ limits) }
     ensures cause { IsErrOf result RunFault.Failed
         → Rose (S.state shell.old).faults (S.state shell.new).faults }
     ensures passes { Passes (S.state shell.old) (S.state shell.new) }
@@ -203,7 +203,7 @@ fn answer_whole<S: Shell>(
     shell: &mut S,
 ) -> Result<(), RunFault>
     requires ready { AreReady (S.state shell.old) tables.old }
-    requires known { limits_of tables.old ≡ limits }
+    requires known { limits_of_tables tables.old ≡ limits }
     requires quiet { talks (S.state shell.old).beside ≡ false }
     ensures served { (s : State) → Stands (S.state shell.old) tables.old s → MatchResult result
         (λ _. Leads (S.state shell.old) (S.state shell.new) tables.new
@@ -214,7 +214,7 @@ fn answer_whole<S: Shell>(
         (S.state shell.old) (S.state shell.new)) }
     ensures files { (s : State) → Stands (S.state shell.old) tables.old s → OnOk result
         ((bounds_of tables.new).file ≤ (bounds_of tables.old).file + most_files) }
-    ensures known { OnOk result (limits_of tables.new ≡ limits) }
+    ensures known { OnOk result (limits_of_tables tables.new ≡ limits) }
     ensures cause { IsErrOf result RunFault.Failed
         → Rose (S.state shell.old).faults (S.state shell.new).faults }
     ensures passes { Passes (S.state shell.old) (S.state shell.new) }
@@ -239,22 +239,22 @@ fn answer_line<S: Shell>(
     shell: &mut S,
 ) -> Result<(), RunFault>
     requires ready { AreReady (S.state shell.old) tables.old }
-    requires known { limits_of tables.old ≡ limits }
+    requires known { limits_of_tables tables.old ≡ limits }
     requires quiet { talks (S.state shell.old).beside ≡ false }
-    ensures served { (taken : Line) → Tells taken cut [] line.now →
+    ensures served { (taken : Line) → TellsLine taken cut [] line.now →
         (s : State) → Stands (S.state shell.old) tables.old s → MatchResult result
         (λ _. Leads (S.state shell.old) (S.state shell.new) tables.new
         (ServesAtHand s (asked_of taken ∷ [])))
         (λ f. Stretch (S.state shell.old) (S.state shell.new)
         (BreaksAtHand f (bounds_of tables.old).file s (asked_of taken ∷ []))) }
-    ensures brings { OnOk result ((taken : Line) → Tells taken cut [] line.now
+    ensures brings { OnOk result ((taken : Line) → TellsLine taken cut [] line.now
         → BringsAtHand limits.flush (asked_of taken ∷ []) (S.state shell.old)
         (S.state shell.new)) }
-    ensures files { (taken : Line) → Tells taken cut [] line.now →
+    ensures files { (taken : Line) → TellsLine taken cut [] line.now →
         (s : State) → Stands (S.state shell.old) tables.old s → OnOk result
         ((bounds_of tables.new).file ≤ (bounds_of tables.old).file
         + tasks (asked_of taken ∷ []) * most_files) }
-    ensures known { OnOk result (limits_of tables.new ≡ limits) }
+    ensures known { OnOk result (limits_of_tables tables.new ≡ limits) }
     ensures cause { IsErrOf result RunFault.Failed
         → Rose (S.state shell.old).faults (S.state shell.new).faults }
     ensures passes { Passes (S.state shell.old) (S.state shell.new) }
@@ -268,7 +268,7 @@ fn answer_line<S: Shell>(
 /// The next line that is whole, in the emptied buffer.
 fn next_line(lines: &mut Lines, line: &mut Vec<u8>) -> Result<Option<Cut>, RunFault>
     ensures some { IfOk result (λ found. IfSome found (λ cut. (taken : Line)
-        × Tells taken cut [] line.new.items × TakesLine taken (unread lines.old)
+        × TellsLine taken cut [] line.new.items × TakesLine taken (unread lines.old)
         (unread lines.new))) }
     ensures none { IfOk result (λ found. IfNone found
         (HasNone (unread lines.old) (unread lines.new))) }
@@ -292,7 +292,7 @@ pub(crate) fn at_hand<S: Shell>(
     shell: &mut S,
 ) -> Result<(), RunFault>
     requires ready { AreReady (S.state shell.old) tables.old }
-    requires known { limits_of tables.old ≡ limits }
+    requires known { limits_of_tables tables.old ≡ limits }
     requires quiet { talks (S.state shell.old).beside ≡ false }
     ensures served { (s : State) → Stands (S.state shell.old) tables.old s → MatchResult result
         (λ _. Leads (S.state shell.old) (S.state shell.new) tables.new
@@ -304,7 +304,7 @@ pub(crate) fn at_hand<S: Shell>(
     ensures files { (s : State) → Stands (S.state shell.old) tables.old s → OnOk result
         ((bounds_of tables.new).file ≤ (bounds_of tables.old).file
         + tasks (asked_now (unread lines.old)) * most_files) }
-    ensures known { OnOk result (limits_of tables.new ≡ limits) }
+    ensures known { OnOk result (limits_of_tables tables.new ≡ limits) }
     ensures lines { OnOk result (HandsOut (unread lines.old) (unread lines.new)) }
     ensures cause { IsErrOf result RunFault.Failed
         → Rose (S.state shell.old).faults (S.state shell.new).faults }
@@ -334,7 +334,7 @@ pub(crate) fn pull<S: Shell>(
     shell: &mut S,
 ) -> Result<bool, RunFault>
     requires ready { AreReady (S.state shell.old) tables.old }
-    requires known { limits_of tables.old ≡ limits }
+    requires known { limits_of_tables tables.old ≡ limits }
     requires quiet { talks (S.state shell.old).beside ≡ false }
     requires room { 0 < length buf.old }
     requires going { (unread lines.old).ended ≡ false }
@@ -343,10 +343,10 @@ pub(crate) fn pull<S: Shell>(
         (λ t. GoesOrEnds more (bounds_of tables.old).file s (unread lines.old)
         (bounds_of tables.new).file t (unread lines.new)))
         (λ f. Stretch (S.state shell.old) (S.state shell.new)
-        (GoesSome f (bounds_of tables.old).file s (unread lines.old))) }
+        (ServesSomeInput f (bounds_of tables.old).file s (unread lines.old))) }
     ensures brings { IfOk result (λ more. BringsOn limits.flush more (unread lines.old)
         (unread lines.new) (S.state shell.old) (S.state shell.new)) }
-    ensures known { OnOk result (limits_of tables.new ≡ limits) }
+    ensures known { OnOk result (limits_of_tables tables.new ≡ limits) }
     ensures going { IfOk result (λ more. more ≡ true → (unread lines.new).ended ≡ false) }
     ensures time { OnOk result ((S.state shell.old).moment < (S.state shell.new).moment) }
     ensures within { OnOk result ((S.state shell.old).moment < 2 ^ 64 - 1) }

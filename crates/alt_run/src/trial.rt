@@ -9,7 +9,7 @@ ghost use Rattle.alt_lines.specs.Trial.{generator, after_line, next_line};
 ghost use Rattle.alt_machine.specs.State.{State};
 ghost use Rattle.alt_shell.specs.Log.{talks};
 ghost use Rattle.alt_tables.specs.FilesLeft.{most_files};
-ghost use Rattle.alt_tables.specs.Stands.{AreReady, Stands, bounds_of, limits_of};
+ghost use Rattle.alt_tables.specs.Stands.{AreReady, Stands, bounds_of, limits_of_tables};
 ghost use Rattle.alt_talks.specs.Runs.{Stretch, Passes};
 ghost use Rattle.alt_talks.specs.Works.{HasFewEntries};
 ghost use Rattle.alt_run.specs.Behind.{SaysSummary};
@@ -64,10 +64,10 @@ fn ask<D: Disk>(
         (D.state disk.old) (D.state disk.new)) }
     ensures good { OnOk result (tally.new.good ≤ tally.old.good + 1) }
     ensures bad { OnOk result (tally.new.bad ≤ tally.old.bad + 1) }
-    ensures limits { limits_of tables.new ≡ limits_of tables.old }
+    ensures limits { limits_of_tables tables.new ≡ limits_of_tables tables.old }
     ensures files { (s : State) → Stands (D.state disk.old) tables.old s → OnOk result
         ((bounds_of tables.new).file ≤ (bounds_of tables.old).file + most_files) }
-    ensures few { OnOk result (HasFewEntries (limits_of tables.old).flush (D.state disk.new)) }
+    ensures few { OnOk result (HasFewEntries (limits_of_tables tables.old).flush (D.state disk.new)) }
     ensures cause { IsErrOf result RunFault.Failed
         → Rose (D.state disk.old).faults (D.state disk.new).faults }
     ensures goes { Goes (D.state disk.old) (D.state disk.new) }
@@ -103,10 +103,10 @@ fn ask_line<D: Disk>(
         (D.state disk.old) (D.state disk.new)) }
     ensures good { OnOk result (tally.new.good ≤ tally.old.good + 1) }
     ensures bad { OnOk result (tally.new.bad ≤ tally.old.bad + 1) }
-    ensures limits { limits_of tables.new ≡ limits_of tables.old }
+    ensures limits { limits_of_tables tables.new ≡ limits_of_tables tables.old }
     ensures files { (s : State) → Stands (D.state disk.old) tables.old s → OnOk result
         ((bounds_of tables.new).file ≤ (bounds_of tables.old).file + most_files) }
-    ensures few { OnOk result (HasFewEntries (limits_of tables.old).flush (D.state disk.new)) }
+    ensures few { OnOk result (HasFewEntries (limits_of_tables tables.old).flush (D.state disk.new)) }
     ensures cause { IsErrOf result RunFault.Failed
         → Rose (D.state disk.old).faults (D.state disk.new).faults }
     ensures goes { Goes (D.state disk.old) (D.state disk.new) }
@@ -137,10 +137,10 @@ fn step<D: Disk>(
     ensures next { OnOk result (generator trial.new ≡ after_line (generator trial.old)) }
     ensures good { OnOk result (tally.new.good ≤ tally.old.good + 1) }
     ensures bad { OnOk result (tally.new.bad ≤ tally.old.bad + 1) }
-    ensures limits { limits_of tables.new ≡ limits_of tables.old }
+    ensures limits { limits_of_tables tables.new ≡ limits_of_tables tables.old }
     ensures files { (s : State) → Stands (D.state disk.old) tables.old s → OnOk result
         ((bounds_of tables.new).file ≤ (bounds_of tables.old).file + most_files) }
-    ensures few { OnOk result (HasFewEntries (limits_of tables.old).flush (D.state disk.new)) }
+    ensures few { OnOk result (HasFewEntries (limits_of_tables tables.old).flush (D.state disk.new)) }
     ensures cause { IsErrOf result RunFault.Failed
         → Rose (D.state disk.old).faults (D.state disk.new).faults }
     ensures goes { Goes (D.state disk.old) (D.state disk.new) }
@@ -166,7 +166,7 @@ fn requests<D: Disk>(
         (λ f. CountedSome f (bounds_of tables.old).file s (trial_asks seed count)
         (D.state disk.old) (D.state disk.new)) }
     ensures few { 0 < count
-        → OnOk result (HasFewEntries (limits_of tables.old).flush (D.state disk.new)) }
+        → OnOk result (HasFewEntries (limits_of_tables tables.old).flush (D.state disk.new)) }
     ensures cause { IsErrOf result RunFault.Failed
         → Rose (D.state disk.old).faults (D.state disk.new).faults }
     ensures goes { Goes (D.state disk.old) (D.state disk.new) }
@@ -233,7 +233,7 @@ pub(crate) fn carry_out_trial<S: Shell>(
         (TriesSome f (bounds_of tables.old).file s seed count)) }
     ensures said { OnOk result (SaysSummary count (S.state shell.old) (S.state shell.new)) }
     ensures few { 0 < count
-        → OnOk result (HasFewEntries (limits_of tables.old).flush (S.state shell.new)) }
+        → OnOk result (HasFewEntries (limits_of_tables tables.old).flush (S.state shell.new)) }
     ensures cause { IsErrOf result RunFault.Failed
         → Rose (S.state shell.old).faults (S.state shell.new).faults }
     ensures passes { Passes (S.state shell.old) (S.state shell.new) }

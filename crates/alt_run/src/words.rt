@@ -1,7 +1,7 @@
 //! The words of the command line, read by hand.
 
 ghost use Rattle.std.specs.Prelude.{◌≡◌, ◌<◌, ◌≤◌, ◌^◌, ◌-◌, Some, None, min, option_map, option_and_then, IfSome};
-ghost use Rattle.alt_run.specs.Words.{digits_from, number_of, within, number_within, flush_of, merge_of, some_of, count_of, small_seed, seed_of, limits_with, serve_with, trial_with, over, init_of, replay_of, serve_of, trial_of, served_of, run_of, command_of, IsServable, IsFit, port_of, small_port, bytes_of};
+ghost use Rattle.alt_run.specs.Words.{digits_from, number_in_word, number_between, number_in_word_within, flush_of, merge_in_word, some_of, count_in_word, small_seed, seed_of, limits_with, serve_with, trial_with, over, init_of, replay_of, serve_of, trial_of, served_of, run_of, command_of, IsServable, IsFitCommand, port_of, small_port, bytes_of};
 
 use alt_tables::Limits;
 
@@ -22,7 +22,7 @@ fn digits(word: &[u8]) -> Option<u64>
 }
 
 fn number(word: &[u8]) -> Option<u64>
-    ensures { result ≡ option_map (λ n. min n (2 ^ 64 - 1)) (number_of word.now) }
+    ensures { result ≡ option_map (λ n. min n (2 ^ 64 - 1)) (number_in_word word.now) }
 {
     match word {
         [] => None,
@@ -66,7 +66,7 @@ fn seed(word: &[u8]) -> Option<u64>
 #[tactic(auto, using(crate::proofs::Numbers::within_capped))]
 fn number_within(least: u64, most: u64, word: &[u8]) -> Option<u64>
     requires { most < 2 ^ 64 - 1 }
-    ensures number { result ≡ number_within least most word.now }
+    ensures number { result ≡ number_in_word_within least most word.now }
     ensures least { IfSome result (λ n. least ≤ n) }
     ensures most { IfSome result (λ n. n ≤ most) }
 {
@@ -77,7 +77,7 @@ fn number_within(least: u64, most: u64, word: &[u8]) -> Option<u64>
 }
 
 fn within(least: u64, most: u64, number: u64) -> Option<u64>
-    ensures number { result ≡ within least most number }
+    ensures number { result ≡ number_between least most number }
     ensures least { IfSome result (λ n. least ≤ n) }
     ensures most { IfSome result (λ n. n ≤ most) }
 {
@@ -117,7 +117,7 @@ fn flush(word: &[u8]) -> Option<u64>
 
 /// From how many files on a family is merged: 2 to 64.
 fn merge(word: &[u8]) -> Option<u32>
-    ensures { result ≡ merge_of word.now }
+    ensures { result ≡ merge_in_word word.now }
 {
     match number_within(2, 64, word) {
         Some(number) => Some(number as u32),
@@ -138,7 +138,7 @@ fn some(word: &[u8]) -> Option<u32>
 
 /// A number from 1 to 1,000,000.
 fn count(word: &[u8]) -> Option<u32>
-    ensures number { result ≡ count_of word.now }
+    ensures number { result ≡ count_in_word word.now }
     ensures some { IfSome result (λ n. 0 < n) }
 {
     match number_within(1, 1_000_000, word) {
@@ -183,7 +183,7 @@ fn trial_with(seed: Option<u64>, count: Option<u32>) -> Option<Job>
 fn over(job: Option<Job>, limits: Option<Limits>) -> Option<Command>
     requires servable { IfSome job IsServable }
     ensures command { result ≡ over job limits }
-    ensures servable { IfSome result IsFit }
+    ensures servable { IfSome result IsFitCommand }
 {
     match (job, limits) {
         (Some(job), Some(limits)) => Some(Command::Over { job, limits }),
@@ -193,7 +193,7 @@ fn over(job: Option<Job>, limits: Option<Limits>) -> Option<Command>
 
 fn init_of(words: &[String]) -> Option<Command>
     ensures command { result ≡ init_of (bytes_of words.now) }
-    ensures servable { IfSome result IsFit }
+    ensures servable { IfSome result IsFitCommand }
 {
     match words {
         [word] => {
@@ -209,7 +209,7 @@ fn init_of(words: &[String]) -> Option<Command>
 
 fn replay_of(words: &[String]) -> Option<Command>
     ensures command { result ≡ replay_of (bytes_of words.now) }
-    ensures servable { IfSome result IsFit }
+    ensures servable { IfSome result IsFitCommand }
 {
     match words {
         [word, flushing, merging] => {
@@ -226,7 +226,7 @@ fn replay_of(words: &[String]) -> Option<Command>
 
 fn serve_of(words: &[String]) -> Option<Command>
     ensures command { result ≡ serve_of (bytes_of words.now) }
-    ensures servable { IfSome result IsFit }
+    ensures servable { IfSome result IsFitCommand }
 {
     match words {
         [word, per, connections, flushing, merging] => {
@@ -244,7 +244,7 @@ fn serve_of(words: &[String]) -> Option<Command>
 
 fn trial_of(words: &[String]) -> Option<Command>
     ensures command { result ≡ trial_of (bytes_of words.now) }
-    ensures servable { IfSome result IsFit }
+    ensures servable { IfSome result IsFitCommand }
 {
     match words {
         [word, seeding, counting, flushing, merging] => {
@@ -262,7 +262,7 @@ fn trial_of(words: &[String]) -> Option<Command>
 
 fn served_of(words: &[String]) -> Option<Command>
     ensures command { result ≡ served_of (bytes_of words.now) }
-    ensures servable { IfSome result IsFit }
+    ensures servable { IfSome result IsFitCommand }
 {
     match serve_of(words) {
         Some(command) => Some(command),
@@ -273,7 +273,7 @@ fn served_of(words: &[String]) -> Option<Command>
 /// The job over a store that words ask for.
 fn run_of(words: &[String]) -> Option<Command>
     ensures command { result ≡ run_of (bytes_of words.now) }
-    ensures servable { IfSome result IsFit }
+    ensures servable { IfSome result IsFitCommand }
 {
     match replay_of(words) {
         Some(command) => Some(command),
@@ -286,7 +286,7 @@ fn run_of(words: &[String]) -> Option<Command>
 /// 4,294,967,295, SEED from 0 to 18,446,744,073,709,551,615 and COUNT from 1 to 1,000,000.
 pub fn command_of(words: &[String]) -> Option<Command>
     ensures command { result ≡ command_of (bytes_of words.now) }
-    ensures servable { IfSome result IsFit }
+    ensures servable { IfSome result IsFitCommand }
 {
     match init_of(words) {
         Some(command) => Some(command),

@@ -17,7 +17,7 @@ use Rattle.alt_machine.specs.Expressions as machine
 use Rattle.alt_machine.specs.Refusals.{first_answer, refuse_by, unless_answer}
 use Rattle.alt_machine.proofs.Spoken.{keys_said, condition_said, update_said, paths_said, texts_say-no_keys, texts_say-no_condition, texts_say-no_update, texts_say-no_paths, texts_say-key_update, texts_say-unused, texts_say-said, are_given}
 use Rattle.alt_said.specs.Steps.{Comes}
-use Rattle.alt_said.specs.Words.{IsFresh, given_of, names_refusal, names_in, earlier, has_more, all_stated}
+use Rattle.alt_said.specs.Words.{AreFreshWords, given_of, names_refusal, names_or_refusal, earlier, has_unused_words, all_stated}
 use Rattle.alt_said.specs.declared.words.Given.{Given}
 use Rattle.alt_said.specs.declared.stop.Stop.{Stop}
 use Rattle.alt_said.specs.declared.stop.Stop.TheVariants.{Refused, Fault}
@@ -70,13 +70,13 @@ pub names_free : (ms : Members) → names_refusal ms ≡ None → gives_names ms
 names_free ms e = are_given ms (first_is ms ∙ ap (option_map refused) e)
 
 -- and all of them are read
-pub names_read : (ms : Members) → names_refusal ms ≡ None → names_in ms ≡ Ok (expr_names [] ms)
+pub names_read : (ms : Members) → names_refusal ms ≡ None → names_or_refusal ms ≡ Ok (expr_names [] ms)
 names_read ms e = ap (λ o. unless_answer o (expr_names [] ms))
     (first_is ms ∙ ap (option_map refused) e)
 
 -- what does refuse them is what is answered
 pub names_refused : (ms : Members) (r : Refusal) → names_refusal ms ≡ Some r
-    → names_in ms ≡ Err (refused r)
+    → names_or_refusal ms ≡ Err (refused r)
 names_refused ms r e = ap (λ o. unless_answer o (expr_names [] ms))
     (first_is ms ∙ ap (option_map refused) e)
 
@@ -153,7 +153,7 @@ module _ (texts : machine.Texts) (d : TableSchema) (ms : Members) (old : Given) 
       texts_say-key_update texts d ms (given_of old) e.key_condition each.keys e.condition
       each.condition e.update each.update e.projection each.paths key
 
-  module _ (fresh : IsFresh ms old) (names : Names) (values : Values)
+  module _ (fresh : AreFreshWords ms old) (names : Names) (values : Values)
       (hashes : used_names names ≡ with_hashes (machine.words_at texts ms) (used_names old.names))
       (colons : used_values values
       ≡ with_colons (machine.words_at texts ms) (used_values old.values))
@@ -162,7 +162,7 @@ module _ (texts : machine.Texts) (d : TableSchema) (ms : Members) (old : Given) 
     same_empty : is_empty_given names ≡ option_map_or gives_empty (machine.names_member ms) false
     same_empty = keeps.empty ∙ fresh.names.empty
 
-    unused_is : has_more names values
+    unused_is : has_unused_words names values
         ≡ machine.is_unused ms (given_of old) (machine.words_at texts ms)
     unused_is = λ i.
         (same_empty i || has_unused (keeps.names i)
@@ -171,7 +171,7 @@ module _ (texts : machine.Texts) (d : TableSchema) (ms : Members) (old : Given) 
         ((colons ∙ ap (with_colons (machine.words_at texts ms)) fresh.values) i)
 
     -- a word that stands in no text
-    pub said_unused : has_more names values ≡ true
+    pub said_unused : has_unused_words names values ≡ true
         → machine.texts_say texts d ms (given_of old) ≡ Err (refused unused_name)
     said_unused more =
         let each = each_said texts d ms (given_of old) e stated in
@@ -179,7 +179,7 @@ module _ (texts : machine.Texts) (d : TableSchema) (ms : Members) (old : Given) 
         each.condition e.update each.update e.projection each.paths apart (sym unused_is ∙ more)
 
     -- neither
-    pub said_all : has_more names values ≡ false
+    pub said_all : has_unused_words names values ≡ false
         → machine.texts_say texts d ms (given_of old) ≡ Ok e
     said_all more =
         let each = each_said texts d ms (given_of old) e stated in

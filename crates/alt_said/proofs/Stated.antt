@@ -37,13 +37,13 @@ module _ {D A : Type 0} (L : Language D A)
     (told : (g : expr.Given) (text : List ℕ) → Told L g text) (g : expr.Given)
     (unique : (d e : D) → L.toks d ≡ L.toks e → L.tree g d ≡ L.tree g e) (text : List ℕ) where
   -- what its parser read is what it states
-  pub read_ok : (a : A) → Parsed L g text (Ok a) → machine.stated told g (Some text) ≡ Ok (Some a)
+  pub read_ok : (a : A) → Parsed L g text (Ok a) → machine.stated_by_text told g (Some text) ≡ Ok (Some a)
   read_ok a parsed =
       stated_is L told g unique text (Ok a) parsed (λ e. let f : ⊥ = cc in f)
 
   -- its first fault is what it is refused for
   pub read_err : (f : ExprFault) → Parsed L g text (Err f)
-      → Comes {X = Option A} (λ x. x) (machine.stated told g (Some text)) (Err (stop_of f))
+      → Comes {X = Option A} (λ x. x) (machine.stated_by_text told g (Some text)) (Err (stop_of f))
   read_err fault.TooLong h = (
     stated_is L told g unique text (Err fault.TooLong) h (λ e. let f : ⊥ = cc in f),
     omega arith,
@@ -78,18 +78,18 @@ module _ {D A : Type 0} (L : Language D A)
     (told : (g : expr.Given) (text : List ℕ) → Told L g text) (g h : expr.Given) (same : g ≡ h)
     (text at : Option (List ℕ)) (is : text ≡ at) where
   -- what is told of equal texts, with equal words, is the same
-  stated_same : machine.stated told g text ≡ machine.stated told h at
-  stated_same = λ i. machine.stated told (same i) (is i)
+  stated_same : machine.stated_by_text told g text ≡ machine.stated_by_text told h at
+  stated_same = λ i. machine.stated_by_text told (same i) (is i)
 
   -- what it states there
-  pub stated_so : (o : Option A) → machine.stated told g text ≡ Ok o
-      → machine.stated told h at ≡ Ok o
+  pub stated_so : (o : Option A) → machine.stated_by_text told g text ≡ Ok o
+      → machine.stated_by_text told h at ≡ Ok o
   stated_so o e = sym stated_same ∙ e
 
   -- what it is refused for there
   pub stopped_so : (stop : Stop)
-      → Comes {X = Option A} (λ x. x) (machine.stated told g text) (Err stop)
-      → Comes {X = Option A} (λ x. x) (machine.stated told h at) (Err stop)
+      → Comes {X = Option A} (λ x. x) (machine.stated_by_text told g text) (Err stop)
+      → Comes {X = Option A} (λ x. x) (machine.stated_by_text told h at) (Err stop)
   stopped_so (Refused r) e = (sym stated_same ∙ e.0, e.1)
   stopped_so (Fault f) e = e
 
@@ -115,19 +115,19 @@ behind k c u p = k >>= (λ keys. c >>= (λ condition. u >>= (λ update. p >>= (�
 module _ (texts : machine.Texts) (ms : Members) (g : expr.Given) where
   -- what each of them states
   abbrev pub keys_at : Result (Option Cond) Answer
-  keys_at = machine.stated condition_of g (machine.text_at texts.key_condition ms)
+  keys_at = machine.stated_by_text condition_of g (machine.text_at texts.key_condition ms)
 
   -- the text of the condition
   abbrev pub condition_at : Result (Option Cond) Answer
-  condition_at = machine.stated condition_of g (machine.text_at texts.condition ms)
+  condition_at = machine.stated_by_text condition_of g (machine.text_at texts.condition ms)
 
   -- the text of the update
   abbrev pub update_at : Result (Option (List Action)) Answer
-  update_at = machine.stated update_of g (machine.text_at texts.update ms)
+  update_at = machine.stated_by_text update_of g (machine.text_at texts.update ms)
 
   -- the text of the projection
   abbrev pub paths_at : Result (Option (List (List PathPart))) Answer
-  paths_at = machine.stated paths_of (names_alone g.names) (machine.text_at texts.projection ms)
+  paths_at = machine.stated_by_text paths_of (names_alone g.names) (machine.text_at texts.projection ms)
 
   -- the condition on keys is refused
   pub no_keys : (stop : Stop) → Comes {X = Option Cond} (λ c. c) keys_at (Err stop)
@@ -220,7 +220,7 @@ parsed_none g text tree parsed used =
 
 -- nor has the text of a projection that was stated, or that isn't given
 pub paths_words : (g : expr.Given) (text : Option (List ℕ))
-    (projection : Option (List (List PathPart))) → machine.stated paths_of g text ≡ Ok projection
+    (projection : Option (List (List PathPart))) → machine.stated_by_text paths_of g text ≡ Ok projection
     → NoColons (machine.words_of text)
 paths_words g None projection e used = refl
 paths_words g (Some text) projection e used = by told.result told.parsed e used

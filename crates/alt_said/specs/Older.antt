@@ -1,4 +1,5 @@
 -- The members of the older interface, as the machine has them.
+use Rattle.alt_machine.specs.Refusals.{◌>>=◌}
 use Rattle.std.specs.Prelude.{false, option_map, Some, Result, Ok}
 use Rattle.serde_json.specs.Data.{Members}
 use Rattle.alt_machine.specs.Older as machine
@@ -7,7 +8,6 @@ use Rattle.alt_legacy.specs.declared.fault.LegacyFault.TheVariants as fault
 use Rattle.alt_legacy.specs.Trees.{condition_in, update_in, paths_in}
 use Rattle.alt_legacy.specs.declared.reading.Form.TheVariants.{Filter}
 use Rattle.alt_machine.specs.declared.Expressions.{Expressions}
-use Rattle.alt_machine.specs.Refusals.{◌>>=◌}
 use Rattle.alt_said.specs.declared.older.Older.{Older}
 use Rattle.alt_said.specs.declared.stop.Stop.{Stop}
 use Rattle.alt_said.specs.declared.stop.Stop.TheVariants.{Refused, Fault}

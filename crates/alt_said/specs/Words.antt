@@ -16,7 +16,7 @@ use Rattle.alt_expr.proofs.PathsTexts.{paths_of}
 use Rattle.alt_expr.proofs.UpdateTexts.{update_of}
 use Rattle.alt_machine.specs.declared.Expressions.{Expressions}
 use Rattle.alt_machine.specs.Expressions as machine
-use Rattle.alt_machine.specs.Refusals.{first_answer, unless_answer, ◌>>=◌}
+use Rattle.alt_machine.specs.Refusals.{◌>>=◌, first_answer, unless_answer}
 use Rattle.alt_said.specs.Older.{older_of}
 use Rattle.alt_said.specs.declared.words.Given.{Given}
 use Rattle.alt_said.specs.declared.words.Texts.{Texts}
@@ -52,8 +52,8 @@ names_refusal no_members = None
 names_refusal (member word d ms) = earlier (machine.name_refusal d) (names_refusal ms)
 
 -- the names of such a member, or the refusal of the first that is refused
-abbrev pub names_in : Members → Result (List Pair) Answer
-names_in ms = unless_answer (first_answer (machine.of_names ms)) (expr_names [] ms)
+abbrev pub names_or_refusal : Members → Result (List Pair) Answer
+names_or_refusal ms = unless_answer (first_answer (machine.of_names ms)) (expr_names [] ms)
 
 -- none of the names is used yet, and the empty word is among them where the request gives it
 pub record AreFreshNames (ms : Members) (names : Names) : Type 0 where
@@ -61,22 +61,22 @@ pub record AreFreshNames (ms : Members) (names : Names) : Type 0 where
   pub empty : is_empty_given names ≡ option_map_or gives_empty (machine.names_member ms) false
 
 -- neither is any of the values
-pub record IsFresh (ms : Members) (g : Given) : Type 0 where
+pub record AreFreshWords (ms : Members) (g : Given) : Type 0 where
   pub names : AreFreshNames ms g.names
   pub values : used_values g.values ≡ []
 
 -- a name or a value stands in none of the texts that were parsed
-abbrev pub has_more : Names → Values → Bool
-has_more names values = (is_empty_given names || has_unused (given_names names) (used_names names))
+abbrev pub has_unused_words : Names → Values → Bool
+has_unused_words names values = (is_empty_given names || has_unused (given_names names) (used_names names))
     || has_unused (given_values values) (used_values values)
 
 -- what the texts state, each refused for its first fault
 abbrev pub all_stated : machine.Texts → Members → expr.Given → Result Expressions Answer
 all_stated texts ms g = do
-  keys ← machine.stated condition_of g (machine.text_at texts.key_condition ms)
-  condition ← machine.stated condition_of g (machine.text_at texts.condition ms)
-  update ← machine.stated update_of g (machine.text_at texts.update ms)
-  projection ← machine.stated paths_of (names_alone g.names) (machine.text_at texts.projection ms)
+  keys ← machine.stated_by_text condition_of g (machine.text_at texts.key_condition ms)
+  condition ← machine.stated_by_text condition_of g (machine.text_at texts.condition ms)
+  update ← machine.stated_by_text update_of g (machine.text_at texts.update ms)
+  projection ← machine.stated_by_text paths_of (names_alone g.names) (machine.text_at texts.projection ms)
   Ok (record {
     key_condition = keys;
     condition = condition;

@@ -4,7 +4,7 @@ ghost use Rattle.std.specs.Prelude.{◌≡◌, false, IfOk};
 ghost use Rattle.serde_json.specs.View.{view, members_view};
 ghost use Rattle.serde_json.specs.Written.{has_float};
 ghost use Rattle.alt_codec.specs.Writing.{json_of_pairs};
-ghost use Rattle.alt_machine.specs.Replies.{done, answers, asks};
+ghost use Rattle.alt_machine.specs.Replies.{done, answers, member_is_word};
 ghost use Rattle.alt_shape.specs.Body.{body_json};
 ghost use Rattle.alt_shape.specs.Refusals.{answer_of};
 
@@ -53,7 +53,7 @@ pub fn item_member(alloc: Global, name: &'static str, item: Item) -> Result<Repl
 
 /// Whether a member of a body is that word.
 pub fn asks(body: &Map<String, Value>, name: &str, word: &str) -> bool
-    ensures asked { result ≡ asks name.now word.now (members_view body.now.entries) }
+    ensures asked { result ≡ member_is_word name.now word.now (members_view body.now.entries) }
 {
     match text_at(body, name) {
         Some(text) => text == word,

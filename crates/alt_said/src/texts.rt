@@ -76,7 +76,7 @@ fn condition_stated(
     names: &mut Names,
     values: &mut Values,
 ) -> Result<Option<Cond>, Stop>
-    ensures stated { Comes (λ c. c) (machine.stated condition_of
+    ensures stated { Comes (λ c. c) (machine.stated_by_text condition_of
         (given_by names.old values.old) (option_map (λ t. t.now) text.entry)) result }
     ensures names { OnOk result (used_names names.new
         ≡ with_hashes (machine.words_of (option_map (λ t. t.now) text.entry))
@@ -103,7 +103,7 @@ fn update_stated(
     names: &mut Names,
     values: &mut Values,
 ) -> Result<Option<Update>, Stop>
-    ensures stated { Comes (λ u. u) (machine.stated update_of
+    ensures stated { Comes (λ u. u) (machine.stated_by_text update_of
         (given_by names.old values.old) (option_map (λ t. t.now) text.entry)) result }
     ensures names { OnOk result (used_names names.new
         ≡ with_hashes (machine.words_of (option_map (λ t. t.now) text.entry))
@@ -125,7 +125,7 @@ fn update_stated(
 
 /// The paths that a text states, where there is one. It has no word for a value.
 fn paths_stated(alloc: Global, text: Option<&str>, names: &mut Names) -> Result<Option<Paths>, Stop>
-    ensures stated { Comes (λ p. p) (machine.stated paths_of
+    ensures stated { Comes (λ p. p) (machine.stated_by_text paths_of
         (names_alone (given_names names.old)) (option_map (λ t. t.now) text.entry)) result }
     ensures names { OnOk result (used_names names.new
         ≡ with_hashes (machine.words_of (option_map (λ t. t.now) text.entry))

@@ -6,7 +6,7 @@ ghost use Rattle.alt_expr.specs.NamesGiven.{given_names, used_names, is_empty_gi
 ghost use Rattle.alt_expr.specs.NamesIn.{gives_empty};
 ghost use Rattle.alt_machine.specs.Expressions as machine;
 ghost use Rattle.alt_said.specs.Steps.{Comes};
-ghost use Rattle.alt_said.specs.Words.{IsFresh, AreFreshNames, given_of, texts_of, names_in, names_refusal, has_more};
+ghost use Rattle.alt_said.specs.Words.{AreFreshWords, AreFreshNames, given_of, texts_of, names_or_refusal, names_refusal, has_unused_words};
 
 use crate::key_update::changes_key;
 use crate::older::{Older, entries_read, older_said};
@@ -91,7 +91,7 @@ pub struct Given {
 pub fn given_at(alloc: Global, texts: &Texts, body: &Map<String, Value>) -> Result<Given, Stop>
     ensures given { Comes given_of (machine.given_at (texts_of texts.now)
         (members_view body.now.entries)) result }
-    ensures fresh { IfOk result (IsFresh (members_view body.now.entries)) }
+    ensures fresh { IfOk result (AreFreshWords (members_view body.now.entries)) }
 {
     let names = names_at(alloc, body)?;
     let values = values_at(alloc, texts, body)?;
@@ -103,7 +103,7 @@ pub fn given_at(alloc: Global, texts: &Texts, body: &Map<String, Value>) -> Resu
 pub fn words_given(alloc: Global, texts: &Texts, body: &Map<String, Value>) -> Result<Given, Stop>
     ensures given { Comes given_of (machine.words_given (texts_of texts.now)
         (members_view body.now.entries)) result }
-    ensures fresh { IfOk result (IsFresh (members_view body.now.entries)) }
+    ensures fresh { IfOk result (AreFreshWords (members_view body.now.entries)) }
 {
     let given = given_at(alloc, texts, body)?;
     match entries_read(alloc, &texts.older, body) {
@@ -127,7 +127,7 @@ fn names_at(alloc: Global, body: &Map<String, Value>) -> Result<Names, Stop>
 }
 
 fn names_of(alloc: Global, names: &Map<String, Value>) -> Result<Names, Stop>
-    ensures given { Comes given_names (names_in (members_view names.now.entries)) result }
+    ensures given { Comes given_names (names_or_refusal (members_view names.now.entries)) result }
     ensures used { IfOk result (λ n. used_names n ≡ []) }
     ensures empty { IfOk result (λ n. is_empty_given n
         ≡ gives_empty (members_view names.now.entries)) }
@@ -186,7 +186,7 @@ pub fn expressions(
     body: &Map<String, Value>,
     given: Given,
 ) -> Result<Expressions, Stop>
-    requires fresh { IsFresh (members_view body.now.entries) given }
+    requires fresh { AreFreshWords (members_view body.now.entries) given }
     ensures said { Comes (λ e. e) (machine.expressions (texts_of texts.now) schema.now
         (members_view body.now.entries) (given_of given)) result }
 {
@@ -225,7 +225,7 @@ fn texts_say(
     body: &Map<String, Value>,
     given: Given,
 ) -> Result<Expressions, Stop>
-    requires fresh { IsFresh (members_view body.now.entries) given }
+    requires fresh { AreFreshWords (members_view body.now.entries) given }
     ensures said { Comes (λ e. e) (machine.texts_say (texts_of texts.now) schema.now
         (members_view body.now.entries) (given_of given)) result }
 {
@@ -247,7 +247,7 @@ fn texts_say(
 
 /// Whether a name or a value stands in none of the texts.
 fn is_unused(names: &Names, values: &Values) -> bool
-    ensures { result ≡ has_more names.now values.now }
+    ensures { result ≡ has_unused_words names.now values.now }
 {
     names.unused() || values.unused()
 }

@@ -1,6 +1,5 @@
 -- The row of an item in an index, and names that aren't empty.
 use Rattle.std.proofs.Common.{◌≡◌, List, Some, refl, ℕ, true, false, [], ◌∷◌, is_lt}
-use Rattle.std.specs.Prelude.{if◌then◌else◌}
 use Rattle.alt_base.proofs.Options.{some_if}
 use Rattle.alt_description.specs.declared.schema.IndexSchema.{IndexSchema}
 use Rattle.alt_description.specs.declared.schema.TableSchema.{TableSchema}

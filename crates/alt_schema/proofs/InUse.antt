@@ -5,7 +5,7 @@ use Rattle.std.specs.List.{list_any, list_all}
 use Rattle.std.proofs.lemmas.List.{drop_all}
 use Rattle.std.proofs.Math.Bool.{or-false}
 use Rattle.alt_schema.specs.Named.{kind_at, AreOf, HasMore}
-use Rattle.alt_schema.specs.Rules.{is_used, is_defined, in_each_schema}
+use Rattle.alt_schema.specs.Rules.{is_used_in_any_schema, is_defined, in_each_schema}
 use Rattle.alt_schema.specs.declared.named.Kinds.{Kinds}
 use Rattle.alt_schema.specs.declared.stated.Stated.{Stated}
 use Rattle.alt_schema.proofs.NamedLemmas.{is_some-kind_defined}
@@ -98,23 +98,23 @@ module _ (b : Stated) (kinds : Kinds) (are : AreOf kinds b.definitions) where
 
   -- where each name that is used has a kind
   pub all_have_kinds : (none used : Kinds) → ((name : List ℕ) → kind_at none name ≡ None)
-      → HasMore none used (is_used b)
+      → HasMore none used (is_used_in_any_schema b)
       → true ≡ in_each_schema (list_all (λ e. is_some (kind_at kinds e.name))) b
       → list_all (λ d. is_some (kind_at used d.name)) b.definitions
-      ≡ (list_all (λ d. is_used b d.name) b.definitions
+      ≡ (list_all (λ d. is_used_in_any_schema b d.name) b.definitions
       && in_each_schema (list_all (λ e. is_defined b.definitions e.name)) b)
   all_have_kinds none used empty more all =
       (λ j. list_all (λ d. same d.name j) b.definitions)
-      ∙ and_true (list_all (λ d. is_used b d.name) b.definitions)
-      ∙ ap (λ t. list_all (λ d. is_used b d.name) b.definitions && t) (all ∙ schemas_same)
+      ∙ and_true (list_all (λ d. is_used_in_any_schema b d.name) b.definitions)
+      ∙ ap (λ t. list_all (λ d. is_used_in_any_schema b d.name) b.definitions && t) (all ∙ schemas_same)
     where
-      same : (name : List ℕ) → is_some (kind_at used name) ≡ is_used b name
-      same name = more name ∙ ap (λ o. is_some o || is_used b name) (empty name)
+      same : (name : List ℕ) → is_some (kind_at used name) ≡ is_used_in_any_schema b name
+      same name = more name ∙ ap (λ o. is_some o || is_used_in_any_schema b name) (empty name)
 
   -- where one hasn't
   pub one_has_none : false ≡ in_each_schema (list_all (λ e. is_some (kind_at kinds e.name))) b
-      → false ≡ (list_all (λ d. is_used b d.name) b.definitions
+      → false ≡ (list_all (λ d. is_used_in_any_schema b d.name) b.definitions
       && in_each_schema (list_all (λ e. is_defined b.definitions e.name)) b)
   one_has_none none =
-      and_false (list_all (λ d. is_used b d.name) b.definitions)
-      ∙ ap (λ t. list_all (λ d. is_used b d.name) b.definitions && t) (none ∙ schemas_same)
+      and_false (list_all (λ d. is_used_in_any_schema b d.name) b.definitions)
+      ∙ ap (λ t. list_all (λ d. is_used_in_any_schema b d.name) b.definitions && t) (none ∙ schemas_same)

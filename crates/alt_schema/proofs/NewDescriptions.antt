@@ -11,8 +11,8 @@ use Rattle.alt_shape.specs.declared.refusal.Refusal.{Refusal}
 use Rattle.alt_value.specs.declared.kind.KeyKind.{KeyKind}
 use Rattle.alt_value.specs.declared.kind.KeyKind.TheVariants.{S, N, B}
 use Rattle.alt_description.specs.Bare.{is_whole}
-use Rattle.alt_schema.specs.Described.{key_attr, hash_of, range_of, indexes_from, described_by, same_kind, is_one_of, keys_defined, from_on, IsNew}
-use Rattle.alt_schema.specs.Rules.{names_fit, keys_fit_together, indexes_fit, refused_for, is_key_schema, in_each_schema, is_used, is_defined, all_differ, defines_exactly, stated_indexes, most_locals, most_globals, is_projection, is_local_to}
+use Rattle.alt_schema.specs.Described.{key_attr, hash_of_key_schema, range_of_key_schema, indexes_from, described_by, same_kind, is_one_of, keys_defined, from_on, IsNew}
+use Rattle.alt_schema.specs.Rules.{names_fit, keys_fit_together, indexes_fit, refused_for, is_key_schema, in_each_schema, is_used_in_any_schema, is_defined, all_differ, defines_exactly, stated_indexes, most_locals, most_globals, is_projection, is_local_to}
 use Rattle.alt_description.specs.declared.schema.KeyAttr.{KeyAttr}
 use Rattle.alt_description.specs.declared.schema.View.{View}
 use Rattle.alt_schema.specs.declared.stated.Element.{Element}
@@ -90,7 +90,7 @@ kind_found (d ∷ ds) name h =
 -- the keys of a good key schema are defined ones
 pub keys_found : (ds : List KeyAttr) (keys : List Element) → is_key_schema keys ≡ true
     → list_all (λ e. is_defined ds e.name) keys ≡ true
-    → keys_defined ds (hash_of ds keys) (range_of ds keys) ≡ true
+    → keys_defined ds (hash_of_key_schema ds keys) (range_of_key_schema ds keys) ≡ true
 keys_found ds [] s d = cc
 keys_found ds (h ∷ []) s d = and_from _ true (kind_found ds h.name (first_so _ true d)) refl
 keys_found ds (h ∷ r ∷ []) s d =
@@ -200,12 +200,12 @@ module _ (b : Stated) (taken : refused_for b ≡ None) where
   exactly : defines_exactly b ≡ true
   exactly = second_so (in_each_schema is_key_schema b) (defines_exactly b) together
 
-  used : (list_all (λ d. is_used b d.name) b.definitions
+  used : (list_all (λ d. is_used_in_any_schema b d.name) b.definitions
       && in_each_schema (list_all (λ e. is_defined b.definitions e.name)) b) ≡ true
   used = second_so (all_differ (λ d. d.name) b.definitions) _ exactly
 
   defined : in_each_schema (list_all (λ e. is_defined b.definitions e.name)) b ≡ true
-  defined = second_so (list_all (λ d. is_used b d.name) b.definitions) _ used
+  defined = second_so (list_all (λ d. is_used_in_any_schema b d.name) b.definitions) _ used
 
   fit : indexes_fit b ≡ true
   fit = indexes_hold b taken

@@ -55,8 +55,8 @@ without_index d name = record (without_named d name) {
 -- ---- a description, as a CreateTable would state it
 
 -- the elements of a key schema
-abbrev pub elements_of : KeyAttr → Option KeyAttr → List Element
-elements_of hash range = record { name = hash.name; role = codes "HASH" }
+abbrev pub key_schema_elements : KeyAttr → Option KeyAttr → List Element
+key_schema_elements hash range = record { name = hash.name; role = codes "HASH" }
     ∷ option_map_or (λ (r : KeyAttr). record { name = r.name; role = codes "RANGE" } ∷ []) range []
 
 -- the word of a projection
@@ -66,25 +66,25 @@ word_of KeysOnly = codes "KEYS_ONLY"
 word_of (Include names) = codes "INCLUDE"
 
 -- the names that it includes
-abbrev pub names_of : Projection → Option (List (List ℕ))
-names_of All = None
-names_of KeysOnly = None
-names_of (Include names) = Some names
+abbrev pub included_names : Projection → Option (List (List ℕ))
+included_names All = None
+included_names KeysOnly = None
+included_names (Include names) = Some names
 
 -- an index
 abbrev pub stated_index : IndexSchema → StatedIndex
 stated_index i = record {
   name = i.name;
-  keys = elements_of i.hash i.range;
+  keys = key_schema_elements i.hash i.range;
   projects = word_of i.projection;
-  includes = names_of i.projection;
+  includes = included_names i.projection;
 }
 
 -- a table with an index more
 abbrev pub stated_with : TableSchema → List KeyAttr → StatedIndex → Stated
 stated_with d more i = record {
   name = d.name;
-  keys = elements_of d.hash d.range;
+  keys = key_schema_elements d.hash d.range;
   definitions = definitions_with d more;
   locals = map stated_index d.locals;
   globals = map stated_index d.globals ++ i ∷ [];

@@ -9,7 +9,7 @@ use Rattle.alt_value.specs.declared.kind.KeyKind.{KeyKind}
 use Rattle.alt_value.specs.declared.kind.KeyKind.TheVariants.{S, N, B}
 use Rattle.alt_description.specs.Bare.{is_whole}
 use Rattle.alt_description.specs.Indexes.{indexes, of_range}
-use Rattle.alt_schema.specs.Rules.{all_differ, most_locals, most_globals, refusal_of}
+use Rattle.alt_schema.specs.Rules.{all_differ, most_locals, most_globals, create_table_refusal}
 use Rattle.alt_schema.specs.declared.described.SchemaFault.{SchemaFault}
 use Rattle.alt_schema.specs.declared.described.SchemaFault.TheVariants.{Refused, NoMemory}
 use Rattle.alt_schema.specs.Stated.{stated}
@@ -35,12 +35,12 @@ abbrev pub key_attr : List KeyAttr → List ℕ → KeyAttr
 key_attr definitions name = record { name = name; kind = kind_in definitions name }
 
 -- the first attribute of a key schema
-abbrev pub hash_of : List KeyAttr → List Element → KeyAttr
-hash_of definitions keys = key_attr definitions (option_map_or (λ e. e.name) (slice_get keys 0) [])
+abbrev pub hash_of_key_schema : List KeyAttr → List Element → KeyAttr
+hash_of_key_schema definitions keys = key_attr definitions (option_map_or (λ e. e.name) (slice_get keys 0) [])
 
 -- the second, where there is one
-abbrev pub range_of : List KeyAttr → List Element → Option KeyAttr
-range_of definitions keys = option_map (λ e. key_attr definitions e.name) (slice_get keys 1)
+abbrev pub range_of_key_schema : List KeyAttr → List Element → Option KeyAttr
+range_of_key_schema definitions keys = option_map (λ e. key_attr definitions e.name) (slice_get keys 1)
 
 -- the names given, or else all or the keys alone
 abbrev pub projection_for : List ℕ → Option (List (List ℕ)) → Projection
@@ -51,8 +51,8 @@ projection_for word None = if bytes_eq word (codes "ALL") then All else KeysOnly
 abbrev pub index_for : List KeyAttr → ℕ → StatedIndex → IndexSchema
 index_for definitions family i = record {
   name = i.name;
-  hash = hash_of definitions i.keys;
-  range = range_of definitions i.keys;
+  hash = hash_of_key_schema definitions i.keys;
+  range = range_of_key_schema definitions i.keys;
   projection = projection_for i.projects i.includes;
   family = family;
   built = Whole;
@@ -69,8 +69,8 @@ unfoldable pub described_by : Stated → ℕ → ℕ → ℕ → TableSchema
 described_by b moment number family = record {
   name = b.name;
   definitions = b.definitions;
-  hash = hash_of b.definitions b.keys;
-  range = range_of b.definitions b.keys;
+  hash = hash_of_key_schema b.definitions b.keys;
+  range = range_of_key_schema b.definitions b.keys;
   locals = indexes_from b.definitions (family + 1) b.locals;
   globals = indexes_from b.definitions (family + 1 + length b.locals) b.globals;
   view = b.view;
@@ -88,9 +88,9 @@ description_of body moment number family = described_by (stated body) moment num
 -- ---- why it isn't described
 
 -- a refusal is the one that applies; want of memory has no cause
-abbrev pub HasCause : Members → SchemaFault → Type 0
-HasCause body (Refused r) = refusal_of body ≡ Some r
-HasCause body NoMemory = Unit {0}
+abbrev pub SchemaFaultApplies : Members → SchemaFault → Type 0
+SchemaFaultApplies body (Refused r) = create_table_refusal body ≡ Some r
+SchemaFaultApplies body NoMemory = Unit {0}
 
 -- a refusal is one of those that have a message
 abbrev pub IsKnownFault : SchemaFault → Type 0

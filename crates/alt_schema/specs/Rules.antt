@@ -55,8 +55,8 @@ abbrev pub is_used_in : List ℕ → List Element → Bool
 is_used_in name keys = list_any (λ e. bytes_eq e.name name) keys
 
 -- it is in that of the table or of an index
-abbrev pub is_used : Stated → List ℕ → Bool
-is_used b name = is_used_in name b.keys || list_any (λ i. is_used_in name i.keys) (stated_indexes b)
+abbrev pub is_used_in_any_schema : Stated → List ℕ → Bool
+is_used_in_any_schema b name = is_used_in name b.keys || list_any (λ i. is_used_in name i.keys) (stated_indexes b)
 
 -- an attribute of that name is defined
 abbrev pub is_defined : List KeyAttr → List ℕ → Bool
@@ -71,7 +71,7 @@ all_differ name (x ∷ xs) = not (list_any (λ y. bytes_eq (name y) (name x)) xs
 abbrev pub defines_exactly : Stated → Bool
 defines_exactly b =
     all_differ (λ d. d.name) b.definitions
-    && (list_all (λ d. is_used b d.name) b.definitions
+    && (list_all (λ d. is_used_in_any_schema b d.name) b.definitions
     && in_each_schema (list_all (λ e. is_defined b.definitions e.name)) b)
 
 -- the key schemas are good, and the definitions fit them
@@ -123,5 +123,5 @@ refused_for b =
     else (if not (indexes_fit b) then Some bad_index else None))
 
 -- why the body of a CreateTable is refused for its names, keys or indexes, if it is
-unfoldable pub refusal_of : Members → Option Refusal
-refusal_of body = refused_for (stated body)
+unfoldable pub create_table_refusal : Members → Option Refusal
+create_table_refusal body = refused_for (stated body)

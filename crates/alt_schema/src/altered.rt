@@ -3,7 +3,7 @@
 ghost use Rattle.std.specs.List.{filter};
 ghost use Rattle.std.specs.Prelude.{◌≡◌, ◌++◌, map, Ok, Err, IfOk, OnOk, None, IfErr, not, List};
 ghost use Rattle.serde_json.specs.View.{members_view};
-ghost use Rattle.alt_schema.specs.Altered.{definitions_fit, definitions_with, elements_of, stated_index, stated_with, with_index, without_index, word_of, names_of, IsFaultOf, refused_with, refused_without};
+ghost use Rattle.alt_schema.specs.Altered.{definitions_fit, definitions_with, key_schema_elements, stated_index, stated_with, with_index, without_index, word_of, included_names, IsFaultOf, refused_with, refused_without};
 ghost use Rattle.alt_schema.specs.Described.{IsKnownFault};
 ghost use Rattle.alt_description.specs.Indexes.{is_named, is_used};
 ghost use Rattle.alt_schema.specs.Rules.{is_defined};
@@ -183,7 +183,7 @@ fn elements_of(
     hash: &KeyAttr,
     range: &Option<KeyAttr>,
 ) -> Result<ElementList, NoMemory>
-    ensures { IfOk result (λ es. es ≡ elements_of hash.now range.now) }
+    ensures { IfOk result (λ es. es ≡ key_schema_elements hash.now range.now) }
 {
     let mut list = ElementList::new(alloc);
     list.push(element(alloc, hash, "HASH")?)?;
@@ -215,7 +215,7 @@ fn word_of(projection: &Projection) -> &'static str
 
 /// The names that it includes.
 fn names_of(alloc: Global, projection: &Projection) -> Result<Option<TextList>, NoMemory>
-    ensures { IfOk result (λ ns. ns ≡ names_of projection.now) }
+    ensures { IfOk result (λ ns. ns ≡ included_names projection.now) }
 {
     match projection {
         Projection::All => Ok(None),

@@ -1,12 +1,12 @@
 //! The description that the body of a CreateTable states.
 
-ghost use Rattle.std.specs.Prelude.{◌≡◌, ◌+◌, ◌-◌, ◌^◌, ◌<◌, ◌≤◌, [], None, length, option_map, slice_get, IfOk, IfErr, OnOk};
+ghost use Rattle.std.specs.Prelude.{◌≡◌, ◌+◌, ◌-◌, ◌^◌, ◌<◌, [], None, length, option_map, slice_get, IfOk, IfErr, OnOk};
 ghost use Rattle.std.specs.List.{find};
 ghost use Rattle.std.specs.Option.{option_map_or};
 ghost use Rattle.std.specs.Str.{bytes_eq};
 ghost use Rattle.serde_json.specs.View.{members_view};
-ghost use Rattle.alt_schema.specs.Described.{kind_in, key_attr, hash_of, range_of, projection_for, index_for, indexes_from, described_by, description_of, HasCause, IsKnownFault, IsNew};
-ghost use Rattle.alt_schema.specs.Rules.{refusal_of, refused_for};
+ghost use Rattle.alt_schema.specs.Described.{kind_in, key_attr, hash_of_key_schema, range_of_key_schema, projection_for, index_for, indexes_from, described_by, description_of, SchemaFaultApplies, IsKnownFault, IsNew};
+ghost use Rattle.alt_schema.specs.Rules.{create_table_refusal, refused_for};
 
 use crate::reading::stated_of_json;
 use crate::rules::refused_for;
@@ -41,7 +41,7 @@ impl From<NoMemory> for SchemaFault {
 /// The table takes `family`, and its local indexes, global indexes and stream take those after it.
 /// A body is refused exactly where a table or index name is bad, then a key schema or the
 /// definitions, then an index (docs/API.md, "CreateTable").
-#[tactic(auto, unfolding(crate::specs::Described::description_of, crate::specs::Rules::refusal_of))]
+#[tactic(auto, unfolding(crate::specs::Described::description_of, crate::specs::Rules::create_table_refusal))]
 pub fn schema_of_json(
     alloc: Global,
     body: &Map<String, Value>,
@@ -50,11 +50,11 @@ pub fn schema_of_json(
     family: u32,
 ) -> Result<TableSchema, SchemaFault>
     requires room { family + 26 < 2 ^ 32 - 1 }
-    ensures taken { OnOk result (refusal_of (members_view body.now.entries) ≡ None) }
+    ensures taken { OnOk result (create_table_refusal (members_view body.now.entries) ≡ None) }
     ensures described { IfOk result (λ s. s
         ≡ description_of (members_view body.now.entries) moment number family) }
     ensures valid { IfOk result IsNew }
-    ensures cause { IfErr result (HasCause (members_view body.now.entries)) }
+    ensures cause { IfErr result (SchemaFaultApplies (members_view body.now.entries)) }
     ensures known { IfErr result IsKnownFault }
 {
     let stated = stated_of_json(alloc, body)?;
@@ -129,7 +129,7 @@ fn key_attr(alloc: Global, definitions: &[KeyAttr], name: &str) -> Result<KeyAtt
 }
 
 fn hash_of(alloc: Global, definitions: &[KeyAttr], keys: &[Element]) -> Result<KeyAttr, NoMemory>
-    ensures { IfOk result (λ k. k ≡ hash_of definitions.now keys.now) }
+    ensures { IfOk result (λ k. k ≡ hash_of_key_schema definitions.now keys.now) }
 {
     key_attr(alloc, definitions, first_name(keys))
 }
@@ -148,7 +148,7 @@ fn range_of(
     definitions: &[KeyAttr],
     keys: &[Element],
 ) -> Result<Option<KeyAttr>, NoMemory>
-    ensures { IfOk result (λ k. k ≡ range_of definitions.now keys.now) }
+    ensures { IfOk result (λ k. k ≡ range_of_key_schema definitions.now keys.now) }
 {
     match keys.get(1) {
         Some(range) => Ok(Some(key_attr(alloc, definitions, range.name.as_str())?)),

@@ -3,7 +3,7 @@
 ghost use Rattle.std.specs.Prelude.{◌≡◌, ◌++◌, [], IfOk, OnOk, codes, option_map, option_and_then};
 ghost use Rattle.std.specs.Option.{option_map_or};
 ghost use Rattle.serde_json.specs.View.{view, items_view, members_view};
-ghost use Rattle.alt_schema.specs.Stated.{stated, text_of, stated_by, stated_at, element_in, element_of, key_schema_of, kind_named, definition_in, definition_of, definitions_of, word_of, included_in, projection_of, index_in, index_of, view_named, view_in, view_of};
+ghost use Rattle.alt_schema.specs.Stated.{stated, text_of, stated_by, stated_at, element_in, element_of, key_schema_of, kind_named, definition_in, definition_of, definitions_of, word_of, included_in, index_in, index_of, view_named, view_in, view_of};
 
 use crate::stated::{Element, ElementList, Stated, StatedIndex, StatedIndexList};
 use alt_base::NoMemory;

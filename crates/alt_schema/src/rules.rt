@@ -1,11 +1,11 @@
 //! Tests what the body of a CreateTable states: the names, then the key schemas and definitions, then
 //! the indexes.
 
-ghost use Rattle.std.specs.Prelude.{◌≡◌, ◌&&◌, ◌++◌, true, codes, length, nat_lt, nat_le, is_some, IfOk};
+ghost use Rattle.std.specs.Prelude.{◌≡◌, ◌&&◌, ◌++◌, true, length, nat_lt, nat_le, is_some, IfOk};
 ghost use Rattle.std.specs.List.{list_any, list_all};
 ghost use Rattle.std.specs.Str.{bytes_eq};
 ghost use Rattle.alt_schema.specs.Named.{kind_at, AreOf, HasMore};
-ghost use Rattle.alt_schema.specs.Rules.{is_name_byte, is_name, names_fit, plays, is_key_schema, is_used_in, is_used, is_defined, in_each_schema, all_differ, defines_exactly, keys_fit_together, is_projection, most_included, is_local_to, indexes_fit, refused_for};
+ghost use Rattle.alt_schema.specs.Rules.{is_name_byte, is_name, names_fit, plays, is_key_schema, is_used_in, is_used_in_any_schema, is_defined, in_each_schema, all_differ, defines_exactly, keys_fit_together, is_projection, most_included, is_local_to, indexes_fit, refused_for};
 
 use crate::named::{Kinds, kinds_of};
 use crate::stated::{Element, Stated, StatedIndex};
@@ -140,7 +140,7 @@ fn defines_exactly(alloc: Global, b: &Stated) -> Result<bool, NoMemory>
 fn uses_exactly<'b>(alloc: Global, kinds: &Kinds<'b>, b: &'b Stated) -> Result<bool, NoMemory>
     requires { AreOf kinds.now b.now.definitions }
     ensures { IfOk result (λ exactly. exactly
-        ≡ (list_all (λ d. is_used b.now d.name) b.now.definitions
+        ≡ (list_all (λ d. is_used_in_any_schema b.now d.name) b.now.definitions
         && in_each_schema (list_all (λ e. is_defined b.now.definitions e.name)) b.now)) }
 {
     let mut used = Kinds::new(alloc);
@@ -161,7 +161,7 @@ fn all_among(definitions: &[KeyAttr], used: &Kinds) -> bool
 fn add_used<'b>(used: &mut Kinds<'b>, kinds: &Kinds<'b>, b: &'b Stated) -> Result<bool, NoMemory>
     ensures all { IfOk result (λ all. all
         ≡ in_each_schema (list_all (λ e. is_some (kind_at kinds.now e.name))) b.now) }
-    ensures used { IfOk result (λ all. all ≡ true → HasMore used.old used.new (is_used b.now)) }
+    ensures used { IfOk result (λ all. all ≡ true → HasMore used.old used.new (is_used_in_any_schema b.now)) }
 {
     if !add_keys(used, kinds, b.keys.as_slice())? {
         return Ok(false);

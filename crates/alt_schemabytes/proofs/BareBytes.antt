@@ -6,7 +6,7 @@ use Rattle.alt_schema.specs.Bare.{as_whole, bare}
 use Rattle.alt_schema.specs.declared.schema.IndexSchema.{IndexSchema}
 use Rattle.alt_schema.specs.declared.schema.TableSchema.{TableSchema}
 use Rattle.alt_schema.proofs.BareLaws.{length-as_whole}
-use Rattle.alt_schemabytes.specs.Format.{each, counted, view_byte, stream_bytes, definition_bytes, keys_bytes, index_bytes, head_bytes, description_bytes}
+use Rattle.alt_schemabytes.specs.Format.{each, counted_list, view_byte, stream_bytes, definition_bytes, keys_bytes, index_bytes, head_bytes, description_bytes}
 use Rattle.alt_schemabytes.specs.Held.{IsHeldIndex, IsHeld}
 
 -- ---- several indexes
@@ -18,8 +18,8 @@ each-as_whole [] = refl
 each-as_whole (i ∷ is) = ap (λ m. index_bytes i ++ m) (each-as_whole is)
 
 -- the bytes of several
-pub counted-as_whole : (is : List IndexSchema) → counted index_bytes (map as_whole is)
-    ≡ counted index_bytes is
+pub counted-as_whole : (is : List IndexSchema) → counted_list index_bytes (map as_whole is)
+    ≡ counted_list index_bytes is
 counted-as_whole is = λ j. to_be_bytes w64 (length-as_whole is j) ++ each-as_whole is j
 
 -- each is held
@@ -45,7 +45,7 @@ module _ (d : TableSchema) where
   pub description_bytes-bare : description_bytes (bare d) ≡ description_bytes d
   unfolding description_bytes
   description_bytes-bare = λ j. head_bytes d ++ (view_byte d.view ∷ stream_bytes d.stream_family
-      ++ (counted definition_bytes d.definitions ++ (keys_bytes d.hash d.range
+      ++ (counted_list definition_bytes d.definitions ++ (keys_bytes d.hash d.range
       ++ (counted-as_whole d.locals j ++ counted-as_whole d.globals j))))
 
   -- a program can hold what they tell

@@ -4,5 +4,12 @@ pub mod Fields
 pub mod WholeLists
 pub mod BareBytes
 pub mod WholeDescriptions
+pub mod DefinitionReads
+pub mod IndexReads
 pub mod Steady
+pub mod SteadyParts
+pub mod SteadyDescription
 pub mod Stopped
+pub mod SoundParts
+pub mod DefinitionStops
+pub mod IndexStops

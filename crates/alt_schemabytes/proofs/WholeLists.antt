@@ -3,8 +3,8 @@ use Rattle.std.proofs.Common.{◌≡◌, refl, sym, ap, subst, ◌∙◌, ℕ, z
 use Rattle.std.specs.Int.{w64, to_be_bytes}
 use Rattle.std.specs.List.{AllByRecursion}
 use Rattle.std.proofs.lemmas.List.{append-nil}
-use Rattle.alt_schemabytes.specs.Format.{each, counted}
-use Rattle.alt_schemabytes.specs.Parts.{Read, got, followed_by, read_u64, read_more, read_counted}
+use Rattle.alt_schemabytes.specs.Format.{each, counted_list}
+use Rattle.alt_schemabytes.specs.Parts.{ReadOutcome, got, followed_by, read_u64, read_more, read_counted}
 use Rattle.alt_schemabytes.specs.Places.{AllNext}
 use Rattle.alt_schema.specs.Rules.{is_defined, all_differ}
 use Rattle.alt_schema.specs.declared.schema.KeyAttr.{KeyAttr}
@@ -12,7 +12,7 @@ use Rattle.alt_schema.proofs.Differ.{differ_more, not_before}
 use Rattle.alt_schemabytes.proofs.Wholes.{Small, small_back, got_value, got_rest, both_got, u64_got, u64_read}
 
 module _ {A : Type 0} (bytes_of : A → List ℕ) (P : List A → A → Type 0)
-    (R : List A → List ℕ → Read A) where
+    (R : List A → List ℕ → ReadOutcome A) where
   -- so many stand there, behind those before
   pub record Many (n : ℕ) (before : List A) (bytes : List ℕ) (xs : List A)
       (rest : List ℕ) : Type 0 where
@@ -51,7 +51,7 @@ module _ {A : Type 0} (bytes_of : A → List ℕ) (P : List A → A → Type 0)
 
     pub counted_got : (bytes : List ℕ) (xs : List A) (rest : List ℕ) → Small bytes
         → read_counted R bytes ≡ got xs rest
-        → (bytes ≡ counted bytes_of xs ++ rest) × AllNext P [] xs
+        → (bytes ≡ counted_list bytes_of xs ++ rest) × AllNext P [] xs
     unfolding read_counted
     counted_got bytes xs rest small e =
         let b = both_got (λ n r. read_more R n [] r) (read_u64 bytes) xs rest e in
@@ -78,7 +78,7 @@ module _ {A : Type 0} (bytes_of : A → List ℕ) (P : List A → A → Type 0)
         ∙ ap (λ l. got l rest) (append_assoc before (x ∷ []) xs)
 
     pub counted_read : (xs : List A) (rest : List ℕ) → length xs < 2 ^ 64 → AllNext P [] xs
-        → read_counted R (counted bytes_of xs ++ rest) ≡ got xs rest
+        → read_counted R (counted_list bytes_of xs ++ rest) ≡ got xs rest
     unfolding read_counted
     counted_read xs rest h good =
         ap (λ b. followed_by (λ n r. read_more R n [] r) (read_u64 b))

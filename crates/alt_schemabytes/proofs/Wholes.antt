@@ -10,7 +10,7 @@ use Rattle.std.proofs.lemmas.List.{take-append-drop, length-take-le, take_at, dr
 use Rattle.std.proofs.lemmas.Nat.{be_bytes_4, be_bytes_8, from_be_bytes-to_be_bytes_4, from_be_bytes-to_be_bytes_8}
 use Rattle.std.specs.Cmp.{first_so as left, second_so}
 use Rattle.alt_fields.specs.Field.{field}
-use Rattle.alt_schemabytes.specs.Parts.{Read, got, stops, followed_by, read_bytes, read_u64, read_u32, read_field, any_name, read_name, read_byte, read_more}
+use Rattle.alt_schemabytes.specs.Parts.{ReadOutcome, got, stops, followed_by, read_bytes, read_u64, read_u32, read_field, any_name, read_name, read_byte, read_more}
 
 -- ---- bytes are below 256
 
@@ -63,7 +63,7 @@ pub no_stop : {A : Type 0} (n : ℕ) (y : A) (s : List ℕ) → stops n ≡ got 
 no_stop n y s e = cc
 
 -- both parts were got
-pub record Both {A B : Type 0} (next : A → List ℕ → Read B) (r : Read A) (y : B)
+pub record Both {A B : Type 0} (next : A → List ℕ → ReadOutcome B) (r : ReadOutcome A) (y : B)
     (rest : List ℕ) : Type 0 where
   pub x : A
   pub mid : List ℕ
@@ -71,13 +71,13 @@ pub record Both {A B : Type 0} (next : A → List ℕ → Read B) (r : Read A) (
   pub second : next x mid ≡ got y rest
 
 -- where two parts were got, each was
-pub both_got : {A B : Type 0} (next : A → List ℕ → Read B) (r : Read A) (y : B) (rest : List ℕ)
+pub both_got : {A B : Type 0} (next : A → List ℕ → ReadOutcome B) (r : ReadOutcome A) (y : B) (rest : List ℕ)
     → followed_by next r ≡ got y rest → Both next r y rest
 both_got next (got x mid) y rest e = record { x = x; mid = mid; first = refl; second = e }
 both_got next (stops n) y rest e = absurd (no_stop n y rest e)
 
 -- where a value was got, there were bytes enough
-pub within : {A : Type 0} (k m : ℕ) (r : Read A) (n : ℕ) (y : A) (rest : List ℕ)
+pub within : {A : Type 0} (k m : ℕ) (r : ReadOutcome A) (n : ℕ) (y : A) (rest : List ℕ)
     → (if nat_le k m then r else stops n) ≡ got y rest → (k ≤ m) × (r ≡ got y rest)
 within k m r n y rest e =
     (elim (nat_le k m) as (λ b. nat_le k m ≡ b → cond b r (stops n) ≡ got y rest → (k ≤ m)
@@ -87,7 +87,7 @@ within k m r n y rest e =
     ]) refl e
 
 -- where a value was got, the test passed
-pub passes : {A : Type 0} (b : Bool) (r : Read A) (n : ℕ) (y : A) (rest : List ℕ)
+pub passes : {A : Type 0} (b : Bool) (r : ReadOutcome A) (n : ℕ) (y : A) (rest : List ℕ)
     → (if b then r else stops n) ≡ got y rest → (b ≡ true) × (r ≡ got y rest)
 passes true r n y rest e = (refl, e)
 passes false r n y rest e = absurd (no_stop n y rest e)
@@ -185,7 +185,7 @@ field_read s rest h =
     ap read_field' (append_assoc (to_be_bytes w64 (length s)) s rest)
     ∙ ap (followed_by read_bytes) (u64_read (length s) (s ++ rest) h) ∙ bytes_read s rest
   where
-    read_field' : List ℕ → Read (List ℕ)
+    read_field' : List ℕ → ReadOutcome (List ℕ)
     read_field' bytes = followed_by read_bytes (read_u64 bytes)
 
 -- a text that is read stands there, and passed the test
@@ -242,7 +242,7 @@ not_utf8 s wrong =
 
 -- ---- one part of many
 
-module _ {A : Type 0} (R : List A → List ℕ → Read A) where
+module _ {A : Type 0} (R : List A → List ℕ → ReadOutcome A) where
   -- where one of many is read, the rest is read behind it
   pub more_step : (n d : ℕ) (before : List A) (bytes : List ℕ) (x : A) (mid : List ℕ) → d < n
       → R before bytes ≡ got x mid

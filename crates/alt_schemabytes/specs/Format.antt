@@ -18,8 +18,8 @@ each bytes [] = []
 each bytes (x ∷ xs) = bytes x ++ each bytes xs
 
 -- how many there are, and then each
-abbrev pub counted : {A : Type 0} → (A → List ℕ) → List A → List ℕ
-counted bytes xs = to_be_bytes w64 (length xs) ++ each bytes xs
+abbrev pub counted_list : {A : Type 0} → (A → List ℕ) → List A → List ℕ
+counted_list bytes xs = to_be_bytes w64 (length xs) ++ each bytes xs
 
 -- the byte of what a stream shows
 abbrev pub view_byte : Option View → ℕ
@@ -68,7 +68,7 @@ projection_byte (Include names) = 3
 abbrev pub projection_bytes : Projection → List ℕ
 projection_bytes All = projection_byte All ∷ []
 projection_bytes KeysOnly = projection_byte KeysOnly ∷ []
-projection_bytes (Include names) = projection_byte (Include names) ∷ counted field names
+projection_bytes (Include names) = projection_byte (Include names) ∷ counted_list field names
 
 -- an index: its name, its family, its keys and what it keeps
 abbrev pub index_bytes : IndexSchema → List ℕ
@@ -84,6 +84,6 @@ head_bytes s = field s.name ++
 unfoldable pub description_bytes : TableSchema → List ℕ
 description_bytes s =
     head_bytes s ++ (view_byte s.view ∷ stream_bytes s.stream_family
-    ++ (counted definition_bytes s.definitions
+    ++ (counted_list definition_bytes s.definitions
     ++ (keys_bytes s.hash s.range ++
-    (counted index_bytes s.locals ++ counted index_bytes s.globals))))
+    (counted_list index_bytes s.locals ++ counted_list index_bytes s.globals))))

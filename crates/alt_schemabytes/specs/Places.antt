@@ -11,7 +11,7 @@ use Rattle.std.specs.List.{AllByRecursion}
 use Rattle.std.specs.Str.{IsUtf8}
 use Rattle.alt_fields.specs.Field.{field, told_length}
 use Rattle.alt_schema.specs.Described.{is_one_of, keys_defined, IsDescription}
-use Rattle.alt_schemabytes.specs.Format.{each, counted, view_byte, stream_bytes, kind_byte, definition_bytes, range_bytes, index_bytes, projection_byte, truth_byte, description_bytes}
+use Rattle.alt_schemabytes.specs.Format.{each, counted_list, view_byte, stream_bytes, kind_byte, definition_bytes, range_bytes, index_bytes, projection_byte, truth_byte, description_bytes}
 use Rattle.alt_schemabytes.specs.Held.{IsHeldText, Where, IsHeldIndex, IsHeld}
 use Rattle.alt_schema.specs.Rules.{is_defined}
 use Rattle.alt_schema.specs.declared.schema.KeyAttr.{KeyAttr}
@@ -22,8 +22,8 @@ use Rattle.alt_schema.specs.declared.schema.TableSchema.{TableSchema}
 -- ---- a single piece that doesn't stand at the front
 
 -- a number of so many bytes is cut off
-abbrev pub NoNumber : ℕ → List ℕ → ℕ → Type 0
-NoNumber width bytes left = (length bytes < width) × (left ≡ 0)
+abbrev pub NoNumberOfWidth : ℕ → List ℕ → ℕ → Type 0
+NoNumberOfWidth width bytes left = (length bytes < width) × (left ≡ 0)
 
 -- a text is cut off, or a field stands there whose content isn't one that fits
 pub data NoText (Fits : List ℕ → Type 0) (bytes : List ℕ) (left : ℕ) : Type 0 where
@@ -68,7 +68,7 @@ pub record Fewer {A : Type 0} (bytes_of : A → List ℕ) (Is : List A → A →
 abbrev pub NoCounted : {A : Type 0} → (A → List ℕ) → (List A → A → Type 0)
     → (List A → List ℕ → ℕ → Type 0) → List ℕ → ℕ → Type 0
 NoCounted bytes_of Is NoNext =
-    Unfinished (to_be_bytes w64) (λ count. count < 2 ^ 64) (NoNumber 8) (Fewer bytes_of Is NoNext)
+    Unfinished (to_be_bytes w64) (λ count. count < 2 ^ 64) (NoNumberOfWidth 8) (Fewer bytes_of Is NoNext)
 
 -- ---- definitions and keys
 
@@ -95,12 +95,12 @@ NoDefinition before =
     (λ name. NoByte kind_byte)
 
 -- a key attribute: its name is defined, with its kind
-abbrev pub IsKey : List KeyAttr → KeyAttr → Type 0
-IsKey definitions k = IsHeldText k.name × (is_one_of definitions k ≡ true)
+abbrev pub IsDefinedKey : List KeyAttr → KeyAttr → Type 0
+IsDefinedKey definitions k = IsHeldText k.name × (is_one_of definitions k ≡ true)
 
 -- the bytes of a key attribute: the field of its name
-abbrev pub key_bytes : KeyAttr → List ℕ
-key_bytes k = field k.name
+abbrev pub key_attribute_bytes : KeyAttr → List ℕ
+key_attribute_bytes k = field k.name
 
 -- a key attribute: a name that is defined
 abbrev pub NoKey : List KeyAttr → List ℕ → ℕ → Type 0
@@ -132,9 +132,9 @@ IsIndex definitions i = IsHeldIndex i × (keys_defined definitions i.hash i.rang
 abbrev pub NoIndex : List KeyAttr → List ℕ → ℕ → Type 0
 NoIndex definitions =
     Unfinished field IsHeldText (NoText AnyText) (λ name.
-    Unfinished (to_be_bytes w32) (λ family. family < 2 ^ 32) (NoNumber 4) (λ family.
-    Unfinished key_bytes (IsKey definitions) (NoKey definitions) (λ hash.
-    Unfinished range_bytes (Where (IsKey definitions)) (NoRange definitions) (λ range.
+    Unfinished (to_be_bytes w32) (λ family. family < 2 ^ 32) (NoNumberOfWidth 4) (λ family.
+    Unfinished key_attribute_bytes (IsDefinedKey definitions) (NoKey definitions) (λ hash.
+    Unfinished range_bytes (Where (IsDefinedKey definitions)) (NoRange definitions) (λ range.
     NoProjection))))
 
 -- a count, and so many indexes
@@ -147,7 +147,7 @@ NoIndexes definitions =
 -- the stream's family, where there is a stream
 abbrev pub NoStream : Option View → List ℕ → ℕ → Type 0
 NoStream None bytes left = ⊥
-NoStream (Some view) bytes left = NoNumber 4 bytes left
+NoStream (Some view) bytes left = NoNumberOfWidth 4 bytes left
 
 -- a stream's family of four bytes stands exactly where there is a stream
 abbrev pub IsStream : Option View → Option ℕ → Type 0
@@ -156,9 +156,9 @@ IsStream view family = (is_some family ≡ is_some view) × Where (λ f. f < 2 ^
 -- the keys of the table, its local indexes and its global ones
 abbrev pub NoKeyed : List KeyAttr → List ℕ → ℕ → Type 0
 NoKeyed definitions =
-    Unfinished key_bytes (IsKey definitions) (NoKey definitions) (λ hash.
-    Unfinished range_bytes (Where (IsKey definitions)) (NoRange definitions) (λ range.
-    Unfinished (counted index_bytes) (AllByRecursion (IsIndex definitions)) (NoIndexes definitions)
+    Unfinished key_attribute_bytes (IsDefinedKey definitions) (NoKey definitions) (λ hash.
+    Unfinished range_bytes (Where (IsDefinedKey definitions)) (NoRange definitions) (λ range.
+    Unfinished (counted_list index_bytes) (AllByRecursion (IsIndex definitions)) (NoIndexes definitions)
     (λ locals. NoIndexes definitions)))
 
 -- the name, the moment, the number, the family, the view and the stream's family; then the
@@ -166,12 +166,12 @@ NoKeyed definitions =
 abbrev pub NoDescription : List ℕ → ℕ → Type 0
 NoDescription =
     Unfinished field IsHeldText (NoText AnyText) (λ name.
-    Unfinished (to_be_bytes w64) (λ created. created < 2 ^ 64) (NoNumber 8) (λ created.
-    Unfinished (to_be_bytes w64) (λ number. number < 2 ^ 64) (NoNumber 8) (λ number.
-    Unfinished (to_be_bytes w32) (λ family. family < 2 ^ 32) (NoNumber 4) (λ family.
+    Unfinished (to_be_bytes w64) (λ created. created < 2 ^ 64) (NoNumberOfWidth 8) (λ created.
+    Unfinished (to_be_bytes w64) (λ number. number < 2 ^ 64) (NoNumberOfWidth 8) (λ number.
+    Unfinished (to_be_bytes w32) (λ family. family < 2 ^ 32) (NoNumberOfWidth 4) (λ family.
     Unfinished (λ view. view_byte view ∷ []) (λ view. Unit {0}) (NoByte view_byte) (λ view.
     Unfinished stream_bytes (IsStream view) (NoStream view) (λ stream.
-    Unfinished (counted definition_bytes) (AllNext IsNextDefinition [])
+    Unfinished (counted_list definition_bytes) (AllNext IsNextDefinition [])
     (NoCounted definition_bytes IsNextDefinition NoDefinition) NoKeyed))))))
 
 -- no description begins with these bytes
@@ -190,7 +190,7 @@ pub record NoFurther (bytes : List ℕ) (at : ℕ) : Type 0 where
 -- The place where bytes are bad: they stop there before a description is whole, or something stands
 -- behind one; and where bytes stand at the place, no description begins with those up to and with
 -- the piece there.
-pub record IsBadAt (bytes : List ℕ) (at : ℕ) : Type 0 where
+pub record IsBadDescriptionAt (bytes : List ℕ) (at : ℕ) : Type 0 where
   pub stops : ((left : ℕ) × NoDescription bytes left × (at + left ≡ length bytes))
       ⊎ ((s : TableSchema) × (behind : List ℕ) × IsDescription s × (0 < length behind)
       × (bytes ≡ description_bytes s ++ behind) × (at ≡ length (description_bytes s)))

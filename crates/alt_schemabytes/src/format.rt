@@ -1,9 +1,9 @@
 //! The bytes of a description, as docs/formats/descriptions.md lays them out.
 
-ghost use Rattle.std.specs.Prelude.{◌≡◌, ◌++◌, ◌∷◌, [], OnOk, OnErr};
+ghost use Rattle.std.specs.Prelude.{◌≡◌, ◌++◌, ◌∷◌, OnOk, OnErr};
 ghost use Rattle.alt_base.specs.Prefix.{IsPrefix};
 ghost use Rattle.alt_fields.specs.Field.{field};
-ghost use Rattle.alt_schemabytes.specs.Format.{each, counted, view_byte, stream_bytes, kind_byte, definition_bytes, range_bytes, keys_bytes, projection_bytes, index_bytes, head_bytes, description_bytes};
+ghost use Rattle.alt_schemabytes.specs.Format.{each, counted_list, view_byte, stream_bytes, kind_byte, definition_bytes, range_bytes, keys_bytes, projection_bytes, index_bytes, head_bytes, description_bytes};
 
 use alt_base::NoMemory;
 use alt_fields::{put_bytes, put_u32, put_u64};
@@ -66,7 +66,7 @@ fn view_byte(view: Option<View>) -> u8
 
 fn put_definitions(out: &mut Vec<u8>, definitions: &[KeyAttr]) -> Result<(), NoMemory>
     ensures appended { OnOk result
-        (out.new.items ≡ out.old.items ++ counted definition_bytes definitions.now) }
+        (out.new.items ≡ out.old.items ++ counted_list definition_bytes definitions.now) }
     ensures begun { OnErr result (IsPrefix out.old.items out.new.items) }
 {
     put_u64(out, definitions.len() as u64)?;
@@ -131,7 +131,7 @@ fn put_range(out: &mut Vec<u8>, range: &Option<KeyAttr>) -> Result<(), NoMemory>
 
 fn put_indexes(out: &mut Vec<u8>, indexes: &[IndexSchema]) -> Result<(), NoMemory>
     ensures appended { OnOk result
-        (out.new.items ≡ out.old.items ++ counted index_bytes indexes.now) }
+        (out.new.items ≡ out.old.items ++ counted_list index_bytes indexes.now) }
     ensures begun { OnErr result (IsPrefix out.old.items out.new.items) }
 {
     put_u64(out, indexes.len() as u64)?;
@@ -180,7 +180,7 @@ fn put_projection(out: &mut Vec<u8>, projection: &Projection) -> Result<(), NoMe
 }
 
 fn put_names(out: &mut Vec<u8>, names: &[Text]) -> Result<(), NoMemory>
-    ensures appended { OnOk result (out.new.items ≡ out.old.items ++ counted field names.now) }
+    ensures appended { OnOk result (out.new.items ≡ out.old.items ++ counted_list field names.now) }
     ensures begun { OnErr result (IsPrefix out.old.items out.new.items) }
 {
     put_u64(out, names.len() as u64)?;

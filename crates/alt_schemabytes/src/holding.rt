@@ -1,6 +1,6 @@
 //! What holds of each description that the program has, and what the reading of its bytes rests on.
 
-ghost use Rattle.std.specs.Prelude.{◌≡◌, ◌<◌, ◌^◌, length};
+ghost use Rattle.std.specs.Prelude.{◌<◌, ◌^◌, length};
 ghost use Rattle.std.specs.List.{AllByRecursion};
 ghost use Rattle.alt_schemabytes.specs.Held.{IsHeldText, Where, IsHeldBuilt, IsHeldProjection, IsHeldIndex, IsHeld};
 

@@ -5,8 +5,8 @@ ghost use Rattle.alt_schema.specs.Bare.{bare};
 ghost use Rattle.alt_schema.specs.Described.{IsDescription};
 ghost use Rattle.alt_schemabytes.specs.Format.{view_byte, description_bytes};
 ghost use Rattle.alt_schemabytes.specs.Held.{IsHeld, IsReadAs, OneSpelling};
-ghost use Rattle.alt_schemabytes.specs.Parts.{got, StopsAs, StopsAt, read_byte, read_more, read_counted, read_projection, read_index, views, read_stream, read_head, read_keyed, joined, read_description};
-ghost use Rattle.alt_schemabytes.specs.Places.{IsBadAt};
+ghost use Rattle.alt_schemabytes.specs.Parts.{got, StopsAs, StopsAt, read_byte, read_more, read_counted, read_projection, read_index, views, read_stream, read_description_head, read_keyed, joined_description, read_description};
+ghost use Rattle.alt_schemabytes.specs.Places.{IsBadDescriptionAt};
 
 use crate::parts::{
     Stop, take_definitions, take_key, take_names, take_range, take_text, take_u32, take_u64,
@@ -25,7 +25,7 @@ use std::alloc::Global;
 pub fn schema_of_bytes(alloc: Global, bytes: &[u8]) -> Result<TableSchema, BytesFault>
     ensures description { IfOk result (λ s. IsDescription s × (bytes.now ≡ description_bytes s)) }
     ensures bare { IfOk result (λ s. bare s ≡ s) }
-    ensures place { (at : ℕ) → result ≡ Err (BytesFault.Bad at) → IsBadAt bytes.now at }
+    ensures place { (at : ℕ) → result ≡ Err (BytesFault.Bad at) → IsBadDescriptionAt bytes.now at }
     // So the bytes of a description are never bad.
     ensures again { (s : TableSchema) → IsDescription s → IsHeld s
         → bytes.now ≡ description_bytes s → IsReadAs s result }
@@ -73,7 +73,7 @@ pub struct Head {
 }
 
 fn joined(head: Head, definitions: KeyAttrList, keyed: Keyed) -> TableSchema
-    ensures { result ≡ joined head definitions keyed }
+    ensures { result ≡ joined_description head definitions keyed }
 {
     TableSchema {
         name: head.name,
@@ -122,10 +122,10 @@ fn take_keyed<'b>(
     Ok((keyed, rest))
 }
 
-#[tactic(auto, unfolding(crate::specs::Parts::read_head))]
+#[tactic(auto, unfolding(crate::specs::Parts::read_description_head))]
 fn take_head(alloc: Global, bytes: &[u8]) -> Result<(Head, &[u8]), Stop>
-    ensures part { IfOk result (λ p. read_head bytes.now ≡ got p.0 p.1.now) }
-    ensures stop { IfErr result (StopsAs (read_head bytes.now)) }
+    ensures part { IfOk result (λ p. read_description_head bytes.now ≡ got p.0 p.1.now) }
+    ensures stop { IfErr result (StopsAs (read_description_head bytes.now)) }
 {
     let (name, rest) = take_text(bytes)?;
     let (created, rest) = take_u64(rest)?;

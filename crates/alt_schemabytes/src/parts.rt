@@ -1,6 +1,6 @@
 //! The parts of a description's bytes, each read at the front of bytes, with what is behind it.
 
-ghost use Rattle.std.specs.Prelude.{◌≡◌, ◌∷◌, [], false, IfOk, IfErr, not};
+ghost use Rattle.std.specs.Prelude.{◌≡◌, [], false, IfOk, IfErr, not};
 ghost use Rattle.alt_schemabytes.specs.Format.{kind_byte, truth_byte};
 ghost use Rattle.alt_schema.specs.Rules.{is_defined};
 ghost use Rattle.alt_schemabytes.specs.Parts.{got, StopsAs, read_u64, read_u32, read_field, read_name, any_name, read_byte, read_more, read_counted, kinds, read_definition, read_key, truths, read_range};

@@ -6,7 +6,7 @@ use Rattle.std.specs.Str.{bytes_eq}
 use Rattle.serde_json.specs.Data.{Members}
 use Rattle.alt_shape.specs.declared.rule.Broken.{Broken}
 use Rattle.alt_shape.specs.declared.rule.Rule.{Rule}
-use Rattle.alt_shape.specs.Shape.{Demand, demand_of, unmet_by, broken_at, KeepsAll, is_among, or_next, first_unmet}
+use Rattle.alt_shape.specs.Shape.{Demand, demand_of, unmet_by, broken_at, KeepsAll, is_among, or_next_fault, first_unmet}
 
 -- a search among borrowed words is one among the words
 pub is_among_map : (words : List (Bor (List ℕ))) (s : List ℕ)
@@ -15,12 +15,12 @@ is_among_map [] s = refl
 is_among_map (word ∷ words) s = ap (λ b. bytes_eq word.now s || b) (is_among_map words s)
 
 -- where neither of two faults is there, the first isn't
-pub or_next_first : (first second : Option Broken) → or_next first second ≡ None → first ≡ None
+pub or_next_first : (first second : Option Broken) → or_next_fault first second ≡ None → first ≡ None
 or_next_first None second none = refl
 or_next_first (Some broken) second none = none
 
 -- and the second isn't
-pub or_next_second : (first second : Option Broken) → or_next first second ≡ None → second ≡ None
+pub or_next_second : (first second : Option Broken) → or_next_fault first second ≡ None → second ≡ None
 or_next_second None second none = none
 or_next_second (Some broken) second none = absurd (cc)
 
@@ -29,7 +29,7 @@ pub first_unmet_none : (rules : List Rule) (ms : Members) → KeepsAll rules ms
     → first_unmet (map demand_of rules) ms ≡ None
 first_unmet_none [] ms kept = refl
 first_unmet_none (rule ∷ rules) ms kept =
-    ap (λ o. or_next o (first_unmet (map demand_of rules) ms)) (kept 0)
+    ap (λ o. or_next_fault o (first_unmet (map demand_of rules) ms)) (kept 0)
     ∙ first_unmet_none rules ms (λ place. kept (suc place))
 
 -- where a rule is broken and none before it, so is its demand
@@ -38,9 +38,9 @@ pub first_unmet_some : (rules : List Rule) (ms : Members) (place : ℕ) (broken 
     → first_unmet (map demand_of rules) ms ≡ Some broken
 first_unmet_some [] ms place broken is least = is
 first_unmet_some (rule ∷ rules) ms zero broken is least =
-    ap (λ o. or_next o (first_unmet (map demand_of rules) ms)) is
+    ap (λ o. or_next_fault o (first_unmet (map demand_of rules) ms)) is
 first_unmet_some (rule ∷ rules) ms (suc place) broken is least =
-    ap (λ o. or_next o (first_unmet (map demand_of rules) ms)) (least 0 (omega arith))
+    ap (λ o. or_next_fault o (first_unmet (map demand_of rules) ms)) (least 0 (omega arith))
     ∙ first_unmet_some rules ms place broken is (λ k below. least (suc k) (omega arith))
 
 -- where no demand is unmet, none at any place is

@@ -1,63 +1,10 @@
 -- How the body of each operation first breaks its shape, the objects inside it included: DynamoDB API
 -- Reference, the "Request Parameters" of each action (docs/API.md).
-use Rattle.std.specs.Prelude.{ℕ, List, [], ◌∷◌, ◌++◌, true, false, not, Option, Some, None, codes, if◌then◌else◌, is_some, option_and_then}
-use Rattle.std.specs.Option.{option_map_or}
-use Rattle.serde_json.specs.Data.{Data, Items, no_items, item, Members, no_members, member}
-use Rattle.serde_json.specs.Find.{as_str, as_array, as_object}
+use Rattle.std.specs.Prelude.{ℕ, List, [], ◌∷◌, ◌++◌, not, Option, codes, is_some}
+use Rattle.serde_json.specs.Data.{Items, Members}
 use Rattle.alt_shape.specs.declared.rule.Broken.{Broken}
-use Rattle.alt_shape.specs.declared.rule.Broken.TheVariants.{WrongKind}
-use Rattle.alt_shape.specs.Shape.{Form, a_text, a_whole, a_truth, an_object, an_array, a_word, Demand, given, or_next, first_unmet}
-
--- ---- demands
-
--- a member that has to be there
-abbrev pub required : List ℕ → Form → Demand
-required name form = record { name = name; form = form; must = true }
-
--- a member that may be there
-abbrev pub optional : List ℕ → Form → Demand
-optional name form = record { name = name; form = form; must = false }
-
--- ---- inside a value
-
--- the first fault of a list
-abbrev pub first_of : List (Option Broken) → Option Broken
-first_of [] = None
-first_of (fault ∷ faults) = or_next fault (first_of faults)
-
--- the first fault among the items of an array, in list order
-abbrev pub in_items : (Data → Option Broken) → Items → Option Broken
-in_items fault no_items = None
-in_items fault (item d ds) = or_next (fault d) (in_items fault ds)
-
--- the first fault among the members of an object, by name in byte order
-abbrev pub in_members : (Data → Option Broken) → Members → Option Broken
-in_members fault no_members = None
-in_members fault (member name d ms) = or_next (fault d) (in_members fault ms)
-
--- a value that has to be a text
-abbrev pub text_fault : Data → Option Broken
-text_fault d = if is_some (as_str d) then None else Some WrongKind
-
--- a value that has to be an object
-abbrev pub key_fault : Data → Option Broken
-key_fault d = if is_some (as_object d) then None else Some WrongKind
-
--- a value that has to be an object whose members have no fault
-abbrev pub object_fault : (Members → Option Broken) → Data → Option Broken
-object_fault inside d = option_map_or inside (as_object d) (Some WrongKind)
-
--- a value that has to be an array whose items have no fault
-abbrev pub array_fault : (Items → Option Broken) → Data → Option Broken
-array_fault inside d = option_map_or inside (as_array d) (Some WrongKind)
-
--- a member that is an array, where it is there
-abbrev pub in_array : List ℕ → (Items → Option Broken) → Members → Option Broken
-in_array name inside ms = option_map_or inside (option_and_then as_array (given name ms)) None
-
--- a member that is an object, where it is there
-abbrev pub in_object : List ℕ → (Members → Option Broken) → Members → Option Broken
-in_object name inside ms = option_map_or inside (option_and_then as_object (given name ms)) None
+use Rattle.alt_shape.specs.Shape.{a_text, a_whole, a_truth, an_object, an_array, a_word, Demand, given, first_unmet}
+use Rattle.alt_shape.specs.BodyParts.{required, optional, first_shape_fault, in_items, in_members, text_fault, key_fault, object_fault, array_fault, in_array, in_object, condition_entry, expected_entry, update_entry, in_entries, in_names, operator_demand}
 
 -- ---- operations on tables
 
@@ -89,7 +36,7 @@ attribute_definition = first_unmet (
 
 -- a Projection: its type, and the names that it includes, which are texts
 abbrev pub projection : Members → Option Broken
-projection ms = first_of (
+projection ms = first_shape_fault (
     first_unmet (
     required (codes "ProjectionType")
     (a_word (codes "ALL" ∷ codes "KEYS_ONLY" ∷ codes "INCLUDE" ∷ [])) ∷
@@ -98,7 +45,7 @@ projection ms = first_of (
 
 -- an index: its own members, then its key schema, then its projection
 abbrev pub secondary_index : Members → Option Broken
-secondary_index ms = first_of (
+secondary_index ms = first_shape_fault (
     first_unmet (
     required (codes "IndexName") a_text ∷
     required (codes "KeySchema") an_array ∷
@@ -107,18 +54,18 @@ secondary_index ms = first_of (
     in_object (codes "Projection") projection ms ∷ [])
 
 -- the words of StreamViewType
-abbrev pub views : List (List ℕ)
-views = codes "KEYS_ONLY" ∷ codes "NEW_IMAGE" ∷ codes "OLD_IMAGE" ∷ codes "NEW_AND_OLD_IMAGES" ∷ []
+abbrev pub stream_view_words : List (List ℕ)
+stream_view_words = codes "KEYS_ONLY" ∷ codes "NEW_IMAGE" ∷ codes "OLD_IMAGE" ∷ codes "NEW_AND_OLD_IMAGES" ∷ []
 
 -- whether there is a stream, and what it shows
 abbrev pub stream_specification : Members → Option Broken
 stream_specification = first_unmet (
     required (codes "StreamEnabled") a_truth ∷
-    optional (codes "StreamViewType") (a_word views) ∷ [])
+    optional (codes "StreamViewType") (a_word stream_view_words) ∷ [])
 
 -- CreateTable: its own members, then the objects inside them in their order
 unfoldable pub create_table : Members → Option Broken
-create_table ms = first_of (
+create_table ms = first_shape_fault (
     first_unmet create_table_demands ms ∷
     in_array (codes "KeySchema") key_schema ms ∷
     in_array (codes "AttributeDefinitions") (in_items (object_fault attribute_definition)) ms ∷
@@ -128,7 +75,7 @@ create_table ms = first_of (
 
 -- a change of an index: one that comes, as CreateTable has it, one whose throughput changes, or one that goes, by its name
 abbrev pub index_update : Members → Option Broken
-index_update ms = first_of (
+index_update ms = first_shape_fault (
     first_unmet (
     optional (codes "Create") an_object ∷
     optional (codes "Update") an_object ∷
@@ -138,7 +85,7 @@ index_update ms = first_of (
 
 -- UpdateTable names a table, and may define attributes and change indexes
 unfoldable pub update_table : Members → Option Broken
-update_table ms = first_of (
+update_table ms = first_shape_fault (
     first_unmet (
     required (codes "TableName") a_text ∷
     optional (codes "AttributeDefinitions") an_array ∷
@@ -160,48 +107,6 @@ list_tables = first_unmet (
     optional (codes "ExclusiveStartTableName") a_text ∷
     optional (codes "Limit") (a_whole 1 100) ∷ [])
 
--- ---- members of the older interface
-
--- the words of ComparisonOperator
-abbrev pub operators : List (List ℕ)
-operators =
-    codes "EQ" ∷ codes "NE" ∷ codes "LT" ∷ codes "LE" ∷ codes "GT" ∷ codes "GE" ∷
-    codes "BETWEEN" ∷ codes "IN" ∷ codes "NOT_NULL" ∷ codes "NULL" ∷ codes "CONTAINS" ∷
-    codes "NOT_CONTAINS" ∷ codes "BEGINS_WITH" ∷ []
-
--- an entry of a condition: an operator and its values
-abbrev pub condition_entry : Members → Option Broken
-condition_entry = first_unmet (
-    required (codes "ComparisonOperator") (a_word operators) ∷
-    optional (codes "AttributeValueList") an_array ∷ [])
-
--- an entry of Expected: a value, or an operator and its values
-abbrev pub expected_entry : Members → Option Broken
-expected_entry = first_unmet (
-    optional (codes "Value") an_object ∷
-    optional (codes "Exists") a_truth ∷
-    optional (codes "ComparisonOperator") (a_word operators) ∷
-    optional (codes "AttributeValueList") an_array ∷ [])
-
--- an entry of AttributeUpdates: what is done, and with which value
-abbrev pub update_entry : Members → Option Broken
-update_entry = first_unmet (
-    optional (codes "Action") (a_word (codes "PUT" ∷ codes "ADD" ∷ codes "DELETE" ∷ [])) ∷
-    optional (codes "Value") an_object ∷ [])
-
--- the entries at a member, by the names of their attributes
-abbrev pub in_entries : List ℕ → (Members → Option Broken) → Members → Option Broken
-in_entries name entry = in_object name (in_members (object_fault entry))
-
--- the names to show are texts
-abbrev pub in_names : Members → Option Broken
-in_names = in_array (codes "AttributesToGet") (in_items text_fault)
-
--- how entries are joined
-abbrev pub operator_demand : Demand
-operator_demand =
-    optional (codes "ConditionalOperator") (a_word (codes "AND" ∷ codes "OR" ∷ []))
-
 -- ---- operations on an item
 
 -- the members of every write of one item, after those that are its own
@@ -218,7 +123,7 @@ write_demands return_values updates =
 
 -- PutItem gives an item
 unfoldable pub put_item : Members → Option Broken
-put_item ms = first_of (
+put_item ms = first_shape_fault (
     first_unmet (
     required (codes "TableName") a_text ∷
     required (codes "Item") an_object ∷
@@ -227,7 +132,7 @@ put_item ms = first_of (
 
 -- DeleteItem gives a key
 unfoldable pub delete_item : Members → Option Broken
-delete_item ms = first_of (
+delete_item ms = first_shape_fault (
     first_unmet (
     required (codes "TableName") a_text ∷
     required (codes "Key") an_object ∷
@@ -236,7 +141,7 @@ delete_item ms = first_of (
 
 -- UpdateItem gives a key and what to do with its item
 unfoldable pub update_item : Members → Option Broken
-update_item ms = first_of (
+update_item ms = first_shape_fault (
     first_unmet (
     required (codes "TableName") a_text ∷
     required (codes "Key") an_object ∷
@@ -249,7 +154,7 @@ update_item ms = first_of (
 
 -- GetItem gives a key and what to show of its item
 unfoldable pub get_item : Members → Option Broken
-get_item ms = first_of (
+get_item ms = first_shape_fault (
     first_unmet (
     required (codes "TableName") a_text ∷
     required (codes "Key") an_object ∷
@@ -297,14 +202,14 @@ own_of_query ms = first_unmet (
 
 -- Query gives a condition on keys, and what to show of the items found
 unfoldable pub query : Members → Option Broken
-query ms = first_of (own_of_query ms ∷
+query ms = first_shape_fault (own_of_query ms ∷
     in_entries (codes "KeyConditions") condition_entry ms ∷
     in_entries (codes "QueryFilter") condition_entry ms ∷
     in_names ms ∷ [])
 
 -- Scan says which part of a table to walk through, and what to show of it
 unfoldable pub scan : Members → Option Broken
-scan ms = first_of (
+scan ms = first_shape_fault (
     first_unmet (
     required (codes "TableName") a_text ∷
     optional (codes "IndexName") a_text ∷
@@ -336,7 +241,7 @@ delete_request = first_unmet (required (codes "Key") an_object ∷ [])
 
 -- a write in a batch: a put, then a delete
 abbrev pub write_request : Members → Option Broken
-write_request ms = first_of (
+write_request ms = first_shape_fault (
     first_unmet (
     optional (codes "PutRequest") an_object ∷
     optional (codes "DeleteRequest") an_object ∷ []) ms ∷
@@ -345,14 +250,14 @@ write_request ms = first_of (
 
 -- BatchWriteItem gives writes by table
 unfoldable pub batch_write_item : Members → Option Broken
-batch_write_item ms = first_of (
+batch_write_item ms = first_shape_fault (
     first_unmet (required (codes "RequestItems") an_object ∷ []) ms ∷
     in_object (codes "RequestItems")
     (in_members (array_fault (in_items (object_fault write_request)))) ms ∷ [])
 
 -- the reads of one table in a batch: its own members, then the keys, then the names to show
 abbrev pub keys_and_attributes : Members → Option Broken
-keys_and_attributes ms = first_of (
+keys_and_attributes ms = first_shape_fault (
     first_unmet (
     required (codes "Keys") an_array ∷
     optional (codes "ProjectionExpression") a_text ∷
@@ -364,7 +269,7 @@ keys_and_attributes ms = first_of (
 
 -- BatchGetItem gives reads by table
 unfoldable pub batch_get_item : Members → Option Broken
-batch_get_item ms = first_of (
+batch_get_item ms = first_shape_fault (
     first_unmet (required (codes "RequestItems") an_object ∷ []) ms ∷
     in_object (codes "RequestItems") (in_members (object_fault keys_and_attributes)) ms ∷ [])
 

@@ -1,5 +1,6 @@
 pub mod Bodies
 pub mod Body
+pub mod BodyParts
 pub mod ObjectPieces
 pub mod Objects
 pub mod Pieces

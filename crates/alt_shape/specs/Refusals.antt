@@ -12,15 +12,15 @@ use Rattle.alt_shape.specs.declared.rule.Broken.{Broken}
 use Rattle.alt_shape.specs.declared.rule.Broken.TheVariants.{WrongKind, Missing, OutOfRange}
 
 -- the text of `__type`: the one prefix, and the name of the exception
-abbrev pub name_of : Refusal → List ℕ
-name_of E1 = codes "com.amazonaws.dynamodb.v20120810#UnknownOperationException"
-name_of E2 = codes "com.amazonaws.dynamodb.v20120810#SerializationException"
-name_of E4 = codes "com.amazonaws.dynamodb.v20120810#ResourceNotFoundException"
-name_of E5 = codes "com.amazonaws.dynamodb.v20120810#ResourceInUseException"
-name_of E6 = codes "com.amazonaws.dynamodb.v20120810#ConditionalCheckFailedException"
-name_of E7 = codes "com.amazonaws.dynamodb.v20120810#LimitExceededException"
-name_of E8 = codes "com.amazonaws.dynamodb.v20120810#TrimmedDataAccessException"
-name_of (Invalid number) = codes "com.amazonaws.dynamodb.v20120810#ValidationException"
+abbrev pub exception_type : Refusal → List ℕ
+exception_type E1 = codes "com.amazonaws.dynamodb.v20120810#UnknownOperationException"
+exception_type E2 = codes "com.amazonaws.dynamodb.v20120810#SerializationException"
+exception_type E4 = codes "com.amazonaws.dynamodb.v20120810#ResourceNotFoundException"
+exception_type E5 = codes "com.amazonaws.dynamodb.v20120810#ResourceInUseException"
+exception_type E6 = codes "com.amazonaws.dynamodb.v20120810#ConditionalCheckFailedException"
+exception_type E7 = codes "com.amazonaws.dynamodb.v20120810#LimitExceededException"
+exception_type E8 = codes "com.amazonaws.dynamodb.v20120810#TrimmedDataAccessException"
+exception_type (Invalid number) = codes "com.amazonaws.dynamodb.v20120810#ValidationException"
 
 -- the messages of ValidationException, by number from 0
 abbrev pub messages : List (List ℕ)
@@ -89,8 +89,8 @@ abbrev pub too_many_tables : Refusal
 too_many_tables = E7
 
 -- "the change records were trimmed"
-abbrev pub trimmed : Refusal
-trimmed = E8
+abbrev pub change_records_trimmed : Refusal
+change_records_trimmed = E8
 
 -- "not built yet"
 abbrev pub not_built : Refusal
@@ -278,24 +278,24 @@ abbrev pub refused : Refusal → Answer
 refused r = record {
   status = 400;
   body = object
-      (member (codes "__type") (string (name_of r))
+      (member (codes "__type") (string (exception_type r))
       (member (codes "message") (string (message_of r)) no_members));
 }
 
 -- the answer to a request that was refused, which shows an item
-abbrev pub refused_with : Data → Refusal → Answer
-refused_with shown r = record {
+abbrev pub refused_showing_item : Data → Refusal → Answer
+refused_showing_item shown r = record {
   status = 400;
   body = object
       (member (codes "Item") shown
-      (member (codes "__type") (string (name_of r))
+      (member (codes "__type") (string (exception_type r))
       (member (codes "message") (string (message_of r)) no_members)));
 }
 
 -- the one or the other, whether there is an item
 abbrev pub refused_as : Option (List Pair) → Refusal → Answer
 refused_as None r = refused r
-refused_as (Some i) r = refused_with (json_of_pairs i) r
+refused_as (Some i) r = refused_showing_item (json_of_pairs i) r
 
 -- the refusal of a body that breaks a rule
 abbrev pub refusal_of : Broken → Refusal

@@ -30,17 +30,17 @@ pub record Demand : Type 0 where
 -- ---- the rules of the program, as demands
 
 -- the form of a rule's kind
-abbrev pub form_of : Kind → Form
-form_of Text = a_text
-form_of (Whole least most) = a_whole least most
-form_of Truth = a_truth
-form_of Object = an_object
-form_of Array = an_array
-form_of (Word words) = a_word (map (λ w. w.now) words.now)
+abbrev pub form_of_kind : Kind → Form
+form_of_kind Text = a_text
+form_of_kind (Whole least most) = a_whole least most
+form_of_kind Truth = a_truth
+form_of_kind Object = an_object
+form_of_kind Array = an_array
+form_of_kind (Word words) = a_word (map (λ w. w.now) words.now)
 
 -- what a rule asks
 abbrev pub demand_of : Rule → Demand
-demand_of rule = record { name = rule.name.now; form = form_of rule.kind; must = rule.must }
+demand_of rule = record { name = rule.name.now; form = form_of_kind rule.kind; must = rule.must }
 
 -- ---- what a member holds
 
@@ -69,13 +69,13 @@ natural_of d = option_and_then as_u64 (as_number d)
 -- ---- forms
 
 -- the value has the JSON kind of the form
-abbrev pub has_kind : Form → Data → Bool
-has_kind a_text d = is_some (as_str d)
-has_kind (a_whole least most) d = is_some (integer_of d)
-has_kind a_truth d = is_some (as_bool d)
-has_kind an_object d = is_some (as_object d)
-has_kind an_array d = is_some (as_array d)
-has_kind (a_word words) d = is_some (as_str d)
+abbrev pub has_json_kind : Form → Data → Bool
+has_json_kind a_text d = is_some (as_str d)
+has_json_kind (a_whole least most) d = is_some (integer_of d)
+has_json_kind a_truth d = is_some (as_bool d)
+has_json_kind an_object d = is_some (as_object d)
+has_json_kind an_array d = is_some (as_array d)
+has_json_kind (a_word words) d = is_some (as_str d)
 
 -- an integer lies from `least` to `most`
 abbrev pub lies_within : ℕ → ℕ → ℤ → Bool
@@ -87,20 +87,20 @@ abbrev pub is_among : List (List ℕ) → List ℕ → Bool
 is_among words s = list_any (λ w. bytes_eq w s) words
 
 -- the integer or the text of a value of the form's kind is in the form's range
-abbrev pub in_range : Form → Data → Bool
-in_range a_text d = true
-in_range (a_whole least most) d = option_map_or (lies_within least most) (integer_of d) false
-in_range a_truth d = true
-in_range an_object d = true
-in_range an_array d = true
-in_range (a_word words) d = option_map_or (is_among words) (as_str d) false
+abbrev pub in_form_range : Form → Data → Bool
+in_form_range a_text d = true
+in_form_range (a_whole least most) d = option_map_or (lies_within least most) (integer_of d) false
+in_form_range a_truth d = true
+in_form_range an_object d = true
+in_form_range an_array d = true
+in_form_range (a_word words) d = option_map_or (is_among words) (as_str d) false
 
 -- ---- broken rules
 
 -- how a value breaks a form, if it does
 abbrev pub misfit_of : Form → Data → Option Broken
 misfit_of form d =
-    if has_kind form d then (if in_range form d then None else Some OutOfRange) else Some WrongKind
+    if has_json_kind form d then (if in_form_range form d then None else Some OutOfRange) else Some WrongKind
 
 -- how a member that has to be there, or may be, breaks its form, if it does
 abbrev pub fault_of : Form → Bool → Option Data → Option Broken
@@ -124,16 +124,16 @@ abbrev pub KeepsAll : List Rule → Members → Type 0
 KeepsAll rules ms = (place : ℕ) → broken_at rules ms place ≡ None
 
 -- a fault names the least place at which a rule is broken, and how it is broken there
-pub record IsFirst (rules : List Rule) (ms : Members) (fault : ShapeFault) : Type 0 where
+pub record IsFirstBrokenRule (rules : List Rule) (ms : Members) (fault : ShapeFault) : Type 0 where
   pub broken : broken_at rules ms fault.rule ≡ Some fault.broken
   pub least : (place : ℕ) → place < fault.rule → broken_at rules ms place ≡ None
 
 -- the first fault, and where there is none the second
-abbrev pub or_next : Option Broken → Option Broken → Option Broken
-or_next None second = second
-or_next (Some broken) second = Some broken
+abbrev pub or_next_fault : Option Broken → Option Broken → Option Broken
+or_next_fault None second = second
+or_next_fault (Some broken) second = Some broken
 
 -- how an object breaks the first demand that it breaks, in the order of the list
 abbrev pub first_unmet : List Demand → Members → Option Broken
 first_unmet [] ms = None
-first_unmet (d ∷ demands) ms = or_next (unmet_by ms d) (first_unmet demands ms)
+first_unmet (d ∷ demands) ms = or_next_fault (unmet_by ms d) (first_unmet demands ms)

@@ -5,7 +5,7 @@ ghost use Rattle.std.specs.List.{list_any};
 ghost use Rattle.std.specs.Str.{bytes_eq};
 ghost use Rattle.serde_json.specs.Find.{get_member};
 ghost use Rattle.serde_json.specs.View.{view, members_view};
-ghost use Rattle.alt_shape.specs.Shape.{a_whole, a_word, demand_of, form_of, given, lies_within, is_among, misfit_of, broken_by, KeepsAll, IsFirst, first_unmet};
+ghost use Rattle.alt_shape.specs.Shape.{a_whole, a_word, demand_of, form_of_kind, given, lies_within, is_among, misfit_of, broken_by, KeepsAll, IsFirstBrokenRule, first_unmet};
 
 use crate::rule::{Broken, Kind, Rule, ShapeFault};
 use serde_json::{Map, Value};
@@ -13,7 +13,7 @@ use serde_json::{Map, Value};
 /// Whether an object keeps every rule of a table, and else the first that it breaks.
 pub fn check(rules: &[Rule], body: &Map<String, Value>) -> Result<(), ShapeFault>
     ensures ok { OnOk result (KeepsAll rules.now (members_view body.now.entries)) }
-    ensures first { IfErr result (IsFirst rules.now (members_view body.now.entries)) }
+    ensures first { IfErr result (IsFirstBrokenRule rules.now (members_view body.now.entries)) }
 {
     for (place, rule) in rules.iter().enumerate() {
         if let Some(broken) = rule.broken_by(body) {
@@ -66,7 +66,7 @@ fn member<'v>(body: &'v Map<String, Value>, name: &str) -> Option<&'v Value>
 
 impl Kind {
     fn misfit(&self, value: &Value) -> Option<Broken>
-        ensures { result ≡ misfit_of (form_of self.now) (view value.now) }
+        ensures { result ≡ misfit_of (form_of_kind self.now) (view value.now) }
     {
         match *self {
             Kind::Text => unless(value.is_string()),

@@ -2,7 +2,7 @@
 
 ghost use Rattle.std.specs.Prelude.{◌≡◌, option_map, option_and_then};
 ghost use Rattle.serde_json.specs.Find.{as_bool, as_str, as_array, as_object};
-ghost use Rattle.serde_json.specs.View.{view, items_view, members_view};
+ghost use Rattle.serde_json.specs.View.{items_view, members_view};
 ghost use Rattle.alt_shape.specs.Shape.{given, natural_of};
 
 use crate::checking::given;

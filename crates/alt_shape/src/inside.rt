@@ -3,7 +3,7 @@
 ghost use Rattle.std.specs.Prelude.{◌≡◌, ◌∷◌, [], codes};
 ghost use Rattle.serde_json.specs.View.{view, items_view, members_view};
 ghost use Rattle.alt_shape.specs.Bodies as bodies;
-ghost use Rattle.alt_shape.specs.Bodies.{in_array, in_object, in_items, in_members, object_fault, array_fault, text_fault, key_fault, required};
+ghost use Rattle.alt_shape.specs.BodyParts.{in_array, in_object, in_items, in_members, object_fault, array_fault, text_fault, key_fault, required};
 ghost use Rattle.alt_shape.specs.Shape.{a_text, first_unmet};
 
 use crate::checking::first_broken;

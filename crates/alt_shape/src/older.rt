@@ -2,8 +2,8 @@
 
 ghost use Rattle.std.specs.Prelude.{◌≡◌, codes, map};
 ghost use Rattle.serde_json.specs.View.{view, members_view};
-ghost use Rattle.alt_shape.specs.Bodies as bodies;
-ghost use Rattle.alt_shape.specs.Bodies.{in_entries, in_members, in_names, object_fault};
+ghost use Rattle.alt_shape.specs.BodyParts as parts;
+ghost use Rattle.alt_shape.specs.BodyParts.{in_entries, in_members, in_names, object_fault};
 ghost use Rattle.alt_shape.specs.Shape.{demand_of, first_unmet};
 
 use crate::checking::first_broken;
@@ -15,7 +15,7 @@ use serde_json::{Map, Value};
 
 /// The entries of Expected.
 pub(crate) fn expected(body: &Map<String, Value>) -> Option<Broken>
-    ensures { result ≡ in_entries (codes "Expected") bodies.expected_entry
+    ensures { result ≡ in_entries (codes "Expected") parts.expected_entry
         (members_view body.now.entries) }
 {
     match field!(body, "Expected": object) {
@@ -26,7 +26,7 @@ pub(crate) fn expected(body: &Map<String, Value>) -> Option<Broken>
 
 /// The entries of AttributeUpdates.
 pub(crate) fn updates(body: &Map<String, Value>) -> Option<Broken>
-    ensures { result ≡ in_entries (codes "AttributeUpdates") bodies.update_entry
+    ensures { result ≡ in_entries (codes "AttributeUpdates") parts.update_entry
         (members_view body.now.entries) }
 {
     match field!(body, "AttributeUpdates": object) {
@@ -37,7 +37,7 @@ pub(crate) fn updates(body: &Map<String, Value>) -> Option<Broken>
 
 /// The entries of KeyConditions, QueryFilter or ScanFilter.
 pub(crate) fn conditions(body: &Map<String, Value>, name: &str) -> Option<Broken>
-    ensures { result ≡ in_entries name.now bodies.condition_entry
+    ensures { result ≡ in_entries name.now parts.condition_entry
         (members_view body.now.entries) }
 {
     match object_at(body, name) {

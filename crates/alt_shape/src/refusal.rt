@@ -5,7 +5,7 @@ ghost use Rattle.serde_json.specs.View.{members_view};
 ghost use Rattle.serde_json.specs.Written.{has_float};
 ghost use Rattle.alt_codec.specs.Writing.{json_of_pairs};
 ghost use Rattle.alt_shape.specs.Body.{body_json};
-ghost use Rattle.alt_shape.specs.Refusals.{IsKnown, name_of, message_of, answer_of, answered, refused, refused_as, refused_with, refusal_of};
+ghost use Rattle.alt_shape.specs.Refusals.{IsKnown, exception_type, message_of, answer_of, answered, refused, refused_as, refused_showing_item, refusal_of};
 
 use crate::body::{Body, Member, Part};
 use crate::rule::{Broken, ShapeFault};
@@ -220,7 +220,7 @@ pub fn refuse(alloc: Global, r: Refusal) -> Result<Reply, NoMemory>
 /// The reply to a request that is refused, and in it an item, at a member Item.
 pub fn refuse_with(alloc: Global, r: Refusal, item: Item) -> Result<Reply, NoMemory>
     requires { IsKnown r }
-    ensures told { IfOk result (λ reply. answer_of reply ≡ refused_with (json_of_pairs item) r) }
+    ensures told { IfOk result (λ reply. answer_of reply ≡ refused_showing_item (json_of_pairs item) r) }
     ensures no_float { IfOk result (λ reply. has_float (body_json reply.body) ≡ false) }
 {
     refused_as(alloc, r, Some(item))
@@ -260,7 +260,7 @@ macro_rules! exception {
 }
 
 fn type_text(r: Refusal) -> &'static str
-    ensures { result.now ≡ name_of r }
+    ensures { result.now ≡ exception_type r }
 {
     match r {
         Refusal::E1 => exception!("UnknownOperationException"),

@@ -1,7 +1,7 @@
 -- How logs grow, one stretch of calls after another.
 use Rattle.std.proofs.Common.{◌≡◌, ◌-◌, ℕ, zero, suc, List, [], ◌∷◌, ◌++◌, length, take}
 use Rattle.std.proofs.Common.{Option, Some, None, refl, sym, ap, ◌∙◌, append_assoc, append-nil, length-append, arith}
-use Rattle.alt_shell.specs.Log.{Log, Grows, GrowsBy, StillGrows, Tells, with_told, most_told, entries_of}
+use Rattle.alt_shell.specs.Log.{Log, Grows, GrowsBy, StillGrows, TellsMoments, with_told, most_told, entries_of}
 
 -- entries and then more entries, where they are told
 GrowsBy-then : (a b c : Option Log) (x y : Log) → GrowsBy a b x → GrowsBy b c y
@@ -60,8 +60,8 @@ with_told-then a x y =
     ∙ ap (λ (l : List ℕ). a ++ l) (sym (take-two room x y))
 
 -- so in logs
-pub Tells-then : (a b c : Option (List ℕ)) (x y : List ℕ) → Tells a b x → Tells b c y
-    → Tells a c (x ++ y)
+pub Tells-then : (a b c : Option (List ℕ)) (x y : List ℕ) → TellsMoments a b x → TellsMoments b c y
+    → TellsMoments a c (x ++ y)
 Tells-then None None None x y p q = tt
 Tells-then None None (Some z) x y p q = absurd q
 Tells-then None (Some v) c x y p q = absurd p
@@ -75,7 +75,7 @@ take-none zero = refl
 take-none (suc n) = refl
 
 -- moments that stay
-pub Tells-nil : (a b : Option (List ℕ)) → b ≡ a → Tells a b []
+pub Tells-nil : (a b : Option (List ℕ)) → b ≡ a → TellsMoments a b []
 Tells-nil None None same = tt
 Tells-nil None (Some y) same = absurd (let f : ⊥ = cc in f)
 Tells-nil (Some x) None same = absurd (let f : ⊥ = cc in f)

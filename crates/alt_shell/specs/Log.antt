@@ -81,10 +81,10 @@ is_positive zero = false
 is_positive (suc n) = true
 
 -- the number at a place of a list, 0 behind its end
-abbrev pub number_at : ℕ → List ℕ → ℕ
-number_at place [] = 0
-number_at zero (n ∷ ns) = n
-number_at (suc place) (n ∷ ns) = number_at place ns
+abbrev pub number_at_place : ℕ → List ℕ → ℕ
+number_at_place place [] = 0
+number_at_place zero (n ∷ ns) = n
+number_at_place (suc place) (n ∷ ns) = number_at_place place ns
 
 -- whether the shell talks on a connection
 abbrev pub talks : Log → Bool
@@ -92,15 +92,15 @@ talks log = is_positive (talk_of log).0
 
 -- how many calls failed in talks
 abbrev pub talk_faults : Log → ℕ
-talk_faults log = number_at 0 (talk_of log).1
+talk_faults log = number_at_place 0 (talk_of log).1
 
 -- whether a take failed in the talk
 abbrev pub takes_missed : Log → Bool
-takes_missed log = is_positive (number_at 1 (talk_of log).1)
+takes_missed log = is_positive (number_at_place 1 (talk_of log).1)
 
 -- whether a say failed in the talk
 abbrev pub says_missed : Log → Bool
-says_missed log = is_positive (number_at 2 (talk_of log).1)
+says_missed log = is_positive (number_at_place 2 (talk_of log).1)
 
 -- the entries, where they are told
 abbrev pub entries_of : Log → Option Log
@@ -153,11 +153,11 @@ abbrev pub with_told : List ℕ → List ℕ → List ℕ
 with_told old more = old ++ take (most_told - length old) more
 
 -- moments are told where they were told before, and now these more
-abbrev pub Tells : Option (List ℕ) → Option (List ℕ) → List ℕ → Type 0
-Tells None None more = ⊤
-Tells None (Some new) more = ⊥
-Tells (Some old) None more = ⊥
-Tells (Some old) (Some new) more = new ≡ with_told old more
+abbrev pub TellsMoments : Option (List ℕ) → Option (List ℕ) → List ℕ → Type 0
+TellsMoments None None more = ⊤
+TellsMoments None (Some new) more = ⊥
+TellsMoments (Some old) None more = ⊥
+TellsMoments (Some old) (Some new) more = new ≡ with_told old more
 
 -- how many moments are told
 abbrev pub count_told : Option (List ℕ) → ℕ
@@ -267,8 +267,8 @@ tested test None = false
 tested test (Some es) = test es
 
 -- whether the end of standard input was taken, as far as that is told; once a connection was waited for, nothing is said of it
-abbrev pub has_ended : Log → Bool
-has_ended log = tested (λ es. ended es && not (crosses es)) (entries_of log)
+abbrev pub has_input_ended : Log → Bool
+has_input_ended log = tested (λ es. ended es && not (crosses es)) (entries_of log)
 
 -- the entries of the calls that had ended by a moment
 abbrev pub until : ℕ → Log → Log

@@ -5,7 +5,7 @@ use Rattle.alt_disk.specs.Disk.{DiskState, with_beside}
 use Rattle.alt_base.specs.Counts.{next_moment}
 use Rattle.alt_disk.specs.MemoryState.{state_of, fails_at}
 use Rattle.alt_shell.specs.declared.memory.MemoryShell.{MemoryShell}
-use Rattle.alt_shell.specs.States.{told_by, kept_entries, pieces_at_hand, pieces_aside, coming_of, added_to, is_to_fail, head_of}
+use Rattle.alt_shell.specs.States.{told_by, kept_entries, pieces_at_hand, pieces_aside, coming_of, added_to, is_to_fail, head_of_talk}
 use Rattle.alt_shell.specs.Waiting.{pieces_of}
 use Rattle.alt_shell.specs.Log.{Log, log, taken}
 use Rattle.alt_shell.specs.Streams.{Streams, streams_of}
@@ -16,7 +16,7 @@ entries_by s = kept_entries s.kept
 
 -- it tells all: the notes until one finds no memory, and the moments and the entries always
 abbrev pub log_of : MemoryShell → Log
-log_of s = log (head_of s.talks) (if s.tells_notes then 1 else 0, s.noted.items) (1, told_by s.clock) (entries_by s)
+log_of s = log (head_of_talk s.talks) (if s.tells_notes then 1 else 0, s.noted.items) (1, told_by s.clock) (entries_by s)
 
 -- a disk's state with this count of faults
 abbrev pub with_faults : ℕ → DiskState → DiskState
@@ -43,16 +43,16 @@ abbrev pub aside : MemoryShell → List (List ℕ)
 aside s = pieces_aside s.talks
 
 -- the connections that will be accepted, each as its pieces
-abbrev pub coming : MemoryShell → List (List (List ℕ))
-coming s = coming_of s.talks
+abbrev pub connections_coming : MemoryShell → List (List (List ℕ))
+connections_coming s = coming_of s.talks
 
 -- what was taken and said, stream by stream
 abbrev pub streams : MemoryShell → Streams
 streams s = streams_of (entries_by s)
 
 -- how many connections were added
-abbrev pub added : MemoryShell → ℕ
-added s = added_to s.talks
+abbrev pub connections_added : MemoryShell → ℕ
+connections_added s = added_to s.talks
 
 -- whether the call of this number, of the takes and says in talks, is to fail
 abbrev pub fails_talk : MemoryShell → ℕ → Bool
@@ -82,8 +82,8 @@ pub record SameInput (old new : MemoryShell) : Type 0 where
 
 -- What a call leaves that begins and ends no talk, and adds nothing to one: the connections to come, and the list of calls that are to fail.
 pub record SameComing (old new : MemoryShell) : Type 0 where
-  pub coming_stays : coming new ≡ coming old
-  pub added_stays : added new ≡ added old
+  pub coming_stays : connections_coming new ≡ connections_coming old
+  pub added_stays : connections_added new ≡ connections_added old
   pub fails_stay : (n : ℕ) → fails_talk new n ≡ fails_talk old n
 
 -- What a call leaves that also takes nothing in a talk.
@@ -131,6 +131,6 @@ pub record Unmoved (old new : MemoryShell) : Type 0 where
 -- what a wait for a connection leaves of these: the first one is at hand, or none will come
 abbrev pub NextOf : List (List (List ℕ)) → MemoryShell → MemoryShell → Bool → Type 0
 NextOf [] old new came =
-    (came ≡ false) × (coming new ≡ []) × (talk_pieces new ≡ talk_pieces old)
+    (came ≡ false) × (connections_coming new ≡ []) × (talk_pieces new ≡ talk_pieces old)
 NextOf (ps ∷ more) old new came =
-    (came ≡ true) × (coming new ≡ more) × (talk_pieces new ≡ ps)
+    (came ≡ true) × (connections_coming new ≡ more) × (talk_pieces new ≡ ps)

@@ -35,14 +35,14 @@ replaced (p ∷ ps) [] = ps
 replaced (p ∷ ps) (b ∷ rest) = (b ∷ rest) ∷ ps
 
 -- what a take of this many bytes at most gives: the front of the piece in front
-abbrev pub given_of : List (List ℕ) → ℕ → List ℕ
-given_of ps most = take most (front_of ps)
+abbrev pub bytes_given_by_take : List (List ℕ) → ℕ → List ℕ
+bytes_given_by_take ps most = take most (front_of ps)
 
 -- the pieces behind what it gave
 abbrev pub pieces_behind : List (List ℕ) → ℕ → List (List ℕ)
 pieces_behind ps most = replaced ps (drop most (front_of ps))
 
 -- the moment that the clock tells next: the first that is left, else the last again
-abbrev pub told_of : List ℕ → ℕ → ℕ
-told_of [] last = last
-told_of (t ∷ ts) last = t
+abbrev pub next_told_moment : List ℕ → ℕ → ℕ
+next_told_moment [] last = last
+next_told_moment (t ∷ ts) last = t

@@ -6,7 +6,7 @@ use Rattle.alt_shell.specs.declared.talks.Talks.{Talks}
 use Rattle.alt_shell.specs.declared.clock.Clock.{Clock}
 use Rattle.alt_shell.specs.declared.kept.Kept.{Kept}
 use Rattle.alt_shell.specs.Told.{told_in}
-use Rattle.alt_shell.specs.Kept.{entries_in}
+use Rattle.alt_shell.specs.Kept.{call_entries}
 use Rattle.alt_shell.specs.Waiting.{pieces_of}
 use Rattle.alt_shell.specs.declared.kept.Stream.{Stream}
 use Rattle.alt_shell.specs.declared.kept.Stream.TheVariants.{Input, Output}
@@ -20,7 +20,7 @@ told_by clock = told_in clock.past.items clock.times clock.last
 -- the entries of the calls that were kept
 abbrev pub kept_entries : Kept → Log
 kept_entries kept =
-    entries_in kept.before.items kept.first kept.between.items kept.second kept.behind.items
+    call_entries kept.before.items kept.first kept.between.items kept.second kept.behind.items
 
 -- what a wire tells of its stream
 abbrev pub heard_by : Wire → Heard
@@ -59,8 +59,8 @@ abbrev pub is_to_fail : Talks → ℕ → Bool
 is_to_fail talks call = list_any (λ n. n == call) talks.to_fail.items
 
 -- the head of the talk
-abbrev pub head_of : Talks → ℕ × List ℕ
-head_of talks = talk_head talks.talking talks.faults talks.takes talks.says
+abbrev pub head_of_talk : Talks → ℕ × List ℕ
+head_of_talk talks = talk_head talks.talking talks.faults talks.takes talks.says
 
 -- whether a call of this kind failed in the talk at hand, or in the last one
 abbrev pub missed_by : Stream → Talks → Bool

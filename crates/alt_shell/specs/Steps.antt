@@ -26,7 +26,7 @@ WhyUntold false log last stream =
     (tested (fails_of stream) (entries_of log) ≡ true) ⊎ (last ≡ true)
 
 -- A call of this kind fails after its start, which was at the last moment or not.
-pub record Fails (old new : DiskState) (last : Bool) (stream : Stream) : Type 0 where
+pub record CallFails (old new : DiskState) (last : Bool) (stream : Stream) : Type 0 where
   pub stays : Stays old new
   pub told : Adds old new (failed_of stream)
       ⊎ (Grows old.beside new.beside [] × WhyUntold (talks old.beside) old.beside last stream)

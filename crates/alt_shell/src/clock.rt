@@ -34,7 +34,7 @@ pub struct Clock {
 
 impl Clock {
     ghost use Rattle.std.specs.Prelude.{[], ◌∷◌, ◌++◌, drop, IfOk, OnErr};
-    ghost use Rattle.alt_shell.specs.Pieces.{told_of};
+    ghost use Rattle.alt_shell.specs.Pieces.{next_told_moment};
     ghost use Rattle.alt_shell.specs.States.{told_by};
     ghost use Rattle.alt_shell.specs.Log.{with_told};
 
@@ -71,7 +71,7 @@ impl Clock {
 
     /// Tells the first moment that is left, and where none is the last one again.
     pub(crate) fn tell(&mut self) -> u64
-        ensures moment { result ≡ told_of self.old.ahead.items self.old.last }
+        ensures moment { result ≡ next_told_moment self.old.ahead.items self.old.last }
         ensures left { self.new.ahead.items ≡ drop 1 self.old.ahead.items }
         ensures last { self.new.last ≡ result }
         ensures told { told_by self.new ≡ with_told (told_by self.old) (result ∷ []) }

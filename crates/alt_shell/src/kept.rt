@@ -3,7 +3,7 @@
 
 ghost use Rattle.std.specs.Prelude.{◌≡◌, ◌||◌, true, false, length, is_some};
 ghost use Rattle.alt_shell.specs.Log.{takes_failed, says_failed};
-ghost use Rattle.alt_shell.specs.Kept.{entries_in, last_part, HasRoom};
+ghost use Rattle.alt_shell.specs.Kept.{call_entries, last_part, CallsHaveRoom};
 
 use alt_base::NoMemory;
 use std::alloc::Global;
@@ -60,15 +60,15 @@ pub(crate) struct Kept {
     ghost has_first: { is_some first ≡ true → (take_failed || say_failed) ≡ true },
     ghost no_third: { is_some second ≡ true → (take_failed ≡ true) × (say_failed ≡ true) },
     ghost takes: { take_failed ≡ true → takes_failed
-        (entries_in before.items first between.items second behind.items) ≡ true },
+        (call_entries before.items first between.items second behind.items) ≡ true },
     ghost says: { say_failed ≡ true → says_failed
-        (entries_in before.items first between.items second behind.items) ≡ true },
-    ghost room: { HasRoom spare (last_part before first between second behind) },
+        (call_entries before.items first between.items second behind.items) ≡ true },
+    ghost room: { CallsHaveRoom spare (last_part before first between second behind) },
 }
 
 impl Kept {
     ghost use Rattle.std.specs.Prelude.{◌<◌, ◌+◌, [], ◌∷◌, ◌++◌, ◌⊎◌, MatchResult, OnOk, OnErr};
-    ghost use Rattle.alt_shell.specs.Kept.{entry_by, entry_of_missed, fails_of};
+    ghost use Rattle.alt_shell.specs.Kept.{call_entry, entry_of_missed, fails_of};
     ghost use Rattle.alt_shell.specs.States.{kept_entries};
 
     /// No calls.
@@ -91,7 +91,7 @@ impl Kept {
     /// Adds a call. After an error nothing was added, else three are spare, as many as a talk may need.
     pub(crate) fn push(&mut self, call: Call) -> Result<(), NoMemory>
         ensures ok { OnOk result (kept_entries self.new
-            ≡ kept_entries self.old ++ entry_by call ∷ []) }
+            ≡ kept_entries self.old ++ call_entry call ∷ []) }
         ensures err { OnErr result (kept_entries self.new ≡ kept_entries self.old) }
         ensures spare { MatchResult result (λ _. self.new.spare ≡ 3)
             (λ _. self.new.spare ≡ self.old.spare) }
@@ -122,7 +122,7 @@ impl Kept {
     /// Adds a call by one that was spare.
     pub(crate) fn push_spare(&mut self, call: Call)
         requires { 0 < self.old.spare }
-        ensures entries { kept_entries self.new ≡ kept_entries self.old ++ entry_by call ∷ [] }
+        ensures entries { kept_entries self.new ≡ kept_entries self.old ++ call_entry call ∷ [] }
         ensures spare { self.new.spare + 1 ≡ self.old.spare }
     {
         self.spare -= 1;

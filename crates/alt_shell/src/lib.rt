@@ -4,6 +4,9 @@
 mod clock;
 mod kept;
 mod memory;
+mod memory_calls;
+mod memory_files;
+mod memory_streams;
 mod pieces;
 mod shell;
 mod talks;

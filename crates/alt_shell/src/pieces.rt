@@ -16,7 +16,7 @@ pub(crate) struct Pieces {
 
 impl Pieces {
     ghost use Rattle.std.specs.Prelude.{[], drop, IfOk, OnErr};
-    ghost use Rattle.alt_shell.specs.Pieces.{given_of, front_of, replaced, with_piece};
+    ghost use Rattle.alt_shell.specs.Pieces.{bytes_given_by_take, front_of, replaced, with_piece};
     ghost use Rattle.alt_shell.specs.Waiting.{pieces_of};
 
     /// No pieces.
@@ -44,7 +44,7 @@ impl Pieces {
 
     /// The bytes to give of the first piece, and those that it has left.
     pub(crate) fn parts(&self, alloc: Global, most: usize) -> Result<(Vec<u8>, Vec<u8>), NoMemory>
-        ensures { IfOk result (λ p. (p.0.items ≡ given_of (pieces_of self.now) most)
+        ensures { IfOk result (λ p. (p.0.items ≡ bytes_given_by_take (pieces_of self.now) most)
             × (p.1.items ≡ drop most (front_of (pieces_of self.now)))) }
     {
         let Some(piece) = self.waiting.front() else {

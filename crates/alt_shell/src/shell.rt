@@ -3,7 +3,7 @@
 
 ghost use Rattle.std.specs.Prelude.{◌≡◌, ◌<◌, ◌≤◌, [], ◌∷◌, true, false, length, IfOk, is_ok};
 ghost use Rattle.alt_shell.specs.Calls.{ShellCall, Aside, Takes, Says, Accepts, Adds, StaysIn};
-ghost use Rattle.alt_shell.specs.Log.{Grows, StillGrows, Tells, notes_of, moments_of, has_ended, WithinLife};
+ghost use Rattle.alt_shell.specs.Log.{Grows, StillGrows, TellsMoments, notes_of, moments_of, has_input_ended, WithinLife};
 ghost use Rattle.alt_shell.specs.Log.{hung_up, talk_of, talks, talk_faults, takes_missed, says_missed};
 
 use alt_disk::{Disk, Failed};
@@ -23,7 +23,7 @@ pub trait Shell: Disk {
         ensures count { IfOk result (λ n. n ≤ length buf.new) }
         ensures taken { Takes (Self.state self.old) (Self.state self.new) result buf.new }
         ensures over { talks (Self.state self.old).beside ≡ false
-            → has_ended (Self.state self.old).beside ≡ true → IfOk result (λ n. n ≡ 0) }
+            → has_input_ended (Self.state self.old).beside ≡ true → IfOk result (λ n. n ≡ 0) }
         ensures talk { StaysIn (Self.state self.old) (Self.state self.new) (is_ok result)
             takes_missed says_missed }
         ensures life { WithinLife (Self.state self.old).beside
@@ -89,7 +89,7 @@ pub trait Shell: Disk {
     /// Tells the moment: the whole seconds since 1970 began in UTC. What it told is always told where it was.
     fn now(&mut self) -> u64
         ensures range { result < CLOCK_END }
-        ensures told { Tells (moments_of (Self.state self.old).beside)
+        ensures told { TellsMoments (moments_of (Self.state self.old).beside)
             (moments_of (Self.state self.new).beside) (result ∷ []) }
         ensures log { Grows (Self.state self.old).beside (Self.state self.new).beside [] }
         ensures talk { talk_of (Self.state self.new).beside ≡ talk_of (Self.state self.old).beside }

@@ -35,16 +35,16 @@ impl Talks {
     ghost use Rattle.std.specs.Prelude.{ℕ, List, ◌≢◌, ◌<◌, [], ◌∷◌, ◌++◌, drop, Some, true, false, MatchResult, OnOk, OnErr, IfOk};
     ghost use Rattle.alt_base.specs.Counts.{Rose, next_moment};
     ghost use Rattle.alt_shell.specs.Log.{talk_head, accepted, hung_up};
-    ghost use Rattle.alt_shell.specs.Pieces.{given_of, front_of, replaced, with_more, sent_last, sent_here};
-    ghost use Rattle.alt_shell.specs.Streams.{unheard, untouched, said_on, is_none, on_hand, after_take, after_say, after_event};
+    ghost use Rattle.alt_shell.specs.Pieces.{bytes_given_by_take, front_of, replaced, with_more, sent_last, sent_here};
+    ghost use Rattle.alt_shell.specs.Streams.{untouched, said_on, is_none, on_hand, after_take, after_say, after_event};
     ghost use Rattle.alt_shell.specs.States.{heard_by, streams_by, pieces_at_hand, pieces_aside};
     ghost use Rattle.alt_shell.specs.Waiting.{pieces_of};
-    ghost use Rattle.alt_shell.specs.States.{coming_of, added_to, is_to_fail, head_of, missed_by, KeepsHead, KeepsList};
+    ghost use Rattle.alt_shell.specs.States.{coming_of, added_to, is_to_fail, head_of_talk, missed_by, KeepsHead, KeepsList};
     ghost use Rattle.alt_shell.specs.Kept.{other_of};
 
     /// No connections.
     pub(crate) fn new(alloc: Global) -> Self
-        ensures head { head_of result ≡ talk_head false 0 0 0 }
+        ensures head { head_of_talk result ≡ talk_head false 0 0 0 }
         ensures coming { coming_of result ≡ [] }
         ensures pieces { (pieces_of result.standard.pieces ≡ [])
             × (pieces_of result.talk.pieces ≡ []) }
@@ -158,7 +158,7 @@ impl Talks {
 
     /// The bytes to give of the first piece at hand, and those that it has left.
     pub(crate) fn parts(&self, most: usize) -> Result<(Vec<u8>, Vec<u8>), NoMemory>
-        ensures { IfOk result (λ p. (p.0.items ≡ given_of (pieces_at_hand self.now) most)
+        ensures { IfOk result (λ p. (p.0.items ≡ bytes_given_by_take (pieces_at_hand self.now) most)
             × (p.1.items ≡ drop most (front_of (pieces_at_hand self.now)))) }
     {
         if self.talking {

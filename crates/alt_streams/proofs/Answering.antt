@@ -11,7 +11,7 @@ use Rattle.serde_json.specs.Data.{Data, Members, string, array, item, member, no
 use Rattle.serde_json.specs.View.{view}
 use Rattle.serde_json.specs.Written.{has_float, items_have_float, members_have_float}
 use Rattle.alt_disk.specs.Disk.{DiskState}
-use Rattle.alt_machine.specs.Ops.ListStreams.{is_after, listed, refusals, start_of, stream_json, streams_answer, list_streams}
+use Rattle.alt_machine.specs.Ops.ListStreams.{is_after, listed, refusals, start_stream_arn, stream_json, streams_answer, list_streams}
 use Rattle.alt_machine.specs.Ops.ListTables.{page_length}
 use Rattle.alt_machine.specs.Outcomes.{says, refuses}
 use Rattle.alt_machine.specs.Refusals.{first_answer}
@@ -33,7 +33,7 @@ use Rattle.alt_shape.specs.Body.{body_json}
 use Rattle.alt_shape.specs.Refusals.{Answer, answer_of, refused}
 use Rattle.alt_shape.specs.declared.refusal.Refusal.{Refusal}
 use Rattle.alt_shape.specs.declared.refusal.Reply.{Reply}
-use Rattle.alt_streams.specs.private.Listed.{AreNamed, IsAsked, StartsAfter, all_in, is_listed, is_named, last_of, name_given, page_answer, start_name, streams_after}
+use Rattle.alt_streams.specs.private.Listed.{TablesHaveOwnNames, StartsAfterOrRefused, StartsAfter, all_in, is_listed, is_table_of_name, last_table_of_page, name_given, streams_page_answer, start_table_name, streams_after}
 use Rattle.alt_streams.proofs.Entries.{chosen_alike}
 use Rattle.alt_request.specs.TablesStands.{Stands, catalog_of}
 use Rattle.alt_request.specs.TablesDeclaredTables.{Tables}
@@ -52,7 +52,7 @@ each_description (e ∷ es) = ap (λ ds. e.1.description ∷ ds) (each_descripti
 module _ (s : State) (valid : IsValid s) (catalog : Texts TableSchema)
     (same : descriptions s.tables ≡ catalog) where
   -- each description stands at its own name
-  pub are_named : AreNamed catalog
+  pub are_named : TablesHaveOwnNames catalog
   are_named name d at =
       let found = table_found s catalog same name d at in
       ap (λ (x : TableSchema). x.name) (sym found.2) ∙ (valid.tables name found.0 found.1).named
@@ -71,17 +71,17 @@ module _ (s : State) (valid : IsValid s) (catalog : Texts TableSchema)
       (sym (entries-descriptions s.tables) ∙ ap entries same)
 
   abbrev chosen : Members → TableSchema → Bool
-  chosen ms d = is_some d.view && (is_after s ms d && is_named (name_given ms) d)
+  chosen ms d = is_some d.view && (is_after s ms d && is_table_of_name (name_given ms) d)
 
   -- what the machine lists is what stands behind the name of the start
   pub listed-streams : (ms : Members) (start : Option TableSchema) → StartsAfter s ms start
-      → listed s ms ≡ streams_after (start_name start) (name_given ms) catalog
+      → listed s ms ≡ streams_after (start_table_name start) (name_given ms) catalog
   listed-streams ms start is = ap (filter (chosen ms)) all_known
-      ∙ chosen_alike (chosen ms) (is_listed (start_name start) (name_given ms)) (entries catalog)
+      ∙ chosen_alike (chosen ms) (is_listed (start_table_name start) (name_given ms)) (entries catalog)
       (entries_sorted catalog)
-      (λ j d at. ap (λ b. is_some d.view && (b && is_named (name_given ms) d))
+      (λ j d at. ap (λ b. is_some d.view && (b && is_table_of_name (name_given ms) d))
       (by d (has_name j d (get-entries catalog j ∙ at))
-      (option_and_then (table_of_stream s) (start_of ms)) start is))
+      (option_and_then (table_of_stream s) (start_stream_arn ms)) start is))
     where
       by : (d : TableSchema) → is_name d.name ≡ true
           → (o : Option Table) (start : Option TableSchema)
@@ -101,7 +101,7 @@ module _ (s : State) (valid : IsValid s) (catalog : Texts TableSchema)
   pub list-page : (ms : Members) (start : Option TableSchema) → first_answer (refusals s ms) ≡ None
       → StartsAfter s ms start
       → list_streams s ms ≡ says (streams_answer (page_length ms)
-      (streams_after (start_name start) (name_given ms) catalog))
+      (streams_after (start_table_name start) (name_given ms) catalog))
   unfolding list_streams
   list-page ms start free is = passed (refusals s ms) _ free
       ∙ ap (λ ds. says (streams_answer (page_length ms) ds)) (listed-streams ms start is)
@@ -116,7 +116,7 @@ list-refused s ms r e = stopped (refusals s ms) _ (refused r) e
 
 -- one that stops for what is asked changes nothing, and is answered so
 pub asked_stops : {file : ℕ} (tables : Tables) (disk : DiskState) (now : State → Type 0) (ms : Members)
-    (stop : Stop) → IsAsked (catalog_of tables) ms (Err stop)
+    (stop : Stop) → StartsAfterOrRefused (catalog_of tables) ms (Err stop)
     → ((s : State) → Stands disk tables s → now s)
     → Carries file (λ s. list_streams s ms) (Stands disk tables) now (Err stop)
 asked_stops tables disk now ms (Refused r) h stays =
@@ -127,7 +127,7 @@ asked_stops tables disk now ms (Fault f) h stays =
 
 -- nor did the device fail then
 pub asked_unfailed : (P : Type 0) (tables : Tables) (ms : Members) (stop : Stop)
-    → IsAsked (catalog_of tables) ms (Err stop) → IfFailed (Err stop) P
+    → StartsAfterOrRefused (catalog_of tables) ms (Err stop) → IfFailed (Err stop) P
 asked_unfailed P tables ms (Refused r) h = tt
 asked_unfailed P tables ms (Fault f) h = unfailed_fault f P h
 
@@ -135,8 +135,8 @@ asked_unfailed P tables ms (Fault f) h = unfailed_fault f P h
 
 -- the streams of a page, told with the last where there are more, are the page of all streams
 pub page-answered : (more : Bool) (ds all : List TableSchema) (most : ℕ) → ds ≡ take most all
-    → more ≡ nat_lt most (length all) → page_answer more ds ≡ streams_answer most all
-page-answered more ds all most e f = λ i. page_answer (f i) (e i)
+    → more ≡ nat_lt most (length all) → streams_page_answer more ds ≡ streams_answer most all
+page-answered more ds all most e f = λ i. streams_page_answer (f i) (e i)
 
 streams_plain : (ds : List TableSchema) → items_have_float (items_by stream_json ds) ≡ false
 streams_plain [] = refl
@@ -151,10 +151,10 @@ members_plain (Some d) ds = or_nothing _ (streams_plain ds)
 
 -- a reply that lists streams has no float in it
 pub reply_plain : {E : Type 0} (r : Result Reply E) (more : Bool) (ds : List TableSchema)
-    → IfOk r (λ reply. answer_of reply ≡ page_answer more ds)
+    → IfOk r (λ reply. answer_of reply ≡ streams_page_answer more ds)
     → IfOk r (λ reply. has_float (body_json reply.body) ≡ false)
 reply_plain (Ok reply) more ds is =
-    ap (λ (a : Answer). has_float a.body) is ∙ members_plain (last_of more ds) ds
+    ap (λ (a : Answer). has_float a.body) is ∙ members_plain (last_table_of_page more ds) ds
 reply_plain (Err e) more ds is = tt
 
 -- ---- what each stream shows

@@ -6,7 +6,7 @@ use Rattle.serde_json.specs.Data.{string, array, item, member, no_members}
 use Rattle.serde_json.specs.View.{items_of}
 use Rattle.alt_expr.specs.Pages.{page_bytes}
 use Rattle.alt_machine.specs.Changes.{record_json, record_size}
-use Rattle.alt_machine.specs.Ops.GetRecords.{fills, page_of, records_answer}
+use Rattle.alt_machine.specs.Ops.GetRecords.{records_fill_page, records_page, records_answer}
 use Rattle.alt_machine.specs.State.{Change}
 use Rattle.alt_machine.specs.Streams.{iterator_text}
 use Rattle.alt_schema.specs.Json.{items_by}
@@ -16,7 +16,7 @@ use Rattle.alt_schema.proofs.Shown.{items_of-map}
 use Rattle.alt_shape.specs.Objects.{object_json, objects_json}
 use Rattle.alt_shape.specs.Refusals.{answered}
 use Rattle.alt_shape.specs.declared.object.Object.{Object}
-use Rattle.alt_streams.specs.private.Paged.{HasRead, is_full, iterator_at, page_answer}
+use Rattle.alt_streams.specs.private.Paged.{PageHasRecords, is_full, iterator_at, records_page_answer}
 use Rattle.alt_streams.specs.declared.page.Page.{Page}
 use Rattle.alt_streams.proofs.Prefixes.{first_push, page_full, page_whole}
 use Rattle.alt_streams.proofs.Numbers.{past-append}
@@ -35,14 +35,14 @@ module _ (d : TableSchema) (shows : View) (most from : ℕ) where
   size = record_size d shows
 
   -- a page is full exactly where its records fill it
-  pub full_is : (page : Page) (seen : List Change) → HasRead d shows most from page seen
-      → is_full page ≡ fills most size seen
+  pub full_is : (page : Page) (seen : List Change) → PageHasRecords d shows most from page seen
+      → is_full page ≡ records_fill_page most size seen
   full_is page seen h = (λ i. (h.room i == 0) || (h.left i == 0))
       ∙ (λ i. none_left most (length seen) i || none_left page_bytes (sum_by size seen) i)
 
   -- a page without records
   pub begun : (page : Page) → page.records.items ≡ [] → page.room ≡ most
-      → page.left ≡ page_bytes → page.next ≡ from → HasRead d shows most from page []
+      → page.left ≡ page_bytes → page.next ≡ from → PageHasRecords d shows most from page []
   begun page records room left next = record {
     records = ap (map object_json) records;
     room = omega (arith, room);
@@ -53,10 +53,10 @@ module _ (d : TableSchema) (shows : View) (most from : ℕ) where
 
   -- a record more
   pub put_on : (old new : Page) (seen : List Change) (c : Change) (one : Object)
-      → HasRead d shows most from old seen → is_full old ≡ false
+      → PageHasRecords d shows most from old seen → is_full old ≡ false
       → new.records.items ≡ old.records.items ++ one ∷ [] → object_json one ≡ record_json d shows c
       → new.room ≡ old.room - 1 → new.left ≡ old.left - size c → new.next ≡ c.number + 1
-      → HasRead d shows most from new (seen ++ c ∷ [])
+      → PageHasRecords d shows most from new (seen ++ c ∷ [])
   put_on old new seen c one h going put is room left next =
       let count = length-append seen (c ∷ []) in
       let total = sum_by_push size seen c in
@@ -68,23 +68,23 @@ module _ (d : TableSchema) (shows : View) (most from : ℕ) where
         room = omega (arith, room, was_room, count);
         left = omega (arith, left, was_left, total);
         next = next ∙ sym (past-append (λ (x : Change). x.number) from seen (c ∷ []));
-        first = first_push (fills most size) seen c h.first (sym (full_is old seen h) ∙ going);
+        first = first_push (records_fill_page most size) seen c h.first (sym (full_is old seen h) ∙ going);
       }
 
   -- the page of a list of which a front was read that fills it
-  pub page_ended : (page : Page) (seen rest : List Change) → HasRead d shows most from page seen
-      → is_full page ≡ true → page_of most size (seen ++ rest) ≡ seen
+  pub page_ended : (page : Page) (seen rest : List Change) → PageHasRecords d shows most from page seen
+      → is_full page ≡ true → records_page most size (seen ++ rest) ≡ seen
   page_ended page seen rest h full =
-      page_full (fills most size) seen rest h.first (sym (full_is page seen h) ∙ full)
+      page_full (records_fill_page most size) seen rest h.first (sym (full_is page seen h) ∙ full)
 
   -- and of one that was read whole
-  pub page_all : (page : Page) (seen : List Change) → HasRead d shows most from page seen
-      → page_of most size seen ≡ seen
-  page_all page seen h = page_whole (fills most size) seen h.first
+  pub page_all : (page : Page) (seen : List Change) → PageHasRecords d shows most from page seen
+      → records_page most size seen ≡ seen
+  page_all page seen h = page_whole (records_fill_page most size) seen h.first
 
   -- the page is answered with its records
-  pub page_records : (page : Page) (changes : List Change) → HasRead d shows most from page changes
-      → page_answer d page ≡ records_answer d (iterator_at d from) changes shows
+  pub page_records : (page : Page) (changes : List Change) → PageHasRecords d shows most from page changes
+      → records_page_answer d page ≡ records_answer d (iterator_at d from) changes shows
   page_records page changes h =
       let items : objects_json page.records.items ≡ items_by (record_json d shows) changes =
       objects_each page.records.items ∙ ap items_of h.records

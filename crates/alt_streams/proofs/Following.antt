@@ -13,7 +13,7 @@ use Rattle.alt_base.proofs.Bools.{second_holds}
 use Rattle.alt_machine.specs.Ops.ListTables.{names_after}
 use Rattle.alt_machine.specs.State.{Texts}
 use Rattle.alt_schema.specs.declared.schema.TableSchema.{TableSchema}
-use Rattle.alt_streams.specs.private.Listed.{AreNamed, all_in, is_listed, is_named, streams_after}
+use Rattle.alt_streams.specs.private.Listed.{TablesHaveOwnNames, all_in, is_listed, is_table_of_name, streams_after}
 use Rattle.alt_streams.proofs.Entries.{found_only, found_none, here, behind}
 use Rattle.alt_streams.proofs.Rising.{Rises, keyed, chosen_next, find-filter, find-keyed, sorted-each, walk_found, walk_on, walk_none}
 use Rattle.alt_request.specs.TablesOpeningOrder.{first_after}
@@ -44,7 +44,7 @@ names_less last k m h =
 
 -- what each has that is listed behind a name that is before its own, or isn't
 abbrev test : Option (List ℕ) → Bool → TableSchema → Bool
-test name b d = is_some d.view && (b && is_named name d)
+test name b d = is_some d.view && (b && is_table_of_name name d)
 
 off : (name : Option (List ℕ)) (d : TableSchema) → test name false d ≡ false
 off name d = and-false (is_some d.view)
@@ -64,7 +64,7 @@ keyed_so (e ∷ es) sorted named =
     (λ k d at. named k d (behind e es sorted k d at)) in
     (λ i. (named e.0 e.1 (here e es) i, e.1) ∷ rest i)
 
-module _ (catalog : Texts TableSchema) (named : AreNamed catalog) where
+module _ (catalog : Texts TableSchema) (named : TablesHaveOwnNames catalog) where
   abbrev ds : List TableSchema
   ds = all_in catalog
 

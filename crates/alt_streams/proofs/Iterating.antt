@@ -13,14 +13,14 @@ use Rattle.alt_machine.specs.Trimming.{is_trimmed}
 use Rattle.alt_machine.proofs.Tests.{passed, stopped, found_some}
 use Rattle.alt_schema.specs.declared.schema.TableSchema.{TableSchema}
 use Rattle.alt_schema.specs.Json.{stream_arn}
-use Rattle.alt_shape.specs.Refusals.{refused, not_found, trimmed}
+use Rattle.alt_shape.specs.Refusals.{refused, not_found, change_records_trimmed}
 use Rattle.alt_shape.specs.declared.refusal.Refusal.{Refusal}
 use Rattle.alt_streams.specs.private.Named.{IsStreamOf}
 use Rattle.alt_streams.specs.private.Paged.{iterator_at}
 use Rattle.alt_streams.proofs.Reached.{known_at, stream_named, stream_stands}
 use Rattle.alt_streams.proofs.Reaching.{something}
 use Rattle.alt_request.specs.TablesOpeningTrimmed.{number_at}
-use Rattle.alt_request.specs.TablesStands.{Stands, catalog_of, number_of, trimmed_of}
+use Rattle.alt_request.specs.TablesStands.{Stands, catalog_of, next_write_of_tables, trimmed_of}
 use Rattle.alt_request.specs.TablesDeclaredTables.{Tables}
 
 -- a GetShardIterator that its body refuses is refused so
@@ -35,7 +35,7 @@ gives i = says (answers (codes "ShardIterator") (string (iterator_text i)))
 
 -- behind the test whether it was trimmed
 abbrev pub ends : State → Members → Table → Outcome
-ends s ms t = unless_refused (refuse_if (is_trimmed t.trimmed (starts s ms)) trimmed ∷ [])
+ends s ms t = unless_refused (refuse_if (is_trimmed t.trimmed (starts s ms)) change_records_trimmed ∷ [])
     (gives (record { arn = arn_in ms; from = starts s ms }))
 
 -- behind the tests of the body it goes on with the stream of that name
@@ -49,7 +49,7 @@ iterator-on ms arn is free s = passed (of_body ms) _ free
 module _ (disk : DiskState) (tables : Tables) (ms : Members) (arn : List ℕ) (is : arn ≡ arn_in ms)
     (free : first_answer (of_body ms) ≡ None) (d : TableSchema)
     (found : IsStreamOf (catalog_of tables) arn (Some d)) (from : ℕ)
-    (so : (s : State) → s.next_number ≡ number_of tables → from ≡ starts s ms)
+    (so : (s : State) → s.next_number ≡ next_write_of_tables tables → from ≡ starts s ms)
     (name : List ℕ) (own : name ≡ d.name) (number : ℕ)
     (known : number ≡ number_at name (trimmed_of tables)) where
   -- the table is reached, and so much of its changes was trimmed as is known
@@ -80,16 +80,16 @@ module _ (disk : DiskState) (tables : Tables) (ms : Members) (arn : List ℕ) (i
       ∙ ap (λ (x : TableSchema). stream_arn x.name x.number) one in
       iterator-on ms arn is free s
       ∙ found_some not_found (table_of_stream s arn) (ends s ms) t there
-      ∙ ap (λ b. unless_refused (refuse_if b trimmed ∷ [])
+      ∙ ap (λ b. unless_refused (refuse_if b change_records_trimmed ∷ [])
       (gives (record { arn = arn_in ms; from = starts s ms }))) (same ∙ kept)
       ∙ (λ j. gives (record { arn = named j; from = sym (so s (sym stands.number)) j }))
 
   -- or it is refused, where what it would stand for was trimmed
   pub iterator-trimmed : is_trimmed number from ≡ true → (s : State) → Stands disk tables s
-      → get_shard_iterator s ms ≡ refuses trimmed
+      → get_shard_iterator s ms ≡ refuses change_records_trimmed
   iterator-trimmed gone s stands =
       let (t, there, one, same) = reaches s stands in
       iterator-on ms arn is free s
       ∙ found_some not_found (table_of_stream s arn) (ends s ms) t there
-      ∙ ap (λ b. unless_refused (refuse_if b trimmed ∷ [])
+      ∙ ap (λ b. unless_refused (refuse_if b change_records_trimmed ∷ [])
       (gives (record { arn = arn_in ms; from = starts s ms }))) (same ∙ gone)

@@ -10,13 +10,13 @@ use Rattle.alt_base.proofs.Lists.{All-ahead}
 use Rattle.alt_changes.specs.KeyOf.{IsSized}
 use Rattle.alt_disk.specs.Disk.{DiskState}
 use Rattle.alt_machine.specs.Changes.{record_size}
-use Rattle.alt_machine.specs.Ops.GetRecords.{changes_from, next_from, page_of}
+use Rattle.alt_machine.specs.Ops.GetRecords.{changes_from, next_from, records_page}
 use Rattle.alt_machine.specs.State.{Change, State, Table}
 use Rattle.alt_machine.specs.Valid.{IsChange, IsValid, IsStored}
 use Rattle.alt_machine.proofs.Descriptions.{get-descriptions}
 use Rattle.alt_schema.specs.declared.schema.TableSchema.{TableSchema}
 use Rattle.alt_schema.specs.declared.schema.View.{View}
-use Rattle.alt_streams.specs.private.Paged.{HasRead, IsFit, Puts, Steps, is_full}
+use Rattle.alt_streams.specs.private.Paged.{PageHasRecords, IsFit, Puts, StepsPage, is_full}
 use Rattle.alt_streams.specs.declared.page.Page.{Page}
 use Rattle.alt_streams.proofs.Filled.{page_all, page_ended}
 use Rattle.alt_streams.proofs.Numbers.{Rise, behind_front, past-append}
@@ -63,14 +63,14 @@ module _ (d : TableSchema) (shows : View) (most from : ℕ) (seen changes : List
   pub record SoFar (now : Page) (ahead : List Change) : Type 0 where
     pub front : List Change
     pub is : changes ≡ front ++ ahead
-    pub read : HasRead d shows most from now (seen ++ front)
+    pub read : PageHasRecords d shows most from now (seen ++ front)
 
   -- with nothing read yet, the page has what was read so far
-  pub none_yet : (page : Page) → HasRead d shows most from page seen → SoFar page changes
+  pub none_yet : (page : Page) → PageHasRecords d shows most from page seen → SoFar page changes
   none_yet page h = record {
     front = [];
     is = refl;
-    read = subst (HasRead d shows most from page) (sym (append-nil seen)) h;
+    read = subst (PageHasRecords d shows most from page) (sym (append-nil seen)) h;
   }
 
   module _ (now then : Page) (c : Change) (ahead : List Change) (so : SoFar now (c ∷ ahead)) where
@@ -78,21 +78,21 @@ module _ (d : TableSchema) (shows : View) (most from : ℕ) (seen changes : List
     next_fit all = All-ahead IsFit so.front c ahead (subst (All IsFit) so.is all)
 
     -- one more
-    pub one_more : HasRead d shows most from then ((seen ++ so.front) ++ c ∷ []) → SoFar then ahead
+    pub one_more : PageHasRecords d shows most from then ((seen ++ so.front) ++ c ∷ []) → SoFar then ahead
     one_more h = record {
       front = so.front ++ c ∷ [];
       is = so.is ∙ sym (append_assoc so.front (c ∷ []) ahead);
-      read = subst (HasRead d shows most from then) (append_assoc seen so.front (c ∷ [])) h;
+      read = subst (PageHasRecords d shows most from then) (append_assoc seen so.front (c ∷ [])) h;
     }
 
     -- which is the last
-    pub one_last : HasRead d shows most from then ((seen ++ so.front) ++ c ∷ [])
+    pub one_last : PageHasRecords d shows most from then ((seen ++ so.front) ++ c ∷ [])
         → is_full then ≡ true → Puts d shows most from then seen changes false
     one_last h full = let more = one_more h in (more.front, ahead, more.is, more.read, full)
 
   -- all changes that were read are put into the page
   pub all_put : (now : Page) → SoFar now [] → Puts d shows most from now seen changes true
-  all_put now so = subst (λ l. HasRead d shows most from now (seen ++ l))
+  all_put now so = subst (λ l. PageHasRecords d shows most from now (seen ++ l))
       (sym (so.is ∙ append-nil so.front)) so.read
 
 -- ---- a step
@@ -104,7 +104,7 @@ take_short (suc k) (x ∷ xs) h = ap (λ l. x ∷ l) (take_short k xs (omega (ar
 
 module _ (d : TableSchema) (shows : View) (most from : ℕ) (seen : List Change) (t : Table)
     (rise : Rise (λ (c : Change). c.number) t.changes) (old now : Page)
-    (was : HasRead d shows most from old seen) (k : ℕ) (got : List Change)
+    (was : PageHasRecords d shows most from old seen) (k : ℕ) (got : List Change)
     (is : got ≡ take k (changes_from old.next t.changes)) where
   abbrev list : List Change
   list = changes_from old.next t.changes
@@ -117,7 +117,7 @@ module _ (d : TableSchema) (shows : View) (most from : ℕ) (seen : List Change)
 
   -- it goes on
   pub step_on : Puts d shows most from now seen got true
-      → Steps d shows most from now seen t list true
+      → StepsPage d shows most from now seen t list true
   step_on h =
       let next : now.next ≡ next_from old.next got =
       h.next ∙ past-append (λ (c : Change). c.number) from seen got
@@ -130,7 +130,7 @@ module _ (d : TableSchema) (shows : View) (most from : ℕ) (seen : List Change)
 
   -- the changes end with it
   pub step_last : Puts d shows most from now seen got true → length got < k
-      → Steps d shows most from now seen t list false
+      → StepsPage d shows most from now seen t list false
   step_last h few = (
     got,
     [],
@@ -141,7 +141,7 @@ module _ (d : TableSchema) (shows : View) (most from : ℕ) (seen : List Change)
 
   -- the page does
   pub step_full : Puts d shows most from now seen got false
-      → Steps d shows most from now seen t list false
+      → StepsPage d shows most from now seen t list false
   step_full (front, behind, parts, h, full) = (
     front,
     behind ++ rest,
@@ -156,28 +156,28 @@ module _ (d : TableSchema) (shows : View) (most from : ℕ) (t : Table) (list : 
   -- those were read, and the others are those from the page's next number on
   pub record IsRead (page : Page) : Type 0 where
     pub seen : List Change
-    pub read : HasRead d shows most from page seen
+    pub read : PageHasRecords d shows most from page seen
     pub whole : list ≡ seen ++ changes_from page.next t.changes
 
   -- a page that begins with nothing has read the changes from its place on
-  pub read_begun : (page : Page) → HasRead d shows most from page []
+  pub read_begun : (page : Page) → PageHasRecords d shows most from page []
       → list ≡ changes_from page.next t.changes → IsRead page
   read_begun page h is = record { seen = []; read = h; whole = is }
 
   -- the records are those of the page of the list
   abbrev pub IsPage : Page → Type 0
-  IsPage page = HasRead d shows most from page (page_of most (record_size d shows) list)
+  IsPage page = PageHasRecords d shows most from page (records_page most (record_size d shows) list)
 
   -- the page is full before a step
   pub ended_before : (page : Page) → IsRead page → is_full page ≡ true → IsPage page
-  ended_before page so full = subst (HasRead d shows most from page)
-      (sym (ap (page_of most (record_size d shows)) so.whole
+  ended_before page so full = subst (PageHasRecords d shows most from page)
+      (sym (ap (records_page most (record_size d shows)) so.whole
       ∙ page_ended d shows most from page so.seen (changes_from page.next t.changes) so.read full))
       so.read
 
   module _ (now then : Page) (so : IsRead now) where
     -- a step more
-    pub read_on : Steps d shows most from then so.seen t (changes_from now.next t.changes) true
+    pub read_on : StepsPage d shows most from then so.seen t (changes_from now.next t.changes) true
         → IsRead then
     read_on (front, h, is) = record {
       seen = so.seen ++ front;
@@ -187,14 +187,14 @@ module _ (d : TableSchema) (shows : View) (most from : ℕ) (t : Table) (list : 
     }
 
     -- the last one
-    pub read_ended : Steps d shows most from then so.seen t (changes_from now.next t.changes) false
+    pub read_ended : StepsPage d shows most from then so.seen t (changes_from now.next t.changes) false
         → IsPage then
-    read_ended (front, behind, is, h, inl full) = subst (HasRead d shows most from then)
-        (sym (ap (page_of most (record_size d shows)) (so.whole ∙ ap (λ l. so.seen ++ l) is
+    read_ended (front, behind, is, h, inl full) = subst (PageHasRecords d shows most from then)
+        (sym (ap (records_page most (record_size d shows)) (so.whole ∙ ap (λ l. so.seen ++ l) is
         ∙ sym (append_assoc so.seen front behind))
         ∙ page_ended d shows most from then (so.seen ++ front) behind h full)) h
-    read_ended (front, behind, is, h, inr none) = subst (HasRead d shows most from then)
-        (sym (ap (page_of most (record_size d shows)) (so.whole ∙ ap (λ l. so.seen ++ l)
+    read_ended (front, behind, is, h, inr none) = subst (PageHasRecords d shows most from then)
+        (sym (ap (records_page most (record_size d shows)) (so.whole ∙ ap (λ l. so.seen ++ l)
         (is ∙ ap (λ l. front ++ l) none ∙ append-nil front))
         ∙ page_all d shows most from then (so.seen ++ front) h)) h
 
@@ -217,14 +217,14 @@ module _ (disk : DiskState) (tables : Tables) (s : State) (stands : Stands disk 
 -- what is put by a description is put by the same
 pub puts_at : (d e : TableSchema) → d ≡ e → (old now : Page) (changes : List Change) (more : Bool)
     → ((shows : View) (most from : ℕ) (seen : List Change) → d.view ≡ Some shows
-    → HasRead d shows most from old seen → All IsFit changes
+    → PageHasRecords d shows most from old seen → All IsFit changes
     → Puts d shows most from now seen changes more)
     → (shows : View) (most from : ℕ) (seen : List Change) → e.view ≡ Some shows
-    → HasRead e shows most from old seen → All IsFit changes
+    → PageHasRecords e shows most from old seen → All IsFit changes
     → Puts e shows most from now seen changes more
 puts_at d e same old now changes more = subst (λ (x : TableSchema).
     (shows : View) (most from : ℕ) (seen : List Change) → x.view ≡ Some shows
-    → HasRead x shows most from old seen → All IsFit changes
+    → PageHasRecords x shows most from old seen → All IsFit changes
     → Puts x shows most from now seen changes more) same
 
 -- a fault of reading is one of finding

@@ -18,7 +18,7 @@ use Rattle.alt_request.proofs.Reaching.{err_is}
 use Rattle.alt_schema.specs.Stated.{text_of}
 use Rattle.alt_schema.specs.declared.schema.TableSchema.{TableSchema}
 use Rattle.alt_shape.specs.Bodies as bodies
-use Rattle.alt_shape.specs.Refusals.{IsKnown, refused, refusal_of, bad_stream_argument, trimmed}
+use Rattle.alt_shape.specs.Refusals.{IsKnown, refused, refusal_of, bad_stream_argument, change_records_trimmed}
 use Rattle.alt_shape.specs.declared.refusal.Refusal.{Refusal}
 use Rattle.alt_shape.specs.declared.refusal.Reply.{Reply}
 use Rattle.alt_shape.specs.declared.rule.Broken.{Broken}
@@ -74,7 +74,7 @@ module _ (catalog : Texts TableSchema) (known : List Trimmed) (ms : Members) whe
       -- what it stands for was trimmed
       pub place_trimmed : (name : List ℕ) → OnStreaming catalog i.arn (Ok name)
           → is_trimmed (number_at name known) i.from ≡ true
-          → OnPlace catalog known ms (Err (Refused trimmed))
+          → OnPlace catalog known ms (Err (Refused change_records_trimmed))
       place_trimmed name h e = (
         tt,
         λ s valid same trimmed_so. records_trimmed ms free i reads catalog known name h.0 h.1 s

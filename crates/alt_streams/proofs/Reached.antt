@@ -13,7 +13,7 @@ use Rattle.serde_json.specs.Data.{Members, no_members}
 use Rattle.alt_disk.specs.Disk.{DiskState}
 use Rattle.alt_machine.specs.Body.{of_shape}
 use Rattle.alt_machine.specs.Changes.{record_size}
-use Rattle.alt_machine.specs.Ops.GetRecords.{changes_from, get_records, page_length, page_of, pages, records_answer}
+use Rattle.alt_machine.specs.Ops.GetRecords.{changes_from, get_records, page_length, records_page, pages, records_answer}
 use Rattle.alt_machine.specs.Outcomes.{Outcome, says, refuses, unless_refused, with_found}
 use Rattle.alt_machine.specs.Refusals.{first_answer, refuse_if}
 use Rattle.alt_machine.specs.State.{State, Table, Texts, descriptions}
@@ -31,10 +31,10 @@ use Rattle.alt_schema.specs.Stated.{text_of}
 use Rattle.alt_schema.specs.declared.schema.TableSchema.{TableSchema}
 use Rattle.alt_schema.specs.declared.schema.View.{View}
 use Rattle.alt_shape.specs.Bodies as bodies
-use Rattle.alt_shape.specs.Refusals.{Answer, answered, bad_stream_argument, not_found, trimmed}
+use Rattle.alt_shape.specs.Refusals.{Answer, answered, bad_stream_argument, not_found, change_records_trimmed}
 use Rattle.alt_streams.specs.private.Named.{IsStreamOf, OnStream}
 use Rattle.alt_streams.specs.private.Paged.{iterator_at}
-use Rattle.alt_streams.specs.private.Placed.{IsPlace, OnStreaming, has_stream}
+use Rattle.alt_streams.specs.private.Placed.{IsIteratorPlace, OnStreaming, has_stream}
 use Rattle.alt_streams.specs.declared.records.Place.{Place}
 use Rattle.alt_streams.proofs.Entries.{behind, here}
 use Rattle.alt_request.specs.TablesStands.{Stands, catalog_of, trimmed_of}
@@ -214,7 +214,7 @@ module _ (ms : Members) where
     module _ (i : Iterator) (reads : iterator_of text ≡ Some i) where
       -- behind the test whether it was trimmed a page is answered
       abbrev goes : Table → Outcome
-      goes t = unless_refused (refuse_if (is_trimmed t.trimmed i.from) trimmed ∷ [])
+      goes t = unless_refused (refuse_if (is_trimmed t.trimmed i.from) change_records_trimmed ∷ [])
           (says (pages t ms i))
 
       pub records_at : (s : State) → get_records s ms ≡ with_found (stream_at s i.arn) goes
@@ -237,7 +237,7 @@ module _ (ms : Members) where
           → is_trimmed t.trimmed i.from ≡ false → get_records s ms ≡ says (pages t ms i)
       records_found s t is kept =
           records_at s ∙ found_some not_found (table_of_stream s i.arn) goes t is
-          ∙ ap (λ b. unless_refused (refuse_if b trimmed ∷ []) (says (pages t ms i))) kept
+          ∙ ap (λ b. unless_refused (refuse_if b change_records_trimmed ∷ []) (says (pages t ms i))) kept
 
       -- what was trimmed is refused
       pub records_trimmed : (catalog : Texts TableSchema) (known : List Trimmed) (name : List ℕ)
@@ -245,32 +245,32 @@ module _ (ms : Members) where
           → IsStreamOf catalog i.arn (finite.get catalog name)
           → (s : State) → IsValid s → descriptions s.tables ≡ catalog
           → AreTrimmedOf s.tables known → is_trimmed (number_at name known) i.from ≡ true
-          → get_records s ms ≡ refuses trimmed
+          → get_records s ms ≡ refuses change_records_trimmed
       records_trimmed catalog known name stream named s valid same so e =
           let (t, found, at) = reached s valid catalog same i.arn name stream named in
           records_at s ∙ found_some not_found (table_of_stream s i.arn) goes t found
-          ∙ ap (λ b. unless_refused (refuse_if b trimmed ∷ []) (says (pages t ms i)))
+          ∙ ap (λ b. unless_refused (refuse_if b change_records_trimmed ∷ []) (says (pages t ms i)))
           (ap (λ n. is_trimmed n i.from) (sym (known_at s known so name t at)) ∙ e)
 
 -- the page of a table whose stream shows so much
 pub pages_so : (t : Table) (ms : Members) (i : Iterator) (shows : View)
     → t.description.view ≡ Some shows → pages t ms i ≡ records_answer t.description i
-    (page_of (page_length ms) (record_size t.description shows) (changes_from i.from t.changes))
+    (records_page (page_length ms) (record_size t.description shows) (changes_from i.from t.changes))
     shows
 pages_so t ms i shows e = ap (λ (o : Option View). option_map_or
     (λ view. records_answer t.description i
-    (page_of (page_length ms) (record_size t.description view) (changes_from i.from t.changes))
+    (records_page (page_length ms) (record_size t.description view) (changes_from i.from t.changes))
     view)
     o (answered no_members)) e
 
 module _ (disk : DiskState) (tables : Tables) (ms : Members) (place : Place)
-    (is : IsPlace (catalog_of tables) (trimmed_of tables) ms place) (most : ℕ) (m : most ≡ page_length ms) where
+    (is : IsIteratorPlace (catalog_of tables) (trimmed_of tables) ms place) (most : ℕ) (m : most ≡ page_length ms) where
   -- the reply is the page's, in each state for which the tables stand
   abbrev pub Told : Answer → Type 0
   Told answer = (s : State) (t : Table) (shows : View) → Stands disk tables s
       → finite.get s.tables place.table ≡ Some t → t.description.view ≡ Some shows
       → answer ≡ records_answer t.description (iterator_at t.description place.from)
-      (page_of most (record_size t.description shows) (changes_from place.from t.changes)) shows
+      (records_page most (record_size t.description shows) (changes_from place.from t.changes)) shows
 
   -- of the table that was reached, the answer is as its view says
   by_view : (answer : Answer) → Told answer → (s : State) → Stands disk tables s → (t : Table)
@@ -287,7 +287,7 @@ module _ (disk : DiskState) (tables : Tables) (ms : Members) (place : Place)
       ∙ ap says (pages_so t ms is.iterator shows view
       ∙ sym (told s t shows stands at view
       ∙ (λ j. records_answer t.description (record { arn = named j; from = is.from j })
-      (page_of (m j) (record_size t.description shows) (changes_from (is.from j) t.changes))
+      (records_page (m j) (record_size t.description shows) (changes_from (is.from j) t.changes))
       shows)))
 
   -- what is told of the place is what a GetRecords answers

@@ -1,5 +1,5 @@
 -- The members of a record, put one behind another.
-use Rattle.std.proofs.Common.{◌≡◌, refl, sym, ap, ◌∙◌, ℕ, Bool, List, [], ◌∷◌, ◌++◌, Option, Some, None, codes, option_map}
+use Rattle.std.proofs.Common.{◌≡◌, refl, ap, ◌∙◌, ℕ, Bool, List, [], ◌∷◌, ◌++◌, Option, Some, None, codes, option_map}
 use Rattle.serde_json.specs.Data.{Data, string, number, unsigned, object, Members, member, no_members}
 use Rattle.alt_codec.specs.Writing.{json_of_pairs}
 use Rattle.alt_machine.specs.Changes.{changed_json, changed_key, event_name, identity, image, record_json, record_size, shows_new, shows_old}

@@ -11,7 +11,7 @@ ghost use Rattle.alt_request.specs.Carried.{Carries, Moves};
 ghost use Rattle.alt_schema.specs.Json.{items_by};
 ghost use Rattle.alt_shape.specs.Body.{body_json};
 ghost use Rattle.alt_shape.specs.Refusals.{answer_of};
-ghost use Rattle.alt_streams.specs.private.Listed.{AreNamed, IsAsked, IsStart, all_in, is_listed, last_of, name_given, page_answer, start_name, streams_after};
+ghost use Rattle.alt_streams.specs.private.Listed.{TablesHaveOwnNames, StartsAfterOrRefused, IsStart, all_in, is_listed, last_table_of_page, name_given, streams_page_answer, start_table_name, streams_after};
 ghost use Rattle.alt_request.specs.TablesStands.{Stands, catalog_of, bounds_of};
 
 use crate::shown::stream_json;
@@ -65,7 +65,7 @@ fn asked<'t>(
     tables: &'t Tables,
     body: &Map<String, Value>,
 ) -> Result<Option<&'t TableSchema>, Stop>
-    ensures asked { IsAsked (catalog_of tables.now) (members_view body.now.entries) result }
+    ensures asked { StartsAfterOrRefused (catalog_of tables.now) (members_view body.now.entries) result }
 {
     if let Some(broken) = bodies::list_streams(body) {
         return Err(Stop::Refused(Refusal::from(broken)));
@@ -114,7 +114,7 @@ fn page_length(body: &Map<String, Value>) -> u64
 
 /// The name of the table to start after, the empty one where none is given.
 fn start_name(start: Option<&TableSchema>) -> &str
-    ensures { result.now ≡ start_name (option_map (λ d. d.now) start.entry) }
+    ensures { result.now ≡ start_table_name (option_map (λ d. d.now) start.entry) }
 {
     match start {
         Some(schema) => schema.name.as_str(),
@@ -131,9 +131,9 @@ fn answer_of_page(
     start: Option<&TableSchema>,
     body: &Map<String, Value>,
 ) -> Result<Reply, NoMemory>
-    ensures reply { AreNamed (catalog_of tables.now) → IfOk result (λ reply. answer_of reply
+    ensures reply { TablesHaveOwnNames (catalog_of tables.now) → IfOk result (λ reply. answer_of reply
         ≡ streams_answer (page_length (members_view body.now.entries))
-        (streams_after (start_name (option_map (λ d. d.now) start.entry))
+        (streams_after (start_table_name (option_map (λ d. d.now) start.entry))
         (name_given (members_view body.now.entries)) (catalog_of tables.now))) }
     ensures plain { IfOk result (λ reply. has_float (body_json reply.body) ≡ false) }
 {
@@ -150,10 +150,10 @@ fn page_after<'t>(
     name: Option<&str>,
     most: u64,
 ) -> Result<Page<'t>, NoMemory>
-    ensures streams { AreNamed (catalog_of tables.now) → IfOk result (λ p.
+    ensures streams { TablesHaveOwnNames (catalog_of tables.now) → IfOk result (λ p.
         each (λ d. d.now) p.schemas.items ≡ take most (streams_after start.now
         (option_map (λ w. w.now) name.entry) (catalog_of tables.now))) }
-    ensures more { AreNamed (catalog_of tables.now) → IfOk result (λ p. p.more
+    ensures more { TablesHaveOwnNames (catalog_of tables.now) → IfOk result (λ p. p.more
         ≡ nat_lt most (length (streams_after start.now
         (option_map (λ w. w.now) name.entry) (catalog_of tables.now)))) }
 {
@@ -172,7 +172,7 @@ fn page_after<'t>(
 
 /// The first table with a stream after a name; that of a name alone, where one is given.
 fn next_stream<'t>(tables: &'t Tables, last: &str, name: Option<&str>) -> Option<&'t TableSchema>
-    ensures next { AreNamed (catalog_of tables.now) → option_map (λ d. d.now) result
+    ensures next { TablesHaveOwnNames (catalog_of tables.now) → option_map (λ d. d.now) result
         ≡ find (is_listed last.now (option_map (λ w. w.now) name.entry))
         (all_in (catalog_of tables.now)) }
 {
@@ -184,7 +184,7 @@ fn next_stream<'t>(tables: &'t Tables, last: &str, name: Option<&str>) -> Option
 
 /// The table of a name, where it has a stream and stands after another name.
 fn named_stream<'t>(tables: &'t Tables, last: &str, name: &str) -> Option<&'t TableSchema>
-    ensures named { AreNamed (catalog_of tables.now) → option_map (λ d. d.now) result
+    ensures named { TablesHaveOwnNames (catalog_of tables.now) → option_map (λ d. d.now) result
         ≡ find (is_listed last.now (Some name.now)) (all_in (catalog_of tables.now)) }
 {
     if !last.cmp(name).is_lt() {
@@ -206,7 +206,7 @@ fn with_stream(schema: &TableSchema) -> Option<&TableSchema>
 
 /// The first table with a stream after a name.
 fn stream_after<'t>(tables: &'t Tables, name: &str) -> Option<&'t TableSchema>
-    ensures next { AreNamed (catalog_of tables.now) → option_map (λ d. d.now) result
+    ensures next { TablesHaveOwnNames (catalog_of tables.now) → option_map (λ d. d.now) result
         ≡ find (is_listed name.now None) (all_in (catalog_of tables.now)) }
 {
     let mut last = name;
@@ -224,7 +224,7 @@ fn stream_after<'t>(tables: &'t Tables, name: &str) -> Option<&'t TableSchema>
 /// The reply of a page.
 fn listed(alloc: Global, page: &Page) -> Result<Reply, NoMemory>
     ensures reply { IfOk result (λ reply. answer_of reply
-        ≡ page_answer page.now.more (each (λ d. d.now) page.now.schemas.items)) }
+        ≡ streams_page_answer page.now.more (each (λ d. d.now) page.now.schemas.items)) }
     ensures plain { IfOk result (λ reply. has_float (body_json reply.body) ≡ false) }
 {
     written(alloc, page)
@@ -232,7 +232,7 @@ fn listed(alloc: Global, page: &Page) -> Result<Reply, NoMemory>
 
 fn written(alloc: Global, page: &Page) -> Result<Reply, NoMemory>
     ensures { IfOk result (λ reply. answer_of reply
-        ≡ page_answer page.now.more (each (λ d. d.now) page.now.schemas.items)) }
+        ≡ streams_page_answer page.now.more (each (λ d. d.now) page.now.schemas.items)) }
 {
     let streams = streams_json(alloc, page.schemas.as_slice())?;
     let mut members = Map::new(alloc);
@@ -252,7 +252,7 @@ fn written(alloc: Global, page: &Page) -> Result<Reply, NoMemory>
 /// The last table of a page, where it isn't the last of all.
 fn last_stream<'t>(page: &Page<'t>) -> Option<&'t TableSchema>
     ensures { option_map (λ d. d.now) result
-        ≡ last_of page.now.more (each (λ d. d.now) page.now.schemas.items) }
+        ≡ last_table_of_page page.now.more (each (λ d. d.now) page.now.schemas.items) }
 {
     if !page.more {
         return None;

@@ -29,17 +29,17 @@ pub(crate) struct Page {
 }
 
 impl Page {
-    ghost use Rattle.std.specs.Prelude.{◌≡◌, ◌<◌, ◌^◌, ◌++◌, ◌∷◌, [], ℕ, false, not, List, Some, IfErr, IfOk, IfSome, IsErrOf, IsSome, OnOk};
+    ghost use Rattle.std.specs.Prelude.{◌≡◌, ◌<◌, ◌++◌, ◌∷◌, [], ℕ, false, List, Some, IfErr, IsErrOf, IsSome, OnOk};
     ghost use Rattle.alt_changes.specs.ChangeRows.{change_in};
     ghost use Rattle.alt_machine.specs.State as machine;
     ghost use Rattle.alt_schema.specs.declared.schema.TableSchema.{TableSchema};
     ghost use Rattle.alt_schema.specs.declared.schema.View.{View};
-    ghost use Rattle.alt_streams.specs.private.Paged.{HasRead, IsFit, is_full};
+    ghost use Rattle.alt_streams.specs.private.Paged.{PageHasRecords, IsFit, is_full};
     ghost use Rattle.alt_request.specs.TablesFaults.{IsReadFault};
 
     /// A page without records, of the changes from a number on.
     pub(crate) fn new(alloc: Global, from: u64, most: u64) -> Page
-        ensures read { (d : TableSchema) (shows : View) → HasRead d shows most from result [] }
+        ensures read { (d : TableSchema) (shows : View) → PageHasRecords d shows most from result [] }
     {
         Page {
             records: Vec::new(alloc),
@@ -80,9 +80,9 @@ impl Page {
         requires going { is_full self.old ≡ false }
         requires stream { IsSome schema.now.view }
         ensures read { (shows : View) (most from : ℕ) (seen : List machine.Change)
-            → schema.now.view ≡ Some shows → HasRead schema.now shows most from self.old seen
+            → schema.now.view ≡ Some shows → PageHasRecords schema.now shows most from self.old seen
             → IsFit (change_in change)
-            → OnOk result (HasRead schema.now shows most from self.new
+            → OnOk result (PageHasRecords schema.now shows most from self.new
             (seen ++ change_in change ∷ [])) }
         ensures fault { IsFit (change_in change) → IfErr result IsReadFault }
         ensures unfailed { IsErrOf result TableFault.Failed → ⊥ }

@@ -5,12 +5,12 @@ ghost use Rattle.std.specs.FinMap as map;
 ghost use Rattle.alt_base.specs.Counts.{Rose};
 ghost use Rattle.alt_changes.specs.ChangeRows.{change_in};
 ghost use Rattle.alt_machine.specs.Changes.{record_size};
-ghost use Rattle.alt_machine.specs.Ops.GetRecords.{changes_from, page_of};
+ghost use Rattle.alt_machine.specs.Ops.GetRecords.{changes_from, records_page};
 ghost use Rattle.alt_machine.specs.State as machine;
 ghost use Rattle.alt_machine.specs.State.{State, Table};
 ghost use Rattle.alt_schema.specs.declared.schema.TableSchema.{TableSchema};
 ghost use Rattle.alt_schema.specs.declared.schema.View.{View};
-ghost use Rattle.alt_streams.specs.private.Paged.{HasRead, IsFit, Puts, Steps, is_full};
+ghost use Rattle.alt_streams.specs.private.Paged.{PageHasRecords, IsFit, Puts, StepsPage, is_full};
 ghost use Rattle.alt_request.specs.TablesFaults.{IsFindFault, IsReadFault};
 ghost use Rattle.alt_request.specs.TablesLooking.{OnlyReads};
 ghost use Rattle.alt_request.specs.TablesStands.{AreReady, Stands, catalog_of};
@@ -37,9 +37,9 @@ pub(crate) fn fill<D: Disk>(
         → IsSome d.view }
     ensures filled { (s : State) (t : Table) (shows : View) (most from : ℕ)
         → Stands (D.state disk.old) tables.old s → map.get s.tables table.now ≡ Some t
-        → t.description.view ≡ Some shows → HasRead t.description shows most from page.old []
-        → OnOk result (HasRead t.description shows most from page.new
-        (page_of most (record_size t.description shows) (changes_from page.old.next t.changes))) }
+        → t.description.view ≡ Some shows → PageHasRecords t.description shows most from page.old []
+        → OnOk result (PageHasRecords t.description shows most from page.new
+        (records_page most (record_size t.description shows) (changes_from page.old.next t.changes))) }
     ensures only { OnlyReads (D.state disk.old) (D.state disk.new) tables.old tables.new }
     ensures fault { (s : State) → Stands (D.state disk.old) tables.old s
         → IfErr result IsFindFault }
@@ -74,8 +74,8 @@ fn step<D: Disk>(
     ensures steps { (s : State) (t : Table) (shows : View) (most from : ℕ)
         (seen : List machine.Change) → Stands (D.state disk.old) tables.old s
         → map.get s.tables table.now ≡ Some t → t.description.view ≡ Some shows
-        → HasRead t.description shows most from page.old seen
-        → IfOk result (Steps t.description shows most from page.new seen t
+        → PageHasRecords t.description shows most from page.old seen
+        → IfOk result (StepsPage t.description shows most from page.new seen t
         (changes_from page.old.next t.changes)) }
     ensures only { OnlyReads (D.state disk.old) (D.state disk.new) tables.old tables.new }
     ensures fault { (s : State) → Stands (D.state disk.old) tables.old s
@@ -107,7 +107,7 @@ fn put_all(
     requires going { is_full page.old ≡ false }
     requires stream { IsSome schema.now.view }
     ensures puts { (shows : View) (most from : ℕ) (seen : List machine.Change)
-        → schema.now.view ≡ Some shows → HasRead schema.now shows most from page.old seen
+        → schema.now.view ≡ Some shows → PageHasRecords schema.now shows most from page.old seen
         → All IsFit (each change_in changes.items)
         → IfOk result (Puts schema.now shows most from page.new seen
         (each change_in changes.items)) }

@@ -6,7 +6,7 @@ ghost use Rattle.serde_json.specs.View.{view, members_view};
 ghost use Rattle.serde_json.specs.Written.{has_float};
 ghost use Rattle.alt_base.specs.Counts.{Rose};
 ghost use Rattle.alt_machine.specs.Changes.{record_size};
-ghost use Rattle.alt_machine.specs.Ops.GetRecords.{changes_from, get_records, page_length, page_of, records_answer};
+ghost use Rattle.alt_machine.specs.Ops.GetRecords.{changes_from, get_records, page_length, records_page, records_answer};
 ghost use Rattle.alt_machine.specs.State.{State, Table};
 ghost use Rattle.alt_request.specs.Carried.{Carries, Moves};
 ghost use Rattle.alt_schema.specs.Stated.{text_of};
@@ -14,7 +14,7 @@ ghost use Rattle.alt_schema.specs.declared.schema.TableSchema.{TableSchema};
 ghost use Rattle.alt_schema.specs.declared.schema.View.{View};
 ghost use Rattle.alt_shape.specs.Body.{body_json};
 ghost use Rattle.alt_shape.specs.Refusals.{answer_of};
-ghost use Rattle.alt_streams.specs.private.Paged.{iterator_at, page_answer};
+ghost use Rattle.alt_streams.specs.private.Paged.{iterator_at, records_page_answer};
 ghost use Rattle.alt_streams.specs.private.Placed.{OnPlace, OnStreaming, has_stream};
 ghost use Rattle.alt_request.specs.TablesFaults.{IsFindFault};
 ghost use Rattle.alt_request.specs.TablesLooking.{OnlyReads};
@@ -140,7 +140,7 @@ fn page_at<D: Disk>(
         → map.get s.tables table.now ≡ Some t → t.description.view ≡ Some shows
         → IfOk result (λ reply. answer_of reply
         ≡ records_answer t.description (iterator_at t.description from)
-        (page_of most (record_size t.description shows) (changes_from from t.changes)) shows) }
+        (records_page most (record_size t.description shows) (changes_from from t.changes)) shows) }
     ensures plain { IfOk result (λ reply. has_float (body_json reply.body) ≡ false) }
     ensures only { OnlyReads (D.state disk.old) (D.state disk.new) tables.old tables.new }
     ensures fault { (s : State) → Stands (D.state disk.old) tables.old s
@@ -162,7 +162,7 @@ fn page_at<D: Disk>(
 /// The reply with the records of a page, and the iterator for the changes behind them.
 #[tactic(auto, using(alt_shape::proofs::Plain::members_plain))]
 fn page_reply(alloc: Global, schema: &TableSchema, page: Page) -> Result<Reply, NoMemory>
-    ensures reply { IfOk result (λ reply. answer_of reply ≡ page_answer schema.now page) }
+    ensures reply { IfOk result (λ reply. answer_of reply ≡ records_page_answer schema.now page) }
     ensures plain { IfOk result (λ reply. has_float (body_json reply.body) ≡ false) }
 {
     let Page { records, next, .. } = page;

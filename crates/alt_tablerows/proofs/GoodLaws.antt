@@ -13,7 +13,7 @@ use Rattle.alt_schema.specs.Described.{IsDescription}
 use Rattle.alt_schemabytes.specs.Held.{IsHeld}
 use Rattle.alt_schema.specs.declared.schema.TableSchema.{TableSchema}
 use Rattle.alt_tablerows.specs.Good.{IsGood}
-use Rattle.alt_tablerows.specs.private.Tests.{are_within, are_apart, passes}
+use Rattle.alt_tablerows.specs.private.Tests.{are_within, are_apart, passes_description_tests}
 use Rattle.alt_tablerows.proofs.MadeLaws.{as_made, made_as}
 
 -- an element at a place doesn't turn on what stands for none
@@ -60,8 +60,8 @@ apart_is (f ∷ fs) = Decides-like (not (list_any (λ g. g == f) fs) && are_apar
 module _ (number next : ℕ) (name : List ℕ) (d : TableSchema) (whole : IsDescription d)
     (held : IsHeld d) (built : IsBuilt d) where
   -- the tests decide whether a description is good
-  pub good_is : Decides (passes number next name d) (IsGood number next name d)
-  good_is = Decides-like (passes number next name d)
+  pub good_is : Decides (passes_description_tests number next name d) (IsGood number next name d)
+  good_is = Decides-like (passes_description_tests number next name d)
       (λ h. record {
         named = h.0;
         made = as_made d h.1.0 whole built;

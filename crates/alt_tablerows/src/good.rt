@@ -6,7 +6,7 @@ ghost use Rattle.alt_machine.specs.State.{families_of};
 ghost use Rattle.alt_schema.specs.Described.{IsDescription};
 ghost use Rattle.alt_schemabytes.specs.Held.{IsHeld};
 ghost use Rattle.alt_tablerows.specs.Good.{IsGood};
-ghost use Rattle.alt_tablerows.specs.private.Tests.{are_apart, are_families, are_within, is_number, passes};
+ghost use Rattle.alt_tablerows.specs.private.Tests.{are_apart, are_families, are_within, is_number_taken, passes_description_tests};
 
 use crate::families::has_family;
 use crate::made::is_as_made;
@@ -32,7 +32,7 @@ pub fn is_good(
 
 fn passes(number: u64, family: u32, name: &Bytes, schema: &TableSchema, families: &[u32]) -> bool
     requires families { families.now ≡ families_of schema.now }
-    ensures { result ≡ passes number family name.now schema.now }
+    ensures { result ≡ passes_description_tests number family name.now schema.now }
 {
     if schema.name.as_str().as_bytes() != name.as_slice() {
         return false;
@@ -45,7 +45,7 @@ fn passes(number: u64, family: u32, name: &Bytes, schema: &TableSchema, families
 
 /// Whether a number was taken before the next one.
 fn is_number(next: u64, number: u64) -> bool
-    ensures { result ≡ is_number next number }
+    ensures { result ≡ is_number_taken next number }
 {
     1 <= number && number < next
 }

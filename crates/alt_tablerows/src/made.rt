@@ -1,6 +1,6 @@
 //! Whether a description that was read is one as it is made: names, keys, definitions and indexes.
 
-ghost use Rattle.std.specs.Prelude.{◌≡◌, ◌&&◌, ◌++◌, length, nat_lt, nat_le, not, option_map};
+ghost use Rattle.std.specs.Prelude.{◌≡◌, ◌&&◌, ◌++◌, length, nat_lt, nat_le};
 ghost use Rattle.std.specs.List.{list_any, list_all};
 ghost use Rattle.std.specs.Str.{bytes_eq};
 ghost use Rattle.alt_machine.specs.Valid.{is_pair, are_two, is_local, names_few};

@@ -28,8 +28,8 @@ use Rattle.alt_rowchanges.specs.RowChanges.{Turns, changed_rows, write_changes}
 use Rattle.alt_tables.specs.Several.{with_batches}
 use Rattle.alt_tables.specs.declared.several.Noted.{Noted}
 use Rattle.alt_rowchanges.specs.declared.trimming.Trim.{Trim}
-use Rattle.alt_tables.specs.private.Staging.{IsAgain, IsAhead, IsTableAhead, IsTouched, IsUntouched, note_at, oldest_by}
-use Rattle.alt_rowchanges.specs.Trims.{IsLowestFrom, IsRest, IsTrim, is_over, leftovers_from, trimmed_by}
+use Rattle.alt_tables.specs.private.Staging.{IsAgain, IsStateAhead, IsTableAhead, IsTouched, IsUntouched, note_at, oldest_by}
+use Rattle.alt_rowchanges.specs.Trims.{IsLowestFrom, IsRest, IsTrim, is_over_a_day_before, leftovers_from, trimmed_by}
 use Rattle.alt_tables.proofs.Batches.{past_behind, turns_more, turns_none, with_batches-append}
 use Rattle.alt_rowchanges.proofs.ChangeLaws.{AreOthers}
 use Rattle.alt_rowchanges.proofs.Elsewhere.{shown_elsewhere, write_others}
@@ -39,7 +39,7 @@ use Rattle.alt_rowchanges.proofs.KeptFrom.{young}
 use Rattle.alt_rowchanges.proofs.Rising.{filter_rising, rising_least}
 use Rattle.alt_tables.proofs.Standing.{descriptions-stay}
 use Rattle.alt_rowchanges.proofs.StreamShows.{stream_family}
-use Rattle.alt_rowchanges.proofs.WriteLaws.{item_turns}
+use Rattle.alt_rowchanges.proofs.ItemTurns.{item_turns}
 use Rattle.alt_value.specs.Tree.{Pair}
 use Rattle.alt_value.specs.Values.{IsItemOfValues}
 use Rattle.alt_value.proofs.Texts.{text_total}
@@ -48,7 +48,7 @@ use Rattle.alt_value.proofs.Texts.{text_total}
 
 -- it isn't too old, also where it is that of the write
 oldest_young : (moment : ℕ) (cs : List Change)
-    → is_over (Some (unwrap_or (first_moment (kept moment cs)) moment)) moment ≡ false
+    → is_over_a_day_before (Some (unwrap_or (first_moment (kept moment cs)) moment)) moment ≡ false
 oldest_young moment [] = own moment
   where
     own : (m : ℕ) → nat_lt (m + a_day) m ≡ false
@@ -56,8 +56,8 @@ oldest_young moment [] = own moment
 oldest_young moment (c ∷ cs) = by (is_past moment c) refl (oldest_young moment cs)
   where
     by : (b : Bool) → is_past moment c ≡ b
-        → is_over (Some (unwrap_or (first_moment (kept moment cs)) moment)) moment ≡ false
-        → is_over (Some (unwrap_or (first_moment (if b then kept moment cs else c ∷ cs)) moment))
+        → is_over_a_day_before (Some (unwrap_or (first_moment (kept moment cs)) moment)) moment ≡ false
+        → is_over_a_day_before (Some (unwrap_or (first_moment (if b then kept moment cs else c ∷ cs)) moment))
         moment ≡ false
     by true e rest = rest
     by false e rest = e
@@ -98,13 +98,13 @@ module _ (l m : Layout) (t : Table) (moment : ℕ) (last : Trim) (touched : IsTo
           → t.trimmed ≡ (if is_some o then trimmed_at moment t.trimmed t.changes else t.trimmed)
       by None e = refl
       by (Some family) e = sym (young moment t.trimmed t.changes
-          (ap (λ o. is_over o moment) (touched.oldest family e) ∙ touched.young family e)).0
+          (ap (λ o. is_over_a_day_before o moment) (touched.oldest family e) ∙ touched.young family e)).0
 
   same_oldest : (family : ℕ) → t.description.stream_family ≡ Some family
       → x.oldest ≡ first_moment (kept moment t.changes)
   same_oldest family stream = oldest ∙ sym (touched.oldest family stream)
       ∙ sym (ap first_moment (young moment t.trimmed t.changes
-      (ap (λ o. is_over o moment) (touched.oldest family stream) ∙ touched.young family stream)).1)
+      (ap (λ o. is_over_a_day_before o moment) (touched.oldest family stream) ∙ touched.young family stream)).1)
 
   -- the next two rows go that are left over
   pub again_with : (family : ℕ) → t.description.stream_family ≡ Some family
@@ -156,7 +156,7 @@ module _ (l m : Layout) (t : Table) (moment : ℕ) (last : Trim) (touched : IsTo
 
 -- none leaves everything
 pub none_ahead : (l : Layout) (s : State) (moment : ℕ) → IsValid s → IsHeldWhole s
-    → IsAhead l s moment [] [] s
+    → IsStateAhead l s moment [] [] s
 none_ahead l s moment valid held = record {
   turns = turns_none s valid held;
   number = omega arith;
@@ -166,7 +166,7 @@ none_ahead l s moment valid held = record {
 }
 
 module _ (l : Layout) (s : State) (moment : ℕ) (notes : List Noted)
-    (batches : List (List RowChange)) (r : State) (ahead : IsAhead l s moment notes batches r)
+    (batches : List (List RowChange)) (r : State) (ahead : IsStateAhead l s moment notes batches r)
     (name : List ℕ) where
   -- a table that is noted is as its note says
   pub touched_by : (e : Noted) → Some e ≡ note_at name notes
@@ -205,7 +205,7 @@ table_on l now m moment was before after (Some e) alike same h = (
 )
 
 module _ (l : Layout) (s : State) (past : IsPast l) (moment : ℕ) (writer : Writer) (notes : List Noted)
-    (batches : List (List RowChange)) (r : State) (ahead : IsAhead l s moment notes batches r)
+    (batches : List (List RowChange)) (r : State) (ahead : IsStateAhead l s moment notes batches r)
     (name : List ℕ) (t : Table) (at : map.get r.tables name ≡ Some t) (place : List ℕ)
     (to : Option (List Pair)) (differ : is_same (map.get t.items place) to ≡ false) (x : Trim)
     (is : IsTrim (with_batches l batches) t moment x) (rest : IsRest l (with_batches l batches) t x)
@@ -234,7 +234,7 @@ module _ (l : Layout) (s : State) (past : IsPast l) (moment : ℕ) (writer : Wri
       oldest = λ family stream. sym (front_then r name t at ahead.turns.valid moment writer place to
           differ now x is family stream later (left_of family stream)
           (record { table = name; oldest = oldest_by moment x; from = x.from }) (refl, refl)).oldest;
-      young = λ family stream. ap (λ o. is_over (Some (unwrap_or o moment)) moment)
+      young = λ family stream. ap (λ o. is_over_a_day_before (Some (unwrap_or o moment)) moment)
           (is.oldest family stream) ∙ oldest_young moment t.changes;
       left = λ family stream. left_of family stream ∙ rest family stream;
     }
@@ -272,7 +272,7 @@ module _ (l : Layout) (s : State) (past : IsPast l) (moment : ℕ) (writer : Wri
           (left_then r name t at ahead.turns.valid moment writer place to differ now x is))
 
       -- So one more is ahead.
-      pub one_ahead : IsAhead l s moment (record { table = name; trim = x } ∷ notes)
+      pub one_ahead : IsStateAhead l s moment (record { table = name; trim = x } ∷ notes)
           (batches ++ batch ∷ []) after
       one_ahead = record {
         turns = turns_more batches batch s r after ahead.turns one_turned;

@@ -28,19 +28,20 @@ use Rattle.alt_value.specs.Members.{text_order}
 use Rattle.alt_value.proofs.Texts.{text_total}
 use Rattle.alt_rowchanges.specs.OpeningFamilies.{HasOwnFamilies}
 use Rattle.alt_rowchanges.specs.OpeningLive.{with_all, without_all}
-use Rattle.alt_rowchanges.specs.OpeningOpened.{Holds}
+use Rattle.alt_rowchanges.specs.OpeningOpened.{EngineHoldsState}
 use Rattle.alt_rowchanges.proofs.OpeningLiveLaws.{live_replace}
 use Rattle.alt_rowchanges.proofs.OpeningTrimmedLaws.{trimmed-stay}
 use Rattle.alt_rowchanges.specs.Altering.{MayAlter, alter_wants, family_left, has_more}
 use Rattle.alt_tables.specs.Foreseen.{Foresees}
 use Rattle.alt_rowchanges.specs.Fronts.{AreFronts, IsFront}
 use Rattle.alt_rowchanges.specs.RowChanges.{Turns, alter_changes, changed_rows}
-use Rattle.alt_tables.specs.Stands.{HasRows, Stands, catalog_of, fronts_of, number_of, trimmed_of}
+use Rattle.alt_tables.specs.Stands.{HasRows, Stands, catalog_of, fronts_of, next_write_of_tables, trimmed_of}
 use Rattle.alt_rowchanges.specs.declared.fronts.Front.{Front}
 use Rattle.alt_tables.specs.declared.tables.Tables.{Tables}
 use Rattle.alt_rowchanges.proofs.AlterLaws.{alter_turns, alter_valid, is_longer}
 use Rattle.alt_tables.proofs.Foreseen.{foresees_redescribed}
-use Rattle.alt_tables.proofs.Making.{OfCatalog, catalog_fronts, fronts_of_rows}
+use Rattle.alt_tables.proofs.Making.{fronts_of_rows}
+use Rattle.alt_tables.proofs.TableMaking.{OfCatalog, catalog_fronts}
 use Rattle.alt_tables.proofs.Standing.{descriptions-insert, known, still_live, still_trimmed, there}
 use Rattle.alt_tables.proofs.Sizing.{each_alike, largest_is}
 use Rattle.alt_value.specs.Size.{item_size}
@@ -188,7 +189,7 @@ module _ (before : DiskState) (old : Tables) (s : State) (stands : Stands before
   more_same = λ i. has_more (sym same i) e
 
   -- where numbers have ended the write lacks one
-  pub alter_number : (n : ℕ) → n ≡ number_of old → NUMBERS_END ≤ n
+  pub alter_number : (n : ℕ) → n ≡ next_write_of_tables old → NUMBERS_END ≤ n
       → lack_of (alter_wants t.description e) s ≡ Some n
   alter_number n is full =
       lacks_number_for more s (let next = stands.number in omega (arith, is, full, next))
@@ -197,7 +198,7 @@ module _ (before : DiskState) (old : Tables) (s : State) (stands : Stands before
   -- and where families have, an index more lacks one
   pub alter_family : (lacks : Bool) → lacks ≡ (has_more d e && (nat_le FAMILIES_END old.family
       || list_any (λ f. f == old.family) (families_of d))) → lacks ≡ true
-      → number_of old < NUMBERS_END → lack_of (alter_wants t.description e) s ≡ Some old.family
+      → next_write_of_tables old < NUMBERS_END → lack_of (alter_wants t.description e) s ≡ Some old.family
   alter_family lacks is told room = by (has_more d e) refl (nat_le FAMILIES_END old.family) refl
       (sym is ∙ told)
     where
@@ -220,7 +221,7 @@ module _ (before : DiskState) (old : Tables) (s : State) (stands : Stands before
   -- else it lacks nothing
   pub alter_enough : (lacks : Bool) → lacks ≡ (has_more d e && (nat_le FAMILIES_END old.family
       || list_any (λ f. f == old.family) (families_of d))) → lacks ≡ false
-      → number_of old < NUMBERS_END → lack_of (alter_wants t.description e) s ≡ None
+      → next_write_of_tables old < NUMBERS_END → lack_of (alter_wants t.description e) s ≡ None
   alter_enough lacks is told room = by (has_more d e) refl (nat_le FAMILIES_END old.family) refl
       (sym is ∙ told)
     where
@@ -263,13 +264,13 @@ module _ (before : DiskState) (old : Tables) (s : State) (stands : Stands before
         (alter_valid s name t at stands.valid stands.rows.held e may_state made enough))
 
     -- the tables stand for it
-    pub alter_stands : (now : DiskState) (new : Tables) → Holds now new.engine r → IsValid r
+    pub alter_stands : (now : DiskState) (new : Tables) → EngineHoldsState now new.engine r → IsValid r
         → new.catalog ≡ map.insert old.catalog e.name e
         → new.live ≡ with_all (families_of e) (without_all (families_of d) old.live)
         → new.family ≡ after → new.trimmed ≡ old.trimmed
         → new.fronts ≡ old.fronts → new.due ≡ old.due → new.largest ≡ old.largest
         → new.builds ≡ true
-        → number_of new ≡ number_of old + 1 → T (is_distinct batch)
+        → next_write_of_tables new ≡ next_write_of_tables old + 1 → T (is_distinct batch)
         → HasRows now new (changed_rows stands.rows.layout batch) → Stands now new r
     alter_stands now new holds valid catalog live family trimmed fronts due largest builds number distinct rows =
         record {

@@ -10,7 +10,7 @@ use Rattle.alt_machine.specs.State.{State}
 use Rattle.alt_machine.specs.Valid.{IsValid}
 use Rattle.alt_rowchanges.specs.OpeningStateRows.{Shows, IsHeldWhole}
 use Rattle.alt_rowchanges.specs.RowChanges.{Turns, changed_rows}
-use Rattle.alt_tables.specs.Several.{AreDistinct, TurnsAll, with_batches}
+use Rattle.alt_tables.specs.Several.{BatchesAreDistinct, TurnsAll, with_batches}
 
 -- ---- rows
 
@@ -35,14 +35,14 @@ with_batches-writes l (b ∷ bs) = with_batches-writes (changed_rows l b) bs
 -- ---- in none a row stands twice
 
 -- so in none of the first, nor in the last
-pub distinct_both : (bs : List (List RowChange)) (b : List RowChange) → AreDistinct (bs ++ b ∷ [])
-    → AreDistinct bs × T (is_distinct b)
+pub distinct_both : (bs : List (List RowChange)) (b : List RowChange) → BatchesAreDistinct (bs ++ b ∷ [])
+    → BatchesAreDistinct bs × T (is_distinct b)
 distinct_both [] b h = (tt, h.0)
 distinct_both (c ∷ cs) b h = let rest = distinct_both cs b h.1 in ((h.0, rest.0), rest.1)
 
 -- and the other way round
-pub distinct_more : (bs : List (List RowChange)) (b : List RowChange) → AreDistinct bs
-    → T (is_distinct b) → AreDistinct (bs ++ b ∷ [])
+pub distinct_more : (bs : List (List RowChange)) (b : List RowChange) → BatchesAreDistinct bs
+    → T (is_distinct b) → BatchesAreDistinct (bs ++ b ∷ [])
 distinct_more [] b h one = (one, tt)
 distinct_more (c ∷ cs) b h one = (h.0, distinct_more cs b h.1 one)
 

@@ -9,7 +9,7 @@ use Rattle.alt_machine.specs.Wanted.{lack_among}
 use Rattle.alt_machine.proofs.Behind.{after_behind, front_of, taken_behind, take_front}
 use Rattle.std.specs.Prelude.{⊤}
 use Rattle.alt_tables.specs.Faults.{WantsMemory}
-use Rattle.alt_tables.specs.Images.{AfterSome, Lasts, Leaves}
+use Rattle.alt_tables.specs.Images.{AfterSome, StateLasts, Leaves}
 use Rattle.alt_rowchanges.specs.OpeningImages.{StandsFor}
 use Rattle.alt_tables.specs.Stands.{Stands}
 use Rattle.alt_tables.specs.declared.tables.Tables.{Tables}
@@ -19,7 +19,7 @@ use Rattle.alt_tables.proofs.Making.{none_made}
 -- ---- where memory was wanting
 
 -- before any of the writes the disk stands for the state
-pub wants_none : (disk : DiskState) (wants : Wants) (s : State) (atoms : List State) → Lasts disk s
+pub wants_none : (disk : DiskState) (wants : Wants) (s : State) (atoms : List State) → StateLasts disk s
     → WantsMemory disk wants s atoms
 wants_none disk wants s atoms lasts = record {
   made = 0;
@@ -37,7 +37,7 @@ wants_front disk wants s a b h =
       made = h.made;
       some = omega (arith, some, length-append a b);
       enough = subst (λ l. lack_among wants s l ≡ None) (sym same) h.enough;
-      lasts = subst (λ l. Lasts disk (last_state s l)) (sym same) h.lasts;
+      lasts = subst (λ l. StateLasts disk (last_state s l)) (sym same) h.lasts;
     }
 
 -- or for those behind others that were made
@@ -49,7 +49,7 @@ wants_behind disk wants s a b none more h =
       made = length a + h.made;
       some = omega (arith, some, more, length-append a b);
       enough = taken_behind wants a (length a + h.made) h.made s b refl none h.enough;
-      lasts = subst (Lasts disk)
+      lasts = subst (StateLasts disk)
           (sym (after_behind a (length a + h.made) h.made s b refl)) h.lasts;
     }
 

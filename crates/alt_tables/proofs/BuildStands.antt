@@ -33,16 +33,16 @@ use Rattle.alt_value.specs.Members.{text_order}
 use Rattle.alt_value.specs.Tree.{Pair}
 use Rattle.alt_value.proofs.Texts.{text_total}
 use Rattle.alt_views.specs.IndexRows.{moves_in}
-use Rattle.alt_rowchanges.specs.OpeningOpened.{Holds}
+use Rattle.alt_rowchanges.specs.OpeningOpened.{EngineHoldsState}
 use Rattle.alt_rowchanges.proofs.OpeningOverEngine.{stands_past}
 use Rattle.alt_rowchanges.proofs.OpeningLiveLaws.{live_alike}
 use Rattle.alt_rowchanges.proofs.OpeningTrimmedLaws.{trimmed-stay}
 use Rattle.alt_tables.specs.Foreseen.{Foresees}
 use Rattle.alt_rowchanges.specs.Fronts.{AreFronts}
 use Rattle.alt_rowchanges.specs.RowChanges.{Turns, changed_rows, step_changes}
-use Rattle.alt_tables.specs.Stands.{HasRows, Stands, catalog_of, fronts_of, number_of, trimmed_of}
+use Rattle.alt_tables.specs.Stands.{HasRows, Stands, catalog_of, fronts_of, next_write_of_tables, trimmed_of}
 use Rattle.alt_tables.specs.declared.tables.Tables.{Tables}
-use Rattle.alt_rowchanges.specs.Steps.{AreApartIn, step_of}
+use Rattle.alt_rowchanges.specs.Steps.{AreApartIn, step_row_changes}
 use Rattle.alt_tables.proofs.Altered.{fronts_described}
 use Rattle.alt_rowchanges.proofs.BuildLaws.{low, of_stream, others_built, step_turns}
 use Rattle.alt_tables.proofs.BuildReads.{item_in, taken_built, taken_items}
@@ -165,8 +165,8 @@ module _ (before : DiskState) (old : Tables) (s : State) (stands : Stands before
 
     pub batch_of : (batch : List RowChange)
         → ((j : IndexSchema) → building_in d ≡ Some j → 1 ≤ j.family
-        → AreApartIn d j (take taken items) → batch ≡ step_of d later j (take taken items))
-        → batch ≡ step_of d later i (each item_in es)
+        → AreApartIn d j (take taken items) → batch ≡ step_row_changes d later j (take taken items))
+        → batch ≡ step_row_changes d later i (each item_in es)
     batch_of batch stepped =
         let same : take taken items ≡ each item_in es =
         taken_items most taken one more items read all fewer in
@@ -174,25 +174,25 @@ module _ (before : DiskState) (old : Tables) (s : State) (stands : Stands before
         (low s stands.valid stands.rows.held name t at i building most one).0
         (subst (λ xs. AreApartIn d i xs) (sym same)
         (subst (λ x. AreApartIn x i (each item_in es)) own step_apart))
-        ∙ ap (step_of d later i) same
+        ∙ ap (step_row_changes d later i) same
 
   module _ (d : TableSchema) (described : map.get (catalog_of old) name ≡ Some d)
       (later : TableSchema) (is_later : later ≡ e) (batch : List RowChange)
-      (is : batch ≡ step_of d later i (each item_in es)) where
+      (is : batch ≡ step_row_changes d later i (each item_in es)) where
     same : t.description ≡ d
     same = same_Some _ _ (sym (known before old s name t stands at) ∙ described)
 
     -- its row changes are those of the step
     batch_is : batch ≡ step_changes t.description e i es
-    batch_is = is ∙ (λ j. step_of (sym same j) (is_later j) i (each item_in es))
-        ∙ ap (λ cs. step_of t.description e i [] ++ cs)
+    batch_is = is ∙ (λ j. step_row_changes (sym same j) (is_later j) i (each item_in es))
+        ∙ ap (λ cs. step_row_changes t.description e i [] ++ cs)
         (flat_map-map (λ x. moves_in t.description None (Some x) i) item_in es)
 
     abbrev r : State
     r = with_built s most name t i
 
     -- they turn the state into the one with it
-    pub step_turned : number_of old < NUMBERS_END → IsHeld later → Turns batch s r
+    pub step_turned : next_write_of_tables old < NUMBERS_END → IsHeld later → Turns batch s r
     step_turned room held = subst (λ cs. Turns cs s r) (sym batch_is)
         (step_turns s stands.valid stands.rows.held name t at i building most one
         (omega (arith, room, stands.number)) (subst IsHeld is_later held))
@@ -214,12 +214,12 @@ module _ (before : DiskState) (old : Tables) (s : State) (stands : Stands before
         (stands.fronts stands.rows.layout stands.rows.is)
 
     -- The tables stand for it.
-    pub step_stands : (now : DiskState) (new : Tables) → Holds now new.engine r → IsValid r
+    pub step_stands : (now : DiskState) (new : Tables) → EngineHoldsState now new.engine r → IsValid r
         → later.name ≡ name → new.catalog ≡ map.insert old.catalog later.name later
         → new.live ≡ old.live → new.family ≡ old.family → new.trimmed ≡ old.trimmed
         → new.fronts ≡ old.fronts → new.due ≡ old.due → new.largest ≡ old.largest
         → new.builds ≡ old.builds
-        → number_of new ≡ number_of old + 1 → T (is_distinct batch)
+        → next_write_of_tables new ≡ next_write_of_tables old + 1 → T (is_distinct batch)
         → HasRows now new (changed_rows stands.rows.layout batch) → Stands now new r
     step_stands now new holds valid named catalog live family trimmed fronts due largest builds number
         distinct rows = record {

@@ -6,7 +6,7 @@ use Rattle.std.specs.Prelude.{unwrap_or}
 use Rattle.std.specs.Option.{option_map_or}
 use Rattle.std.proofs.lemmas.List.{map-append}
 use Rattle.alt_machine.specs.Keys.{place_of}
-use Rattle.alt_machine.specs.Ops.BatchWriteItem.{Written}
+use Rattle.alt_machine.specs.Ops.BatchWriteItem.{PlacedWrite}
 use Rattle.alt_machine.specs.State.{State, Table, Texts, descriptions}
 use Rattle.alt_machine.specs.Valid.{IsStored}
 use Rattle.alt_machine.proofs.Descriptions.{get-descriptions}
@@ -93,7 +93,7 @@ placed_more catalog writes left before w changes new c front put so written foun
           (map-append written_at changes (c ∷ []))
           ∙ append_assoc (each written_at changes) (written_at c ∷ [])
           (each (written_in catalog) left)
-          ∙ ap (λ (x : Written). each written_at changes ++ x ∷ each (written_in catalog) left)
+          ∙ ap (λ (x : PlacedWrite). each written_at changes ++ x ∷ each (written_in catalog) left)
           written ∙ now.written;
       may = now.may.1;
       found = λ s same were.

@@ -19,7 +19,7 @@ use Rattle.alt_changes.specs.ChangeRows.{change_columns, row_key}
 use Rattle.alt_changes.specs.TrimRows.{trimmed_row}
 use Rattle.alt_disk.specs.Disk.{DiskState}
 use Rattle.alt_disk.proofs.Runs.{tells_of}
-use Rattle.alt_rowchanges.specs.OpeningEngineInHand.{Reads as EngineReads}
+use Rattle.alt_rowchanges.specs.OpeningEngineInHand.{ReadsLayout as EngineReads}
 use Rattle.alt_layout.specs.Layout.{Layout, rows_between, shown, shown_of, shown_rows}
 use Rattle.alt_layout.proofs.ShownLaws.{find-shown, is_sorted-shown, get-shown_rows}
 use Rattle.alt_machine.specs.Ops.GetRecords.{changes_from}

@@ -5,14 +5,14 @@ use Rattle.std.specs.FinMap as finite
 use Rattle.std.specs.Option.{option_map_or}
 use Rattle.alt_codec.specs.declared.writer.Writer.{Writer}
 use Rattle.alt_layout.specs.Layout.{Layout}
-use Rattle.alt_machine.specs.Ops.BatchWriteItem.{Written, writes_of_by, writes_of_all_by}
+use Rattle.alt_machine.specs.Ops.BatchWriteItem.{PlacedWrite, writes_of_by, writes_of_all_by}
 use Rattle.alt_machine.specs.Outcomes.{last_state}
 use Rattle.alt_machine.specs.Same.{is_same}
 use Rattle.alt_machine.specs.State.{State, Table, Texts, descriptions}
 use Rattle.alt_machine.specs.Writes.{with_item, with_write_by, after_item_by, item_writes_by}
 use Rattle.alt_machine.proofs.Descriptions.{table_of_description}
 use Rattle.alt_machine.proofs.Looks.{at_insert, insert_elsewhere, remove_elsewhere}
-use Rattle.alt_tables.specs.Found.{IsFoundIn}
+use Rattle.alt_tables.specs.Found.{IsFoundInTable}
 use Rattle.alt_tables.specs.Several.{AreAllApart, AreApart, Every, IsFound, batch_of, batches_by, batches_in, batches_of, with_batches, written_at}
 use Rattle.alt_tables.specs.declared.finding.Found.{Found}
 use Rattle.alt_tables.specs.declared.several.ItemChange.{ItemChange}
@@ -29,11 +29,11 @@ other_item : (items : Texts (List Pair)) (place q : List ℕ) (new : Option (Lis
 other_item items place q None apart = remove_elsewhere items place q apart
 other_item items place q (Some i) apart = insert_elsewhere items place q apart i
 
-module _ (s : State) (moment : ℕ) (writer : Writer) (w : Written) (name : List ℕ) (f : Found)
-    (apart : w.table ≡ name → w.place ≡ f.place → ⊥) (found : IsFoundIn s name f) where
+module _ (s : State) (moment : ℕ) (writer : Writer) (w : PlacedWrite) (name : List ℕ) (f : Found)
+    (apart : w.table ≡ name → w.place ≡ f.place → ⊥) (found : IsFoundInTable s name f) where
   -- what was found at a place stands there after a write to another table or place
   after_write_found : (t : Table) → finite.get s.tables w.table ≡ Some t
-      → IsFoundIn (after_item_by s moment writer w.table t w.place w.new) name f
+      → IsFoundInTable (after_item_by s moment writer w.table t w.place w.new) name f
   after_write_found t there u e =
       elim (at_insert s.tables w.table name u (with_write_by s.next_number moment writer t w.place w.new) e) [
         | inl new ↦ found t (ap (finite.get s.tables) new.0 ∙ there)
@@ -43,24 +43,24 @@ module _ (s : State) (moment : ℕ) (writer : Writer) (w : Written) (name : List
       ]
 
   -- and it does where the write may be none
-  pub stays_found : IsFoundIn (last_state s (writes_of_by s moment writer w)) name f
+  pub stays_found : IsFoundInTable (last_state s (writes_of_by s moment writer w)) name f
   stays_found = at (finite.get s.tables w.table) refl
     where
       made : Option Table → List State
       made o = option_map_or (λ t. item_writes_by s moment writer w.table t w.place w.new) o []
 
       at : (o : Option Table) → finite.get s.tables w.table ≡ o
-          → IsFoundIn (last_state s (made o)) name f
+          → IsFoundInTable (last_state s (made o)) name f
       at None e = found
       at (Some t) e = by (is_same (finite.get t.items w.place) w.new)
         where
-          by : (b : Bool) → IsFoundIn (last_state s
+          by : (b : Bool) → IsFoundInTable (last_state s
               (if b then [] else after_item_by s moment writer w.table t w.place w.new ∷ [])) name f
           by true = found
           by false = after_write_found t e
 
 -- so does all that was found at the other places
-pub stay_found : (s : State) (moment : ℕ) (writer : Writer) (w : Written) (cs : List ItemChange)
+pub stay_found : (s : State) (moment : ℕ) (writer : Writer) (w : PlacedWrite) (cs : List ItemChange)
     → Every (AreApart w) (map written_at cs) → Every (IsFound s) cs
     → Every (IsFound (last_state s (writes_of_by s moment writer w))) cs
 stay_found s moment writer w [] apart found = tt
@@ -133,12 +133,12 @@ all_differ (c ∷ cs) = by (is_same c.found.item c.new) refl (all_differ cs)
     by false e rest = (e, rest)
 
 -- what is said of where changes write may be said of the changes
-pub every_written : (P : Written → Type 0) (cs : List ItemChange) → Every P (map written_at cs)
+pub every_written : (P : PlacedWrite → Type 0) (cs : List ItemChange) → Every P (map written_at cs)
     → Every (λ (c : ItemChange). P (written_at c)) cs
 every_written P [] h = tt
 every_written P (c ∷ cs) h = (h.0, every_written P cs h.1)
 
-pub every_at : (P : Written → Type 0) (cs : List ItemChange)
+pub every_at : (P : PlacedWrite → Type 0) (cs : List ItemChange)
     → Every (λ (c : ItemChange). P (written_at c)) cs → Every P (map written_at cs)
 every_at P [] h = tt
 every_at P (c ∷ cs) h = (h.0, every_at P cs h.1)
@@ -223,7 +223,7 @@ rows_differing l s moment writer (c ∷ cs) apart found =
 -- ---- how many they are
 
 -- no write changes what describes the tables
-still_described : (s : State) (moment : ℕ) (writer : Writer) (w : Written)
+still_described : (s : State) (moment : ℕ) (writer : Writer) (w : PlacedWrite)
     → descriptions (last_state s (writes_of_by s moment writer w)).tables ≡ descriptions s.tables
 still_described s moment writer w = at (finite.get s.tables w.table) refl
   where

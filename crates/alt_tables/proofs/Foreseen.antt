@@ -12,7 +12,7 @@ use Rattle.alt_due.specs.Due.{CoversNothing, KeepsKnown, KnowsFrom, is_before}
 use Rattle.alt_due.specs.Order.{spot_of}
 use Rattle.alt_due.specs.declared.due.Due.{Due}
 use Rattle.alt_machine.specs.Expiry.{is_expired, is_over}
-use Rattle.alt_machine.specs.Ops.BatchWriteItem.{Written, writes_of_by, writes_of_all_by}
+use Rattle.alt_machine.specs.Ops.BatchWriteItem.{PlacedWrite, writes_of_by, writes_of_all_by}
 use Rattle.alt_machine.specs.Ops.UpdateTable.{redescribed}
 use Rattle.alt_machine.specs.Ops.UpdateTimeToLive.{timed}
 use Rattle.alt_machine.specs.Outcomes.{last_state}
@@ -22,7 +22,7 @@ use Rattle.alt_machine.specs.Writes.{after_item_by, item_writes_by, with_item, w
 use Rattle.alt_machine.proofs.Behind.{last_behind}
 use Rattle.alt_machine.proofs.Descriptions.{get-descriptions}
 use Rattle.alt_schema.specs.declared.schema.TableSchema.{TableSchema}
-use Rattle.alt_tables.specs.Foreseen.{Foresees, ForeseesItem, ForeseesWritten, IsFrom, IsMetFrom}
+use Rattle.alt_tables.specs.Foreseen.{Foresees, ForeseesItem, ForeseesWritten, IsMomentFrom, IsMetFrom}
 use Rattle.alt_tables.specs.Several.{Every}
 use Rattle.alt_tables.proofs.Standing.{descriptions-stay}
 use Rattle.alt_value.specs.Item.{at_name}
@@ -40,7 +40,7 @@ foresees_on tables old new keeps knows name place t item at there moment fits ov
 
 -- the same of what a write leaves
 pub written_on : (catalog : Texts TableSchema) (old new : Due) → KeepsKnown old new
-    → (w : Written) → ForeseesWritten catalog old w → ForeseesWritten catalog new w
+    → (w : PlacedWrite) → ForeseesWritten catalog old w → ForeseesWritten catalog new w
 written_on catalog old new keeps w told d at = by w.new (told d at)
   where
     by : (o : Option (List Pair)) → IfSome o (ForeseesItem d w.table w.place old)
@@ -144,7 +144,7 @@ module _ (tables : Texts Table) (name : List ℕ) (due : Due) (knows : Foresees 
 
 -- behind those of a state
 pub foresees_all : (catalog : Texts TableSchema) (due : Due) (s : State) (moment : ℕ)
-    (writer : Writer) (ws : List Written) → catalog ≡ descriptions s.tables
+    (writer : Writer) (ws : List PlacedWrite) → catalog ≡ descriptions s.tables
     → Every (ForeseesWritten catalog due) ws → Foresees s.tables due
     → Foresees (last_state s (writes_of_all_by s moment writer ws)).tables due
 foresees_all catalog due s moment writer [] same told knows = knows
@@ -197,11 +197,11 @@ module _ (o : Option (List Pair)) (item : List Pair) (given : o ≡ Some item)
       → IfSome o (ForeseesItem d name place due)
   told_some first is known = subst (λ x. IfSome x (ForeseesItem d name place due)) (sym given)
       (λ moment fits over. known moment
-      (subst (λ x. IsFrom x moment) is (met_then.from moment fits over)))
+      (subst (λ x. IsMomentFrom x moment) is (met_then.from moment fits over)))
 
   -- and where there is none it never has expired
   pub told_none : r ≡ None → IfSome o (ForeseesItem d name place due)
   told_none is = subst (λ x. IfSome x (ForeseesItem d name place due)) (sym given)
       (λ moment fits over.
-      let far : 2 ^ 64 ≤ moment = subst (λ x. IsFrom x moment) is (met_then.from moment fits over) in
+      let far : 2 ^ 64 ≤ moment = subst (λ x. IsMomentFrom x moment) is (met_then.from moment fits over) in
       absurd (omega (arith, far, fits)))

@@ -7,7 +7,7 @@ use Rattle.alt_disk.specs.Disk.{DiskState, IsImage, Goes}
 use Rattle.alt_disk.specs.Runs.{Spans, Quiet}
 use Rattle.alt_disk.proofs.Runs.{spans_on, spans_weaker, quiet_spans, quiet_then, trusted_on}
 use Rattle.alt_layout.specs.Files.{IsLayout}
-use Rattle.alt_rowchanges.specs.OpeningEngineInHand.{Stands as EngineStands}
+use Rattle.alt_rowchanges.specs.OpeningEngineInHand.{StandsForLayout as EngineStands}
 use Rattle.alt_rowchanges.specs.OpeningHandInHand.{batch_write, batch_writes, last_form_of, next_file_of, next_of, work_file_of, BeforeOrAll, BeforeOrWith, IsSpentBy, WantsFile, WantsNumber}
 use Rattle.alt_layout.specs.Layout.{Layout}
 use Rattle.alt_layout.specs.Writes.{with_write, with_writes}
@@ -27,15 +27,15 @@ use Rattle.alt_rowchanges.specs.OpeningImages.{StandsFor}
 use Rattle.alt_tables.specs.Images.{AfterSome, Leaves}
 use Rattle.alt_rowchanges.specs.OpeningStateRows.{Shows}
 use Rattle.alt_rowchanges.specs.RowChanges.{Turns}
-use Rattle.alt_tables.specs.Several.{AreDistinct, TurnsAll, with_batches}
-use Rattle.alt_rowchanges.specs.OpeningOpened.{Holds}
+use Rattle.alt_tables.specs.Several.{BatchesAreDistinct, TurnsAll, with_batches}
+use Rattle.alt_rowchanges.specs.OpeningOpened.{EngineHoldsState}
 use Rattle.alt_rowchanges.proofs.OpeningEngineLaws.{stays_quiet}
 use Rattle.alt_tables.proofs.Batches.{with_batches-writes}
 use Rattle.alt_rowchanges.proofs.OpeningOverEngine.{in_each_image, stands_past, one_layout_in_hand}
 use Rattle.alt_rowchanges.proofs.OpeningOneState.{one_state}
 
 -- whatever a stop now leaves stands for the state
-pub each_holds : (disk : DiskState) (engine : Engine) (s : State) → Holds disk engine s → IsValid s
+pub each_holds : (disk : DiskState) (engine : Engine) (s : State) → EngineHoldsState disk engine s → IsValid s
     → (image : ℕ → Option (List ℕ)) → IsImage disk disk.moment image → StandsFor image s
 each_holds disk engine s holds valid image is = record {
   layout = holds.layout;
@@ -47,7 +47,7 @@ each_holds disk engine s holds valid image is = record {
 
 -- so does whatever a stop leaves at each moment of a call that makes some of these writes of it
 pub leaves_images : (old new : DiskState) (engine : Engine) (s : State) (atoms : List State)
-    → Holds old engine s → IsValid s → Leaves old new s atoms
+    → EngineHoldsState old engine s → IsValid s → Leaves old new s atoms
     → Spans old new (λ _. ⊤) (AfterSome s atoms)
 leaves_images old new engine s [] holds valid quiet = quiet_spans old new (λ _. ⊤)
     (AfterSome s []) quiet (λ t image fits. (0, each_holds old engine s holds valid image fits))
@@ -55,7 +55,7 @@ leaves_images old new engine s (r ∷ rs) holds valid spans = spans
 
 -- calls that leave every file, and what the disk says of itself, leave what the rows show
 pub holds_quiet : (old new : DiskState) (engine : Engine) (s : State) → new.tells ≡ old.tells
-    → new.honest ≡ old.honest → Quiet old new → Holds old engine s → Holds new engine s
+    → new.honest ≡ old.honest → Quiet old new → EngineHoldsState old engine s → EngineHoldsState new engine s
 holds_quiet old new engine s tells honest quiet holds = record {
   trusted = subst (λ (b : Bool). IsTrue b) (sym (λ i. tells i && honest i)) holds.trusted;
   layout = holds.layout;
@@ -65,8 +65,8 @@ holds_quiet old new engine s tells honest quiet holds = record {
 }
 
 -- rows in hand show one valid state
-pub one_held : (disk : DiskState) (engine : Engine) (s r : State) → Holds disk engine s
-    → Holds disk engine r → IsValid s → IsValid r → s ≡ r
+pub one_held : (disk : DiskState) (engine : Engine) (s r : State) → EngineHoldsState disk engine s
+    → EngineHoldsState disk engine r → IsValid s → IsValid r → s ≡ r
 one_held disk engine s r holds_s holds_r valid_s valid_r = one_state holds_s.layout s r
     holds_s.shows
     (subst (λ l. Shows l r) (one_layout_in_hand disk engine holds_r.layout holds_s.layout
@@ -75,7 +75,7 @@ one_held disk engine s r holds_s holds_r valid_s valid_r = one_state holds_s.lay
 -- ---- a write
 
 module _ (old new : DiskState) (engine : Engine) (s r : State) (changes : List RowChange)
-    (holds : Holds old engine s) (turns : Turns changes s r) (distinct : T (is_distinct changes))
+    (holds : EngineHoldsState old engine s) (turns : Turns changes s r) (distinct : T (is_distinct changes))
   where
     abbrev after : Layout
     after = with_write holds.layout (batch_write holds.layout changes)
@@ -110,7 +110,7 @@ module _ (old new : DiskState) (engine : Engine) (s r : State) (changes : List R
 
     -- after it the rows show the one after
     pub write_holds : (later : Engine) → Goes old new → EngineStands new later after
-        → Holds new later r
+        → EngineHoldsState new later r
     write_holds later goes stands = record {
       trusted = trusted_on old new goes holds.trusted;
       layout = after;
@@ -123,7 +123,7 @@ module _ (old new : DiskState) (engine : Engine) (s r : State) (changes : List R
 -- ---- several writes, as one entry
 
 module _ (old new : DiskState) (engine : Engine) (s r : State) (batches : List (List RowChange))
-    (holds : Holds old engine s) (turns : TurnsAll batches s r) (distinct : AreDistinct batches)
+    (holds : EngineHoldsState old engine s) (turns : TurnsAll batches s r) (distinct : BatchesAreDistinct batches)
   where
     abbrev after_all : Layout
     after_all = with_batches holds.layout batches
@@ -167,7 +167,7 @@ module _ (old new : DiskState) (engine : Engine) (s r : State) (batches : List (
 
     -- after them the rows show the one after
     pub all_hold : (later : Engine) → Goes old new → EngineStands new later as_writes
-        → Holds new later r
+        → EngineHoldsState new later r
     all_hold later goes stands = record {
       trusted = trusted_on old new goes holds.trusted;
       layout = after_all;
@@ -180,7 +180,7 @@ module _ (old new : DiskState) (engine : Engine) (s r : State) (batches : List (
 
 -- a call that leaves every file leaves what the state is, whatever writes were to be made
 pub leaves_quiet : (old new : DiskState) (engine : Engine) (s : State) (atoms : List State)
-    → Holds old engine s → IsValid s → Quiet old new → Leaves old new s atoms
+    → EngineHoldsState old engine s → IsValid s → Quiet old new → Leaves old new s atoms
 leaves_quiet old new engine s [] holds valid quiet = quiet
 leaves_quiet old new engine s (r ∷ rs) holds valid quiet = quiet_spans old new (λ _. ⊤)
     (AfterSome s (r ∷ rs)) quiet
@@ -188,7 +188,7 @@ leaves_quiet old new engine s (r ∷ rs) holds valid quiet = quiet_spans old new
 
 -- writes behind a call that leaves every file
 pub leaves_behind : (old mid new : DiskState) (engine : Engine) (s : State) (atoms : List State)
-    → Holds old engine s → IsValid s → Quiet old mid → Leaves mid new s atoms
+    → EngineHoldsState old engine s → IsValid s → Quiet old mid → Leaves mid new s atoms
     → Leaves old new s atoms
 leaves_behind old mid new engine s [] holds valid quiet then = quiet_then old mid new quiet then
 leaves_behind old mid new engine s (r ∷ rs) holds valid quiet then =

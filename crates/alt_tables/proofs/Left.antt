@@ -11,7 +11,7 @@ use Rattle.alt_machine.specs.State.{State}
 use Rattle.alt_rowchanges.specs.OpeningImages.{StandsFor}
 use Rattle.alt_rowchanges.specs.OpeningRecovery.{WasLeft}
 use Rattle.alt_rowchanges.proofs.OpeningEngineLaws.{stays_quiet}
-use Rattle.alt_tables.specs.Images.{AfterSome, IsWhole, Lasts, Leaves}
+use Rattle.alt_tables.specs.Images.{AfterSome, ImagesAreWhole, StateLasts, Leaves}
 use Rattle.alt_tables.specs.Stands.{AreReady, HasRows, Stands, Reads}
 use Rattle.alt_tables.specs.declared.tables.Tables.{Tables}
 use Rattle.alt_tables.proofs.Holding.{each_holds, holds_quiet, leaves_behind, leaves_quiet}
@@ -104,14 +104,14 @@ stands_read a t s stands = record {
 }
 
 -- so what the disk holds stands for it
-pub stands_lasts : (a : DiskState) (t : Tables) (s : State) → Stands a t s → Lasts a s
+pub stands_lasts : (a : DiskState) (t : Tables) (s : State) → Stands a t s → StateLasts a s
 stands_lasts a t s stands = record {
   reads = stands_read a t s stands;
   left = stands_left a t s stands;
 }
 
 -- also behind calls that read, whatever becomes of the tables
-pub reads_lasts : (a b : DiskState) (t : Tables) (s : State) → Reads a b → Stands a t s → Lasts b s
+pub reads_lasts : (a b : DiskState) (t : Tables) (s : State) → Reads a b → Stands a t s → StateLasts b s
 reads_lasts a b t s reads stands = stands_lasts b t s (stays_read a b t s reads stands)
 
 -- ---- a disk that is whole
@@ -124,8 +124,8 @@ both_so false c p q = p
 
 -- it is whole at each moment of an opening
 pub whole_on : (a b : DiskState) → Goes a b
-    → (IsTrusted a → Spans a b (λ _. ⊤) (WasLeft a)) → IsTrue a.tells → IsWhole a a.moment
-    → (t : ℕ) → a.moment ≤ t → t ≤ b.moment → IsWhole b t
+    → (IsTrusted a → Spans a b (λ _. ⊤) (WasLeft a)) → IsTrue a.tells → ImagesAreWhole a a.moment
+    → (t : ℕ) → a.moment ≤ t → t ≤ b.moment → ImagesAreWhole b t
 whole_on a b goes any_moment tells whole t low high = record {
   honest = subst IsTrue (sym goes.honest) whole.honest;
   each = λ image is.

@@ -14,6 +14,7 @@ pub mod Holding
 pub mod Left
 pub mod Looking
 pub mod Making
+pub mod TableMaking
 pub mod MakingAll
 pub mod NoneBuilt
 pub mod Noting

@@ -9,18 +9,18 @@ use Rattle.alt_disk.proofs.Runs.{tells_of}
 use Rattle.alt_faults.specs.Faults as view
 use Rattle.alt_layout.specs.Layout.{Layout}
 use Rattle.alt_machine.specs.State.{State}
-use Rattle.alt_rowchanges.specs.Faults.{IsReadFault, IsUnspent, told_by_tables}
+use Rattle.alt_rowchanges.specs.Faults.{IsReadFault, TableFaultIsUnspent, told_by_tables}
 use Rattle.alt_rowchanges.specs.OpeningEngineDeclaredEngine.{Engine}
-use Rattle.alt_rowchanges.specs.OpeningEngineInHand.{Reads as EngineReads, bounds_of as engine_bounds, next_of}
+use Rattle.alt_rowchanges.specs.OpeningEngineInHand.{ReadsLayout as EngineReads, bounds_of_engine as engine_bounds, next_write_of_engine}
 use Rattle.alt_rowchanges.specs.OpeningEngineOpened.{StaysOn}
 use Rattle.alt_rowchanges.specs.OpeningHandDeclaredEngineFault.{EngineFault}
 use Rattle.alt_rowchanges.specs.OpeningHandDeclaredEngineFault.TheVariants as engine
 use Rattle.alt_rowchanges.specs.OpeningHandFaults.{told_by_engine}
-use Rattle.alt_rowchanges.specs.OpeningHandOpened.{IsUndamaged, IsUnspent as EngineIsUnspent}
+use Rattle.alt_rowchanges.specs.OpeningHandOpened.{EngineFaultIsUndamaged, EngineFaultIsUnspent as EngineIsUnspent}
 use Rattle.alt_rowchanges.specs.declared.faults.TableFault.{TableFault}
 use Rattle.alt_rowchanges.specs.declared.faults.TableFault.TheVariants.{Failed}
 use Rattle.alt_tables.specs.Looking.{FailsReading, OnlyReads}
-use Rattle.alt_tables.specs.Stands.{AreReady, Keeps, KeepsCatalog, Stands}
+use Rattle.alt_tables.specs.Stands.{AreReady, KeepsTables, KeepsCatalog, Stands}
 use Rattle.alt_tables.specs.declared.tables.Tables.{Tables}
 use Rattle.alt_tables.proofs.Left.{reads_nothing, reads_then, ready_on}
 use Rattle.alt_tables.proofs.Pages.{engine_fault, find_fault}
@@ -70,7 +70,7 @@ ready_only {a} {b} {t} {u} only = ready_on a b t u only.disk.goes only.stays
 -- ---- what is known stays
 
 -- a call that leaves what is known of the tables, and the rows beneath them, only reads
-pub only_kept : {a b : DiskState} {t u : Tables} → Keeps a b t u → AreReady a t → OnlyReads a b t u
+pub only_kept : {a b : DiskState} {t u : Tables} → KeepsTables a b t u → AreReady a t → OnlyReads a b t u
 only_kept {a} {b} {t} {u} keeps ready = record {
   stays = stays_kept a b t u keeps ready;
   catalog = record {
@@ -85,7 +85,7 @@ only_kept {a} {b} {t} {u} keeps ready = record {
 -- so does one that reads rows of the engine alone
 pub only_rows : (a b : DiskState) (t : Tables) (e : Engine) → Goes a b
     → (IsTrue a.tells → Quiet a b) → (IsTrue a.tells → StaysOn a b t.engine e)
-    → next_of e ≡ next_of t.engine → engine_bounds e ≡ engine_bounds t.engine → AreReady a t
+    → next_write_of_engine e ≡ next_write_of_engine t.engine → engine_bounds e ≡ engine_bounds t.engine → AreReady a t
     → OnlyReads a b t (record t { engine = e })
 only_rows a b t e goes quiet same next bounds = only_kept (record {
   catalog = refl;
@@ -134,7 +134,7 @@ engine_failed engine.NoMemory e = absurd (let g : ⊥ = cc in g)
 -- a fault of the engine that reads is passed on
 pub fails_engine : {A : Type 0} (a b : DiskState) (t : Tables) (given : EngineFault)
     (fault : TableFault) → told_by_tables fault ≡ told_by_engine given → EngineIsUnspent given
-    → (IsTrue a.tells → (l : Layout) → EngineReads a t.engine l → IsUndamaged given)
+    → (IsTrue a.tells → (l : Layout) → EngineReads a t.engine l → EngineFaultIsUndamaged given)
     → (given ≡ engine.Failed → Rose a.faults b.faults) → FailsReading {A = A} a b t (Err fault)
 fails_engine a b t given fault same unspent whole cause = record {
   unspent = subst view.IsUnspent (sym same) unspent;
@@ -147,7 +147,7 @@ fails_engine a b t given fault same unspent whole cause = record {
 
 -- what was read is read on without the disk
 pub fails_page : {A : Type 0} (a b : DiskState) (t : Tables) (r : Result A TableFault)
-    → IfErr r IsUnspent → ((s : State) → Stands a t s → IfErr r IsReadFault)
+    → IfErr r TableFaultIsUnspent → ((s : State) → Stands a t s → IfErr r IsReadFault)
     → (IsErrOf r Failed → ⊥) → FailsReading a b t r
 fails_page a b t r unspent fault unfailed = record {
   unspent = unspent;

@@ -3,18 +3,18 @@ use Rattle.std.proofs.Common.{◌≡◌, ◌≤◌, ◌+◌, sym, ap, subst, ◌
 use Rattle.std.specs.FinMap as map
 use Rattle.alt_codec.specs.declared.writer.Writer.{Writer}
 use Rattle.alt_disk.specs.Disk.{DiskState}
-use Rattle.alt_rowchanges.specs.OpeningEngineInHand.{Stands as EngineStands, next_of}
+use Rattle.alt_rowchanges.specs.OpeningEngineInHand.{StandsForLayout as EngineStands, next_write_of_engine}
 use Rattle.alt_rowchanges.specs.OpeningEngineDeclaredEngine.{Engine}
 use Rattle.alt_layout.specs.Layout.{Layout}
-use Rattle.alt_machine.specs.Ops.BatchWriteItem.{Written, writes_of_all_by}
+use Rattle.alt_machine.specs.Ops.BatchWriteItem.{PlacedWrite, writes_of_all_by}
 use Rattle.alt_machine.specs.Outcomes.{last_state, together}
 use Rattle.alt_machine.specs.State.{State, Texts}
-use Rattle.alt_rowchanges.specs.OpeningOpened.{Holds}
+use Rattle.alt_rowchanges.specs.OpeningOpened.{EngineHoldsState}
 use Rattle.alt_schema.specs.declared.schema.TableSchema.{TableSchema}
 use Rattle.alt_tables.specs.Foreseen.{Foresees, ForeseesWritten}
 use Rattle.alt_tables.specs.Images.{Leaves}
 use Rattle.alt_tables.specs.Several.{AreAllApart, Every, IsFound, MayWrite, batches_of, with_batches, written_at}
-use Rattle.alt_tables.specs.Stands.{HasRows, Keeps, Stands, catalog_of, due_of, fronts_of, number_of, trimmed_of, largest_of}
+use Rattle.alt_tables.specs.Stands.{HasRows, KeepsTables, Stands, catalog_of, due_of, fronts_of, next_write_of_tables, trimmed_of, largest_of}
 use Rattle.alt_tables.specs.declared.several.ItemChange.{ItemChange}
 use Rattle.alt_tables.specs.declared.several.Staged.{Staged}
 use Rattle.alt_tables.specs.declared.tables.Tables.{Tables}
@@ -24,7 +24,7 @@ use Rattle.alt_tables.proofs.Foreseen.{foresees_all, foresees_on}
 use Rattle.alt_tables.proofs.Left.{leaves_after}
 use Rattle.alt_tables.proofs.Staged.{stand_behind, together_last}
 use Rattle.alt_tables.proofs.Standing.{rows_kept, stands_kept}
-use Rattle.alt_tables.specs.private.Foretold.{Fits, FitsWrites}
+use Rattle.alt_tables.specs.private.Foretold.{ItemFits, FitsWrites}
 use Rattle.alt_tables.proofs.Each.{every_weaker}
 use Rattle.alt_tables.proofs.Sizing.{EachItem, each_behind, fits_of}
 
@@ -74,18 +74,18 @@ module _ (catalog : Texts TableSchema) (cs ds : List ItemChange) (left : ds ≡ 
 
 -- ---- the call
 
-module _ (a m : DiskState) (old mid known : Tables) (keeps : Keeps a m old mid)
+module _ (a m : DiskState) (old mid known : Tables) (keeps : KeepsTables a m old mid)
     (engine : known.engine ≡ mid.engine) (s : State) (stands : Stands a old s) where
   -- the rows are those from before, until they are made
-  pub still_holds : Holds m known.engine s
-  still_holds = subst (λ (e : Engine). Holds m e s) (sym engine)
+  pub still_holds : EngineHoldsState m known.engine s
+  still_holds = subst (λ (e : Engine). EngineHoldsState m e s) (sym engine)
       (stands_kept a m old mid keeps s stands).rows
 
   pub still_rows : (l : Layout) → HasRows a old l → HasRows m known l
   still_rows l rows = subst (λ (e : Engine). EngineStands m e l) (sym engine)
       (rows_kept a m old mid keeps stands.rows.trusted l rows)
 
-  module _ (b : DiskState) (new : Tables) (moment : ℕ) (writer : Writer) (ws : List Written)
+  module _ (b : DiskState) (new : Tables) (moment : ℕ) (writer : Writer) (ws : List PlacedWrite)
       (staged : Staged) (are : IsStaged stands.rows.layout s moment writer ws staged) where
     abbrev last : State
     last = last_state s (writes_of_all_by s moment writer ws)
@@ -109,24 +109,24 @@ module _ (a m : DiskState) (old mid known : Tables) (keeps : Keeps a m old mid)
 
     -- The tables stand for the state after them.
     pub stand_then : AreKnown (catalog_of mid) moment staged.notes.items (trimmed_of mid)
-        (trimmed_of known) (fronts_of mid) (fronts_of known) → Holds b new.engine last
+        (trimmed_of known) (fronts_of mid) (fronts_of known) → EngineHoldsState b new.engine last
         → HasRows b new (with_batches stands.rows.layout staged.batches.items)
         → new.catalog ≡ mid.catalog → new.live ≡ mid.live → new.family ≡ mid.family
         → new.trimmed ≡ known.trimmed → new.fronts ≡ known.fronts
         → Every (ForeseesWritten (catalog_of old) (due_of mid)) ws → new.due ≡ mid.due
-        → FitsWrites (largest_of mid) ws → new.largest ≡ mid.largest → new.builds ≡ mid.builds → number_of new ≡ number_of known + length staged.batches.items → Stands b new last
+        → FitsWrites (largest_of mid) ws → new.largest ≡ mid.largest → new.builds ≡ mid.builds → next_write_of_tables new ≡ next_write_of_tables known + length staged.batches.items → Stands b new last
     stand_then noted holds rows catalog live family trimmed fronts told due fits largest builds number =
         stand_behind a b old new s last stands moment staged.notes.items staged.batches.items
         are.ahead (noted_then noted trimmed fronts)
         (subst (Foresees last.tables) (sym due) (foresees_all (catalog_of old) mid.due s moment
         writer ws stands.catalog told (foresees_on s.tables old.due mid.due keeps.due stands.due)))
-        (subst (λ n. EachItem (Fits n) last.tables) (sym largest)
-        (each_behind (Fits mid.largest) s moment writer ws fits
+        (subst (λ n. EachItem (ItemFits n) last.tables) (sym largest)
+        (each_behind (ItemFits mid.largest) s moment writer ws fits
         (fits_of s.tables old.largest mid.largest keeps.largest stands.sized)))
         holds rows (catalog ∙ keeps.catalog)
         (live ∙ keeps.live) (family ∙ keeps.family) (builds ∙ keeps.builds)
         (number ∙ ap (λ n. n + length staged.batches.items)
-        (ap (λ (e : Engine). next_of e) engine ∙ keeps.number))
+        (ap (λ (e : Engine). next_write_of_engine e) engine ∙ keeps.number))
 
     -- A stop leaves the state before them or that one.
     pub leave_then : (atoms : List State) → atoms ≡ writes_of_all_by s moment writer ws

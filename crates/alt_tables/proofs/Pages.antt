@@ -18,7 +18,7 @@ use Rattle.alt_cells.proofs.Entries.{find_below}
 use Rattle.alt_cells.proofs.SameKeys.{key_itself, one_key}
 use Rattle.alt_disk.specs.Disk.{DiskState}
 use Rattle.alt_disk.proofs.Runs.{tells_of}
-use Rattle.alt_rowchanges.specs.OpeningEngineInHand.{Reads as EngineReads}
+use Rattle.alt_rowchanges.specs.OpeningEngineInHand.{ReadsLayout as EngineReads}
 use Rattle.alt_layout.specs.Layout.{Layout, rows_between, shown, shown_of, shown_rows, end_bound as rows_end}
 use Rattle.alt_layout.proofs.ShownLaws.{find-shown, is_sorted-shown, shown-filter, shown-turned, get-shown_rows}
 use Rattle.alt_machine.specs.Building.{built_part}
@@ -50,7 +50,7 @@ use Rattle.alt_rowchanges.proofs.OpeningOneState.{has_whole}
 use Rattle.alt_rowchanges.proofs.PageRows.{same_items}
 use Rattle.alt_tables.proofs.Standing.{known}
 use Rattle.alt_value.specs.Members.{text_order}
-use Rattle.alt_rowchanges.specs.OpeningHandOpened.{IsUndamaged, IsUnspent}
+use Rattle.alt_rowchanges.specs.OpeningHandOpened.{EngineFaultIsUndamaged, EngineFaultIsUnspent}
 use Rattle.alt_rowchanges.specs.OpeningHandDeclaredEngineFault.{EngineFault}
 use Rattle.alt_value.specs.Tree.{Pair}
 
@@ -304,7 +304,7 @@ find_fault (Err fault) h = memory-outside (told_by_tables fault) h
 
 -- so is a fault of an engine that reads, passed on
 pub engine_fault : (given : EngineFault) (fault : TableFault)
-    → told_by_tables fault ≡ told_by_engine given → IsUnspent given → IsUndamaged given
+    → told_by_tables fault ≡ told_by_engine given → EngineFaultIsUnspent given → EngineFaultIsUndamaged given
     → IsFindFault fault
 engine_fault given fault same unspent whole =
     subst IsOutside (sym same) (outside-neither (told_by_engine given) unspent whole)

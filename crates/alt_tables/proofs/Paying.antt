@@ -13,7 +13,7 @@ use Rattle.alt_cells.specs.Changes.{Columns}
 use Rattle.alt_cells.specs.Keys.{key_cmp}
 use Rattle.alt_cells.specs.Walks.{RowMap, walk_cmp}
 use Rattle.alt_disk.specs.Disk.{DiskState}
-use Rattle.alt_rowchanges.specs.OpeningEngineInHand.{Reads as EngineReads, hand_of}
+use Rattle.alt_rowchanges.specs.OpeningEngineInHand.{ReadsLayout as EngineReads, hand_of}
 use Rattle.alt_rowchanges.specs.OpeningEngineDeclaredEngine.{Engine}
 use Rattle.alt_families.specs.Reads as engine
 use Rattle.alt_families.specs.Reads.{most_reads, versions_of}
@@ -30,7 +30,7 @@ use Rattle.alt_manifest.specs.Versions.{HasVersion}
 use Rattle.alt_manifest.specs.declared.version.Version.{Version}
 use Rattle.alt_manifest.proofs.AppendLaws.{has_version}
 use Rattle.alt_manifest.proofs.OneVersion.{same_version}
-use Rattle.alt_tables.specs.Reading.{HasRowFiles, is_reached, walk_reads}
+use Rattle.alt_tables.specs.Reading.{HasRowFiles, is_place_reached, most_walk_reads}
 use Rattle.alt_tables.proofs.Pages.{row_at, rows_between-items, same_end}
 use Rattle.alt_value.specs.Members.{text_order}
 
@@ -78,7 +78,7 @@ le_is false key other = ap is_le (nat_list_cmp_total.antisymm other key)
 
 -- a walk over rows goes as far as that over the items at their places
 reached_is : (forward : Bool) (n : ℕ) (shows : List (List ℕ × Columns)) (key : List ℕ)
-    → engine.is_reached forward n shows key ≡ is_reached forward n (map (λ e. e.0) shows) key
+    → engine.is_reached forward n shows key ≡ is_place_reached forward n (map (λ e. e.0) shows) key
 reached_is forward zero shows key = refl
 reached_is forward (suc n) [] key = refl
 reached_is forward (suc zero) (e ∷ es) key = le_is forward key e.0
@@ -88,7 +88,7 @@ reached_is forward (suc (suc n)) (e ∷ es) key = reached_is forward (suc n) es 
 pub reads_are : (forward : Bool) (from : List ℕ) (to : Option (List ℕ)) (most : ℕ)
     (shows : List (List ℕ × Columns)) (maps : List RowMap)
     → most_reads forward from to most shows maps
-    ≡ walk_reads forward from to most (map (λ e. e.0) shows) maps
+    ≡ most_walk_reads forward from to most (map (λ e. e.0) shows) maps
 reads_are forward from to most shows maps =
     ap (λ (p : List ℕ → Bool). versions_of p maps + 2 * length maps)
     (λ i key. range_contains key_cmp (Included from) (same_end to i) key
@@ -115,13 +115,13 @@ module _ {X : Type 0} (columns : X → Columns) (l : Layout) (family : ℕ) (ite
       (before after : ℕ) → after ≤ before + most_reads forward from to most
       (rows_between l family from to forward) (file_rows (hand_of e) reads.held family)
       → (maps : List RowMap) → HasRowFiles disk.file family maps
-      → after ≤ before + walk_reads forward from to most (map (λ e. e.0) placed) maps
+      → after ≤ before + most_walk_reads forward from to most (map (λ e. e.0) placed) maps
   walk_paid disk e reads most before after paid maps has =
       subst (λ n. after ≤ before + n)
       (ap (most_reads forward from to most (rows_between l family from to forward))
       (maps_are disk e l reads family maps has)
       ∙ reads_are forward from to most (rows_between l family from to forward) maps
-      ∙ ap (λ places. walk_reads forward from to most places maps)
+      ∙ ap (λ places. most_walk_reads forward from to most places maps)
       (ap (map (λ (e : List ℕ × Columns). e.0))
       (rows_between-items columns l family items shows from to forward)
       ∙ places-rows columns placed)) paid

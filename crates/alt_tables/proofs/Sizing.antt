@@ -7,7 +7,7 @@ use Rattle.std.specs.FinMap as map
 use Rattle.std.specs.Option.{option_map_or}
 use Rattle.std.specs.Ordering.{eq_by_cmp}
 use Rattle.alt_codec.specs.declared.writer.Writer.{Writer}
-use Rattle.alt_machine.specs.Ops.BatchWriteItem.{Written, writes_of_by, writes_of_all_by}
+use Rattle.alt_machine.specs.Ops.BatchWriteItem.{PlacedWrite, writes_of_by, writes_of_all_by}
 use Rattle.alt_machine.specs.Outcomes.{last_state}
 use Rattle.alt_machine.specs.Same.{is_same}
 use Rattle.alt_machine.specs.State.{State, Table, Texts, new_table}
@@ -18,7 +18,7 @@ use Rattle.alt_machine.proofs.Behind.{last_behind}
 use Rattle.alt_rowchanges.specs.OpeningSized.{AreSized}
 use Rattle.alt_schema.specs.declared.schema.TableSchema.{TableSchema}
 use Rattle.alt_tables.specs.Several.{Every}
-use Rattle.alt_tables.specs.private.Foretold.{Fits, FitsWrite}
+use Rattle.alt_tables.specs.private.Foretold.{ItemFits, FitsWrite}
 use Rattle.alt_tables.proofs.Foreseen.{put_or_old}
 use Rattle.alt_value.specs.Members.{text_order}
 use Rattle.alt_value.specs.Size.{item_size, within}
@@ -86,12 +86,12 @@ module _ (P : List Pair → Type 0) (tables : Texts Table) (name : List ℕ)
           by_put false is = so name q t item at is
 
 -- what each of these leaves is so
-abbrev AllLeave : (List Pair → Type 0) → List Written → Type 0
-AllLeave P ws = Every (λ (w : Written). IfSome w.new P) ws
+abbrev AllLeave : (List Pair → Type 0) → List PlacedWrite → Type 0
+AllLeave P ws = Every (λ (w : PlacedWrite). IfSome w.new P) ws
 
 -- behind several writes
 pub each_behind : (P : List Pair → Type 0) (s : State) (moment : ℕ) (writer : Writer)
-    (ws : List Written) → AllLeave P ws → EachItem P s.tables
+    (ws : List PlacedWrite) → AllLeave P ws → EachItem P s.tables
     → EachItem P (last_state s (writes_of_all_by s moment writer ws)).tables
 each_behind P s moment writer [] told so = so
 each_behind P s moment writer (w ∷ ws) told so =
@@ -129,12 +129,12 @@ fits_up m n up (Some item) fits = λ may. let h = fits may in omega (arith, up, 
 
 -- each item fits where none is larger
 pub fits_of : (tables : Texts Table) (m n : ℕ) → m ≤ n → AreSized tables m
-    → EachItem (Fits n) tables
+    → EachItem (ItemFits n) tables
 fits_of tables m n up sized name place t item at there may =
     sized_up tables m n up sized name place t item at there
 
 -- and where each fits none is larger, since the items of a valid state have no more bytes than one may have
-pub sized_valid : (s : State) → IsValid s → (most : ℕ) → EachItem (Fits most) s.tables
+pub sized_valid : (s : State) → IsValid s → (most : ℕ) → EachItem (ItemFits most) s.tables
     → AreSized s.tables most
 sized_valid s valid most fits name place t item at there = fits name place t item at there
     ((valid.tables name t at).items place item there).size

@@ -9,29 +9,29 @@ use Rattle.alt_due.specs.Due.{KeepsKnown}
 use Rattle.alt_due.specs.declared.due.Due.{Due}
 use Rattle.alt_layout.specs.Layout.{Layout}
 use Rattle.alt_machine.specs.declared.TheConstants.{NUMBERS_END}
-use Rattle.alt_machine.specs.Ops.BatchWriteItem.{Written, writes_of_by, writes_of_all_by}
+use Rattle.alt_machine.specs.Ops.BatchWriteItem.{PlacedWrite, writes_of_by, writes_of_all_by}
 use Rattle.alt_machine.specs.Outcomes.{last_state, together}
 use Rattle.alt_machine.specs.Same.{is_same}
 use Rattle.alt_machine.specs.State.{State, Table, Texts}
 use Rattle.alt_machine.specs.Valid.{AreChanges, IsStored, IsValid}
 use Rattle.alt_machine.specs.Writes.{after_item_by, with_write_by}
 use Rattle.alt_machine.proofs.Descriptions.{get-descriptions, table_of_description}
-use Rattle.alt_rowchanges.specs.OpeningOpened.{Holds}
+use Rattle.alt_rowchanges.specs.OpeningOpened.{EngineHoldsState}
 use Rattle.alt_rowchanges.proofs.OpeningOverEngine.{one_layout_in_hand, stands_past}
 use Rattle.alt_schema.specs.declared.schema.TableSchema.{TableSchema}
 use Rattle.alt_tables.specs.Foreseen.{Foresees, ForeseesWritten}
 use Rattle.alt_rowchanges.specs.Fronts.{AreFronts}
 use Rattle.alt_rowchanges.specs.Leftovers.{lowest_left}
 use Rattle.alt_rowchanges.specs.RowChanges.{write_changes}
-use Rattle.alt_tables.specs.Several.{AreAllApart, AreDistinct, Every, IsFound, MayWrite, batch_of, batches_of, with_batches, written_at}
-use Rattle.alt_tables.specs.Stands.{HasRows, Keeps, Stands, catalog_of, due_of, fronts_of, number_of, trimmed_of, largest_of}
+use Rattle.alt_tables.specs.Several.{AreAllApart, BatchesAreDistinct, Every, IsFound, MayWrite, batch_of, batches_of, with_batches, written_at}
+use Rattle.alt_tables.specs.Stands.{HasRows, KeepsTables, Stands, catalog_of, due_of, fronts_of, next_write_of_tables, trimmed_of, largest_of}
 use Rattle.alt_tables.specs.declared.several.ItemChange.{ItemChange}
 use Rattle.alt_tables.specs.declared.several.Noted.{Noted}
 use Rattle.alt_tables.specs.declared.several.Staged.{Staged}
 use Rattle.alt_tables.specs.declared.tables.Tables.{Tables}
 use Rattle.alt_rowchanges.specs.declared.trimming.Trim.{Trim}
-use Rattle.alt_tables.specs.private.Staging.{AreKnown, AreNotes, Differs, IsAhead, IsBehind, IsStaged, IsStagedOn}
-use Rattle.alt_rowchanges.specs.Trims.{IsWithin}
+use Rattle.alt_tables.specs.private.Staging.{AreKnown, AreNotes, Differs, IsStateAhead, IsTrimmedAgain, IsStaged, IsStagedOn}
+use Rattle.alt_rowchanges.specs.Trims.{TrimIsWithin}
 use Rattle.alt_tables.proofs.Ahead.{none_ahead, one_ahead}
 use Rattle.alt_tables.proofs.Batches.{with_batches-append}
 use Rattle.alt_tables.proofs.Differing.{differ_one, differ_rows, stay_found}
@@ -44,14 +44,14 @@ use Rattle.alt_value.specs.Tree.{Pair}
 use Rattle.alt_value.specs.Values.{IsItemOfValues}
 use Rattle.std.proofs.Math.Nat.{le_trans}
 use Rattle.std.proofs.lemmas.Option.{same_Some as some}
-use Rattle.alt_tables.specs.private.Foretold.{Fits, FitsWrite, FitsWrites}
+use Rattle.alt_tables.specs.private.Foretold.{ItemFits, FitsWrite, FitsWrites}
 use Rattle.alt_tables.proofs.Sizing.{EachItem, fits_up, sized_valid}
 
 -- ---- the table of a write
 
 module _ (a : DiskState) (old : Tables) (s : State) (stands : Stands a old s) (l : Layout)
     (moment : ℕ) (notes : List Noted) (batches : List (List RowChange)) (r : State)
-    (ahead : IsAhead l s moment notes batches r) where
+    (ahead : IsStateAhead l s moment notes batches r) where
   -- the catalog describes the tables of the state that is ahead
   pub ahead_known : (name : List ℕ) (t : Table) → map.get r.tables name ≡ Some t
       → map.get (catalog_of old) name ≡ Some t.description
@@ -65,11 +65,11 @@ module _ (a : DiskState) (old : Tables) (s : State) (stands : Stands a old s) (l
       (ap (λ m. map.get m name) (ahead.catalog ∙ sym stands.catalog) ∙ at)
 
   module _ (writer : Writer) (rows : HasRows a old l) (c : ItemChange) (may : MayWrite (catalog_of old) (written_at c))
-      (differ : Differs c) (found : IsFound r c) (room : number_of old + length batches < NUMBERS_END)
+      (differ : Differs c) (found : IsFound r c) (room : next_write_of_tables old + length batches < NUMBERS_END)
       (d : TableSchema) (described : map.get (catalog_of old) c.table ≡ Some d) (x : ℕ × Trim)
       (behind : (t : Table) → map.get r.tables c.table ≡ Some t
-      → IsBehind l (with_batches l batches) t moment x) (number : ℕ)
-      (numbered : number ≡ number_of old + length batches) (batch : List RowChange)
+      → IsTrimmedAgain l (with_batches l batches) t moment x) (number : ℕ)
+      (numbered : number ≡ next_write_of_tables old + length batches) (batch : List RowChange)
       (written : batch ≡ write_changes d number moment writer c.found.place c.found.item c.new x.0
       x.1.number x.1.leftovers.items) (one : T (is_distinct batch))
       (given : IfSome c.new IsItemOfValues) (fits : moment < 2 ^ 64) (before after : Staged)
@@ -80,7 +80,7 @@ module _ (a : DiskState) (old : Tables) (s : State) (stands : Stands a old s) (l
     pub one_staged : IsStagedOn l s moment writer c r before after
     one_staged =
         let (t, at, same) = ahead_there c.table d described in
-        let was : IsBehind l (with_batches l batches) t moment x = behind t at in
+        let was : IsTrimmedAgain l (with_batches l batches) t moment x = behind t at in
         let differs = ap (λ o. is_same_of o) (sym (found t at)) ∙ differ in
         let in_state = written_so t at same was in
         record {
@@ -90,9 +90,9 @@ module _ (a : DiskState) (old : Tables) (s : State) (stands : Stands a old s) (l
               ∙ (λ i. sym is_batches i ++ batch_is t at same was differs i ∷ [])
               ∙ ap (λ bs. before.batches.items ++ batch_of (with_batches l bs) r moment writer t (written_at c)
               ∷ []) (sym is_batches);
-          ahead = subst (λ ns. IsAhead l s moment ns after.batches.items
+          ahead = subst (λ ns. IsStateAhead l s moment ns after.batches.items
               (after_item_by r moment writer c.table t c.found.place c.new)) (sym notes_then)
-              (subst (λ bs. IsAhead l s moment (record { table = c.table; trim = x.1 } ∷ notes) bs
+              (subst (λ bs. IsStateAhead l s moment (record { table = c.table; trim = x.1 } ∷ notes) bs
               (after_item_by r moment writer c.table t c.found.place c.new)) (sym batches_then)
               (one_ahead l s (stands_past a old.engine l rows) moment writer notes batches r ahead c.table t
               at c.found.place c.new differs x.1 was.again.trim was.again.rest batch in_state one
@@ -112,7 +112,7 @@ module _ (a : DiskState) (old : Tables) (s : State) (stands : Stands a old s) (l
         of_new (Some i) item h e = subst (IsStored d c.found.place) (some i item e) h
 
         written_so : (t : Table) → map.get r.tables c.table ≡ Some t → t.description ≡ d
-            → IsBehind l (with_batches l batches) t moment x
+            → IsTrimmedAgain l (with_batches l batches) t moment x
             → batch ≡ write_changes t.description r.next_number moment writer c.found.place
             (map.get t.items c.found.place) c.new t.trimmed x.1.number x.1.leftovers.items
         written_so t at same was =
@@ -123,7 +123,7 @@ module _ (a : DiskState) (old : Tables) (s : State) (stands : Stands a old s) (l
             (found t at i) c.new (was.before i) x.1.number x.1.leftovers.items)
 
         batch_is : (t : Table) (at : map.get r.tables c.table ≡ Some t) → t.description ≡ d
-            → IsBehind l (with_batches l batches) t moment x
+            → IsTrimmedAgain l (with_batches l batches) t moment x
             → is_same (map.get t.items c.found.place) c.new ≡ false
             → batch ≡ batch_of (with_batches l batches) r moment writer t (written_at c)
         batch_is t at same was differs =
@@ -148,8 +148,8 @@ described_by catalog name there = by (map.get catalog name) refl there
     by (Some d) e h = (d, e)
 
 -- what lies before a number lies before a later one
-pub within_later : (before next later : ℕ) (x : Trim) → next ≤ later → IsWithin before next x
-    → IsWithin before later x
+pub within_later : (before next later : ℕ) (x : Trim) → next ≤ later → TrimIsWithin before next x
+    → TrimIsWithin before later x
 within_later before next later x low within = record {
   rise = within.rise;
   below = let high = within.below in omega (arith, high, low);
@@ -163,7 +163,7 @@ within_later before next later x low within = record {
 pub record AreUnderWay (l : Layout) (s : State) (moment : ℕ) (writer : Writer) (all rest : List ItemChange)
     (notes : List Noted) (batches : List (List RowChange)) : Type 0 where
   pub state : State
-  pub ahead : IsAhead l s moment notes batches state
+  pub ahead : IsStateAhead l s moment notes batches state
   pub found : Every (IsFound state) rest
   pub last : last_state s (writes_of_all_by s moment writer (each written_at all))
       ≡ last_state state (writes_of_all_by state moment writer (each written_at rest))
@@ -199,7 +199,7 @@ module _ (l : Layout) (s : State) (moment : ℕ) (writer : Writer) (all rest : L
       batch_of (with_batches l before.batches.items) r moment writer t (written_at c) in
       let by_rows = differ_rows r moment writer c so.found.0 (with_batches l before.batches.items) differ t
       on.there in
-      let ws : List Written = each written_at rest in
+      let ws : List PlacedWrite = each written_at rest in
       record {
         state = then;
         ahead = on.ahead;
@@ -225,7 +225,7 @@ pub all_staged : (l : Layout) (s : State) (moment : ℕ) (writer : Writer) (all 
     → IsStaged l s moment writer (each written_at all) r
 all_staged l s moment writer all r so = record {
   batches = sym (so.rows ∙ append-nil r.batches.items);
-  ahead = subst (IsAhead l s moment r.notes.items r.batches.items) (sym so.last) so.ahead;
+  ahead = subst (IsStateAhead l s moment r.notes.items r.batches.items) (sym so.last) so.ahead;
 }
 
 -- ---- in the call that gets them ready
@@ -233,13 +233,13 @@ all_staged l s moment writer all r so = record {
 -- The first of the changes are got ready by calls that read alone.
 pub record IsStaging (a : DiskState) (old : Tables) (b : DiskState) (now : Tables) (moment : ℕ) (writer : Writer)
     (all rest : List ItemChange) (staged : Staged) : Type 0 where
-  pub keeps : Keeps a b old now
+  pub keeps : KeepsTables a b old now
   pub may : Every (MayWrite (catalog_of old)) (each written_at rest)
   pub apart : AreAllApart (each written_at rest)
   pub differ : Every Differs rest
-  pub distinct : AreDistinct staged.batches.items
+  pub distinct : BatchesAreDistinct staged.batches.items
   pub count : length staged.batches.items + length rest ≡ length all
-  pub notes : AreNotes (catalog_of old) (number_of old) staged.notes.items
+  pub notes : AreNotes (catalog_of old) (next_write_of_tables old) staged.notes.items
   pub told : (due : Due) → KeepsKnown (due_of now) due
       → Every (ForeseesWritten (catalog_of old) due) (each written_at rest)
       → Every (ForeseesWritten (catalog_of old) due) (each written_at all)
@@ -261,9 +261,9 @@ staging_none a old moment writer all rest staged same empty none may apart diffe
       may = may;
       apart = apart;
       differ = differ;
-      distinct = subst AreDistinct (sym empty) tt;
+      distinct = subst BatchesAreDistinct (sym empty) tt;
       count = let e : length staged.batches.items ≡ 0 = ap length empty in omega (arith, e);
-      notes = subst (AreNotes (catalog_of old) (number_of old)) (sym none) tt;
+      notes = subst (AreNotes (catalog_of old) (next_write_of_tables old)) (sym none) tt;
       told = λ due keeps h. h;
       fits = λ most up h. h;
       so = λ s l stands rows. subst (λ bs. AreUnderWay l s moment writer all all
@@ -275,12 +275,12 @@ staging_none a old moment writer all rest staged same empty none may apart diffe
 -- one more is
 pub staging_more : (a b d : DiskState) (old now new : Tables) (moment : ℕ) (writer : Writer)
     (all rest : List ItemChange) (c : ItemChange) (x y : Staged)
-    → IsStaging a old b now moment writer all (c ∷ rest) x → Keeps b d now new
+    → IsStaging a old b now moment writer all (c ∷ rest) x → KeepsTables b d now new
     → ((s r : State) (l : Layout) → Stands b now s → HasRows b now l
-    → AreDistinct x.batches.items → IsAhead l s moment x.notes.items x.batches.items r
+    → BatchesAreDistinct x.batches.items → IsStateAhead l s moment x.notes.items x.batches.items r
     → IsFound r c → IsStagedOn l s moment writer c r x y)
-    → AreDistinct y.batches.items → length y.batches.items ≡ length x.batches.items + 1
-    → AreNotes (catalog_of now) (number_of now) y.notes.items
+    → BatchesAreDistinct y.batches.items → length y.batches.items ≡ length x.batches.items + 1
+    → AreNotes (catalog_of now) (next_write_of_tables now) y.notes.items
     → ForeseesWritten (catalog_of now) (due_of new) (written_at c)
     → FitsWrite (largest_of new) (written_at c).new
     → IsStaging a old d new moment writer all rest y
@@ -292,7 +292,7 @@ staging_more a b d old now new moment writer all rest c x y so keeps on distinct
   distinct = distinct;
   count = let before = so.count in omega (arith, before, count);
   notes = subst (λ n. AreNotes (catalog_of old) n y.notes.items) so.keeps.number
-      (subst (λ (m : Texts TableSchema). AreNotes m (number_of now) y.notes.items)
+      (subst (λ (m : Texts TableSchema). AreNotes m (next_write_of_tables now) y.notes.items)
       so.keeps.catalog notes);
   told = λ due on h. so.told due
       (λ moment spot knows. on moment spot (keeps.due moment spot knows)) (
@@ -315,19 +315,19 @@ staging_more a b d old now new moment writer all rest c x y so keeps on distinct
 
 module _ (a b : DiskState) (old new : Tables) (s r : State) (stands : Stands a old s) (moment : ℕ)
     (notes : List Noted) (batches : List (List RowChange))
-    (ahead : IsAhead stands.rows.layout s moment notes batches r)
+    (ahead : IsStateAhead stands.rows.layout s moment notes batches r)
     (noted : AreKnown (catalog_of old) moment notes (trimmed_of old) (trimmed_of new)
     (fronts_of old) (fronts_of new)) (due : Foresees r.tables (due_of new))
-    (fits : EachItem (Fits (largest_of new)) r.tables) where
+    (fits : EachItem (ItemFits (largest_of new)) r.tables) where
   changes_of : (u : State) → IsValid u → (q : List ℕ) (t : Table) → map.get u.tables q ≡ Some t
       → (k : ℕ) × AreChanges t.description k t.trimmed t.changes
   changes_of u valid q t at = (u.next_number, (valid.tables q t at).changes)
 
   -- They stand for the state after them.
-  pub stand_behind : Holds b new.engine r
+  pub stand_behind : EngineHoldsState b new.engine r
       → HasRows b new (with_batches stands.rows.layout batches) → new.catalog ≡ old.catalog
       → new.live ≡ old.live → new.family ≡ old.family
-      → new.builds ≡ old.builds → number_of new ≡ number_of old + length batches
+      → new.builds ≡ old.builds → next_write_of_tables new ≡ next_write_of_tables old + length batches
       → Stands b new r
   stand_behind holds rows catalog live family builds number = record {
     catalog = catalog ∙ stands.catalog ∙ sym ahead.catalog;

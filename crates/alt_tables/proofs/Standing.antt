@@ -11,7 +11,7 @@ use Rattle.alt_disk.specs.Disk.{DiskState, Goes, IsTrusted}
 use Rattle.alt_disk.proofs.Calls.{goes_refl, goes_on}
 use Rattle.alt_due.specs.Due.{KeepsKnown}
 use Rattle.alt_disk.proofs.Runs.{quiet_start, quiet_then, trusted_on, trusted_back, tells_of}
-use Rattle.alt_rowchanges.specs.OpeningEngineInHand.{Bounds, Reads as EngineReads, Stands as EngineStands}
+use Rattle.alt_rowchanges.specs.OpeningEngineInHand.{Bounds, ReadsLayout as EngineReads, StandsForLayout as EngineStands}
 use Rattle.alt_rowchanges.specs.OpeningEngineOpened.{StaysOn}
 use Rattle.alt_layout.specs.Layout.{Layout, shown}
 use Rattle.alt_machine.specs.State.{State, Table, Texts, descriptions}
@@ -20,7 +20,7 @@ use Rattle.alt_schema.specs.declared.schema.TableSchema.{TableSchema}
 use Rattle.alt_views.specs.ItemRows.{IsReadItem, item_columns}
 use Rattle.alt_rowchanges.proofs.OpeningOverEngine.{one_layout_in_hand}
 use Rattle.alt_rowchanges.specs.Fronts.{AreFronts}
-use Rattle.alt_tables.specs.Stands.{AreReady, HasRows, Keeps, Stands, bounds_of, catalog_of, trimmed_of}
+use Rattle.alt_tables.specs.Stands.{AreReady, HasRows, KeepsTables, Stands, bounds_of, catalog_of, trimmed_of}
 use Rattle.alt_tables.specs.declared.tables.Tables.{Tables}
 use Rattle.alt_rowchanges.specs.OpeningLive.{AreLiveIn}
 use Rattle.alt_rowchanges.specs.OpeningTrimmed.{AreTrimmedOf, number_at}
@@ -183,7 +183,7 @@ module _ (old new : DiskState) (t u : Tables) (catalog : u.catalog ≡ t.catalog
 
 -- ---- a call that keeps what is known
 
-module _ (old new : DiskState) (t u : Tables) (keeps : Keeps old new t u) where
+module _ (old new : DiskState) (t u : Tables) (keeps : KeepsTables old new t u) where
   -- the tables stand for what they stood for
   pub stays_kept : AreReady old t → (s : State) → Stands old t s ↔ Stands new u s
   stays_kept = stays old new t u keeps.catalog keeps.live keeps.family keeps.trimmed keeps.fronts
@@ -204,7 +204,7 @@ module _ (old new : DiskState) (t u : Tables) (keeps : Keeps old new t u) where
   rows_kept trusted l rows = (keeps.same (tells_of old trusted)).stands l rows
 
 -- one after another
-pub keeps_then : (a b c : DiskState) (t u v : Tables) → Keeps a b t u → Keeps b c u v → Keeps a c t v
+pub keeps_then : (a b c : DiskState) (t u v : Tables) → KeepsTables a b t u → KeepsTables b c u v → KeepsTables a c t v
 keeps_then a b c t u v first then = record {
   catalog = then.catalog ∙ first.catalog;
   live = then.live ∙ first.live;
@@ -232,12 +232,12 @@ keeps_then a b c t u v first then = record {
 }
 
 -- and one that makes no call of the disk behind it
-pub keeps_on : (a b : DiskState) (t u v : Tables) → Keeps a b t u
-    → ((disk : DiskState) → Keeps disk disk u v) → Keeps a b t v
+pub keeps_on : (a b : DiskState) (t u v : Tables) → KeepsTables a b t u
+    → ((disk : DiskState) → KeepsTables disk disk u v) → KeepsTables a b t v
 keeps_on a b t u v first then = keeps_then a b b t u v first (then b)
 
 -- no call keeps everything
-pub keeps_nothing : (a : DiskState) (t : Tables) → Keeps a a t t
+pub keeps_nothing : (a : DiskState) (t : Tables) → KeepsTables a a t t
 keeps_nothing a t = record {
   catalog = refl;
   live = refl;

@@ -18,19 +18,20 @@ use Rattle.alt_schemabytes.specs.Held.{IsHeldText, Where}
 use Rattle.alt_schema.specs.declared.schema.TableSchema.{TableSchema}
 use Rattle.alt_value.specs.Members.{text_order}
 use Rattle.alt_value.proofs.Texts.{text_total}
-use Rattle.alt_rowchanges.specs.OpeningOpened.{Holds}
+use Rattle.alt_rowchanges.specs.OpeningOpened.{EngineHoldsState}
 use Rattle.alt_rowchanges.proofs.OpeningLiveLaws.{live_alike}
 use Rattle.alt_rowchanges.proofs.OpeningTrimmedLaws.{trimmed-stay}
 use Rattle.alt_tables.specs.Built.{NoneBuilds}
 use Rattle.alt_tables.specs.Foreseen.{Foresees}
 use Rattle.alt_rowchanges.specs.Fronts.{AreFronts, IsFront}
 use Rattle.alt_rowchanges.specs.RowChanges.{Turns, changed_rows, time_changes}
-use Rattle.alt_tables.specs.Stands.{HasRows, Stands, catalog_of, fronts_of, number_of, trimmed_of}
+use Rattle.alt_tables.specs.Stands.{HasRows, Stands, catalog_of, fronts_of, next_write_of_tables, trimmed_of}
 use Rattle.alt_rowchanges.specs.declared.fronts.Front.{Front}
 use Rattle.alt_tables.specs.declared.tables.Tables.{Tables}
-use Rattle.alt_tables.specs.private.Foretold.{IsTold}
+use Rattle.alt_tables.specs.private.Foretold.{TimeToLiveIsTold}
 use Rattle.alt_tables.proofs.Foreseen.{foresees_nothing, foresees_untimed}
-use Rattle.alt_tables.proofs.Making.{OfCatalog, catalog_fronts, fronts_of_rows}
+use Rattle.alt_tables.proofs.Making.{fronts_of_rows}
+use Rattle.alt_tables.proofs.TableMaking.{OfCatalog, catalog_fronts}
 use Rattle.alt_tables.proofs.NoneBuilt.{none_with}
 use Rattle.alt_tables.proofs.Standing.{descriptions-insert, known, still_live, still_trimmed}
 use Rattle.alt_rowchanges.proofs.TimeLaws.{time_turns}
@@ -65,7 +66,7 @@ fronts_timed l tables known name t ttl at are q f told =
 
 -- the list of the items that are due next knows of them behind it
 foresees_timed : (tables : Texts Table) (name : List ℕ) (t : Table) (old new : Due)
-    → Foresees tables old → (ttl : Option (List ℕ)) → IsTold ttl old new
+    → Foresees tables old → (ttl : Option (List ℕ)) → TimeToLiveIsTold ttl old new
     → Foresees (map.insert tables name (timed ttl t)) new
 foresees_timed tables name t old new knows None told =
     subst (Foresees (map.insert tables name (timed None t))) (sym (told.none refl))
@@ -91,7 +92,7 @@ module _ (before : DiskState) (old : Tables) (s : State) (stands : Stands before
   same = same_Some _ _ (sym (known before old s name t stands at) ∙ described)
 
   -- its row changes turn the state into the one with that time to live
-  pub time_turned : number_of old < NUMBERS_END → Where IsHeldText ttl
+  pub time_turned : next_write_of_tables old < NUMBERS_END → Where IsHeldText ttl
       → Turns batch s (with_time s name t ttl)
   time_turned room text = subst (λ cs. Turns cs s (with_time s name t ttl))
       (ap (λ (e : TableSchema). time_changes e ttl) same ∙ sym is)
@@ -99,12 +100,12 @@ module _ (before : DiskState) (old : Tables) (s : State) (stands : Stands before
       text)
 
   -- the tables stand for it
-  pub time_stands : (now : DiskState) (new : Tables) → Holds now new.engine (with_time s name t ttl)
+  pub time_stands : (now : DiskState) (new : Tables) → EngineHoldsState now new.engine (with_time s name t ttl)
       → IsValid (with_time s name t ttl)
       → new.catalog ≡ map.insert old.catalog name (record d { ttl = ttl })
       → new.live ≡ old.live → new.family ≡ old.family → new.trimmed ≡ old.trimmed
-      → new.fronts ≡ old.fronts → IsTold ttl old.due new.due
-      → new.largest ≡ old.largest → new.builds ≡ old.builds → number_of new ≡ number_of old + 1 → T (is_distinct batch)
+      → new.fronts ≡ old.fronts → TimeToLiveIsTold ttl old.due new.due
+      → new.largest ≡ old.largest → new.builds ≡ old.builds → next_write_of_tables new ≡ next_write_of_tables old + 1 → T (is_distinct batch)
       → HasRows now new (changed_rows stands.rows.layout batch)
       → Stands now new (with_time s name t ttl)
   time_stands now new holds valid catalog live family trimmed fronts told largest builds number distinct rows = record {

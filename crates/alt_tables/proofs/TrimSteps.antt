@@ -11,7 +11,7 @@ use Rattle.alt_cells.specs.Changes.{Columns}
 use Rattle.alt_changes.specs.ChangeRows.{row_key}
 use Rattle.alt_disk.specs.Disk.{DiskState}
 use Rattle.alt_disk.proofs.Runs.{tells_of}
-use Rattle.alt_rowchanges.specs.OpeningEngineInHand.{Reads as EngineReads}
+use Rattle.alt_rowchanges.specs.OpeningEngineInHand.{ReadsLayout as EngineReads}
 use Rattle.alt_layout.specs.Layout.{Layout, rows_between, shown}
 use Rattle.alt_machine.specs.Ops.GetRecords.{changes_from}
 use Rattle.alt_machine.specs.State.{Change, State, Table}
@@ -24,10 +24,10 @@ use Rattle.alt_rowchanges.proofs.OpeningKeptChanges.{are_small, trimmed_small}
 use Rattle.alt_rowchanges.specs.OpeningTrimmed.{number_at}
 use Rattle.alt_rowchanges.specs.Fronts.{IsFront, first_moment, front_at}
 use Rattle.alt_rowchanges.specs.Leftovers.{leftovers}
-use Rattle.alt_tables.specs.Stands.{HasRows, Stands, fronts_of, number_of, trimmed_of}
+use Rattle.alt_tables.specs.Stands.{HasRows, Stands, fronts_of, next_write_of_tables, trimmed_of}
 use Rattle.alt_rowchanges.specs.declared.fronts.Front.{Front}
 use Rattle.alt_tables.specs.declared.tables.Tables.{Tables}
-use Rattle.alt_rowchanges.specs.Trims.{AreNumbersOf, AreTwo, IsKeptFrom, IsLowest, IsLowestFrom, IsRest, IsTrim, behind, is_over, left_from, leftovers_from}
+use Rattle.alt_rowchanges.specs.Trims.{AreNumbersOf, AreTwo, IsKeptFrom, IsLowest, IsLowestFrom, IsRest, IsTrim, number_behind_second, is_over_a_day_before, left_from, leftovers_from}
 use Rattle.alt_rowchanges.proofs.KeptFrom.{KeptPage, all_from, kept_page, page_done, young}
 use Rattle.alt_rowchanges.proofs.LeftoverRows.{left_from_there, lowest_read, range_read, read_numbers, read_two}
 use Rattle.alt_rowchanges.proofs.Rising.{all_further, filter_rising, rising_least}
@@ -57,12 +57,12 @@ module _ (disk : DiskState) (tables : Tables) (s : State) (name : List ℕ) (t :
 
   -- Where the oldest isn't too old, none is trimmed.
   pub kept_young : (f : Front) → Some f ≡ front_at name (fronts_of tables) → (moment before : ℕ)
-      → before ≡ number_at name (trimmed_of tables) → is_over f.oldest moment ≡ false
+      → before ≡ number_at name (trimmed_of tables) → is_over_a_day_before f.oldest moment ≡ false
       → IsKeptFrom moment t.trimmed t.changes (before, f.oldest)
   kept_young f told moment before known not =
       let front = front_known stands.rows.layout stands.rows.is f (sym told) in
       let both = young moment t.trimmed t.changes
-      (sym (ap (λ o. is_over o moment) front.oldest) ∙ not) in
+      (sym (ap (λ o. is_over_a_day_before o moment) front.oldest) ∙ not) in
       record {
         number = known ∙ trimmed_known ∙ sym both.0;
         oldest = front.oldest ∙ ap first_moment (sym both.1);
@@ -159,7 +159,7 @@ module _ (disk : DiskState) (tables : Tables) (s : State) (name : List ℕ) (t :
                   (front.above family stream),
             )
 
-    module _ (from number : ℕ) (low : from ≤ number) (below : number < number_of tables)
+    module _ (from number : ℕ) (low : from ≤ number) (below : number < next_write_of_tables tables)
         (first : 1 ≤ from) (start : List ℕ) (end : Option (List ℕ)) (is_start : start ≡ row_key from)
         (is_end : end ≡ Some (row_key (number + 1))) (before page : List (List ℕ × Columns))
         (empty : before ≡ [])
@@ -206,7 +206,7 @@ module _ (disk : DiskState) (tables : Tables) (s : State) (name : List ℕ) (t :
       pub page_lowest : (l : Layout) → HasRows disk tables l
           → All (λ n. from ≤ n) (leftovers l family number) → (v : Vec ℕ Global)
           → AreNumbersOf page v.items → AreTwo number v.items → (after : ℕ)
-          → after ≡ behind number v.items → IsLowest l family number (v, after)
+          → after ≡ number_behind_second number v.items → IsLowest l family number (v, after)
       page_lowest l rows above v numbers two after is_after =
           let same : l ≡ stands.rows.layout =
           one_layout_in_hand disk tables.engine l stands.rows.layout rows stands.rows.is in
@@ -220,7 +220,7 @@ module _ (disk : DiskState) (tables : Tables) (s : State) (name : List ℕ) (t :
       -- or of those in the range, whatever is below.
       pub page_range : (l : Layout) → HasRows disk tables l → (v : Vec ℕ Global)
           → AreNumbersOf page v.items → AreTwo number v.items → (after : ℕ)
-          → after ≡ behind number v.items → IsLowestFrom l family from number (v, after)
+          → after ≡ number_behind_second number v.items → IsLowestFrom l family from number (v, after)
       page_range l rows v numbers two after is_after =
           let same : l ≡ stands.rows.layout =
           one_layout_in_hand disk tables.engine l stands.rows.layout rows stands.rows.is in

@@ -14,7 +14,7 @@ use Rattle.alt_rowchanges.proofs.OpeningOverEngine.{one_layout_in_hand}
 use Rattle.alt_schema.specs.declared.schema.TableSchema.{TableSchema}
 use Rattle.alt_rowchanges.specs.Leftovers.{leftovers, lowest_left}
 use Rattle.alt_rowchanges.specs.RowChanges.{changed_rows, write_changes}
-use Rattle.alt_tables.specs.Stands.{HasRows, Keeps, Stands, catalog_of, number_of, trimmed_of}
+use Rattle.alt_tables.specs.Stands.{HasRows, KeepsTables, Stands, catalog_of, next_write_of_tables, trimmed_of}
 use Rattle.alt_tables.specs.declared.tables.Tables.{Tables}
 use Rattle.alt_rowchanges.specs.declared.trimming.Trim.{Trim}
 use Rattle.alt_rowchanges.specs.Trims.{IsTrim}
@@ -32,7 +32,7 @@ ok_both P R Q (Err e) p q leads = tt
 
 -- ---- behind a call that reads
 
-module _ (a m : DiskState) (old mid : Tables) (keeps : Keeps a m old mid) where
+module _ (a m : DiskState) (old mid : Tables) (keeps : KeepsTables a m old mid) where
   -- the rows behind it were those before it
   pub rows_back : (s : State) → Stands a old s → (l : Layout) → HasRows m mid l → HasRows a old l
   rows_back s stands l rows = subst (λ x. HasRows a old x)
@@ -50,7 +50,7 @@ module _ (a b : DiskState) (old new : Tables) (s : State) (t : Table) (stands : 
     (after : ℕ) (known_after : after ≡ r.number) where
   -- the row changes, as they are made and in words of what is known behind them
   abbrev pub made : List RowChange
-  made = write_changes d (number_of old) moment writer place found to
+  made = write_changes d (next_write_of_tables old) moment writer place found to
       (number_at name (trimmed_of old)) r.number r.leftovers.items
 
   -- the rows that go are the lowest that are left over
@@ -60,9 +60,9 @@ module _ (a b : DiskState) (old new : Tables) (s : State) (t : Table) (stands : 
       (sym known_after i))
 
   pub made_is : (l : Layout) → HasRows a old l
-      → made ≡ write_changes d (number_of old) moment writer place found to
+      → made ≡ write_changes d (next_write_of_tables old) moment writer place found to
       (number_at name (trimmed_of old)) after (lowest_left l d after)
-  made_is l rows i = write_changes d (number_of old) moment writer place found to
+  made_is l rows i = write_changes d (next_write_of_tables old) moment writer place found to
       (number_at name (trimmed_of old)) (sym known_after i) (lowest_is l rows i)
 
   -- and the others are left over
@@ -76,6 +76,6 @@ module _ (a b : DiskState) (old new : Tables) (s : State) (t : Table) (stands : 
       one_layout_in_hand b new.engine m (changed_rows l made) later written in
       (λ i. leftovers ((two ∙ ap (λ x. changed_rows x made) one) i) family (known_after i))
       ∙ item_leftovers a old s t stands moment writer name place found to at was r
-      (is stands.rows.layout stands.rows.is) d (number_of old) made described refl refl differ
+      (is stands.rows.layout stands.rows.is) d (next_write_of_tables old) made described refl refl differ
       distinct family stream
       ∙ (λ i. drop 2 (leftovers (sym one i) family (sym known_after i)))

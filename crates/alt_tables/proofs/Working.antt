@@ -8,7 +8,7 @@ use Rattle.std.specs.FinMap as map
 use Rattle.alt_disk.specs.Disk.{DiskState, Goes}
 use Rattle.alt_disk.specs.Runs.{Spans}
 use Rattle.alt_disk.proofs.Runs.{spans_weaker, trusted_on}
-use Rattle.alt_rowchanges.specs.OpeningEngineInHand.{Stands as EngineStands, next_file_of}
+use Rattle.alt_rowchanges.specs.OpeningEngineInHand.{StandsForLayout as EngineStands, next_file_of_engine}
 use Rattle.alt_rowchanges.specs.OpeningEngineDeclaredEngine.{Engine}
 use Rattle.alt_rowchanges.specs.OpeningEngineDeclaredTask.{Task}
 use Rattle.alt_rowchanges.specs.OpeningEngineDeclaredTask.TheVariants.{Step, FlushAll, MergeAll}
@@ -23,7 +23,7 @@ use Rattle.alt_layout.specs.Layout.{Layout, shown}
 use Rattle.alt_machine.specs.State.{State, Table, descriptions, families_of}
 use Rattle.alt_machine.proofs.Descriptions.{get-descriptions}
 use Rattle.alt_manifest.specs.Versions.{IsIn}
-use Rattle.alt_rowchanges.specs.OpeningEngineWorking.{IsMerged, IsNeeded, most_files as most_for}
+use Rattle.alt_rowchanges.specs.OpeningEngineWorking.{LiveFamiliesAreMerged, IsNeeded, most_files_of_task as most_for}
 use Rattle.alt_rowchanges.specs.OpeningLive.{AreLiveIn, IsOfTable}
 use Rattle.alt_rowchanges.specs.OpeningStateRows.{Shows, catalog_family}
 use Rattle.alt_rowchanges.proofs.OpeningFamilies.{own_family}
@@ -34,12 +34,12 @@ use Rattle.alt_tables.specs.Faults.{IsLastFile, IsWorkFault}
 use Rattle.alt_rowchanges.specs.Faults.{told_by_tables}
 use Rattle.alt_tables.specs.FilesLeft.{most_files}
 use Rattle.alt_rowchanges.specs.declared.faults.TableFault.{TableFault}
-use Rattle.alt_tables.specs.Images.{StandAt}
+use Rattle.alt_tables.specs.Images.{FilesStandFor}
 use Rattle.alt_tables.specs.Merged.{IsMergedFor}
 use Rattle.alt_rowchanges.proofs.OpeningOverEngine.{one_layout_in_hand}
 use Rattle.alt_tables.specs.Foreseen.{Foresees}
 use Rattle.alt_rowchanges.specs.Fronts.{AreFronts}
-use Rattle.alt_tables.specs.Stands.{Stands, fronts_of, live_of, number_of}
+use Rattle.alt_tables.specs.Stands.{Stands, fronts_of, live_of, next_write_of_tables}
 use Rattle.alt_tables.specs.declared.tables.Tables.{Tables}
 use Rattle.alt_tables.proofs.FilesLaws.{live_few}
 use Rattle.alt_rowchanges.proofs.FrontLaws.{fronts_alike}
@@ -93,8 +93,8 @@ module _ (old new : DiskState) (t : Tables) (s : State) (stands : Stands old t s
 
   -- whatever a stop leaves on the way stands for the state
   pub worked_left : Spans old new (λ _. ⊤) (WorksIn live stands.rows.layout)
-      → Spans old new (λ _. ⊤) (StandAt s)
-  worked_left spans = spans_weaker old new (λ _. ⊤) (λ _. ⊤) (StandAt s)
+      → Spans old new (λ _. ⊤) (FilesStandFor s)
+  worked_left spans = spans_weaker old new (λ _. ⊤) (λ _. ⊤) (FilesStandFor s)
       (WorksIn live stands.rows.layout) spans (λ g is. is) (λ moment image worked. record {
         layout = worked.layout;
         is = worked.is;
@@ -107,7 +107,7 @@ module _ (old new : DiskState) (t : Tables) (s : State) (stands : Stands old t s
   -- and the tables stand for it after work that is done
   pub worked_stands : (u : Tables) → Goes old new → u.catalog ≡ t.catalog → u.live ≡ t.live
       → u.family ≡ t.family → u.trimmed ≡ t.trimmed → u.fronts ≡ t.fronts → u.due ≡ t.due
-      → u.largest ≡ t.largest → u.builds ≡ t.builds → number_of u ≡ number_of t
+      → u.largest ≡ t.largest → u.builds ≡ t.builds → next_write_of_tables u ≡ next_write_of_tables t
       → (m : Layout) × EngineStands new u.engine m × Works live stands.rows.layout m
       → Stands new u s
   worked_stands u goes catalog lives family trimmed fronts due largest builds number after = record {
@@ -142,7 +142,7 @@ module _ (old new : DiskState) (t : Tables) (s : State) (stands : Stands old t s
 -- What is merged of the families that are said to be live is merged of those of the state.
 pub merged_for : (old : DiskState) (t : Tables) (s : State) → Stands old t s → (live : List ℕ)
     → live ≡ live_of t → AreLive live → (files : ℕ → Option (List ℕ))
-    → IsMerged live files → IsMergedFor s files
+    → LiveFamiliesAreMerged live files → IsMergedFor s files
 merged_for old t s stands live same are files merged gs of v has family there =
     merged v has family (⊎_elim
     (λ (own : family ≡ catalog_family). subst (IsIn live) (sym own) are.catalog)
@@ -161,7 +161,7 @@ few_live old t s stands live same are =
 
 -- so a task needs no more
 needed_reach : (task : Task) (live : List ℕ) (e : Engine) (fault : EngineFault)
-    → IsNeeded task live e fault → IsSpentFor (next_file_of e + most_for live) fault
+    → IsNeeded task live e fault → IsSpentFor (next_file_of_engine e + most_for live) fault
 needed_reach Step live e fault (inl none) = outside-tells _ _ (told_by_engine fault) none
 needed_reach Step live e fault (inr (inl (inl all))) =
     let most = needed-most e.hand.families live in
@@ -190,5 +190,5 @@ pub work_fault : (task : Task) (live : List ℕ) (e : Engine) (given : EngineFau
     → IsWorkFault (work_file_of e.hand + most_files) fault
 work_fault task live e given fault same needed few =
     subst (OnlySpent (IsLastFile (work_file_of e.hand + most_files))) (sym same)
-    (spent_more given (next_file_of e + most_for live) (work_file_of e.hand + most_files)
+    (spent_more given (next_file_of_engine e + most_for live) (work_file_of e.hand + most_files)
     (omega (arith, few)) (needed_reach task live e given needed))

@@ -6,8 +6,8 @@ use Rattle.alt_machine.specs.declared.TheConstants.{NUMBERS_END}
 use Rattle.alt_machine.specs.Outcomes.{Wants, last_state, state_after}
 use Rattle.alt_machine.specs.State.{State}
 use Rattle.alt_machine.specs.Wanted.{lack_among}
-use Rattle.alt_tables.specs.Images.{Lasts}
-pub use Rattle.alt_rowchanges.specs.Faults.{IsFindFault, IsReadFault, IsUnspent, told_by_tables}
+use Rattle.alt_tables.specs.Images.{StateLasts}
+pub use Rattle.alt_rowchanges.specs.Faults.{IsFindFault, IsReadFault, TableFaultIsUnspent, told_by_tables}
 use Rattle.alt_rowchanges.specs.declared.faults.TableFault.{TableFault}
 
 -- Below, `now` says for which states the tables stand after a call, `s` is a state for which they stood before it, and `file` is the number of
@@ -54,7 +54,7 @@ pub record WantsMemory (disk : DiskState) (wants : Wants) (s : State) (atoms : L
   pub made : ℕ
   pub some : AreSome made atoms
   pub enough : lack_among wants s (take made atoms) ≡ None
-  pub lasts : Lasts disk (state_after made s atoms)
+  pub lasts : StateLasts disk (state_after made s atoms)
 
 -- A call that makes these writes makes them all, or breaks off with the fault.
 abbrev pub Writes : {A : Type 0} → ℕ → (State → Type 0) → Wants → State → List State

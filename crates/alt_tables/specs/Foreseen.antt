@@ -5,10 +5,10 @@ use Rattle.alt_due.specs.Due.{Knows}
 use Rattle.alt_due.specs.Order.{spot_of}
 use Rattle.alt_due.specs.declared.due.Due.{Due}
 use Rattle.alt_machine.specs.Expiry.{is_expired}
-use Rattle.alt_machine.specs.Ops.BatchWriteItem.{Written}
+use Rattle.alt_machine.specs.Ops.BatchWriteItem.{PlacedWrite}
 use Rattle.alt_machine.specs.State.{Table, Texts}
 use Rattle.alt_schema.specs.declared.schema.TableSchema.{TableSchema}
-pub use Rattle.alt_rowchanges.specs.Moments.{IsFrom, IsFirstOver, IsMetFrom}
+pub use Rattle.alt_rowchanges.specs.Moments.{IsMomentFrom, IsFirstOver, IsMetFrom}
 use Rattle.alt_value.specs.Tree.{Pair}
 
 -- the list knows of an item that stands at a place of a table of that name, at each moment at which it has expired
@@ -28,5 +28,5 @@ ForeseesWrite catalog name place new due = (d : TableSchema) → map.get catalog
     → IfSome new (ForeseesItem d name place due)
 
 -- the same of one of several
-abbrev pub ForeseesWritten : Texts TableSchema → Due → Written → Type 0
+abbrev pub ForeseesWritten : Texts TableSchema → Due → PlacedWrite → Type 0
 ForeseesWritten catalog due w = ForeseesWrite catalog w.table w.place w.new due

@@ -5,8 +5,8 @@ use Rattle.alt_machine.specs.State.{State, Table}
 use Rattle.alt_tables.specs.declared.finding.Found.{Found}
 
 -- It is the item that stands at the place in the table of that name.
-abbrev pub IsFoundIn : State → List ℕ → Found → Type 0
-IsFoundIn s name found = (t : Table) → map.get s.tables name ≡ Some t
+abbrev pub IsFoundInTable : State → List ℕ → Found → Type 0
+IsFoundInTable s name found = (t : Table) → map.get s.tables name ≡ Some t
     → found.item ≡ map.get t.items found.place
 
 -- the number that these writes take, none where there are none

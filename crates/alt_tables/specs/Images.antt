@@ -7,20 +7,20 @@ use Rattle.alt_machine.specs.State.{State}
 pub use Rattle.alt_rowchanges.specs.OpeningImages.{StandsFor}
 
 -- What a disk holds stands for the state: its files as they read, and whatever a stop now leaves.
-pub record Lasts (disk : DiskState) (s : State) : Type 0 where
+pub record StateLasts (disk : DiskState) (s : State) : Type 0 where
   pub reads : StandsFor disk.file s
   pub left : (image : ℕ → Option (List ℕ)) → IsImage disk disk.moment image → StandsFor image s
 
 -- The disk keeps what was synced, and whatever a stop at the moment leaves stands for a state; the states may differ. So is what a finished
 -- `init` leaves, and any run of another command, whole or stopped.
-pub record IsWhole (disk : DiskState) (moment : ℕ) : Type 0 where
+pub record ImagesAreWhole (disk : DiskState) (moment : ℕ) : Type 0 where
   pub honest : IsTrue disk.honest
   pub each : (image : ℕ → Option (List ℕ)) → IsImage disk moment image
       → (s : State) × StandsFor image s
 
 -- files that stand for the state, whatever the moment
-abbrev pub StandAt : State → ℕ → (ℕ → Option (List ℕ)) → Type 0
-StandAt s moment image = StandsFor image s
+abbrev pub FilesStandFor : State → ℕ → (ℕ → Option (List ℕ)) → Type 0
+FilesStandFor s moment image = StandsFor image s
 
 -- files that stand for the state after the first of these writes, so many of them, whatever the moment
 abbrev pub AfterSome : State → List State → ℕ → (ℕ → Option (List ℕ)) → Type 0

@@ -41,8 +41,8 @@ EachLeft = (disk : DiskState) (t : Tables) (s : State) → Stands disk t s
     → (image : ℕ → Option (List ℕ)) → IsImage disk disk.moment image → StandsFor image s
 
 -- Calls that leave every file, and what the disk says of itself, leave for which state tables stand.
-abbrev pub StaysQuiet : Type 0
-StaysQuiet = (a b : DiskState) (t : Tables) (s : State) → b.tells ≡ a.tells
+abbrev pub TablesStayQuiet : Type 0
+TablesStayQuiet = (a b : DiskState) (t : Tables) (s : State) → b.tells ≡ a.tells
     → b.honest ≡ a.honest → Quiet a b → Stands a t s → Stands b t s
 
 -- Files that hold no rows stand for the empty store.

@@ -3,7 +3,7 @@ use Rattle.std.specs.Prelude.{◌↔◌, IfErr, IsErrOf, Result}
 use Rattle.alt_base.specs.Counts.{Rose}
 use Rattle.alt_disk.specs.Disk.{DiskState}
 use Rattle.alt_machine.specs.State.{State}
-use Rattle.alt_rowchanges.specs.Faults.{IsFindFault, IsUnspent}
+use Rattle.alt_rowchanges.specs.Faults.{IsFindFault, TableFaultIsUnspent}
 use Rattle.alt_rowchanges.specs.declared.faults.TableFault.{TableFault}
 use Rattle.alt_rowchanges.specs.declared.faults.TableFault.TheVariants.{Failed}
 use Rattle.alt_tables.specs.Stands.{KeepsCatalog, Reads, Stands}
@@ -20,6 +20,6 @@ pub record OnlyReads (old new : DiskState) (before after : Tables) : Type 0 wher
 -- only where the faults rose.
 pub record FailsReading {A : Type 0} (old new : DiskState) (before : Tables)
     (result : Result A TableFault) : Type 0 where
-  pub unspent : IfErr result IsUnspent
+  pub unspent : IfErr result TableFaultIsUnspent
   pub fault : (s : State) → Stands old before s → IfErr result IsFindFault
   pub cause : IsErrOf result Failed → Rose old.faults new.faults

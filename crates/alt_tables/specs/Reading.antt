@@ -33,18 +33,18 @@ places_between t i from to forward = map (λ e. e.0) (turned forward
     (entries_between text_order (Included from) (end_bound to) (placed_items t i)))
 
 -- A walk that wants so many of the items at these places goes up to the last one that it gives, or on to the range's end where there are fewer.
-abbrev pub is_reached : Bool → ℕ → List (List ℕ) → List ℕ → Bool
-is_reached forward zero places place = false
-is_reached forward (suc n) [] place = true
-is_reached forward (suc zero) (p ∷ ps) place = not (is_beyond forward (Some p) place)
-is_reached forward (suc (suc n)) (p ∷ ps) place = is_reached forward (suc n) ps place
+abbrev pub is_place_reached : Bool → ℕ → List (List ℕ) → List ℕ → Bool
+is_place_reached forward zero places place = false
+is_place_reached forward (suc n) [] place = true
+is_place_reached forward (suc zero) (p ∷ ps) place = not (is_beyond forward (Some p) place)
+is_place_reached forward (suc (suc n)) (p ∷ ps) place = is_place_reached forward (suc n) ps place
 
 -- A place lies in a range.
 abbrev pub is_within : List ℕ → Option (List ℕ) → List ℕ → Bool
 is_within from to place = range_contains text_order (Included from) (end_bound to) place
 
 -- The most reads of a walk over a range that wants so many of the items at these places, where the family has these row files.
-abbrev pub walk_reads : Bool → List ℕ → Option (List ℕ) → ℕ → List (List ℕ) → List RowMap → ℕ
-walk_reads forward from to most places maps =
-    versions_of (λ place. is_within from to place && is_reached forward most places place) maps
+abbrev pub most_walk_reads : Bool → List ℕ → Option (List ℕ) → ℕ → List (List ℕ) → List RowMap → ℕ
+most_walk_reads forward from to most places maps =
+    versions_of (λ place. is_within from to place && is_place_reached forward most places place) maps
     + 2 * length maps

@@ -7,14 +7,14 @@ use Rattle.alt_due.specs.declared.due.Due.{Due}
 use Rattle.std.specs.Prelude.{IsTrue}
 use Rattle.alt_rowchanges.specs.OpeningEngineDeclaredEngine.{Engine}
 use Rattle.alt_rowchanges.specs.OpeningEngineOpened.{StaysOn}
-use Rattle.alt_rowchanges.specs.OpeningEngineInHand.{Bounds, Stands as EngineStands, next_of, bounds_of as engine_bounds, limits_of as engine_limits}
+use Rattle.alt_rowchanges.specs.OpeningEngineInHand.{Bounds, StandsForLayout as EngineStands, next_write_of_engine, bounds_of_engine as engine_bounds, limits_of_engine as engine_limits}
 use Rattle.alt_layout.specs.Layout.{Layout}
 use Rattle.alt_rowchanges.specs.OpeningHandDeclaredLimits.{Limits}
 use Rattle.alt_machine.specs.State.{State, Texts, descriptions}
 use Rattle.alt_machine.specs.Valid.{IsValid}
 use Rattle.alt_schema.specs.declared.schema.TableSchema.{TableSchema}
 use Rattle.alt_rowchanges.specs.OpeningLive.{AreLiveIn}
-use Rattle.alt_rowchanges.specs.OpeningOpened.{Holds}
+use Rattle.alt_rowchanges.specs.OpeningOpened.{EngineHoldsState}
 use Rattle.alt_rowchanges.specs.OpeningSized.{AreSized}
 use Rattle.alt_rowchanges.specs.OpeningTrimmed.{AreTrimmedOf}
 use Rattle.alt_rowchanges.specs.OpeningDeclaredTrimmed.{Trimmed}
@@ -35,12 +35,12 @@ abbrev pub catalog_of : Tables → Texts TableSchema
 catalog_of t = t.catalog
 
 -- the number of the next write
-abbrev pub number_of : Tables → ℕ
-number_of t = next_of t.engine
+abbrev pub next_write_of_tables : Tables → ℕ
+next_write_of_tables t = next_write_of_engine t.engine
 
 -- the family that the next table gets
-abbrev pub family_of : Tables → ℕ
-family_of t = t.family
+abbrev pub next_family_of_tables : Tables → ℕ
+next_family_of_tables t = t.family
 
 -- what was trimmed of the changes of tables
 abbrev pub trimmed_of : Tables → List Trimmed
@@ -67,8 +67,8 @@ abbrev pub live_of : Tables → List ℕ
 live_of t = t.live
 
 -- from how many bytes on a family is flushed, and from how many files on merged
-abbrev pub limits_of : Tables → Limits
-limits_of t = engine_limits t.engine
+abbrev pub limits_of_tables : Tables → Limits
+limits_of_tables t = engine_limits t.engine
 
 -- what work goes by: these limits, and the number of the first file that it makes
 abbrev pub bounds_of : Tables → Bounds
@@ -77,16 +77,16 @@ bounds_of t = engine_bounds t.engine
 -- What is known without the disk stayed.
 pub record KeepsCatalog (old new : Tables) : Type 0 where
   pub catalog : catalog_of new ≡ catalog_of old
-  pub number : number_of new ≡ number_of old
-  pub family : family_of new ≡ family_of old
+  pub number : next_write_of_tables new ≡ next_write_of_tables old
+  pub family : next_family_of_tables new ≡ next_family_of_tables old
   pub limits : bounds_of new ≡ bounds_of old
 
 -- It stayed but for the number of the first file that work makes.
 pub record KeepsLimits (old new : Tables) : Type 0 where
   pub catalog : catalog_of new ≡ catalog_of old
-  pub number : number_of new ≡ number_of old
-  pub family : family_of new ≡ family_of old
-  pub limits : limits_of new ≡ limits_of old
+  pub number : next_write_of_tables new ≡ next_write_of_tables old
+  pub family : next_family_of_tables new ≡ next_family_of_tables old
+  pub limits : limits_of_tables new ≡ limits_of_tables old
 
 -- ---- the state
 
@@ -100,11 +100,11 @@ HasRows disk t l = EngineStands disk t.engine l
 -- than the largest, and where it is known that no index is being built none is.
 pub record Stands (disk : DiskState) (t : Tables) (s : State) : Type 0 where
   pub catalog : catalog_of t ≡ descriptions s.tables
-  pub number : number_of t ≡ s.next_number
-  pub family : family_of t ≡ s.next_family
+  pub number : next_write_of_tables t ≡ s.next_number
+  pub family : next_family_of_tables t ≡ s.next_family
   pub live : AreLiveIn (catalog_of t) (live_of t)
   pub trimmed : AreTrimmedOf s.tables (trimmed_of t)
-  pub rows : Holds disk t.engine s
+  pub rows : EngineHoldsState disk t.engine s
   pub fronts : (l : Layout) → HasRows disk t l → AreFronts l s.tables (fronts_of t)
   pub due : Foresees s.tables (due_of t)
   pub sized : AreSized s.tables (largest_of t)
@@ -125,7 +125,7 @@ pub record Reads (old new : DiskState) : Type 0 where
 
 -- It leaves what is known of the tables, and the rows beneath them; of the items that are due next more may be known, and the largest item
 -- may have more bytes.
-pub record Keeps (old new : DiskState) (t u : Tables) : Type 0 where
+pub record KeepsTables (old new : DiskState) (t u : Tables) : Type 0 where
   pub catalog : u.catalog ≡ t.catalog
   pub live : u.live ≡ t.live
   pub family : u.family ≡ t.family
@@ -135,6 +135,6 @@ pub record Keeps (old new : DiskState) (t u : Tables) : Type 0 where
   pub largest : t.largest ≤ u.largest
   pub builds : u.builds ≡ t.builds
   pub limits : bounds_of u ≡ bounds_of t
-  pub number : number_of u ≡ number_of t
+  pub number : next_write_of_tables u ≡ next_write_of_tables t
   pub reads : Reads old new
   pub same : IsTrue old.tells → StaysOn old new t.engine u.engine

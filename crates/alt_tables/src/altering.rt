@@ -10,7 +10,7 @@ ghost use Rattle.alt_machine.specs.Valid.{IsMade};
 ghost use Rattle.alt_rowchanges.specs.Altering.{MayAlter, alter_wants, family_left};
 ghost use Rattle.alt_tables.specs.Faults.{Writes};
 ghost use Rattle.alt_tables.specs.Images.{Leaves};
-ghost use Rattle.alt_tables.specs.Stands.{AreReady, Stands, catalog_of, family_of, bounds_of};
+ghost use Rattle.alt_tables.specs.Stands.{AreReady, Stands, catalog_of, next_family_of_tables, bounds_of};
 
 use crate::tables::Tables;
 use alt_base::NoMemory;
@@ -28,7 +28,7 @@ impl Tables {
         requires named { 0 < length schema.name }
         requires made { (s : State) → Stands (D.state disk.old) self.old s → IsMade schema }
         requires alters { (d : TableSchema) → map.get (catalog_of self.old) schema.name ≡ Some d
-            → MayAlter (family_of self.old) d schema }
+            → MayAlter (next_family_of_tables self.old) d schema }
         ensures writes { (s : State) (t : Table) → Stands (D.state disk.old) self.old s
             → map.get s.tables schema.name ≡ Some t
             → Writes (bounds_of self.old).file (Stands (D.state disk.new) self.new)

@@ -13,7 +13,7 @@ ghost use Rattle.alt_schema.specs.declared.schema.TableSchema.{TableSchema};
 ghost use Rattle.alt_tables.specs.Built.{NoneBuilds};
 ghost use Rattle.alt_tables.specs.Faults.{Writes};
 ghost use Rattle.alt_tables.specs.Images.{Leaves};
-ghost use Rattle.alt_tables.specs.Stands.{AreReady, KeepsCatalog, Reads, Stands, bounds_of, catalog_of, number_of};
+ghost use Rattle.alt_tables.specs.Stands.{AreReady, KeepsCatalog, Reads, Stands, bounds_of, catalog_of, next_write_of_tables};
 
 use crate::tables::Tables;
 use alt_base::NoMemory;
@@ -105,7 +105,7 @@ impl Tables {
         requires building { (d : TableSchema) → map.get (catalog_of self.old) table.now ≡ Some d
             → IsSome (building_in d) }
         requires some { 1 ≤ most }
-        requires room { number_of self.old < NUMBERS_END }
+        requires room { next_write_of_tables self.old < NUMBERS_END }
         requires file { (bounds_of self.old).file < 2 ^ 32 }
         requires read { (s : State) (t : Table) (i : IndexSchema)
             → Stands (D.state disk.old) self.old s → map.get s.tables table.now ≡ Some t

@@ -6,7 +6,7 @@ ghost use Rattle.alt_changes.specs.ChangeRows.{change_in};
 ghost use Rattle.alt_machine.specs.Ops.GetRecords.{changes_from};
 ghost use Rattle.alt_machine.specs.State.{State, Table};
 ghost use Rattle.alt_tables.specs.Looking.{FailsReading, OnlyReads};
-ghost use Rattle.alt_tables.specs.Stands.{AreReady, Keeps, Stands, catalog_of};
+ghost use Rattle.alt_tables.specs.Stands.{AreReady, KeepsTables, Stands, catalog_of};
 
 use crate::tables::Tables;
 use alt_base::NoMemory;
@@ -33,7 +33,7 @@ impl Tables {
         ensures only { OnlyReads (D.state disk.old) (D.state disk.new) self.old self.new }
         ensures fails { FailsReading (D.state disk.old) (D.state disk.new) self.old result }
         // It leaves what is known of the tables, and the rows beneath them.
-        ensures keeps { Keeps (D.state disk.old) (D.state disk.new) self.old self.new }
+        ensures keeps { KeepsTables (D.state disk.old) (D.state disk.new) self.old self.new }
     {
         let Some(schema) = self.catalog.get(table) else {
             unreachable!();

@@ -7,8 +7,8 @@ ghost use Rattle.alt_machine.specs.State.{State};
 ghost use Rattle.alt_machine.specs.declared.TheConstants.{LARGEST_ITEM};
 ghost use Rattle.alt_rowchanges.specs.OpeningSized.{AreSized};
 ghost use Rattle.alt_tables.specs.Foreseen.{Foresees, ForeseesWrite};
-ghost use Rattle.alt_tables.specs.private.Foretold.{FitsWrite, IsTold};
-ghost use Rattle.alt_tables.specs.Stands.{Keeps, KeepsCatalog, Stands, catalog_of, due_of, largest_of};
+ghost use Rattle.alt_tables.specs.private.Foretold.{FitsWrite, TimeToLiveIsTold};
+ghost use Rattle.alt_tables.specs.Stands.{KeepsTables, KeepsCatalog, Stands, catalog_of, due_of, largest_of};
 ghost use Rattle.alt_value.specs.Size.{item_size};
 
 use crate::tables::Tables;
@@ -50,7 +50,7 @@ impl Tables {
         ensures known { ForeseesWrite (catalog_of self.old) table.now place.now new.now
             (due_of self.new) }
         ensures fits { FitsWrite (largest_of self.new) new.now }
-        ensures keeps { (disk : DiskState) → Keeps disk disk self.old self.new }
+        ensures keeps { (disk : DiskState) → KeepsTables disk disk self.old self.new }
     {
         let Some(item) = new else {
             return;
@@ -74,7 +74,7 @@ fn size_of(item: &Item) -> u64
 
 /// Forgets the items that are due next where the items of a table get a time to live: of those that have it already nothing is known.
 pub(crate) fn forget_for(due: &mut Due, ttl: &Option<Text>)
-    ensures { IsTold ttl.now due.old due.new }
+    ensures { TimeToLiveIsTold ttl.now due.old due.new }
 {
     if ttl.is_some() {
         due.forget();

@@ -18,7 +18,7 @@ ghost use Rattle.alt_tables.specs.Images.{Leaves};
 ghost use Rattle.alt_rowchanges.specs.Leftovers.{leftovers, lowest_left};
 ghost use Rattle.alt_rowchanges.specs.RowChanges.{changed_rows, write_changes};
 ghost use Rattle.alt_tables.specs.Looking.{FailsReading, OnlyReads};
-ghost use Rattle.alt_tables.specs.Stands.{AreReady, HasRows, Reads, Stands, catalog_of, bounds_of, number_of, trimmed_of};
+ghost use Rattle.alt_tables.specs.Stands.{AreReady, HasRows, Reads, Stands, catalog_of, bounds_of, next_write_of_tables, trimmed_of};
 
 use crate::finding::Found;
 use crate::tables::Tables;
@@ -91,7 +91,7 @@ impl Tables {
         ensures number { (s : State) (t : Table) (place : List ℕ)
             → Stands (D.state disk.old) self.old s → map.get s.tables table.now ≡ Some t
             → place_of t.description key.now ≡ Some place
-            → IfOk result (λ n. n ≡ number_taken (number_of self.old)
+            → IfOk result (λ n. n ≡ number_taken (next_write_of_tables self.old)
             (item_writes s moment table.now t place (option_map (λ i. i.now) new.entry))) }
         ensures disk { (s : State) (t : Table) (place : List ℕ)
             → Stands (D.state disk.old) self.old s → map.get s.tables table.now ≡ Some t
@@ -102,7 +102,7 @@ impl Tables {
             → (d : TableSchema) (place : List ℕ) (l : Layout)
             → map.get (catalog_of self.old) table.now ≡ Some d → place_of d key.now ≡ Some place
             → HasRows (D.state disk.old) self.old l → HasRows (D.state disk.new) self.new
-            (changed_rows l (write_changes d (number_of self.old) moment Writer.User place
+            (changed_rows l (write_changes d (next_write_of_tables self.old) moment Writer.User place
             (option_map (λ i. i.now) old.entry) (option_map (λ i. i.now) new.entry)
             (number_at table.now (trimmed_of self.old)) (number_at table.now (trimmed_of self.new))
             (lowest_left l d (number_at table.now (trimmed_of self.new)))))) }

@@ -1,6 +1,6 @@
 //! What follows of files and of tables that stand for a state from the definitions, for the callers' proofs.
 
-ghost use Rattle.alt_tables.specs.Laws.{OneState, OneInHand, FilesStand, EachLeft, StaysQuiet, MadeStands, ItemTurns};
+ghost use Rattle.alt_tables.specs.Laws.{OneState, OneInHand, FilesStand, EachLeft, TablesStayQuiet, MadeStands, ItemTurns};
 
 /// An image stands for at most one state, and so do tables in hand. Where tables stand for one, so do the files as they read and
 /// whatever a stop now leaves; and the tables do so while calls leave every file. Files without rows stand for the empty store. The row changes
@@ -10,7 +10,7 @@ pub fn tables_laws()
     ensures one_in_hand { OneInHand }
     ensures files { FilesStand }
     ensures left { EachLeft }
-    ensures stays_quiet { StaysQuiet }
+    ensures stays_quiet { TablesStayQuiet }
     ensures made { MadeStands }
     ensures item_turns { ItemTurns }
 {}

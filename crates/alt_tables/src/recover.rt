@@ -8,8 +8,8 @@ ghost use Rattle.alt_machine.specs.State.{State};
 ghost use Rattle.alt_rowchanges.specs.OpeningImages.{StandsFor};
 ghost use Rattle.alt_rowchanges.specs.OpeningRecovery.{IsExplained, HasNoState, WasLeft};
 ghost use Rattle.alt_tables.specs.FilesLeft.{IsFirstGiven};
-ghost use Rattle.alt_tables.specs.Images.{IsWhole};
-ghost use Rattle.alt_tables.specs.Stands.{Stands, bounds_of, limits_of};
+ghost use Rattle.alt_tables.specs.Images.{ImagesAreWhole};
+ghost use Rattle.alt_tables.specs.Stands.{Stands, bounds_of, limits_of_tables};
 
 use crate::tables::Tables;
 use alt_disk::Disk;
@@ -31,7 +31,7 @@ impl Tables {
         // And the tables stand for it, with whatever a stop leaves from then on.
         ensures stands { IfOk result (λ t. IsTrusted (D.state disk.old) → (s : State)
             → StandsFor (D.state disk.old).file s → Stands (D.state disk.new) t s) }
-        ensures limits { IfOk result (λ t. limits_of t ≡ limits) }
+        ensures limits { IfOk result (λ t. limits_of_tables t ≡ limits) }
         // The next file is past all that were there, and not below that of the last version.
         ensures next_file { IfOk result (λ t. IsTrue (D.state disk.old).tells
             → IsFirstGiven (D.state disk.old).file (bounds_of t).file) }
@@ -47,9 +47,9 @@ impl Tables {
 
         // A disk that is whole stays so at each moment of the call.
         ensures whole { IsTrue (D.state disk.old).tells
-            → IsWhole (D.state disk.old) (D.state disk.old).moment → (t : ℕ)
+            → ImagesAreWhole (D.state disk.old) (D.state disk.old).moment → (t : ℕ)
             → (D.state disk.old).moment ≤ t → t ≤ (D.state disk.new).moment
-            → IsWhole (D.state disk.new) t }
+            → ImagesAreWhole (D.state disk.new) t }
 
         // Damaged, DigestDiffers and BadRow come exactly where the files stand for no state; the first two where they are no store's,
         // and BadRow names the first wrong row.

@@ -14,14 +14,14 @@ ghost use Rattle.alt_rowchanges.specs.OpeningTrimmed.{IsRenumbered, number_at};
 ghost use Rattle.alt_schema.specs.declared.schema.TableSchema.{TableSchema};
 ghost use Rattle.alt_tables.specs.Faults.{Writes};
 ghost use Rattle.alt_tables.specs.Foreseen.{ForeseesWrite};
-ghost use Rattle.alt_tables.specs.Found.{IsFoundIn, number_taken};
+ghost use Rattle.alt_tables.specs.Found.{IsFoundInTable, number_taken};
 ghost use Rattle.alt_tables.specs.Images.{Leaves};
 ghost use Rattle.alt_rowchanges.specs.Leftovers.{leftovers, lowest_left};
 ghost use Rattle.alt_rowchanges.specs.RowChanges.{changed_rows, write_changes};
-ghost use Rattle.alt_rowchanges.specs.Trims.{IsNoted, IsTrim, IsWithin};
+ghost use Rattle.alt_rowchanges.specs.Trims.{IsNoted, IsTrim, TrimIsWithin};
 ghost use Rattle.alt_tables.specs.Looking.{FailsReading, OnlyReads};
 ghost use Rattle.alt_tables.specs.private.Written.{IsWrittenAs};
-ghost use Rattle.alt_tables.specs.Stands.{AreReady, HasRows, Reads, Stands, catalog_of, due_of, fronts_of, bounds_of, largest_of, number_of, trimmed_of};
+ghost use Rattle.alt_tables.specs.Stands.{AreReady, HasRows, Reads, Stands, catalog_of, due_of, fronts_of, bounds_of, largest_of, next_write_of_tables, trimmed_of};
 ghost use Rattle.alt_tables.specs.private.Foretold.{FitsWrite};
 
 use crate::finding::Found;
@@ -48,7 +48,7 @@ impl Tables {
         requires there { map.contains_key (catalog_of self.old) table.now ≡ true }
         ensures place { IfOk result (λ found. found.place ≡ place) }
         ensures item { (s : State) → Stands (D.state disk.old) self.old s
-            → IfOk result (IsFoundIn s table.now) }
+            → IfOk result (IsFoundInTable s table.now) }
         ensures only { OnlyReads (D.state disk.old) (D.state disk.new) self.old self.new }
         ensures fails { FailsReading (D.state disk.old) (D.state disk.new) self.old result }
     {
@@ -80,7 +80,7 @@ impl Tables {
         requires ready { AreReady (D.state disk.old) self.old }
         requires there { map.contains_key (catalog_of self.old) table.now ≡ true }
         requires found { (s : State) → Stands (D.state disk.old) self.old s
-            → IsFoundIn s table.now found }
+            → IsFoundInTable s table.now found }
         requires new { (s : State) → Stands (D.state disk.old) self.old s → (d : TableSchema)
             → map.get (catalog_of self.old) table.now ≡ Some d
             → IfSome new (IsStored d found.place) }
@@ -90,7 +90,7 @@ impl Tables {
             (item_writes s moment table.now t found.place new) result }
         ensures number { (s : State) (t : Table) → Stands (D.state disk.old) self.old s
             → map.get s.tables table.now ≡ Some t
-            → IfOk result (λ n. n ≡ number_taken (number_of self.old)
+            → IfOk result (λ n. n ≡ number_taken (next_write_of_tables self.old)
             (item_writes s moment table.now t found.place new)) }
         ensures disk { (s : State) (t : Table) → Stands (D.state disk.old) self.old s
             → map.get s.tables table.now ≡ Some t → Leaves (D.state disk.old) (D.state disk.new) s
@@ -101,7 +101,7 @@ impl Tables {
         ensures rows { IfOk result (λ n. IsSome n → IsTrusted (D.state disk.old)
             → (d : TableSchema) (l : Layout) → map.get (catalog_of self.old) table.now ≡ Some d
             → HasRows (D.state disk.old) self.old l → HasRows (D.state disk.new) self.new
-            (changed_rows l (write_changes d (number_of self.old) moment Writer.User found.place
+            (changed_rows l (write_changes d (next_write_of_tables self.old) moment Writer.User found.place
             found.item new
             (number_at table.now (trimmed_of self.old)) (number_at table.now (trimmed_of self.new))
             (lowest_left l d (number_at table.now (trimmed_of self.new)))))) }
@@ -156,19 +156,19 @@ impl Tables {
         requires ready { AreReady (D.state disk.old) self.old }
         requires there { map.contains_key (catalog_of self.old) table.now ≡ true }
         requires found { (s : State) → Stands (D.state disk.old) self.old s
-            → IsFoundIn s table.now found }
+            → IsFoundInTable s table.now found }
         requires new { (s : State) → Stands (D.state disk.old) self.old s → (d : TableSchema)
             → map.get (catalog_of self.old) table.now ≡ Some d
             → IfSome new (IsStored d found.place) }
         requires differ { is_same found.item new ≡ false }
-        requires room { number_of self.old < NUMBERS_END }
+        requires room { next_write_of_tables self.old < NUMBERS_END }
         requires file { (bounds_of self.old).file < 2 ^ 32 }
         requires trim { (s : State) (t : Table) (l : Layout) → Stands (D.state disk.old) self.old s
             → map.get s.tables table.now ≡ Some t → HasRows (D.state disk.old) self.old l
             → IsTrim l t moment trim }
         requires within { (d : TableSchema) → map.get (catalog_of self.old) table.now ≡ Some d
             → IsSome d.stream_family
-            → IsWithin (number_at table.now (trimmed_of self.old)) (number_of self.old) trim }
+            → TrimIsWithin (number_at table.now (trimmed_of self.old)) (next_write_of_tables self.old) trim }
         requires foretold { ForeseesWrite (catalog_of self.old) table.now found.place new
             (due_of self.old) }
         requires fits { FitsWrite (largest_of self.old) new }
@@ -176,14 +176,14 @@ impl Tables {
             → map.get s.tables table.now ≡ Some t
             → Writes (bounds_of self.old).file (Stands (D.state disk.new) self.new) a_number s
             (after_item s moment table.now t found.place new ∷ []) result }
-        ensures number { IfOk result (λ n. n ≡ Some (number_of self.old)) }
+        ensures number { IfOk result (λ n. n ≡ Some (next_write_of_tables self.old)) }
         ensures disk { (s : State) (t : Table) → Stands (D.state disk.old) self.old s
             → map.get s.tables table.now ≡ Some t → Leaves (D.state disk.old) (D.state disk.new) s
             (after_item s moment table.now t found.place new ∷ []) }
         ensures rows { IfOk result (λ n. IsTrusted (D.state disk.old)
             → (d : TableSchema) (l : Layout) → map.get (catalog_of self.old) table.now ≡ Some d
             → HasRows (D.state disk.old) self.old l
-            → IsWrittenAs (D.state disk.new) self.new l (write_changes d (number_of self.old) moment
+            → IsWrittenAs (D.state disk.new) self.new l (write_changes d (next_write_of_tables self.old) moment
             Writer.User found.place found.item new (number_at table.now (trimmed_of self.old)) trim.number
             trim.leftovers.items)) }
         ensures trimmed { OnOk result (number_at table.now (trimmed_of self.new) ≡ trim.number) }

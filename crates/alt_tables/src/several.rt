@@ -10,16 +10,16 @@ ghost use Rattle.alt_machine.specs.Ops.BatchWriteItem.{writes_of_all_by};
 ghost use Rattle.alt_machine.specs.Outcomes.{together};
 ghost use Rattle.alt_machine.specs.State.{State, Table};
 ghost use Rattle.alt_schema.specs.declared.schema.TableSchema.{TableSchema};
-ghost use Rattle.alt_rowchanges.specs.Faults.{IsFindFault, IsUnspent};
+ghost use Rattle.alt_rowchanges.specs.Faults.{IsFindFault, TableFaultIsUnspent};
 ghost use Rattle.alt_tables.specs.Faults.{WritesAll};
 ghost use Rattle.alt_tables.specs.Foreseen.{ForeseesWritten};
 ghost use Rattle.alt_tables.specs.Images.{Leaves};
 ghost use Rattle.alt_rowchanges.specs.RowChanges.{write_changes};
-ghost use Rattle.alt_tables.specs.Several.{AreAllApart, AreDistinct, Every, IsFound, MayWrite, batches_of, with_batches, written_at};
-ghost use Rattle.alt_tables.specs.Stands.{AreReady, HasRows, Keeps, Reads, Stands, catalog_of, due_of, fronts_of, bounds_of, largest_of, number_of, trimmed_of};
+ghost use Rattle.alt_tables.specs.Several.{AreAllApart, BatchesAreDistinct, Every, IsFound, MayWrite, batches_of, with_batches, written_at};
+ghost use Rattle.alt_tables.specs.Stands.{AreReady, HasRows, KeepsTables, Reads, Stands, catalog_of, due_of, fronts_of, bounds_of, largest_of, next_write_of_tables, trimmed_of};
 ghost use Rattle.alt_tables.specs.private.Foretold.{FitsWrite, FitsWrites};
-ghost use Rattle.alt_tables.specs.private.Staging.{AreKnown, AreNotes, Differs, IsAgain, IsAhead, IsBehind, IsStaged, IsStagedOn, IsTouched, differing_of, note_at};
-ghost use Rattle.alt_rowchanges.specs.Trims.{IsWithin};
+ghost use Rattle.alt_tables.specs.private.Staging.{AreKnown, AreNotes, Differs, IsAgain, IsStateAhead, IsTrimmedAgain, IsStaged, IsStagedOn, IsTouched, differing_of, note_at};
+ghost use Rattle.alt_rowchanges.specs.Trims.{TrimIsWithin};
 ghost use Rattle.alt_value.specs.Values.{IsItemOfValues};
 
 use crate::finding::Found;
@@ -134,19 +134,19 @@ impl Tables {
         requires differ { Every Differs changes.items }
         requires found { (s : State) → Stands (D.state disk.old) self.old s
             → Every (IsFound s) changes.items }
-        requires room { number_of self.old + length changes.items ≤ NUMBERS_END }
+        requires room { next_write_of_tables self.old + length changes.items ≤ NUMBERS_END }
         ensures staged { (s : State) (l : Layout) → Stands (D.state disk.old) self.old s
             → HasRows (D.state disk.old) self.old l
             → IfOk result (IsStaged l s moment by (each written_at changes.items)) }
-        ensures distinct { IfOk result (λ r. AreDistinct r.batches.items) }
+        ensures distinct { IfOk result (λ r. BatchesAreDistinct r.batches.items) }
         ensures count { IfOk result (λ r. length r.batches.items ≡ length changes.items) }
         ensures notes { IfOk result (λ r.
-            AreNotes (catalog_of self.old) (number_of self.old) r.notes.items) }
+            AreNotes (catalog_of self.old) (next_write_of_tables self.old) r.notes.items) }
         ensures foretold { OnOk result (Every (ForeseesWritten (catalog_of self.old)
             (due_of self.new)) (each written_at changes.items)) }
         ensures fits { OnOk result (FitsWrites (largest_of self.new)
             (each written_at changes.items)) }
-        ensures keeps { Keeps (D.state disk.old) (D.state disk.new) self.old self.new }
+        ensures keeps { KeepsTables (D.state disk.old) (D.state disk.new) self.old self.new }
         ensures fault { (s : State) → Stands (D.state disk.old) self.old s
             → IfErr result IsFindFault }
         ensures cause { IsErrOf result TableFault.Failed
@@ -177,27 +177,27 @@ impl Tables {
         requires ready { AreReady (D.state disk.old) self.old }
         requires may { MayWrite (catalog_of self.old) (written_at change) }
         requires differ { Differs change }
-        requires notes { AreNotes (catalog_of self.old) (number_of self.old)
+        requires notes { AreNotes (catalog_of self.old) (next_write_of_tables self.old)
             staged.old.notes.items }
-        requires room { number_of self.old + length staged.old.batches.items < NUMBERS_END }
+        requires room { next_write_of_tables self.old + length staged.old.batches.items < NUMBERS_END }
         ensures staged { (s r : State) (l : Layout) → Stands (D.state disk.old) self.old s
-            → HasRows (D.state disk.old) self.old l → AreDistinct staged.old.batches.items
-            → IsAhead l s moment staged.old.notes.items staged.old.batches.items r
+            → HasRows (D.state disk.old) self.old l → BatchesAreDistinct staged.old.batches.items
+            → IsStateAhead l s moment staged.old.notes.items staged.old.batches.items r
             → IsFound r change
             → OnOk result (IsStagedOn l s moment by change r staged.old staged.new) }
-        ensures distinct { AreDistinct staged.old.batches.items
-            → OnOk result (AreDistinct staged.new.batches.items) }
+        ensures distinct { BatchesAreDistinct staged.old.batches.items
+            → OnOk result (BatchesAreDistinct staged.new.batches.items) }
         ensures count { OnOk result (length staged.new.batches.items
             ≡ length staged.old.batches.items + 1) }
-        ensures notes { OnOk result (AreNotes (catalog_of self.old) (number_of self.old)
+        ensures notes { OnOk result (AreNotes (catalog_of self.old) (next_write_of_tables self.old)
             staged.new.notes.items) }
         ensures foretold { OnOk result (ForeseesWritten (catalog_of self.old) (due_of self.new)
             (written_at change)) }
         ensures fits { OnOk result (FitsWrite (largest_of self.new) (written_at change).new) }
-        ensures keeps { Keeps (D.state disk.old) (D.state disk.new) self.old self.new }
+        ensures keeps { KeepsTables (D.state disk.old) (D.state disk.new) self.old self.new }
         ensures fault { (s r : State) (l : Layout) → Stands (D.state disk.old) self.old s
             → HasRows (D.state disk.old) self.old l
-            → IsAhead l s moment staged.old.notes.items staged.old.batches.items r
+            → IsStateAhead l s moment staged.old.notes.items staged.old.batches.items r
             → IfErr result IsFindFault }
         ensures cause { IsErrOf result TableFault.Failed
             → Rose (D.state disk.old).faults (D.state disk.new).faults }
@@ -239,11 +239,11 @@ impl Tables {
         trim: &Trim,
     ) -> Result<Batch, NoMemory>
         requires there { map.contains_key (catalog_of self.now) table.now ≡ true }
-        requires room { number_of self.now + count < NUMBERS_END }
+        requires room { next_write_of_tables self.now + count < NUMBERS_END }
         requires within { (d : TableSchema) → map.get (catalog_of self.now) table.now ≡ Some d
-            → IsSome d.stream_family → IsWithin before (number_of self.now + count) trim.now }
+            → IsSome d.stream_family → TrimIsWithin before (next_write_of_tables self.now + count) trim.now }
         ensures changes { (d : TableSchema) → map.get (catalog_of self.now) table.now ≡ Some d
-            → IfOk result (λ batch. batch ≡ write_changes d (number_of self.now + count) moment
+            → IfOk result (λ batch. batch ≡ write_changes d (next_write_of_tables self.now + count) moment
             by found.place found.item new.now before trim.now.number trim.now.leftovers.items) }
         ensures held { OnOk result (IfSome new.now IsItemOfValues) }
     {
@@ -277,21 +277,21 @@ impl Tables {
     ) -> Result<(u64, Trim), TableFault>
         requires ready { AreReady (D.state disk.old) self.old }
         requires there { map.contains_key (catalog_of self.old) table.now ≡ true }
-        requires notes { AreNotes (catalog_of self.old) (number_of self.old) notes.now }
-        requires room { number_of self.old < NUMBERS_END }
+        requires notes { AreNotes (catalog_of self.old) (next_write_of_tables self.old) notes.now }
+        requires room { next_write_of_tables self.old < NUMBERS_END }
         ensures trim { (s r : State) (l : Layout) (batches : List (List RowChange)) (t : Table)
             → Stands (D.state disk.old) self.old s → HasRows (D.state disk.old) self.old l
-            → AreDistinct batches → IsAhead l s moment notes.now batches r
+            → BatchesAreDistinct batches → IsStateAhead l s moment notes.now batches r
             → map.get r.tables table.now ≡ Some t
-            → IfOk result (IsBehind l (with_batches l batches) t moment) }
+            → IfOk result (IsTrimmedAgain l (with_batches l batches) t moment) }
         ensures within { (d : TableSchema) → map.get (catalog_of self.old) table.now ≡ Some d
             → IsSome d.stream_family
-            → IfOk result (λ r. IsWithin r.0 (number_of self.old) r.1) }
-        ensures keeps { Keeps (D.state disk.old) (D.state disk.new) self.old self.new }
-        ensures unspent { IfErr result IsUnspent }
+            → IfOk result (λ r. TrimIsWithin r.0 (next_write_of_tables self.old) r.1) }
+        ensures keeps { KeepsTables (D.state disk.old) (D.state disk.new) self.old self.new }
+        ensures unspent { IfErr result TableFaultIsUnspent }
         ensures fault { (s r : State) (l : Layout) (batches : List (List RowChange))
             → Stands (D.state disk.old) self.old s → HasRows (D.state disk.old) self.old l
-            → IsAhead l s moment notes.now batches r → IfErr result IsFindFault }
+            → IsStateAhead l s moment notes.now batches r → IfErr result IsFindFault }
         ensures cause { IsErrOf result TableFault.Failed
             → Rose (D.state disk.old).faults (D.state disk.new).faults }
     {
@@ -320,17 +320,17 @@ impl Tables {
         requires ready { AreReady (D.state disk.old) self.old }
         requires there { map.contains_key (catalog_of self.old) table.now ≡ true }
         requires last { (d : TableSchema) → map.get (catalog_of self.old) table.now ≡ Some d
-            → IsSome d.stream_family → last.now.number < number_of self.old }
-        requires room { number_of self.old < NUMBERS_END }
+            → IsSome d.stream_family → last.now.number < next_write_of_tables self.old }
+        requires room { next_write_of_tables self.old < NUMBERS_END }
         ensures trim { (s : State) (l m : Layout) (t : Table)
             → Stands (D.state disk.old) self.old s → HasRows (D.state disk.old) self.old l
             → map.get (catalog_of self.old) table.now ≡ Some t.description
             → IsTouched l m moment last.now t → IfOk result (IsAgain l m t moment) }
         ensures within { (d : TableSchema) → map.get (catalog_of self.old) table.now ≡ Some d
             → IsSome d.stream_family
-            → IfOk result (IsWithin last.now.number (number_of self.old)) }
-        ensures keeps { Keeps (D.state disk.old) (D.state disk.new) self.old self.new }
-        ensures unspent { IfErr result IsUnspent }
+            → IfOk result (TrimIsWithin last.now.number (next_write_of_tables self.old)) }
+        ensures keeps { KeepsTables (D.state disk.old) (D.state disk.new) self.old self.new }
+        ensures unspent { IfErr result TableFaultIsUnspent }
         ensures fault { (s : State) (l m : Layout) (t : Table)
             → Stands (D.state disk.old) self.old s → IsTouched l m moment last.now t
             → IfErr result IsFindFault }
@@ -363,7 +363,7 @@ impl Tables {
 
     /// Makes known what these writes at a moment leave of the fronts of streams.
     fn know_all(&mut self, notes: Vec<Noted>, moment: u64) -> Result<(), NoMemory>
-        requires notes { AreNotes (catalog_of self.old) (number_of self.old) notes.items }
+        requires notes { AreNotes (catalog_of self.old) (next_write_of_tables self.old) notes.items }
         ensures known { OnOk result (AreKnown (catalog_of self.old) moment notes.items
             (trimmed_of self.old) (trimmed_of self.new) (fronts_of self.old)
             (fronts_of self.new)) }

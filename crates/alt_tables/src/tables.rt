@@ -20,9 +20,9 @@ ghost use Rattle.alt_tables.specs.Faults.{Writes};
 ghost use Rattle.alt_tables.specs.Images.{Leaves};
 ghost use Rattle.alt_rowchanges.specs.OpeningOrder.{first_after};
 ghost use Rattle.alt_rowchanges.specs.RowChanges.{Turns, changed_rows};
-ghost use Rattle.alt_tables.specs.Several.{AreDistinct, TurnsAll, with_batches};
-ghost use Rattle.alt_tables.specs.Stands.{AreReady, HasRows, Stands, catalog_of, number_of, family_of, bounds_of, trimmed_of};
-ghost use Rattle.alt_rowchanges.specs.OpeningOpened.{Holds};
+ghost use Rattle.alt_tables.specs.Several.{BatchesAreDistinct, TurnsAll, with_batches};
+ghost use Rattle.alt_tables.specs.Stands.{AreReady, HasRows, Stands, catalog_of, next_write_of_tables, next_family_of_tables, bounds_of, trimmed_of};
+ghost use Rattle.alt_rowchanges.specs.OpeningOpened.{EngineHoldsState};
 ghost use Rattle.alt_rowchanges.specs.OpeningTrimmed.{number_at};
 
 use crate::foresight::forget_for;
@@ -90,14 +90,14 @@ impl Tables {
 
     /// The number of the next write.
     pub fn next_number(&self) -> u64
-        ensures number { result ≡ number_of self.now }
+        ensures number { result ≡ next_write_of_tables self.now }
     {
         self.engine.next_number()
     }
 
     /// The family that the next table gets.
     pub fn next_family(&self) -> u32
-        ensures family { result ≡ family_of self.now }
+        ensures family { result ≡ next_family_of_tables self.now }
     {
         self.family
     }
@@ -110,9 +110,9 @@ impl Tables {
         requires few { map.len (catalog_of self.old) < MOST_TABLES }
         requires made { IsMade schema }
         requires new { IsNew schema }
-        requires number { schema.number ≡ number_of self.old }
-        requires family { table_lack (number_of self.old) (family_of self.old) ≡ None
-            → schema.family ≡ family_of self.old }
+        requires number { schema.number ≡ next_write_of_tables self.old }
+        requires family { table_lack (next_write_of_tables self.old) (next_family_of_tables self.old) ≡ None
+            → schema.family ≡ next_family_of_tables self.old }
         ensures writes { (s : State) → Stands (D.state disk.old) self.old s
             → Writes (bounds_of self.old).file (Stands (D.state disk.new) self.new) a_table s
             (with_table s schema ∷ []) result }
@@ -121,7 +121,7 @@ impl Tables {
         // On every disk: where memory, a number or families lack, no call of the disk is made.
         ensures no_memory { IsErrOf result TableFault.NoMemory
             → D.state disk.new ≡ D.state disk.old }
-        ensures lacking { IsSome (table_lack (number_of self.old) (family_of self.old))
+        ensures lacking { IsSome (table_lack (next_write_of_tables self.old) (next_family_of_tables self.old))
             → D.state disk.new ≡ D.state disk.old }
         ensures limits { bounds_of self.new ≡ bounds_of self.old }
         ensures goes { Goes (D.state disk.old) (D.state disk.new) }
@@ -244,16 +244,16 @@ impl Tables {
     /// Makes one write of these row changes. What is known without the disk stays, but for the number. After an Err the engine is spent.
     pub(crate) fn make<D: Disk>(&mut self, disk: &mut D, batch: &Batch) -> Result<u64, TableFault>
         requires ready { IsTrusted (D.state disk.old)
-            → (s : State) × Holds (D.state disk.old) self.old.engine s }
-        requires room { number_of self.old < NUMBERS_END }
+            → (s : State) × EngineHoldsState (D.state disk.old) self.old.engine s }
+        requires room { next_write_of_tables self.old < NUMBERS_END }
         requires file { (bounds_of self.old).file < 2 ^ 32 }
-        ensures ok { OnOk result ((s r : State) → Holds (D.state disk.old) self.old.engine s
-            → Turns batch.now s r → Holds (D.state disk.new) self.new.engine r) }
+        ensures ok { OnOk result ((s r : State) → EngineHoldsState (D.state disk.old) self.old.engine s
+            → Turns batch.now s r → EngineHoldsState (D.state disk.new) self.new.engine r) }
         ensures rows { OnOk result (IsTrusted (D.state disk.old) → (l : Layout)
             → HasRows (D.state disk.old) self.old l
             → HasRows (D.state disk.new) self.new (changed_rows l batch.now)) }
-        ensures number { IfOk result (λ n. n ≡ number_of self.old) }
-        ensures next { OnOk result (number_of self.new ≡ number_of self.old + 1) }
+        ensures number { IfOk result (λ n. n ≡ next_write_of_tables self.old) }
+        ensures next { OnOk result (next_write_of_tables self.new ≡ next_write_of_tables self.old + 1) }
         ensures distinct { OnOk result (T (is_distinct batch.now)) }
         ensures kept { (self.new.catalog ≡ self.old.catalog) × (self.new.live ≡ self.old.live)
             × (self.new.family ≡ self.old.family) × (self.new.trimmed ≡ self.old.trimmed)
@@ -263,7 +263,7 @@ impl Tables {
         ensures fault { IfErr result IsFindFault }
         ensures no_memory { IsErrOf result TableFault.NoMemory
             → D.state disk.new ≡ D.state disk.old }
-        ensures disk { (s r : State) → Holds (D.state disk.old) self.old.engine s → IsValid s
+        ensures disk { (s r : State) → EngineHoldsState (D.state disk.old) self.old.engine s → IsValid s
             → Turns batch.now s r
             → Leaves (D.state disk.old) (D.state disk.new) s (r ∷ []) }
         ensures goes { Goes (D.state disk.old) (D.state disk.new) }
@@ -285,18 +285,18 @@ impl Tables {
         batches: &[Batch],
     ) -> Result<(), TableFault>
         requires ready { IsTrusted (D.state disk.old)
-            → (s : State) × Holds (D.state disk.old) self.old.engine s }
+            → (s : State) × EngineHoldsState (D.state disk.old) self.old.engine s }
         requires some { 1 ≤ length batches.now }
-        requires room { number_of self.old + length batches.now ≤ NUMBERS_END }
+        requires room { next_write_of_tables self.old + length batches.now ≤ NUMBERS_END }
         requires file { (bounds_of self.old).file < 2 ^ 32 }
-        requires distinct { AreDistinct batches.now }
-        ensures ok { OnOk result ((s r : State) → Holds (D.state disk.old) self.old.engine s
-            → TurnsAll batches.now s r → Holds (D.state disk.new) self.new.engine r) }
+        requires distinct { BatchesAreDistinct batches.now }
+        ensures ok { OnOk result ((s r : State) → EngineHoldsState (D.state disk.old) self.old.engine s
+            → TurnsAll batches.now s r → EngineHoldsState (D.state disk.new) self.new.engine r) }
         ensures rows { OnOk result (IsTrusted (D.state disk.old) → (l : Layout)
             → HasRows (D.state disk.old) self.old l
             → HasRows (D.state disk.new) self.new (with_batches l batches.now)) }
-        ensures next { OnOk result (number_of self.new
-            ≡ number_of self.old + length batches.now) }
+        ensures next { OnOk result (next_write_of_tables self.new
+            ≡ next_write_of_tables self.old + length batches.now) }
         ensures kept { (self.new.catalog ≡ self.old.catalog) × (self.new.live ≡ self.old.live)
             × (self.new.family ≡ self.old.family) × (self.new.trimmed ≡ self.old.trimmed)
             × (self.new.fronts ≡ self.old.fronts) × (self.new.due ≡ self.old.due)
@@ -305,7 +305,7 @@ impl Tables {
         ensures fault { IfErr result IsFindFault }
         ensures no_memory { IsErrOf result TableFault.NoMemory
             → D.state disk.new ≡ D.state disk.old }
-        ensures disk { (s r : State) → Holds (D.state disk.old) self.old.engine s → IsValid s
+        ensures disk { (s r : State) → EngineHoldsState (D.state disk.old) self.old.engine s → IsValid s
             → TurnsAll batches.now s r
             → Leaves (D.state disk.old) (D.state disk.new) s (r ∷ []) }
         ensures goes { Goes (D.state disk.old) (D.state disk.new) }

@@ -7,11 +7,11 @@ ghost use Rattle.alt_layout.specs.Layout.{Layout};
 ghost use Rattle.alt_machine.specs.State.{State, Table};
 ghost use Rattle.alt_rowchanges.specs.OpeningTrimmed.{number_at};
 ghost use Rattle.alt_schema.specs.declared.schema.TableSchema.{TableSchema};
-ghost use Rattle.alt_rowchanges.specs.Faults.{IsFindFault, IsUnspent};
+ghost use Rattle.alt_rowchanges.specs.Faults.{IsFindFault, TableFaultIsUnspent};
 ghost use Rattle.alt_rowchanges.specs.Leftovers.{leftovers};
-ghost use Rattle.alt_rowchanges.specs.Trims.{AreTwo, IsKeptFrom, IsLowest, IsLowestFrom, IsRest, IsTrim, IsWithin, IsYoung, left_from};
+ghost use Rattle.alt_rowchanges.specs.Trims.{AreTwo, IsKeptFrom, IsLowest, IsLowestFrom, IsRest, IsTrim, TrimIsWithin, IsYoung, left_from};
 ghost use Rattle.alt_tables.specs.Looking.{FailsReading};
-ghost use Rattle.alt_tables.specs.Stands.{AreReady, HasRows, Keeps, Stands, catalog_of, fronts_of, number_of as next_of, trimmed_of};
+ghost use Rattle.alt_tables.specs.Stands.{AreReady, HasRows, KeepsTables, Stands, catalog_of, fronts_of, next_write_of_tables as next_of, trimmed_of};
 
 use crate::tables::Tables;
 use alt_base::NoMemory;
@@ -45,8 +45,8 @@ impl Tables {
             → IfOk result (IsRest l l t) }
         ensures within { (d : TableSchema) → map.get (catalog_of self.old) table.now ≡ Some d
             → IsSome d.stream_family → IfOk result
-            (IsWithin (number_at table.now (trimmed_of self.old)) (next_of self.old)) }
-        ensures keeps { Keeps (D.state disk.old) (D.state disk.new) self.old self.new }
+            (TrimIsWithin (number_at table.now (trimmed_of self.old)) (next_of self.old)) }
+        ensures keeps { KeepsTables (D.state disk.old) (D.state disk.new) self.old self.new }
         ensures fails { FailsReading (D.state disk.old) (D.state disk.new) self.old result }
     {
         let before = self.trimmed(table);
@@ -94,7 +94,7 @@ impl Tables {
         ensures kept { (s : State) (t : Table) → Stands (D.state disk.old) self.old s
             → map.get s.tables table.now ≡ Some t
             → IfOk result (IsKeptFrom moment t.trimmed t.changes) }
-        ensures keeps { Keeps (D.state disk.old) (D.state disk.new) self.old self.new }
+        ensures keeps { KeepsTables (D.state disk.old) (D.state disk.new) self.old self.new }
         ensures fails { FailsReading (D.state disk.old) (D.state disk.new) self.old result }
     {
         let before = self.trimmed(table);
@@ -131,7 +131,7 @@ impl Tables {
         ensures kept { (s : State) (t : Table) → Stands (D.state disk.old) self.old s
             → map.get s.tables table.now ≡ Some t
             → IfOk result (IsKeptFrom moment t.trimmed t.changes) }
-        ensures keeps { Keeps (D.state disk.old) (D.state disk.new) self.old self.new }
+        ensures keeps { KeepsTables (D.state disk.old) (D.state disk.new) self.old self.new }
         ensures fails { FailsReading (D.state disk.old) (D.state disk.new) self.old result }
     {
         let mut number = before;
@@ -184,8 +184,8 @@ impl Tables {
             → t.description.stream_family ≡ Some family → HasRows (D.state disk.old) self.old l
             → 1 ≤ from → IfOk result (IsLowestFrom l family from number) }
         ensures two { IfOk result (λ r. AreTwo number r.0.items) }
-        ensures keeps { Keeps (D.state disk.old) (D.state disk.new) self.old self.new }
-        ensures unspent { IfErr result IsUnspent }
+        ensures keeps { KeepsTables (D.state disk.old) (D.state disk.new) self.old self.new }
+        ensures unspent { IfErr result TableFaultIsUnspent }
         ensures fault { (s : State) (name : List ℕ) (t : Table)
             → Stands (D.state disk.old) self.old s → map.get s.tables name ≡ Some t
             → t.description.stream_family ≡ Some family → 1 ≤ from → IfErr result IsFindFault }

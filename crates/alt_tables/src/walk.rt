@@ -11,7 +11,7 @@ ghost use Rattle.alt_machine.specs.Walks.{items_between};
 ghost use Rattle.alt_schema.specs.declared.schema.IndexSchema.{IndexSchema};
 ghost use Rattle.alt_schema.specs.declared.schema.TableSchema.{TableSchema};
 ghost use Rattle.alt_tables.specs.Looking.{FailsReading, OnlyReads};
-ghost use Rattle.alt_tables.specs.Reading.{HasRowFiles, family_read, places_between, walk_reads};
+ghost use Rattle.alt_tables.specs.Reading.{HasRowFiles, family_read, places_between, most_walk_reads};
 ghost use Rattle.alt_tables.specs.Stands.{AreReady, Stands, catalog_of};
 ghost use Rattle.alt_views.specs.Readable.{CanRead};
 
@@ -56,7 +56,7 @@ impl Tables {
             → HasRowFiles (D.state disk.old).file
             (family_read t.description (index_at t.description index)) maps
             → OnOk result ((D.state disk.new).reads ≤ (D.state disk.old).reads
-            + walk_reads forward range.now.from range.now.to most (places_between t
+            + most_walk_reads forward range.now.from range.now.to most (places_between t
             (index_at t.description index) range.now.from range.now.to forward) maps) }
         ensures begun { OnErr result (IsPrefix out.old.items out.new.items) }
         ensures only { OnlyReads (D.state disk.old) (D.state disk.new) self.old self.new }
@@ -92,7 +92,7 @@ impl Tables {
             → Stands (D.state disk.old) self.old s → map.get s.tables table.now ≡ Some t
             → HasRowFiles (D.state disk.old).file (family_read t.description None) maps
             → OnOk result ((D.state disk.new).reads ≤ (D.state disk.old).reads
-            + walk_reads forward range.now.from range.now.to most
+            + most_walk_reads forward range.now.from range.now.to most
             (places_between t None range.now.from range.now.to forward) maps) }
         ensures begun { OnErr result (IsPrefix out.old.items out.new.items) }
         ensures only { OnlyReads (D.state disk.old) (D.state disk.new) self.old self.new }
@@ -142,7 +142,7 @@ impl Tables {
             → index_at t.description (Some number) ≡ Some i
             → HasRowFiles (D.state disk.old).file (family_read t.description (Some i)) maps
             → OnOk result ((D.state disk.new).reads ≤ (D.state disk.old).reads
-            + walk_reads forward range.now.from range.now.to most
+            + most_walk_reads forward range.now.from range.now.to most
             (places_between t (Some i) range.now.from range.now.to forward) maps) }
         ensures begun { OnErr result (IsPrefix out.old.items out.new.items) }
         ensures only { OnlyReads (D.state disk.old) (D.state disk.new) self.old self.new }

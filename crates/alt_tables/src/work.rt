@@ -9,9 +9,9 @@ ghost use Rattle.alt_rowchanges.specs.OpeningHandWorking.{HasEntries};
 ghost use Rattle.alt_machine.specs.State.{State};
 ghost use Rattle.alt_tables.specs.Faults.{IsWorkFault};
 ghost use Rattle.alt_tables.specs.FilesLeft.{LacksFile, most_files};
-ghost use Rattle.alt_tables.specs.Images.{StandAt};
+ghost use Rattle.alt_tables.specs.Images.{FilesStandFor};
 ghost use Rattle.alt_tables.specs.Merged.{IsMergedFor};
-ghost use Rattle.alt_tables.specs.Stands.{AreReady, KeepsLimits, Stands, bounds_of, engine_of, limits_of, live_of};
+ghost use Rattle.alt_tables.specs.Stands.{AreReady, KeepsLimits, Stands, bounds_of, engine_of, limits_of_tables, live_of};
 
 use crate::tables::Tables;
 use alt_disk::Disk;
@@ -43,13 +43,13 @@ impl Tables {
 
         // A stop at any moment of the call, also one that fails, leaves files that stand for the state.
         ensures disk { (s : State) → Stands (D.state disk.old) self.old s
-            → Spans (D.state disk.old) (D.state disk.new) (λ _. ⊤) (StandAt s) }
+            → Spans (D.state disk.old) (D.state disk.new) (λ _. ⊤) (FilesStandFor s) }
 
         // After a step the entries of the log are fewer than 16 times the bytes at which a family is flushed; after a flush of all there
         // are none; after merges of all the families of tables have one file each at most, without tombstones.
-        ensures step { task ≡ Task.Step → 0 < (limits_of self.old).flush
+        ensures step { task ≡ Task.Step → 0 < (limits_of_tables self.old).flush
             → OnOk result (IsTrusted (D.state disk.old) → (n : ℕ)
-            → HasEntries (D.state disk.new).file n → n < 16 * (limits_of self.old).flush) }
+            → HasEntries (D.state disk.new).file n → n < 16 * (limits_of_tables self.old).flush) }
         ensures flush_all { task ≡ Task.FlushAll → OnOk result (IsTrusted (D.state disk.old)
             → (n : ℕ) → HasEntries (D.state disk.new).file n → n ≡ 0) }
         ensures merge_all { task ≡ Task.MergeAll → OnOk result (IsTrusted (D.state disk.old)

@@ -7,9 +7,9 @@ use Rattle.alt_machine.specs.State.{State}
 use Rattle.alt_machine.specs.Wanted.{Lack}
 use Rattle.alt_shell.specs.Log.{Log, said_in, says_failed}
 use Rattle.alt_talks.specs.Faults.{IsCausedBy, IsFileFault, reach}
-use Rattle.alt_talks.specs.Stretches.{SaidOf, Does, DoesSome, IsWorking, IsWriting, WritesAt, BreaksFor}
+use Rattle.alt_talks.specs.Stretches.{SaidOf, Does, DoesSome, IsWorking, IsWriting, WritesAt, TurnsBreakOffFor}
 use Rattle.alt_talks.specs.Talks.{Turn, asked, Request, Rules, has_refused}
-use Rattle.alt_talks.specs.TalkTexts.{text, after, asks, wanted}
+use Rattle.alt_talks.specs.TalkTexts.{text, after, moments_taken, wanted_by_talk}
 use Rattle.alt_talks.specs.declared.fault.RunFault.{RunFault}
 use Rattle.alt_talks.proofs.FileFaults.{file_more, reach_then, reach_wider}
 use Rattle.alt_talks.proofs.Stretching.{said_in-append}
@@ -20,7 +20,7 @@ use Rattle.alt_talks.proofs.TalkLogs.{broken-append}
 -- with entries that say the same
 pub breaks_same : (r : Rules) (fault : RunFault) (next : ℕ) (s : State) (m : Bool) (ts : List Turn) (es fs : Log)
     (ms : List ℕ) → said_in fs ≡ said_in es → says_failed fs ≡ says_failed es
-    → BreaksFor r fault next s m ts es ms → BreaksFor r fault next s m ts fs ms
+    → TurnsBreakOffFor r fault next s m ts es ms → TurnsBreakOffFor r fault next s m ts fs ms
 breaks_same r fault next s m ts es fs ms said failed (inl cause) = inl cause
 breaks_same r fault next s m ts es fs ms said failed (inr work) = inr (
   work.0,
@@ -38,7 +38,7 @@ breaks_same r fault next s m ts es fs ms said failed (inr work) = inr (
 
 -- with the next file behind that one
 breaks_wider : (r : Rules) (fault : RunFault) (k l : ℕ) (s : State) (m : Bool) (ts : List Turn)
-    (es : Log) (ms : List ℕ) → k ≤ l → BreaksFor r fault k s m ts es ms → BreaksFor r fault l s m ts es ms
+    (es : Log) (ms : List ℕ) → k ≤ l → TurnsBreakOffFor r fault k s m ts es ms → TurnsBreakOffFor r fault l s m ts es ms
 breaks_wider r fault k l s m ts es ms le (inl cause) = inl cause
 breaks_wider r fault k l s m ts es ms le (inr work) =
     inr (file_more fault (reach k ms) (reach l ms) (reach_wider k l ms le) work.0, work.1)
@@ -63,11 +63,11 @@ all_said false some whole e said = said
 -- behind turns that were done, without a refusal
 module _ (r : Rules) (fault : RunFault) (next : ℕ) (s t : State) (m n : Bool) (ts us : List Turn) (es fs : Log)
     (ms ns : List ℕ) (clear : has_refused ts ≡ false) (a : Does r s m ts t n es ms) where
-  told : length ms ≡ asks ts
+  told : length ms ≡ moments_taken ts
   told = exact_count r s t m n ts es ms clear a
 
-  same_wanted : wanted r t us ns ≡ wanted r s (ts ++ us) (ms ++ ns)
-  same_wanted = ap (λ v. wanted r v us ns) a.state ∙ sym (wanted-append r s ts us ms ns told a.enough)
+  same_wanted : wanted_by_talk r t us ns ≡ wanted_by_talk r s (ts ++ us) (ms ++ ns)
+  same_wanted = ap (λ v. wanted_by_talk r v us ns) a.state ∙ sym (wanted-append r s ts us ms ns told a.enough)
 
   working : IsWorking r t n us fs ns → IsWorking r s m (ts ++ us) (es ++ fs) (ms ++ ns)
   working w =
@@ -77,7 +77,7 @@ module _ (r : Rules) (fault : RunFault) (next : ℕ) (s t : State) (m n : Bool) 
         request = w.request;
         rest = w.rest;
         parts = ap (λ l. ts ++ l) w.parts ∙ sym (append_assoc ts w.before (asked w.request ∷ w.rest));
-        count = let same = ap asks (append_assoc ts w.before last) in
+        count = let same = ap moments_taken (append_assoc ts w.before last) in
             let x = length-append ms ns in let y = asks-append ts (w.before ++ last) in
             let z = told in let k = w.count in omega (arith, same, x, y, z, k);
         enough = sym same_wanted ∙ w.enough;
@@ -100,21 +100,21 @@ module _ (r : Rules) (fault : RunFault) (next : ℕ) (s t : State) (m n : Bool) 
         request = w.request;
         rest = w.rest;
         parts = ap (λ l. ts ++ l) w.parts ∙ sym (append_assoc ts w.before (asked w.request ∷ w.rest));
-        count = let same = ap asks (append_assoc ts w.before last) in
+        count = let same = ap moments_taken (append_assoc ts w.before last) in
             let x = length-append ms ns in let y = asks-append ts (w.before ++ last) in
             let z = told in let k = w.count in omega (arith, same, x, y, z, k);
         first = ms ++ w.first;
         moment = w.moment;
         moments = ap (λ (ls : List ℕ). ms ++ ls) w.moments ∙ sym (append_assoc ms w.first (w.moment ∷ []));
         enough = wanted-append r s ts w.before ms w.first told a.enough
-            ∙ ap (λ (v : State). wanted r v w.before w.first) (sym a.state) ∙ w.enough;
+            ∙ ap (λ (v : State). wanted_by_talk r v w.before w.first) (sym a.state) ∙ w.enough;
         writes = subst (λ (v : State). WritesAt r v w.request w.moment)
             (ap (λ v. after r v w.before w.first) a.state ∙ sym (after-append r s ts w.before ms w.first told))
             w.writes;
       }
 
-  pub breaks_behind : BreaksFor r fault (reach next ms) t n us fs ns
-      → BreaksFor r fault next s m (ts ++ us) (es ++ fs) (ms ++ ns)
+  pub breaks_behind : TurnsBreakOffFor r fault (reach next ms) t n us fs ns
+      → TurnsBreakOffFor r fault next s m (ts ++ us) (es ++ fs) (ms ++ ns)
   breaks_behind (inl cause) =
       inl (subst (λ (l : Option Lack). IsCausedBy l fault) same_wanted cause)
   breaks_behind (inr work) = inr (
@@ -128,7 +128,7 @@ pub broke_behind : (r : Rules) (fault : RunFault) (next : ℕ) (s t : State) (m 
     (ms : List ℕ) → IsFileFault (reach next ms) fault → n ≡ false → Does r s m (asked q ∷ []) t n es ms
     → DoesSome r fault next s m (asked q ∷ []) es ms
 broke_behind r fault next s t m n q es ms why none a =
-    let one : length ms ≡ asks (asked q ∷ []) = exact_count r s t m n (asked q ∷ []) es ms refl a in
+    let one : length ms ≡ moments_taken (asked q ∷ []) = exact_count r s t m n (asked q ∷ []) es ms refl a in
     let said : said_in es ≡ text r s (asked q ∷ []) ms =
     all_said n (said_in es) (text r s (asked q ∷ []) ms) none a.said in record {
       said = ([], sym said ∙ sym (append-nil (said_in es)));
@@ -160,5 +160,5 @@ broke_behind r fault next s t m n q es ms why none a =
       };
     }
   where
-    wanted-nothing : (r : Rules) (s : State) (ms : List ℕ) → wanted r s [] ms ≡ None
+    wanted-nothing : (r : Rules) (s : State) (ms : List ℕ) → wanted_by_talk r s [] ms ≡ None
     wanted-nothing r s ms = refl

@@ -13,7 +13,7 @@ use Rattle.alt_tables.specs.DeclaredTableFault.{TableFault}
 use Rattle.alt_tables.specs.declared.tables.Tables.{Tables}
 use Rattle.alt_talks.specs.Faults.{IsFileFault, told_by_run}
 use Rattle.alt_talks.specs.Own.{FollowsNot, Own, after_behind, own_behind}
-use Rattle.alt_talks.specs.Works.{Follows, Works}
+use Rattle.alt_talks.specs.Works.{Follows, WorksOnStore}
 use Rattle.alt_talks.specs.declared.fault.RunFault.{RunFault}
 use Rattle.alt_talks.proofs.Answering.{caused_of}
 use Rattle.alt_talks.proofs.Expired.{follows_one, follows_then}
@@ -38,7 +38,7 @@ built_follows a b t s stands goes leaves = subst (λ (o : Own). Follows a b s o.
 
 -- and so did one in the work behind it
 pub worked_follows : (a b c : DiskState) (t : Tables) (s : State) → Stands a t s → Goes a b
-    → Leaves a b s (build s) → Works b c (last_state s (build s))
+    → Leaves a b s (build s) → WorksOnStore b c (last_state s (build s))
     → Follows a c s (own_behind s).atoms
 worked_follows a b c t s stands goes leaves works = subst (λ (o : Own). Follows a c s o.atoms)
     (sym (built_behind s))

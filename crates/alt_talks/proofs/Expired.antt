@@ -24,7 +24,7 @@ use Rattle.alt_talks.specs.Works.{Follows}
 use Rattle.alt_talks.specs.declared.fault.RunFault.{RunFault}
 use Rattle.alt_talks.proofs.Answering.{among_leaves, caused}
 use Rattle.alt_talks.proofs.Owning.{cause_first, follows_none}
-use Rattle.alt_talks.proofs.Stopping.{leaves-weaker, spans_two}
+use Rattle.alt_talks.proofs.StretchLeaving.{leaves-weaker, spans_two}
 
 -- ---- some writes and then others
 

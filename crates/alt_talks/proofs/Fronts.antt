@@ -3,11 +3,11 @@ use Rattle.std.proofs.Common.{◌≡◌, ap, ◌∙◌, ◌≤◌, ◌++◌, ℕ
 use Rattle.std.proofs.lemmas.List.{take-append-le}
 use Rattle.alt_http.specs.Reading.{scan_of}
 use Rattle.alt_http.proofs.Answering.{scan_of-nothing, scan_of-head}
-use Rattle.alt_talks.specs.private.HeadViews.{AreRead, scan_in}
+use Rattle.alt_talks.specs.private.HeadViews.{HeadIsScanned, scan_in}
 use Rattle.alt_talks.specs.declared.front.Head.{Head}
 
 -- none of them were read
-pub nothing_read : (bytes : List ℕ) → AreRead bytes 0 None
+pub nothing_read : (bytes : List ℕ) → HeadIsScanned bytes 0 None
 nothing_read bytes = record {
   within = least (length bytes);
   more = scan_of-nothing;
@@ -18,8 +18,8 @@ nothing_read bytes = record {
     least n = omega arith
 
 -- more bytes change nothing of it
-pub more_read : (bytes more : List ℕ) (seen : ℕ) (head : Option Head) → AreRead bytes seen head
-    → AreRead (bytes ++ more) seen head
+pub more_read : (bytes more : List ℕ) (seen : ℕ) (head : Option Head) → HeadIsScanned bytes seen head
+    → HeadIsScanned (bytes ++ more) seen head
 more_read bytes more seen head h = record {
   within = (let l = length-append bytes more in omega (arith, h.within, l));
   more = ap scan_of (take-append-le seen bytes more h.within) ∙ h.more;

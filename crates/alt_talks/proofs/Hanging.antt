@@ -8,14 +8,14 @@ use Rattle.alt_machine.specs.State.{State}
 use Rattle.alt_shell.specs.Calls.{Adds, Keeps}
 use Rattle.alt_shell.specs.Log.{Log, Grows, moments_of, told_count, entry, none_came, hung_up, taken, said_in, says_failed}
 use Rattle.alt_talks.specs.Runs.{Stretch}
-use Rattle.alt_talks.specs.private.Rungs.{Timed, GoesSome, Ends}
-use Rattle.alt_talks.specs.Talks.{Turn, Rules, Place, at, turns, closes}
+use Rattle.alt_talks.specs.private.Rungs.{KnowsLastMoment, GoesSome, EndsTalk}
+use Rattle.alt_talks.specs.Talks.{Turn, Rules, ConnectionPlace, at, turns, closes}
 use Rattle.alt_talks.specs.private.Lawful.{Lawful}
 use Rattle.alt_talks.specs.TalkStops.{LeavesNow}
 use Rattle.alt_talks.specs.private.RungStops.{ComesOn, ComesSomeOn}
 use Rattle.alt_talks.specs.TalkTexts.{text}
-use Rattle.alt_talks.specs.Stretches.{SaidOf, over, Hushes, TakesIdle, Does, DoesSome}
-use Rattle.alt_talks.specs.Connections.{Serves, Breaks, start}
+use Rattle.alt_talks.specs.Stretches.{SaidOf, no_more_bytes, Hushes, TakesIdle, Does, DoesSome}
+use Rattle.alt_talks.specs.Connections.{Serves, ConnectionBreaksOff, connection_start}
 use Rattle.alt_talks.proofs.Breaking.{breaks_same}
 use Rattle.alt_talks.proofs.Stretching.{taken-append, said_in-append}
 use Rattle.alt_talks.proofs.TalkLeaving.{left_silent}
@@ -39,19 +39,19 @@ module _ (r : Rules) (per : ℕ) (s : State) (es : Log) (ms : List ℕ) (from si
   same_broken : says_failed (es ++ entry upto clocked hung_up ∷ []) ≡ says_failed es
   same_broken = broken-append es (entry upto clocked hung_up ∷ []) ∙ or-false (says_failed es)
 
-  same_ended : over (es ++ entry upto clocked hung_up ∷ []) ≡ over es
-  same_ended = over-append es (entry upto clocked hung_up ∷ []) ∙ or-false (over es)
+  same_ended : no_more_bytes (es ++ entry upto clocked hung_up ∷ []) ≡ no_more_bytes es
+  same_ended = over-append es (entry upto clocked hung_up ∷ []) ∙ or-false (no_more_bytes es)
 
   hushed : Hushes es → Hushes (es ++ entry upto clocked hung_up ∷ [])
   hushed h = hushes-append es (entry upto clocked hung_up ∷ []) h (λ f. absurd (let g : ⊥ = cc in g), tt)
       (λ _. refl)
 
-  idle_hung : TakesIdle r (start per) s false ms [] es
-      → TakesIdle r (start per) s false ms [] (es ++ entry upto clocked hung_up ∷ [])
-  idle_hung h = idle-append r (start per) s false ms [] es (entry upto clocked hung_up ∷ []) h
-      (idle_other r (start per) s false ms es (entry upto clocked hung_up) refl)
+  idle_hung : TakesIdle r (connection_start per) s false ms [] es
+      → TakesIdle r (connection_start per) s false ms [] (es ++ entry upto clocked hung_up ∷ [])
+  idle_hung h = idle-append r (connection_start per) s false ms [] es (entry upto clocked hung_up ∷ []) h
+      (idle_other r (connection_start per) s false ms es (entry upto clocked hung_up) refl)
 
-  pub serves_hung : (q : Place) (t : State) (n : Bool) → 0 < per → Ends r (at per false []) s false q t n es ms
+  pub serves_hung : (q : ConnectionPlace) (t : State) (n : Bool) → 0 < per → EndsTalk r (at per false []) s false q t n es ms
       → Serves r per s (record { moment = from; clocked = since; entries = es ++ entry upto clocked hung_up ∷ []; told = ms }) t
   serves_hung q t n some e =
       let d = e.goes.does in
@@ -70,9 +70,9 @@ module _ (r : Rules) (per : ℕ) (s : State) (es : Log) (ms : List ℕ) (from si
       record {
         does = subst (λ (b : Bool). Does r s false ts t b (es ++ entry upto clocked hung_up ∷ []) ms) whole.broke whole;
         cause = elim e.cause [
-          | inl none ↦ inl (same_ended ∙ not_false (over es) e.more e.goes.ends none)
+          | inl none ↦ inl (same_ended ∙ not_false (no_more_bytes es) e.more e.goes.ends none)
           | inr (inl mute) ↦ inr (inl (same_broken ∙ sym d.broke ∙ mute))
-          | inr (inr done) ↦ inr (inr (ap (λ bs. closes (turns r per false bs)) same_taken ∙ closes_end r per false (taken es) some (ap (λ (p : Place). p.left) (sym e.goes.place) ∙ done)))
+          | inr (inr done) ↦ inr (inr (ap (λ bs. closes (turns r per false bs)) same_taken ∙ closes_end r per false (taken es) some (ap (λ (p : ConnectionPlace). p.left) (sym e.goes.place) ∙ done)))
         ];
         idle = idle_hung e.goes.idle;
         before = es;
@@ -83,7 +83,7 @@ module _ (r : Rules) (per : ℕ) (s : State) (es : Log) (ms : List ℕ) (from si
       }
 
   pub some_hung : (fault : RunFault) (next : ℕ) → GoesSome r fault next (at per false []) s false es ms
-      → Breaks r per fault next s (record { moment = from; clocked = since; entries = es ++ entry upto clocked hung_up ∷ []; told = ms })
+      → ConnectionBreaksOff r per fault next s (record { moment = from; clocked = since; entries = es ++ entry upto clocked hung_up ∷ []; told = ms })
   some_hung fault next e =
       let moved = subst (λ (bs : List ℕ). DoesSome r fault next s false (turns r per false bs) es ms) (sym same_taken) e.some in record {
         some = record {
@@ -106,9 +106,9 @@ module _ (r : Rules) (per : ℕ) (s : State) (es : Log) (ms : List ℕ) (from si
 -- none came
 pub none_comes : (last : Option ℕ) (r : Rules) (w : Lawful r) (per : ℕ) (s : State) (a b : DiskState)
     → Adds a b none_came → moments_of b.beside ≡ moments_of a.beside → Keeps a b → LeavesNow a s
-    → Stretch a b (Timed last last (ComesOn r per false s s))
+    → Stretch a b (KnowsLastMoment last last (ComesOn r per false s s))
 none_comes last r w per s a b g m keeps here =
-    stretch_one a b (Timed last last (ComesOn r per false s s)) _ g m
+    stretch_one a b (KnowsLastMoment last last (ComesOn r per false s s)) _ g m
     (keeps.later, omega arith, tt) keeps (
       (
         (refl, (b.moment, told_count a.beside, refl), refl),

@@ -12,6 +12,7 @@ pub mod Passing
 pub mod Responding
 pub mod Stepping
 pub mod Stopping
+pub mod StretchLeaving
 pub mod Stretching
 pub mod TalkAll
 pub mod TalkAmong
@@ -21,6 +22,8 @@ pub mod TalkFolds
 pub mod TalkIdle
 pub mod TalkLaws
 pub mod TalkLeaving
+pub mod AnswerLeaving
+pub mod TurnLeaving
 pub mod TalkLogs
 pub mod TalkPulls
 pub mod TalkReach

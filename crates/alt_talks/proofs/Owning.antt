@@ -16,10 +16,10 @@ use Rattle.alt_talks.specs.Own.{building, expiries, none_own, own_behind, own_be
 use Rattle.alt_talks.specs.declared.expiring.TheConstants.{BETWEEN_EXPIRIES, MOST_EXPIRIES}
 use Rattle.alt_talks.specs.Stops.{IsAmong}
 use Rattle.alt_talks.specs.Turns.{or_next}
-use Rattle.alt_talks.specs.Works.{Follows, Works}
+use Rattle.alt_talks.specs.Works.{Follows, WorksOnStore}
 use Rattle.alt_talks.specs.declared.fault.RunFault.{RunFault}
 use Rattle.alt_talks.proofs.FileFaults.{IsTurnFault}
-use Rattle.alt_talks.proofs.Stopping.{leaves-here, leaves-weaker}
+use Rattle.alt_talks.proofs.StretchLeaving.{leaves-here, leaves-weaker}
 
 -- a Build behind a request
 pub built_behind : (s : State) → own_behind s ≡ building s
@@ -60,7 +60,7 @@ follows_none a tables s stands = record {
 }
 
 -- but work
-pub follows_worked : (a b : DiskState) (s : State) → Works a b s → Follows a b s []
+pub follows_worked : (a b : DiskState) (s : State) → WorksOnStore a b s → Follows a b s []
 follows_worked a b s works = record {
   goes = works.goes;
   leaves = leaves-weaker a b (λ _ image. StandsFor image s) (λ _ image. IsAmong image s [])

@@ -7,10 +7,10 @@ use Rattle.alt_shell.specs.Log.{Log, said_in}
 use Rattle.alt_talks.specs.Faults.{IsCausedBy}
 use Rattle.alt_talks.specs.Turns.{or_next}
 use Rattle.alt_talks.specs.private.InHand.{asking}
-use Rattle.alt_talks.specs.Talks.{Turn, onward, asked, refused, Rules, Head, unread, bad, good, Place, at, turns, final, greets, is_whole, size_of, request_of, has_refused}
-use Rattle.alt_talks.specs.TalkTexts.{asks, wanted}
-use Rattle.alt_talks.specs.Stretches.{Begins, BreaksFor, IsWorking, IsWriting}
-use Rattle.alt_talks.specs.private.Rungs.{Utters, Answers, AnswersSome, Moves, MovesSome, Steps}
+use Rattle.alt_talks.specs.Talks.{Turn, onward, asked, refused, Rules, Head, unread, bad, good, ConnectionPlace, at, turns, final, greets, is_request_whole, request_size, request_of, has_refused}
+use Rattle.alt_talks.specs.TalkTexts.{moments_taken, wanted_by_talk}
+use Rattle.alt_talks.specs.Stretches.{Begins, TurnsBreakOffFor, IsWorking, IsWriting}
+use Rattle.alt_talks.specs.private.Rungs.{Utters, Answers, AnswersSome, MovesConnection, MovesSome, StepsConnection}
 use Rattle.alt_talks.proofs.TalkCuts.{at_unread, at_bad, at_hello, at_whole, at_short}
 use Rattle.alt_talks.proofs.TalkFolds.{text-more, asks-append}
 use Rattle.alt_talks.proofs.Uttering.{does_none, does_onward, quiet_none, moves_none}
@@ -32,13 +32,13 @@ greets_clear false true = refl
 greets_clear true false = refl
 greets_clear false false = refl
 
-wanted-none : (r : Rules) (s : State) (us : List Turn) → wanted r s us [] ≡ None
+wanted-none : (r : Rules) (s : State) (us : List Turn) → wanted_by_talk r s us [] ≡ None
 wanted-none r s [] = refl
 wanted-none r s (onward ∷ us) = wanted-none r s us
 wanted-none r s (asked q ∷ us) = refl
 wanted-none r s (refused k ∷ us) = wanted-none r s us
 
-wanted-more : (r : Rules) (s : State) (ts us : List Turn) (ms : List ℕ) → length ms ≤ asks ts → wanted r s (ts ++ us) ms ≡ wanted r s ts ms
+wanted-more : (r : Rules) (s : State) (ts us : List Turn) (ms : List ℕ) → length ms ≤ moments_taken ts → wanted_by_talk r s (ts ++ us) ms ≡ wanted_by_talk r s ts ms
 wanted-more r s [] us [] h = wanted-none r s us
 wanted-more r s [] us (m ∷ ms) h = absurd (omega arith)
 wanted-more r s (onward ∷ ts) us ms h = wanted-more r s ts us ms h
@@ -48,7 +48,7 @@ wanted-more r s (refused k ∷ ts) us [] h = wanted-more r s ts us [] (omega ari
 wanted-more r s (refused k ∷ ts) us (m ∷ ms) h = wanted-more r s ts us ms (omega arith)
 
 breaks_more : (r : Rules) (fault : RunFault) (next : ℕ) (s : State) (m : Bool) (ts us : List Turn) (es : Log) (ms : List ℕ)
-    → length ms ≤ asks ts → BreaksFor r fault next s m ts es ms → BreaksFor r fault next s m (ts ++ us) es ms
+    → length ms ≤ moments_taken ts → TurnsBreakOffFor r fault next s m ts es ms → TurnsBreakOffFor r fault next s m (ts ++ us) es ms
 breaks_more r fault next s m ts us es ms few (inl cause) =
     inl (subst (λ w. IsCausedBy w fault) (sym (wanted-more r s ts us ms few)) cause)
 breaks_more r fault next s m ts us es ms few (inr work) = inr (
@@ -106,19 +106,19 @@ some_more r fault next s m ts us vs es ms e a =
       quiet = a.quiet;
     })
 
-pub moves_some : (r : Rules) (fault : RunFault) (next : ℕ) (p : Place) (s : State) (m : Bool) (es : Log) (ms : List ℕ) (ts us : List Turn)
+pub moves_some : (r : Rules) (fault : RunFault) (next : ℕ) (p : ConnectionPlace) (s : State) (m : Bool) (es : Log) (ms : List ℕ) (ts us : List Turn)
     → turns r p.left p.greeted p.bytes ≡ ts ++ us → AnswersSome r fault next s m ts es ms → MovesSome r fault next p s m es ms
 moves_some r fault next p s m es ms ts us e a = let b = some_more r fault next s m ts us _ es ms e a in record { some = b.some; quiet = b.quiet }
 
-unfoldable pub steps_unread : (r : Rules) (p : Place) (s : State) (m : Bool) → r.scan p.bytes ≡ unread → Steps r false p s m p s m [] []
+unfoldable pub steps_unread : (r : Rules) (p : ConnectionPlace) (s : State) (m : Bool) → r.scan p.bytes ≡ unread → StepsConnection r false p s m p s m [] []
 steps_unread r p s m e = record {
   moves = moves_none r p s m;
   rests = λ _. at_unread r p.left p.greeted p.bytes e;
   fewer = λ h. absurd (let f : ⊥ = cc in f);
 }
 
-unfoldable pub steps_bad : (r : Rules) (p : Place) (s t : State) (m n : Bool) (k : ℕ) (es : Log) (ms : List ℕ) → 0 < p.left → r.scan p.bytes ≡ bad k
-    → Answers r s m (refused k ∷ []) t n es ms → Steps r true p s m (at 0 p.greeted p.bytes) t n es ms
+unfoldable pub steps_bad : (r : Rules) (p : ConnectionPlace) (s t : State) (m n : Bool) (k : ℕ) (es : Log) (ms : List ℕ) → 0 < p.left → r.scan p.bytes ≡ bad k
+    → Answers r s m (refused k ∷ []) t n es ms → StepsConnection r true p s m (at 0 p.greeted p.bytes) t n es ms
 steps_bad r p s t m n k es ms h e a =
     let l = at_bad r p.left p.greeted p.bytes k h e in record {
       moves = record { done = refused k ∷ []; does = a.does; splits = l.0; same = l.1; clear = λ z. absurd (omega arith); quiet = a.quiet };
@@ -127,14 +127,14 @@ steps_bad r p s t m n k es ms h e a =
     }
 
 -- the client was let go on
-unfoldable pub moves_hello : (r : Rules) (p : Place) (h : Head) (s t : State) (m n : Bool) (es : Log) (ms : List ℕ) → 0 < p.left → r.scan p.bytes ≡ good h
-    → Answers r s m (greets p.greeted h.expect) t n es ms → Moves r p s m (at p.left (p.greeted || h.expect) p.bytes) t n es ms
+unfoldable pub moves_hello : (r : Rules) (p : ConnectionPlace) (h : Head) (s t : State) (m n : Bool) (es : Log) (ms : List ℕ) → 0 < p.left → r.scan p.bytes ≡ good h
+    → Answers r s m (greets p.greeted h.expect) t n es ms → MovesConnection r p s m (at p.left (p.greeted || h.expect) p.bytes) t n es ms
 moves_hello r p h s t m n es ms l e a =
     let f = at_hello r p.left p.greeted p.bytes h e l in
     record { done = greets p.greeted h.expect; does = a.does; splits = f.0; same = f.1; clear = λ _. greets_clear p.greeted h.expect; quiet = a.quiet }
 
-unfoldable pub steps_short : (r : Rules) (p : Place) (h : Head) (s t : State) (m n : Bool) (es : Log) (ms : List ℕ) → 0 < p.left → r.scan p.bytes ≡ good h → is_whole h p.bytes ≡ false
-    → Answers r s m (greets p.greeted h.expect) t n es ms → Steps r false p s m (at p.left (p.greeted || h.expect) p.bytes) t n es ms
+unfoldable pub steps_short : (r : Rules) (p : ConnectionPlace) (h : Head) (s t : State) (m n : Bool) (es : Log) (ms : List ℕ) → 0 < p.left → r.scan p.bytes ≡ good h → is_request_whole h p.bytes ≡ false
+    → Answers r s m (greets p.greeted h.expect) t n es ms → StepsConnection r false p s m (at p.left (p.greeted || h.expect) p.bytes) t n es ms
 steps_short r p h s t m n es ms l e w a = record {
   moves = moves_hello r p h s t m n es ms l e a;
   rests = λ _. at_short r p.left p.greeted p.bytes h e w l;
@@ -142,14 +142,14 @@ steps_short r p h s t m n es ms l e w a = record {
 }
 
 -- what stands at the front where a whole request does
-pub whole_at : (r : Rules) (left : ℕ) (g : Bool) (bytes : List ℕ) (h : Head) → 0 < left → r.scan bytes ≡ good h → is_whole h bytes ≡ true
-    → (turns r left (g || h.expect) bytes ≡ asked (request_of h bytes (left - 1)) ∷ turns r (cond h.close 0 (left - 1)) false (drop (size_of h) bytes))
-    × (final r left (g || h.expect) bytes ≡ final r (cond h.close 0 (left - 1)) false (drop (size_of h) bytes))
+pub whole_at : (r : Rules) (left : ℕ) (g : Bool) (bytes : List ℕ) (h : Head) → 0 < left → r.scan bytes ≡ good h → is_request_whole h bytes ≡ true
+    → (turns r left (g || h.expect) bytes ≡ asked (request_of h bytes (left - 1)) ∷ turns r (cond h.close 0 (left - 1)) false (drop (request_size h) bytes))
+    × (final r left (g || h.expect) bytes ≡ final r (cond h.close 0 (left - 1)) false (drop (request_size h) bytes))
 whole_at r zero g bytes h l e w = absurd (omega arith)
 whole_at r (suc n) g bytes h l e w =
     let same : n ≡ suc n - 1 = omega arith in
-    subst (λ (k : ℕ). (turns r (suc n) (g || h.expect) bytes ≡ asked (request_of h bytes k) ∷ turns r (cond h.close 0 k) false (drop (size_of h) bytes))
-    × (final r (suc n) (g || h.expect) bytes ≡ final r (cond h.close 0 k) false (drop (size_of h) bytes))) same (at_whole r n g bytes h e w)
+    subst (λ (k : ℕ). (turns r (suc n) (g || h.expect) bytes ≡ asked (request_of h bytes k) ∷ turns r (cond h.close 0 k) false (drop (request_size h) bytes))
+    × (final r (suc n) (g || h.expect) bytes ≡ final r (cond h.close 0 k) false (drop (request_size h) bytes))) same (at_whole r n g bytes h e w)
 
 pub fewer_left : (c : Bool) (left : ℕ) → 0 < left → cond c 0 (left - 1) < left
 fewer_left true left l = l
@@ -178,9 +178,9 @@ asking_same h bytes front body left last same is closes =
     ∙ ap (λ (b : Bool). asking h.target (take h.length (drop h.taken bytes)) b) closes
 
 -- the place behind it
-pub left_at : (h : Head) (p : Place) (left : ℕ) (bytes : List ℕ)
+pub left_at : (h : Head) (p : ConnectionPlace) (left : ℕ) (bytes : List ℕ)
     → left ≡ cond h.close 0 (p.left - 1) → bytes ≡ drop (h.taken + h.length) p.bytes
-    → at left false bytes ≡ at (cond h.close 0 (p.left - 1)) false (drop (size_of h) p.bytes)
+    → at left false bytes ≡ at (cond h.close 0 (p.left - 1)) false (drop (request_size h) p.bytes)
 left_at h p left bytes is rest =
     ap (λ (k : ℕ). at k false bytes) is
     ∙ ap (λ (bs : List ℕ). at (cond h.close 0 (p.left - 1)) false bs) rest

@@ -1,22 +1,19 @@
--- What a stop leaves while turns are done, one list of turns after another.
-use Rattle.std.proofs.Common.{◌≡◌, ◌≤◌, ◌<◌, ◌⊎◌, ⊎_elim, inl, inr, ℕ, List, [], ◌∷◌, ◌++◌, cond, length, drop, Bool, true, false, ◌&&◌, IsTrue, refl, sym, ap, subst, ◌∙◌, arith, length-append, length-drop, append_assoc, append-nil}
-use Rattle.std.specs.Prelude.{nat_le, ◌||◌, ⊤}
-use Rattle.std.proofs.lemmas.Bool.{le-leb, cases_lt, or_parts}
+-- What stands and is left where a stop falls among turns, one list of turns after another.
+use Rattle.std.proofs.Common.{◌≡◌, ◌≤◌, ◌<◌, inl, inr, ℕ, List, [], ◌∷◌, ◌++◌, cond, length, drop, Bool, true, false, ◌&&◌, IsTrue, refl, sym, ap, subst, ◌∙◌, arith, length-append, length-drop, append_assoc, append-nil}
+use Rattle.std.specs.Prelude.{nat_le, ◌||◌}
+use Rattle.std.proofs.lemmas.Bool.{le-leb, or_parts}
 use Rattle.std.proofs.lemmas.List.Elements.{filter-append}
 use Rattle.std.proofs.Math.Seq.{take-length, drop-append_seam}
-use Rattle.alt_disk.specs.Fates.{Fates, Fits}
-use Rattle.alt_disk.specs.Disk.{DiskState, IsTrusted, IsImage}
-use Rattle.alt_disk.specs.Runs.{Spans}
+use Rattle.alt_disk.specs.Disk.{DiskState, IsTrusted}
 use Rattle.alt_machine.specs.Outcomes.{last_state}
 use Rattle.alt_machine.specs.State.{State}
 use Rattle.alt_base.specs.Prefix.{IsPrefix}
 use Rattle.alt_base.proofs.Lists.{length-none}
 use Rattle.alt_base.proofs.Prefixes.{prefix_trans}
-use Rattle.alt_shell.specs.Calls.{Aside, Keeps}
-use Rattle.alt_shell.proofs.Keeping.{keeps-none}
+use Rattle.alt_shell.specs.Calls.{Keeps}
 use Rattle.alt_shell.specs.Log.{Log, until, said_in, taken, ended, event_of, bytes_said, bytes_taken, is_end}
-use Rattle.alt_talks.specs.Turns.{answered, Turn, text_of, after, after_turn}
-use Rattle.alt_talks.specs.Stops.{Image, state_behind, StandsBehind, IsLeft, IsAmong, IsUncut, AtEach, AreWithin}
+use Rattle.alt_talks.specs.Turns.{answered_turns, Turn, turns_text, after, after_turn}
+use Rattle.alt_talks.specs.Stops.{Image, state_behind, StandsBehind, IsLeft, IsAmong, IsUncut, AreWithin}
 use Rattle.alt_tables.specs.Images.{StandsFor}
 use Rattle.alt_tables.specs.Stands.{AreReady, Stands}
 use Rattle.alt_tables.proofs.Left.{stands_quiet}
@@ -138,13 +135,13 @@ AllSay [] = Unit {0}
 AllSay (t ∷ ts) = (0 < length t.text) × AllSay ts
 
 -- where nothing was said none was answered
-pub answered-none : (ts : List Turn) → AllSay ts → answered ts [] ≡ []
+pub answered-none : (ts : List Turn) → AllSay ts → answered_turns ts [] ≡ []
 answered-none [] say = refl
 answered-none (t ∷ ts) say = grind (arith, say)
 
 -- where no more was said than the first turns say, none of the others was answered
 pub answered-front : (ts us : List Turn) (said : List ℕ) → AllSay us
-    → length said ≤ length (text_of ts) → answered (ts ++ us) said ≡ answered ts said
+    → length said ≤ length (turns_text ts) → answered_turns (ts ++ us) said ≡ answered_turns ts said
 answered-front [] us [] say le = answered-none us say
 answered-front [] us (b ∷ bytes) say le = absurd (omega (arith, le))
 answered-front (t ∷ ts) us said say le =
@@ -153,39 +150,39 @@ answered-front (t ∷ ts) us said say le =
     rest : List ℕ
     rest = drop (length t.text) said
 
-    fits : length rest ≤ length (text_of ts)
-    fits = let d = length-drop (length t.text) said in let l = length-append t.text (text_of ts) in
+    fits : length rest ≤ length (turns_text ts)
+    fits = let d = length-drop (length t.text) said in let l = length-append t.text (turns_text ts) in
         omega (arith, le, d, l)
 
-    by_test : answered (ts ++ us) rest ≡ answered ts rest → (b : Bool)
-        → cond b (t ∷ answered (ts ++ us) rest) [] ≡ cond b (t ∷ answered ts rest) []
+    by_test : answered_turns (ts ++ us) rest ≡ answered_turns ts rest → (b : Bool)
+        → cond b (t ∷ answered_turns (ts ++ us) rest) [] ≡ cond b (t ∷ answered_turns ts rest) []
     by_test h true = ap (λ vs. t ∷ vs) h
     by_test h false = refl
 
 -- where all of the first turns' text was said, they were answered
 pub answered-behind : (ts us : List Turn) (said : List ℕ)
-    → answered (ts ++ us) (text_of ts ++ said) ≡ ts ++ answered us said
+    → answered_turns (ts ++ us) (turns_text ts ++ said) ≡ ts ++ answered_turns us said
 answered-behind [] us said = refl
 answered-behind (t ∷ ts) us said =
-    let rest = text_of ts ++ said in
+    let rest = turns_text ts ++ said in
     let fits : length t.text ≤ length (t.text ++ rest) = let k = length-append t.text rest in
     omega (arith, k) in
-    ap (answered (t ∷ (ts ++ us))) (append_assoc t.text (text_of ts) said)
-    ∙ ap (λ b. cond b (t ∷ answered (ts ++ us) (drop (length t.text) (t.text ++ rest))) [])
+    ap (answered_turns (t ∷ (ts ++ us))) (append_assoc t.text (turns_text ts) said)
+    ∙ ap (λ b. cond b (t ∷ answered_turns (ts ++ us) (drop (length t.text) (t.text ++ rest))) [])
     (le-leb (length t.text) (length (t.text ++ rest)) fits)
-    ∙ ap (λ (bytes : List ℕ). t ∷ answered (ts ++ us) bytes) (drop-append_seam t.text rest)
+    ∙ ap (λ (bytes : List ℕ). t ∷ answered_turns (ts ++ us) bytes) (drop-append_seam t.text rest)
     ∙ ap (λ vs. t ∷ vs) (answered-behind ts us said)
 
 -- those that were answered are the first
-pub answered-prefix : (ts : List Turn) (said : List ℕ) → IsPrefix (answered ts said) ts
+pub answered-prefix : (ts : List Turn) (said : List ℕ) → IsPrefix (answered_turns ts said) ts
 answered-prefix [] said = ([], refl)
 answered-prefix (t ∷ ts) said = by_test (answered-prefix ts rest) (nat_le (length t.text) (length said))
   where
     rest : List ℕ
     rest = drop (length t.text) said
 
-    by_test : IsPrefix (answered ts rest) ts → (b : Bool)
-        → IsPrefix (cond b (t ∷ answered ts rest) []) (t ∷ ts)
+    by_test : IsPrefix (answered_turns ts rest) ts → (b : Bool)
+        → IsPrefix (cond b (t ∷ answered_turns ts rest) []) (t ∷ ts)
     by_test p true = (p.0, ap (λ us. t ∷ us) p.1)
     by_test p false = (t ∷ ts, refl)
 
@@ -298,20 +295,20 @@ pub left-more : (s : State) (ts us : List Turn) (said : List ℕ) (image : Image
     → IsLeft s ts said image → IsLeft s (ts ++ us) said image
 left-more s ts us said image say p = record {
   behind = subst (StandsBehind image s (ts ++ us))
-      (sym (answered-front ts us said say (prefix-within said (text_of ts) p.front)))
-      (stands-more image s ts us (answered ts said) p.behind);
+      (sym (answered-front ts us said say (prefix-within said (turns_text ts) p.front)))
+      (stands-more image s ts us (answered_turns ts said) p.behind);
   front = subst (IsPrefix said) (sym (text_of-append ts us))
-      (IsPrefix-longer said (text_of ts) (text_of us) p.front);
+      (IsPrefix-longer said (turns_text ts) (turns_text us) p.front);
 }
 
 -- behind turns that were done
 pub left-behind : (s : State) (ts us : List Turn) (said : List ℕ) (image : Image)
-    → IsLeft (after s ts) us said image → IsLeft s (ts ++ us) (text_of ts ++ said) image
+    → IsLeft (after s ts) us said image → IsLeft s (ts ++ us) (turns_text ts ++ said) image
 left-behind s ts us said image p = record {
   behind = subst (StandsBehind image s (ts ++ us)) (sym (answered-behind ts us said))
-      (stands-behind image s ts us (answered us said) p.behind);
-  front = subst (IsPrefix (text_of ts ++ said)) (sym (text_of-append ts us))
-      (IsPrefix-behind (text_of ts) said (text_of us) p.front);
+      (stands-behind image s ts us (answered_turns us said) p.behind);
+  front = subst (IsPrefix (turns_text ts ++ said)) (sym (text_of-append ts us))
+      (IsPrefix-behind (turns_text ts) said (turns_text us) p.front);
 }
 
 -- where nothing was said yet nothing needs to have been done
@@ -319,7 +316,7 @@ pub left-nothing-of : (s : State) (ts : List Turn) (image : Image) → AllSay ts
     → StandsFor image s → IsLeft s ts [] image
 left-nothing-of s ts image say stands = record {
   behind = subst (StandsBehind image s ts) (sym (answered-none ts say)) (stands-none image s ts stands);
-  front = (text_of ts, refl);
+  front = (turns_text ts, refl);
 }
 
 -- ---- tables and what a stop leaves
@@ -342,175 +339,3 @@ ready_kept a b tables keeps ready trusted =
     let first = ready (subst (λ (v : Bool). IsTrue v)
     (λ i. keeps.tells i && keeps.honest i) trusted) in
     (first.0, stands_kept a b keeps tables first.0 first.1)
-
--- ---- stretches
-
--- two stretches that meet: the entries of each ended in it
-pub record Meet (a b c : DiskState) (es fs : Log) : Type 0 where
-  pub before : AreWithin a.moment b.moment es
-  pub behind : AreWithin b.moment c.moment fs
-  pub trusts : IsTrusted a → IsTrusted b
-
--- what is left may be told with less
-pub leaves-weaker : (a b : DiskState) (P Q : ℕ → Image → Type 0)
-    → ((t : ℕ) (image : Image) → P t image → Q t image) → AtEach a b P → AtEach a b Q
-leaves-weaker a b P Q weaker leaves trusted =
-    let p = leaves trusted in
-    record {
-      later = p.later;
-      past = p.past;
-      file = λ g outside. absurd (outside tt);
-      fates = λ t g outside low high. absurd (outside tt);
-      each = λ t image low high is_image. weaker t image (p.each t image low high is_image);
-    }
-
--- one stretch and then another
-pub spans_two : (a b c : DiskState) (P Q R : ℕ → Image → Type 0)
-    → Spans a b (λ _. ⊤) P → Spans b c (λ _. ⊤) Q
-    → ((t : ℕ) (image : Image) → t < b.moment → P t image → R t image)
-    → ((t : ℕ) (image : Image) → b.moment ≤ t → Q t image → R t image)
-    → Spans a c (λ _. ⊤) R
-spans_two a b c P Q R first then front behind = record {
-  later = omega (arith, first.later, then.later);
-  past = λ t g le. then.past t g (omega (arith, le, first.later)) ∙ first.past t g le;
-  file = λ g outside. absurd (outside tt);
-  fates = λ t g outside low high. absurd (outside tt);
-  each = λ t image low high is_image. ⊎_elim
-      (λ (before : t < b.moment). front t image before (first.each t image low (omega (arith, before))
-      (λ f. subst (λ (s : Fates). Fits s (image f)) (then.past t f (omega (arith, before)))
-      (is_image f))))
-      (λ (from : b.moment ≤ t). behind t image from (then.each t image from high is_image))
-      (cases_lt t b.moment);
-}
-
--- a note or a look at the clock in front
-pub leaves-behind-aside : (a b c : DiskState) (P : ℕ → Image → Type 0) → Aside a b → AtEach b c P
-    → AtEach a c P
-leaves-behind-aside a b c P aside leaves trusted =
-    let then = leaves (trusts-kept a b aside.keeps trusted) in
-    let same = aside.moment in
-    record {
-      later = omega (arith, same, then.later);
-      past = λ t g le. then.past t g (omega (arith, le, same)) ∙ aside.keeps.past t g le;
-      file = λ g outside. absurd (outside tt);
-      fates = λ t g outside low high. absurd (outside tt);
-      each = λ t image low high is_image. then.each t image (omega (arith, low, same)) high is_image;
-    }
-
--- or behind
-pub leaves-before-aside : (a b c : DiskState) (P : ℕ → Image → Type 0) → Aside b c → AtEach a b P
-    → AtEach a c P
-leaves-before-aside a b c P aside leaves trusted =
-    let first = leaves trusted in
-    let same = aside.moment in
-    record {
-      later = omega (arith, same, first.later);
-      past = λ t g le. aside.keeps.past t g (omega (arith, le, first.later)) ∙ first.past t g le;
-      file = λ g outside. absurd (outside tt);
-      fates = λ t g outside low high. absurd (outside tt);
-      each = λ t image low high is_image.
-          let before : t ≤ b.moment = omega (arith, high, same) in
-          first.each t image low before
-          (λ f. subst (λ (x : Fates). Fits x (image f)) (aside.keeps.past t f before) (is_image f));
-    }
-
--- a call that leaves all files leaves what a stop left before it
-pub keeps-spans : (a b : DiskState) (P : ℕ → Image → Type 0) → Keeps a b
-    → ((t : ℕ) (image : Image) → a.moment ≤ t → IsImage a a.moment image → P t image)
-    → Spans a b (λ _. ⊤) P
-keeps-spans a b P keeps here = record {
-  later = keeps.later;
-  past = keeps.past;
-  file = λ g outside. absurd (outside tt);
-  fates = λ t g outside low high. absurd (outside tt);
-  each = λ t image low high is_image. here t image low
-      (λ f. subst (λ (x : Fates). Fits x (image f)) (keeps.fates t f low high) (is_image f));
-}
-
--- at one moment
-pub leaves-here : (a : DiskState) (P : ℕ → Image → Type 0)
-    → (IsTrusted a → (t : ℕ) (image : Image) → IsImage a a.moment image → P t image)
-    → AtEach a a P
-leaves-here a P here trusted = keeps-spans a a P (keeps-none a)
-    (λ t image low is_image. here trusted t image is_image)
-
--- ---- one turn
-
-module _ (s : State) (vs : List Turn) (t : Turn) (one : vs ≡ t ∷ []) (say : AllSay vs) where
-  -- nothing was said of it
-  pub left-unsaid : (said : List ℕ) (image : Image) → said ≡ [] → IsUncut image s t.atoms
-      → IsLeft s vs said image
-  left-unsaid said image none p = record {
-    behind = subst (StandsBehind image s vs) (sym (ap (answered vs) none ∙ answered-none vs say))
-        (subst (λ us. StandsBehind image s us []) (sym one) (stands-uncut image s t p));
-    front = subst (λ (bs : List ℕ). IsPrefix bs (text_of vs)) (sym none) (text_of vs, refl);
-  }
-
-  -- it is there, and some of what the server does by itself behind it
-  pub left-followed : (said : List ℕ) (image : Image) → IsPrefix said t.text
-      → IsAmong image (last_state s t.atoms) t.own → IsLeft s vs said image
-  left-followed said image front p = record {
-    behind = stands-fewer image s vs (answered vs said) vs (answered-prefix vs said)
-        (subst (λ us. StandsBehind image s us us) (sym one) (stands-one image s t p));
-    front = subst (IsPrefix said) (sym (ap text_of one ∙ append-nil t.text)) front;
-  }
-
-  -- none of those yet
-  pub left-whole : (said : List ℕ) (image : Image) → IsPrefix said t.text
-      → StandsFor image (last_state s t.atoms) → IsLeft s vs said image
-  left-whole said image front p = left-followed said image front (0, p)
-
-  -- it was carried out or broken off, and nothing was said
-  pub leaves-unsaid : (old new : DiskState) → AtEach old new (λ _ image. IsUncut image s t.atoms)
-      → AtEach old new (λ u image. IsLeft s vs [] image)
-  leaves-unsaid old new leaves trusted =
-      let first = leaves trusted in
-      record {
-        later = first.later;
-        past = first.past;
-        file = λ g outside. absurd (outside tt);
-        fates = λ t g outside low high. absurd (outside tt);
-        each = λ u image low high is_image. left-unsaid [] image refl
-            (first.each u image low high is_image);
-      }
-
-  -- it was carried out, and then some of its text was said
-  pub leaves-said : (old mid new : DiskState) (es : Log)
-      → AreWithin mid.moment new.moment es
-      → ((u : ℕ) → IsPrefix (said_in (until u es)) t.text)
-      → (IsTrusted old → IsTrusted mid)
-      → AtEach old mid (λ _ image. IsUncut image s t.atoms)
-      → (IsTrusted mid → (image : Image) → IsImage mid mid.moment image
-      → StandsFor image (last_state s t.atoms))
-      → Keeps mid new
-      → AtEach old new (λ u image. IsLeft s vs (said_in (until u es)) image)
-  leaves-said old mid new es within front trusts leaves stands keeps trusted =
-      spans_two old mid new (λ _ image. IsUncut image s t.atoms)
-      (λ _ image. StandsFor image (last_state s t.atoms))
-      (λ u image. IsLeft s vs (said_in (until u es)) image)
-      (leaves trusted)
-      (keeps-spans mid new (λ _ image. StandsFor image (last_state s t.atoms)) keeps
-      (λ u image low is_image. stands (trusts trusted) image is_image))
-      (λ u image before p. left-unsaid (said_in (until u es)) image
-      (ap said_in (until-before mid.moment new.moment u es within before)) p)
-      (λ u image from p. left-whole (said_in (until u es)) image (front u) p)
-
-  -- and then came what follows it
-  pub leaves-followed : (old mid done new : DiskState) (es : Log)
-      → AreWithin mid.moment done.moment es
-      → ((u : ℕ) → IsPrefix (said_in (until u es)) t.text)
-      → (IsTrusted old → IsTrusted mid)
-      → AtEach old mid (λ _ image. IsUncut image s t.atoms)
-      → (IsTrusted mid → (image : Image) → IsImage mid mid.moment image
-      → StandsFor image (last_state s t.atoms))
-      → Keeps mid done
-      → AtEach done new (λ _ image. IsAmong image (last_state s t.atoms) t.own)
-      → AtEach old new (λ u image. IsLeft s vs (said_in (until u es)) image)
-  leaves-followed old mid done new es within front trusts leaves stands keeps follows trusted =
-      spans_two old done new (λ u image. IsLeft s vs (said_in (until u es)) image)
-      (λ _ image. IsAmong image (last_state s t.atoms) t.own)
-      (λ u image. IsLeft s vs (said_in (until u es)) image)
-      (leaves-said old mid done es within front trusts leaves stands keeps trusted)
-      (follows (trusts-kept mid done keeps (trusts trusted)))
-      (λ u image before p. p)
-      (λ u image from p. left-followed (said_in (until u es)) image (front u) p)

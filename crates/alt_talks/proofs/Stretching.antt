@@ -6,11 +6,12 @@ use Rattle.alt_base.proofs.Bools.{or_grouped}
 use Rattle.alt_disk.specs.Disk.{DiskState, Goes}
 use Rattle.alt_disk.proofs.Runs.{trusted_on}
 use Rattle.alt_shell.specs.Calls.{Aside}
-use Rattle.alt_shell.specs.Log.{Log, Grows, Tells, moments_of, event_of, bytes_said, bytes_taken, is_end, taken, said_in, ended}
+use Rattle.alt_shell.specs.Log.{Log, Grows, TellsMoments, moments_of, event_of, bytes_said, bytes_taken, is_end, taken, said_in, ended}
 use Rattle.alt_talks.specs.Runs.{OfStretch, Stretch}
 use Rattle.alt_talks.specs.Stops.{AreWithin}
 use Rattle.alt_shell.proofs.Telling.{Grows-then, Grows-nil, Tells-then, Tells-nil}
-use Rattle.alt_talks.proofs.Stopping.{Meet, within-then, within-wider, trusts-kept}
+use Rattle.alt_talks.proofs.Stopping.{within-then, within-wider, trusts-kept}
+use Rattle.alt_talks.proofs.StretchLeaving.{Meet}
 
 -- ---- logs one after the other
 
@@ -82,7 +83,7 @@ stretch_quiet a b c {P} law p aside g m = record {
   told = p.told;
   grows = subst (λ (es : Log). Grows a.beside c.beside es) (append-nil p.entries)
       (Grows-then a.beside b.beside c.beside p.entries [] p.grows g);
-  tells = subst (λ (ms : Option (List ℕ)). Tells (moments_of a.beside) ms p.told) (sym m) p.tells;
+  tells = subst (λ (ms : Option (List ℕ)). TellsMoments (moments_of a.beside) ms p.told) (sym m) p.tells;
   within = subst (λ (n : ℕ). AreWithin a.moment n p.entries) (sym aside.moment) p.within;
   later = let same = aside.moment in omega (arith, same, p.later);
   trusts = λ trusted. trusts-kept b c aside.keeps (p.trusts trusted);
@@ -97,7 +98,7 @@ stretch_goes a b c law p goes = record {
   entries = p.entries;
   told = p.told;
   grows = subst (λ (log : Log). Grows a.beside log p.entries) (sym goes.beside) p.grows;
-  tells = subst (λ (log : Log). Tells (moments_of a.beside) (moments_of log) p.told)
+  tells = subst (λ (log : Log). TellsMoments (moments_of a.beside) (moments_of log) p.told)
       (sym goes.beside) p.tells;
   within = within-wider a.moment a.moment b.moment c.moment p.entries p.within (omega arith)
       goes.later;

@@ -5,8 +5,8 @@ use Rattle.std.proofs.Common.{◌≡◌, ◌<◌, ◌+◌, inl, inr, ℕ, suc, L
 use Rattle.std.proofs.lemmas.Grind.{flat_map-append}
 use Rattle.alt_machine.specs.State.{State}
 use Rattle.alt_shell.specs.Log.{Log, entry, accepted}
-use Rattle.alt_talks.specs.Connections.{Breaks, Connection, Serves, ServesAll, Served, ServedSome, entries_of, told_of, after_all, after_own}
-use Rattle.alt_talks.specs.private.Rungs.{Comes, ComesSome}
+use Rattle.alt_talks.specs.Connections.{ConnectionBreaksOff, Connection, Serves, ServesAll, Served, ServedSome, connection_entries, told_of, after_all, after_own}
+use Rattle.alt_talks.specs.private.Rungs.{ConnectionComes, ComesSome}
 use Rattle.alt_talks.specs.Faults.{reach}
 use Rattle.alt_talks.specs.Own.{BetweenNot, last_told}
 use Rattle.alt_talks.specs.Talks.{Rules}
@@ -16,11 +16,11 @@ use Rattle.alt_talks.proofs.Timing.{last_told-append}
 pub record Sofar (r : Rules) (per n : ℕ) (s t : State) (entries : Log) (told : List ℕ) : Type 0 where
   pub all : List Connection
   pub count : length all ≡ n
-  pub made : entries ≡ entries_of all
+  pub made : entries ≡ connection_entries all
   pub moments : told ≡ told_of all
   pub each : ServesAll r per 1 None s all t
 
-pub entries-append : (ks ls : List Connection) → entries_of (ks ++ ls) ≡ entries_of ks ++ entries_of ls
+pub entries-append : (ks ls : List Connection) → connection_entries (ks ++ ls) ≡ connection_entries ks ++ connection_entries ls
 entries-append ks ls = flat_map-append
     (λ (k : Connection). entry k.moment k.clocked accepted ∷ k.entries) ks ls
 
@@ -92,7 +92,7 @@ sofar_none r per s = record { all = []; count = refl; made = refl; moments = ref
 
 -- one more, and then the server made its own requests behind it
 unfoldable pub sofar_more : (r : Rules) (per n : ℕ) (s t u : State) (es fs : Log) (ms ns : List ℕ)
-    → Sofar r per n s t es ms → Comes r per true t u fs ns
+    → Sofar r per n s t es ms → ConnectionComes r per true t u fs ns
     → (r.between (suc n) (last_told None (ms ++ ns)) u).lacks ≡ None
     → Sofar r per (n + 1) s (after_own r (suc n) (last_told None (ms ++ ns)) u) (es ++ fs) (ms ++ ns)
 sofar_more r per n s t u es fs ms ns a b enough =
@@ -101,7 +101,7 @@ sofar_more r per n s t u es fs ms ns a b enough =
     let moment = moment_now r per n s t es ms a k ns b.3 in record {
       all = a.all ++ k ∷ [];
       count = let l = length-append a.all (k ∷ []) in let m = a.count in omega (arith, l, m);
-      made = ap (λ (l : Log). l ++ fs) a.made ∙ ap (λ (l : Log). entries_of a.all ++ l)
+      made = ap (λ (l : Log). l ++ fs) a.made ∙ ap (λ (l : Log). connection_entries a.all ++ l)
           (b.2 ∙ sym (append-nil (entry k.moment k.clocked accepted ∷ k.entries)))
           ∙ sym (entries-append a.all (k ∷ []));
       moments = ap (λ (l : List ℕ). l ++ ns) a.moments ∙ ap (λ (l : List ℕ). told_of a.all ++ l)
@@ -120,7 +120,7 @@ unfoldable pub served_all : (r : Rules) (per n : ℕ) (s t : State) (es : Log) (
 served_all r per n s t es ms a = record {
   all = a.all;
   last = [];
-  made = a.made ∙ sym (append-nil (entries_of a.all));
+  made = a.made ∙ sym (append-nil (connection_entries a.all));
   moments = a.moments;
   each = a.each;
   state = all_state r per 1 None a.all s t a.each;
@@ -129,7 +129,7 @@ served_all r per n s t es ms a = record {
 
 -- or fewer, since none came any more
 unfoldable pub served_fewer : (r : Rules) (per n count : ℕ) (s t u : State) (es fs : Log) (ms ns : List ℕ)
-    → n < count → Sofar r per n s t es ms → Comes r per false t u fs ns
+    → n < count → Sofar r per n s t es ms → ConnectionComes r per false t u fs ns
     → Served r per count s u (es ++ fs) (ms ++ ns)
 served_fewer r per n count s t u es fs ms ns few a b =
     let same : u ≡ t = b.0 in record {
@@ -151,7 +151,7 @@ served_some r per n count fault next s t es fs ms ns few a (inl none) = record {
   halfway = t;
   each = a.each;
   last = [];
-  made = ap (λ (l : Log). l ++ fs) a.made ∙ ap (λ (l : Log). entries_of a.all ++ l) none.0;
+  made = ap (λ (l : Log). l ++ fs) a.made ∙ ap (λ (l : Log). connection_entries a.all ++ l) none.0;
   moments = ap (λ (l : List ℕ). l ++ ns) a.moments ∙ ap (λ (l : List ℕ). told_of a.all ++ l) none.1;
   some = inl (refl, none.2);
   most = let m = a.count in omega (arith, m, few);
@@ -162,21 +162,21 @@ served_some r per n count fault next s t es fs ms ns few a (inr one) =
       halfway = t;
       each = a.each;
       last = k ∷ [];
-      made = ap (λ (l : Log). l ++ fs) a.made ∙ ap (λ (l : Log). entries_of a.all ++ l)
+      made = ap (λ (l : Log). l ++ fs) a.made ∙ ap (λ (l : Log). connection_entries a.all ++ l)
           (one.2 ∙ sym (append-nil (entry k.moment k.clocked accepted ∷ k.entries)));
       moments = ap (λ (l : List ℕ). l ++ ns) a.moments ∙ ap (λ (l : List ℕ). told_of a.all ++ l)
           (one.3 ∙ sym (append-nil k.told));
       some = inr (inl (
         k,
         refl,
-        subst (λ (ls : List ℕ). Breaks r per fault (reach next ls) t k) a.moments one.1,
+        subst (λ (ls : List ℕ). ConnectionBreaksOff r per fault (reach next ls) t k) a.moments one.1,
       ));
       most = let m = a.count in omega (arith, m, few);
     }
 
 -- or what the server does by itself behind one
 unfoldable pub served_between : (r : Rules) (per n count : ℕ) (fault : RunFault) (next : ℕ) (s t u : State)
-    (es fs : Log) (ms ns : List ℕ) → n < count → Sofar r per n s t es ms → Comes r per true t u fs ns
+    (es fs : Log) (ms ns : List ℕ) → n < count → Sofar r per n s t es ms → ConnectionComes r per true t u fs ns
     → BetweenNot (reach next (ms ++ ns)) (r.between (suc n) (last_told None (ms ++ ns)) u) fault
     → ServedSome r per count fault next s (es ++ fs) (ms ++ ns)
 served_between r per n count fault next s t u es fs ms ns few a b cause =
@@ -185,7 +185,7 @@ served_between r per n count fault next s t u es fs ms ns few a b cause =
       halfway = t;
       each = a.each;
       last = k ∷ [];
-      made = ap (λ (l : Log). l ++ fs) a.made ∙ ap (λ (l : Log). entries_of a.all ++ l)
+      made = ap (λ (l : Log). l ++ fs) a.made ∙ ap (λ (l : Log). connection_entries a.all ++ l)
           (b.2 ∙ sym (append-nil (entry k.moment k.clocked accepted ∷ k.entries)));
       moments = ap (λ (l : List ℕ). l ++ ns) a.moments ∙ ap (λ (l : List ℕ). told_of a.all ++ l)
           (b.3 ∙ sym (append-nil k.told));

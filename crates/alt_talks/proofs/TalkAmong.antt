@@ -5,7 +5,7 @@ use Rattle.alt_disk.specs.Disk.{DiskState, IsTrusted}
 use Rattle.alt_machine.specs.State.{State}
 use Rattle.alt_shell.specs.Log.{Log, entry, accepted, until, taken, said_in}
 use Rattle.alt_tables.specs.Images.{StandsFor}
-use Rattle.alt_talks.specs.Connections.{Connection, entries_of, turns_of, after_all, after_own, start}
+use Rattle.alt_talks.specs.Connections.{Connection, connection_entries, turns_of, after_all, after_own, connection_start}
 use Rattle.alt_talks.specs.Faults.{reach}
 use Rattle.alt_talks.specs.Own.{BetweenNot, last_told}
 use Rattle.alt_talks.specs.Runs.{OfStretch}
@@ -18,7 +18,8 @@ use Rattle.alt_talks.specs.TalkTexts.{after}
 use Rattle.alt_talks.specs.Turns.{Turn as Deed}
 use Rattle.alt_talks.specs.declared.fault.RunFault.{RunFault}
 use Rattle.alt_talks.specs.declared.fault.RunFault.TheVariants.{NoMemory}
-use Rattle.alt_talks.proofs.Stopping.{Meet, leaves-here, spans_two, taken-until, until-append, until-before, until-behind}
+use Rattle.alt_talks.proofs.Stopping.{taken-until, until-append, until-before, until-behind}
+use Rattle.alt_talks.proofs.StretchLeaving.{Meet, leaves-here, spans_two}
 use Rattle.alt_talks.proofs.TalkAll.{Sofar, sofar_none, sofar_more, served_all, served_between, served_fewer, served_some, served_nothing, all_state, entries-append, number_behind, number_now, moment_behind, moment_now}
 use Rattle.alt_talks.proofs.TalkCuts.{at_unread}
 use Rattle.alt_talks.proofs.TalkLeaving.{left_same, left_unsaid, said-behind, taken-behind}
@@ -36,11 +37,11 @@ abbrev whole_of : Connection → Log
 whole_of k = entry k.moment k.clocked accepted ∷ k.entries
 
 -- no call of these had ended, nor of one more
-none_more : (u : ℕ) (ks : List Connection) (k : Connection) → until u (entries_of ks) ≡ []
-    → until u (whole_of k) ≡ [] → until u (entries_of (ks ++ k ∷ [])) ≡ []
+none_more : (u : ℕ) (ks : List Connection) (k : Connection) → until u (connection_entries ks) ≡ []
+    → until u (whole_of k) ≡ [] → until u (connection_entries (ks ++ k ∷ [])) ≡ []
 none_more u ks k none last = ap (until u) (entries-append ks (k ∷ []))
-    ∙ until-append u (entries_of ks) (entries_of (k ∷ []))
-    ∙ ap (λ (es : Log). es ++ until u (entries_of (k ∷ []))) none
+    ∙ until-append u (connection_entries ks) (connection_entries (k ∷ []))
+    ∙ ap (λ (es : Log). es ++ until u (connection_entries (k ∷ []))) none
     ∙ ap (until u) (append-nil (whole_of k)) ∙ last
 
 module _ (r : Rules) (w : Lawful r) (per from to : ℕ) where
@@ -49,7 +50,7 @@ module _ (r : Rules) (w : Lawful r) (per from to : ℕ) where
       (image : Image) → AreWithin from to (whole_of k) → u < from
       → LeftAmong r per n m s ks u image → LeftAmong r per n m s (ks ++ k ∷ []) u image
   among-before n m s [] k u image within before x = inl (
-    left_unsaid r w (start per) s k.entries k.told u image
+    left_unsaid r w (connection_start per) s k.entries k.told u image
         (ap said_in (until-before from to u k.entries within.2 before)) x,
     refl,
   )
@@ -71,15 +72,15 @@ module _ (r : Rules) (w : Lawful r) (per from to : ℕ) where
 
   -- one more, while it is served
   among-behind : (n : ℕ) (m : Option ℕ) (s t : State) (ks : List Connection) (k : Connection) (u : ℕ)
-      (image : Image) → AreWithin from to (entries_of ks) → to ≤ u → t ≡ after_all r per n m s ks
-      → LeftTaken r (start per) t k.entries k.told u image
+      (image : Image) → AreWithin from to (connection_entries ks) → to ≤ u → t ≡ after_all r per n m s ks
+      → LeftTaken r (connection_start per) t k.entries k.told u image
       → LeftAmong r per n m s (ks ++ k ∷ []) u image
   among-behind n m s t [] k u image within behind e x = inl (
-    subst (λ (v : State). LeftTaken r (start per) v k.entries k.told u image) e x,
+    subst (λ (v : State). LeftTaken r (connection_start per) v k.entries k.told u image) e x,
     refl,
   )
   among-behind n m s t (j ∷ ks) k u image within behind e x =
-      let parts = within-split from to j.entries (entries_of ks) within.2 in inr (inr (
+      let parts = within-split from to j.entries (connection_entries ks) within.2 in inr (inr (
         until-behind from to u j.entries parts.0 behind,
         among-behind (suc n) (last_told m j.told)
             (after_own r n (last_told m j.told) (after r s (turns_of r per j) j.told)) t ks k u image
@@ -88,7 +89,7 @@ module _ (r : Rules) (w : Lawful r) (per from to : ℕ) where
 
   -- one more, while the server makes its own requests behind it
   among-follows : (n : ℕ) (m : Option ℕ) (s t : State) (ks : List Connection) (k : Connection) (u : ℕ)
-      (image : Image) → AreWithin from to (entries_of ks) → to ≤ u → t ≡ after_all r per n m s ks
+      (image : Image) → AreWithin from to (connection_entries ks) → to ≤ u → t ≡ after_all r per n m s ks
       → until u k.entries ≡ k.entries
       → LeftBetween r (number_behind n ks) (last_told (moment_behind m ks) k.told)
       (after r t (turns_of r per k) k.told) image
@@ -100,7 +101,7 @@ module _ (r : Rules) (w : Lawful r) (per from to : ℕ) where
         image) e x,
   ))
   among-follows n m s t (j ∷ ks) k u image within behind e last x =
-      let parts = within-split from to j.entries (entries_of ks) within.2 in inr (inr (
+      let parts = within-split from to j.entries (connection_entries ks) within.2 in inr (inr (
         until-behind from to u j.entries parts.0 behind,
         among-follows (suc n) (last_told m j.told)
             (after_own r n (last_told m j.told) (after r s (turns_of r per j) j.told)) t ks k u image
@@ -109,11 +110,11 @@ module _ (r : Rules) (w : Lawful r) (per from to : ℕ) where
 
   -- all of these were served
   among-all : (n : ℕ) (m : Option ℕ) (s t : State) (ks : List Connection) (u : ℕ) (image : Image)
-      → AreWithin from to (entries_of ks) → to ≤ u → t ≡ after_all r per n m s ks
+      → AreWithin from to (connection_entries ks) → to ≤ u → t ≡ after_all r per n m s ks
       → StandsFor image t → LeftAmong r per n m s ks u image
   among-all n m s t [] u image within behind e x = subst (StandsFor image) e x
   among-all n m s t (j ∷ ks) u image within behind e x =
-      let parts = within-split from to j.entries (entries_of ks) within.2 in inr (inr (
+      let parts = within-split from to j.entries (connection_entries ks) within.2 in inr (inr (
         until-behind from to u j.entries parts.0 behind,
         among-all (suc n) (last_told m j.told)
             (after_own r n (last_told m j.told) (after r s (turns_of r per j) j.told)) t ks u image
@@ -122,17 +123,17 @@ module _ (r : Rules) (w : Lawful r) (per from to : ℕ) where
 
 module _ (r : Rules) (w : Lawful r) (per : ℕ) (a b c : DiskState) (s t : State)
     (ks : List Connection) (same : t ≡ after_all r per 1 None s ks) (es fs : Log)
-    (made : es ≡ entries_of ks) (meet : Meet a b c es fs)
+    (made : es ≡ connection_entries ks) (meet : Meet a b c es fs)
     (left : AtEach a b (LeftAmong r per 1 None s ks)) where
-  within_all : AreWithin a.moment b.moment (entries_of ks)
+  within_all : AreWithin a.moment b.moment (connection_entries ks)
   within_all = subst (AreWithin a.moment b.moment) made meet.before
 
   -- then one more was served
   pub left_more : (k : Connection) → fs ≡ whole_of k
-      → AtEach b c (LeftTaken r (start per) t fs k.told)
+      → AtEach b c (LeftTaken r (connection_start per) t fs k.told)
       → AtEach a c (LeftAmong r per 1 None s (ks ++ k ∷ []))
   left_more k is then trusted =
-      spans_two a b c (LeftAmong r per 1 None s ks) (LeftTaken r (start per) t fs k.told)
+      spans_two a b c (LeftAmong r per 1 None s ks) (LeftTaken r (connection_start per) t fs k.told)
       (LeftAmong r per 1 None s (ks ++ k ∷ [])) (left trusted) (then (meet.trusts trusted))
       (λ u image before x. among-before r w per b.moment c.moment 1 None s ks k u image
       (subst (AreWithin b.moment c.moment) is meet.behind) before x)
@@ -140,9 +141,9 @@ module _ (r : Rules) (w : Lawful r) (per : ℕ) (a b c : DiskState) (s t : State
       (alone_left k is u image x))
     where
       alone_left : (k : Connection) → fs ≡ whole_of k → (u : ℕ) (image : Image)
-          → LeftTaken r (start per) t fs k.told u image
-          → LeftTaken r (start per) t k.entries k.told u image
-      alone_left k is u image x = left_same r w (start per) t fs k.entries k.told u u image
+          → LeftTaken r (connection_start per) t fs k.told u image
+          → LeftTaken r (connection_start per) t k.entries k.told u image
+      alone_left k is u image x = left_same r w (connection_start per) t fs k.entries k.told u u image
           (sym (taken-behind (entry k.moment k.clocked accepted) k.entries u refl)
           ∙ ap (λ (gs : Log). taken (until u gs)) (sym is))
           (sym (said-behind (entry k.moment k.clocked accepted) k.entries u refl)
@@ -153,7 +154,7 @@ module _ (r : Rules) (w : Lawful r) (per : ℕ) (a b c : DiskState) (s t : State
       → fs ≡ whole_of k → v ≡ after r t (turns_of r per k) k.told
       → number_behind 1 ks ≡ number → last_told (moment_behind None ks) k.told ≡ moment
       → (IsTrusted b → IsTrusted c)
-      → AtEach b c (LeftTaken r (start per) t fs k.told)
+      → AtEach b c (LeftTaken r (connection_start per) t fs k.told)
       → AtEach c d (λ _ image. LeftBetween r number moment v image)
       → AtEach a d (LeftAmong r per 1 None s (ks ++ k ∷ []))
   left_followed d k v number moment is state at_number at_moment trusts then follows trusted =
@@ -174,17 +175,17 @@ module _ (r : Rules) (w : Lawful r) (per : ℕ) (a b c : DiskState) (s t : State
       (subst (λ (m : Option ℕ). LeftBetween r number m v image) (sym at_moment) x))))
 
   -- then none came
-  pub left_still : (ns : List ℕ) → taken fs ≡ [] → AtEach b c (LeftTaken r (start per) t fs ns)
+  pub left_still : (ns : List ℕ) → taken fs ≡ [] → AtEach b c (LeftTaken r (connection_start per) t fs ns)
       → AtEach a c (LeftAmong r per 1 None s ks)
   left_still ns still then trusted =
-      spans_two a b c (LeftAmong r per 1 None s ks) (LeftTaken r (start per) t fs ns)
+      spans_two a b c (LeftAmong r per 1 None s ks) (LeftTaken r (connection_start per) t fs ns)
       (LeftAmong r per 1 None s ks) (left trusted) (then (meet.trusts trusted))
       (λ u image before x. x)
       (λ u image from x. among-all r w per a.moment b.moment 1 None s t ks u image within_all from same
       (none_left (subst (λ (ts : List Turn). LeftOn r t ts fs ns u image) (none u) x)))
     where
-      none : (u : ℕ) → turns_at r (start per) (taken (until u fs)) ≡ []
-      none u = ap (turns_at r (start per)) (taken-until u fs still)
+      none : (u : ℕ) → turns_at r (connection_start per) (taken (until u fs)) ≡ []
+      none u = ap (turns_at r (connection_start per)) (taken-until u fs still)
           ∙ (at_unread r per false [] w.nothing).0
 
       none_left : {said : List ℕ} {image : Image} → IsLeft t [] said image → StandsFor image t
@@ -222,7 +223,7 @@ module _ (r : Rules) (w : Lawful r) (per : ℕ) (a : DiskState) where
       left_both = left_followed r w per a b c s t x.0.all same es fs x.0.made meet x.1 d y.0.0 u (suc n)
           moment y.0.2 y.0.1.does.state (number_now r per n s t es ms x.0)
           (moment_now r per n s t es ms x.0 y.0.0 ns y.0.3 ∙ sym told) trusts
-          (subst (λ (ls : List ℕ). AtEach b c (LeftTaken r (start per) t fs ls)) y.0.3 y.1) follows
+          (subst (λ (ls : List ℕ). AtEach b c (LeftTaken r (connection_start per) t fs ls)) y.0.3 y.1) follows
 
       pub sofar_more_on : (r.between (suc n) moment u).lacks ≡ None
           → SofarOn r per (n + 1) s (after_own r (suc n) moment u) a d (es ++ fs) (ms ++ ns)
@@ -266,7 +267,7 @@ module _ (r : Rules) (w : Lawful r) (per : ℕ) (a : DiskState) where
     served_some_on count fault next few (inr one, left) = (
       served_some r per n count fault next s t es fs ms ns few x.0 (inr one),
       left_more r w per a b c s t x.0.all same es fs x.0.made meet x.1 one.0 one.2
-          (subst (λ (ls : List ℕ). AtEach b c (LeftTaken r (start per) t fs ls)) one.3 left),
+          (subst (λ (ls : List ℕ). AtEach b c (LeftTaken r (connection_start per) t fs ls)) one.3 left),
     )
 
   pub served_all_on : (b : DiskState) (n : ℕ) (s t : State) (es : Log) (ms : List ℕ)

@@ -11,16 +11,17 @@ use Rattle.alt_talks.specs.Stretches.{SaidOf, Does}
 use Rattle.alt_talks.specs.Talks.{Turn, onward, asked, refused, Rules, has_refused}
 use Rattle.alt_talks.specs.private.Lawful.{Lawful}
 use Rattle.alt_talks.specs.TalkStops.{deeds, saying, carrying, LeftOn}
-use Rattle.alt_talks.specs.TalkTexts.{text, after, asks}
-use Rattle.alt_talks.specs.Turns.{answered, Turn as Deed, text_of, after as deed_after}
+use Rattle.alt_talks.specs.TalkTexts.{text, after, moments_taken}
+use Rattle.alt_talks.specs.Turns.{answered_turns, Turn as Deed, turns_text, after as deed_after}
 use Rattle.alt_talks.proofs.Stretching.{said_in-append}
-use Rattle.alt_talks.proofs.Stopping.{AllSay, Meet, answered-front, answered-prefix, prefix-within, left-more, left-behind, said-by, spans_two, stands-behind, stands-fewer, until-append, until-before, until-behind, IsPrefix-longer}
+use Rattle.alt_talks.proofs.Stopping.{AllSay, answered-front, answered-prefix, prefix-within, left-more, left-behind, said-by, stands-behind, stands-fewer, until-append, until-before, until-behind, IsPrefix-longer}
+use Rattle.alt_talks.proofs.StretchLeaving.{Meet, spans_two}
 use Rattle.alt_talks.proofs.TalkFolds.{asks-requests}
 use Rattle.alt_talks.proofs.TurnLaws.{text_of-append}
 
 -- ---- one list after another
 
-pub deeds-append : (r : Rules) (s : State) (ts us : List Turn) (ms ns : List ℕ) → length ms ≡ asks ts
+pub deeds-append : (r : Rules) (s : State) (ts us : List Turn) (ms ns : List ℕ) → length ms ≡ moments_taken ts
     → deeds r s (ts ++ us) (ms ++ ns) ≡ deeds r s ts ms ++ deeds r (after r s ts ms) us ns
 deeds-append r s [] us [] ns e = refl
 deeds-append r s [] us (m ∷ ms) ns e = absurd (omega arith)
@@ -35,7 +36,7 @@ deeds-append r s (refused k ∷ ts) us (m ∷ ms) ns e =
 
 -- their text is what is to be said
 pub text_of-deeds : (r : Rules) (s : State) (ts : List Turn) (ms : List ℕ)
-    → text_of (deeds r s ts ms) ≡ text r s ts ms
+    → turns_text (deeds r s ts ms) ≡ text r s ts ms
 text_of-deeds r s [] ms = refl
 text_of-deeds r s (onward ∷ ts) ms = ap (λ bs. r.greeting ++ bs) (text_of-deeds r s ts ms)
 text_of-deeds r s (asked q ∷ ts) [] = refl
@@ -74,7 +75,7 @@ module _ (r : Rules) (w : Lawful r) where
   deeds_say s (refused k ∷ ts) (m ∷ ms) = (w.refuses k m, deeds_say s ts ms)
 
   -- the first of more turns
-  pub deeds-more : (s : State) (ts us : List Turn) (ms : List ℕ) → length ms ≤ asks ts
+  pub deeds-more : (s : State) (ts us : List Turn) (ms : List ℕ) → length ms ≤ moments_taken ts
       → (ds : List Deed) × AllSay ds × (deeds r s (ts ++ us) ms ≡ deeds r s ts ms ++ ds)
   deeds-more s [] us [] h = (deeds r s us [], deeds_say s us [], refl)
   deeds-more s [] us (m ∷ ms) h = absurd (omega arith)
@@ -112,16 +113,16 @@ module _ (r : Rules) (w : Lawful r) where
 
 -- behind turns of which a say failed nothing more is said
 pub left-muted : (s : State) (ts us : List Deed) (said : List ℕ) (image : Image) → AllSay us
-    → IsPrefix said (text_of ts) → IsLeft (deed_after s ts) us [] image
+    → IsPrefix said (turns_text ts) → IsLeft (deed_after s ts) us [] image
     → IsLeft s (ts ++ us) said image
 left-muted s ts us said image say front p = record {
   behind = subst (StandsBehind image s (ts ++ us))
-      (sym (answered-front ts us said say (prefix-within said (text_of ts) front)))
-      (stands-fewer image s (ts ++ us) (answered ts said) (ts ++ answered us [])
-      (IsPrefix-longer (answered ts said) ts (answered us []) (answered-prefix ts said))
-      (stands-behind image s ts us (answered us []) p.behind));
+      (sym (answered-front ts us said say (prefix-within said (turns_text ts) front)))
+      (stands-fewer image s (ts ++ us) (answered_turns ts said) (ts ++ answered_turns us [])
+      (IsPrefix-longer (answered_turns ts said) ts (answered_turns us []) (answered-prefix ts said))
+      (stands-behind image s ts us (answered_turns us []) p.behind));
   front = subst (IsPrefix said) (sym (text_of-append ts us))
-      (IsPrefix-longer said (text_of ts) (text_of us) front);
+      (IsPrefix-longer said (turns_text ts) (turns_text us) front);
 }
 
 -- turns, and then more of them
@@ -129,7 +130,7 @@ module _ (r : Rules) (w : Lawful r) (a b c : DiskState) (s t : State) (m n : Boo
     (ts us : List Turn) (es fs : Log) (ms ns : List ℕ) (meet : Meet a b c es fs)
     (clear : has_refused ts ≡ false) (p : Does r s m ts t n es ms)
     (mute : n ≡ true → said_in fs ≡ []) where
-  exact : length ms ≡ asks ts
+  exact : length ms ≡ moments_taken ts
   exact = elim p.count [ inl e ↦ e.0 | inr e ↦ e.1 ∙ asks-requests ts clear ]
 
   pub both : deeds r s (ts ++ us) (ms ++ ns) ≡ deeds r s ts ms ++ deeds r t us ns
@@ -146,7 +147,7 @@ module _ (r : Rules) (w : Lawful r) (a b c : DiskState) (s t : State) (m n : Boo
   behind v image true is left =
       let none : said_in (until v fs) ≡ [] = length-none (said_in (until v fs))
       (let h = said-by v fs in let k = ap length (mute is) in omega (arith, h, k)) in
-      let front : IsPrefix (said_in es) (text_of (deeds r s ts ms)) =
+      let front : IsPrefix (said_in es) (turns_text (deeds r s ts ms)) =
       subst (IsPrefix (said_in es)) (sym (text_of-deeds r s ts ms))
       (subst (λ (y : Bool). SaidOf y (said_in es) (text r s ts ms)) is p.said) in
       subst (λ (bs : List ℕ). IsLeft s (deeds r s ts ms ++ deeds r t us ns) bs image)
@@ -156,7 +157,7 @@ module _ (r : Rules) (w : Lawful r) (a b c : DiskState) (s t : State) (m n : Boo
       (subst (λ (u : State). IsLeft u (deeds r t us ns) [] image) reached
       (subst (λ (bs : List ℕ). IsLeft t (deeds r t us ns) bs image) none left)))
   behind v image false is left =
-      let whole : said_in es ≡ text_of (deeds r s ts ms) =
+      let whole : said_in es ≡ turns_text (deeds r s ts ms) =
       subst (λ (y : Bool). SaidOf y (said_in es) (text r s ts ms)) is p.said
       ∙ sym (text_of-deeds r s ts ms) in
       subst (λ (bs : List ℕ). IsLeft s (deeds r s ts ms ++ deeds r t us ns)

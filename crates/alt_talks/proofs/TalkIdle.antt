@@ -4,10 +4,10 @@ use Rattle.std.specs.Prelude.{◌||◌}
 use Rattle.alt_base.proofs.Bools.{neither_first, or_grouped, neither_second}
 use Rattle.alt_machine.specs.State.{State}
 use Rattle.alt_shell.specs.Log.{Log, Event, took, said, take_failed, say_failed, accepted, none_came, hung_up, event_of, bytes_taken, is_say_failed, bytes_said, taken, said_in, says_failed}
-use Rattle.alt_talks.specs.Talks.{Turn, onward, asked, refused, Rules, Place, turns, final, turns_at, final_at, has_refused}
+use Rattle.alt_talks.specs.Talks.{Turn, onward, asked, refused, Rules, ConnectionPlace, turns, final, turns_at, final_at, has_refused}
 use Rattle.alt_talks.specs.private.Lawful.{Lawful}
-use Rattle.alt_talks.specs.TalkTexts.{text, asks}
-use Rattle.alt_talks.specs.Stretches.{is_over, over, is_take, Idle, TakesIdle, Heard, Counted, Does}
+use Rattle.alt_talks.specs.TalkTexts.{text, moments_taken}
+use Rattle.alt_talks.specs.Stretches.{is_last_take, no_more_bytes, is_take, Idle, TakesIdle, RefusedHeadIsTimed, MomentsAreCounted, Does}
 use Rattle.alt_talks.specs.private.Rungs.{AtRest}
 use Rattle.alt_talks.proofs.Stretching.{taken-append, said_in-append}
 use Rattle.alt_talks.proofs.TalkCuts.{turns_cut, final_cut}
@@ -21,7 +21,7 @@ none_behind [] ys e = e
 none_behind (x ∷ xs) ys e = absurd (let f : ⊥ = cc in f)
 
 -- one that takes gives bytes, or no more will come
-no_take : (x : Option Event) (ys : List ℕ) → bytes_taken x ++ ys ≡ [] → is_over x ≡ false
+no_take : (x : Option Event) (ys : List ℕ) → bytes_taken x ++ ys ≡ [] → is_last_take x ≡ false
     → is_take x ≡ false
 no_take None ys e o = refl
 no_take (Some (took [])) ys e o = absurd (let f : ⊥ = cc in f)
@@ -33,16 +33,16 @@ no_take (Some accepted) ys e o = refl
 no_take (Some none_came) ys e o = refl
 no_take (Some hung_up) ys e o = refl
 
-module _ (r : Rules) (p : Place) (s : State) (m : Bool) where
+module _ (r : Rules) (p : ConnectionPlace) (s : State) (m : Bool) where
   -- where no bytes were taken and more may come, none of the entries takes
-  pub idle_quiet : (told : List ℕ) (before es : Log) → taken es ≡ [] → over es ≡ false
+  pub idle_quiet : (told : List ℕ) (before es : Log) → taken es ≡ [] → no_more_bytes es ≡ false
       → TakesIdle r p s m told before es
   idle_quiet told before [] e o = tt
   idle_quiet told before (x ∷ es) e o = (
     λ t. absurd (let n = no_take (event_of x.1) (taken es) e
-        (neither_first (is_over (event_of x.1)) (over es) o) in let f : ⊥ = cc in f),
+        (neither_first (is_last_take (event_of x.1)) (no_more_bytes es) o) in let f : ⊥ = cc in f),
     idle_quiet told (before ++ x ∷ []) es (none_behind (bytes_taken (event_of x.1)) (taken es) e)
-        (neither_second (is_over (event_of x.1)) (over es) o),
+        (neither_second (is_last_take (event_of x.1)) (no_more_bytes es) o),
   )
 
   -- one that is no take
@@ -88,11 +88,11 @@ module _ (r : Rules) (p : Place) (s : State) (m : Bool) where
       record {
         goes_on = refl;
         heard = ap (λ b. b || false) heard;
-        goes = subst (λ (q : Place). 0 < q.left) (sym here) going;
+        goes = subst (λ (q : ConnectionPlace). 0 < q.left) (sym here) going;
         first = [];
         rest = [];
         moments = refl;
-        count = sym (ap asks none);
+        count = sym (ap moments_taken none);
         said = sym (ap (λ (ts : List Turn). text r s ts []) none);
       }
 
@@ -101,7 +101,7 @@ module _ (r : Rules) (p : Place) (s : State) (m : Bool) where
 module _ (r : Rules) (s : State) (m : Bool) (ts : List Turn) (ms : List ℕ) where
   -- behind an entry that says nothing
   heard_front : (x : ℕ × List ℕ) (es : Log) → bytes_said (event_of x.1) ≡ []
-      → is_say_failed (event_of x.1) ≡ false → Heard r s m ts es ms → Heard r s m ts (x ∷ es) ms
+      → is_say_failed (event_of x.1) ≡ false → RefusedHeadIsTimed r s m ts es ms → RefusedHeadIsTimed r s m ts (x ∷ es) ms
   heard_front x es silent well h = record {
     first = h.first;
     refusal = h.refusal;
@@ -117,7 +117,7 @@ module _ (r : Rules) (s : State) (m : Bool) (ts : List Turn) (ms : List ℕ) whe
   }
 
   -- with more entries behind
-  heard_behind : (es fs : Log) → Heard r s m ts es ms → Heard r s m ts (es ++ fs) ms
+  heard_behind : (es fs : Log) → RefusedHeadIsTimed r s m ts es ms → RefusedHeadIsTimed r s m ts (es ++ fs) ms
   heard_behind es fs h = record {
     first = h.first;
     refusal = h.refusal;
@@ -133,13 +133,13 @@ module _ (r : Rules) (s : State) (m : Bool) (ts : List Turn) (ms : List ℕ) whe
   }
 
   pub counted_front : (n : Bool) (x : ℕ × List ℕ) (es : Log) → bytes_said (event_of x.1) ≡ []
-      → is_say_failed (event_of x.1) ≡ false → Counted r s m ts n es ms
-      → Counted r s m ts n (x ∷ es) ms
+      → is_say_failed (event_of x.1) ≡ false → MomentsAreCounted r s m ts n es ms
+      → MomentsAreCounted r s m ts n (x ∷ es) ms
   counted_front n x es silent well (inl e) = inl (e.0, λ h. heard_front x es silent well (e.1 h))
   counted_front n x es silent well (inr e) = inr e
 
-  pub counted_behind : (n : Bool) (es fs : Log) → Counted r s m ts n es ms
-      → Counted r s m ts n (es ++ fs) ms
+  pub counted_behind : (n : Bool) (es fs : Log) → MomentsAreCounted r s m ts n es ms
+      → MomentsAreCounted r s m ts n (es ++ fs) ms
   counted_behind n es fs (inl e) = inl (e.0, λ h. heard_behind es fs (e.1 h))
   counted_behind n es fs (inr e) = inr e
 
@@ -161,7 +161,7 @@ whole_said r s t m false ts es ms e d = d.said
 
 module _ (r : Rules) (s t : State) (m n : Bool) (ts : List Turn) (es : Log) (ms : List ℕ)
     (clear : has_refused ts ≡ false) (p : Does r s m ts t n es ms) where
-  pub exact_count : length ms ≡ asks ts
+  pub exact_count : length ms ≡ moments_taken ts
   exact_count = elim p.count [ inl e ↦ e.0 | inr e ↦ e.1 ∙ asks-requests ts clear ]
 
   -- what was said by a part behind, and by all
@@ -182,8 +182,8 @@ module _ (r : Rules) (s t : State) (m n : Bool) (ts : List Turn) (es : Log) (ms 
       ∙ or_grouped m (says_failed es) (says_failed before)
       ∙ ap (λ b. b || says_failed before) (sym p.broke) ∙ e
 
-  pub heard_then : (us : List Turn) (fs : Log) (ns : List ℕ) → Heard r t n us fs ns
-      → Heard r s m (ts ++ us) (es ++ fs) (ms ++ ns)
+  pub heard_then : (us : List Turn) (fs : Log) (ns : List ℕ) → RefusedHeadIsTimed r t n us fs ns
+      → RefusedHeadIsTimed r s m (ts ++ us) (es ++ fs) (ms ++ ns)
   heard_then us fs ns x = record {
     first = ts ++ x.first;
     refusal = x.refusal;
@@ -201,9 +201,9 @@ module _ (r : Rules) (s t : State) (m n : Bool) (ts : List Turn) (es : Log) (ms 
   }
 
 -- takes behind turns of which all were done
-module _ (r : Rules) (w : Lawful r) (p q : Place) (s t : State) (m n : Bool) (es : Log) (ms : List ℕ)
+module _ (r : Rules) (w : Lawful r) (p q : ConnectionPlace) (s t : State) (m n : Bool) (es : Log) (ms : List ℕ)
     (clear : has_refused (turns_at r p (taken es)) ≡ false)
-    (d : Does r s m (turns_at r p (taken es)) t n es ms) (more : over es ≡ false)
+    (d : Does r s m (turns_at r p (taken es)) t n es ms) (more : no_more_bytes es ≡ false)
     (place : q ≡ final_at r p (taken es)) where
   both : (before : Log) → p.bytes ++ taken (es ++ before) ≡ (p.bytes ++ taken es) ++ taken before
   both before = ap (λ (l : List ℕ). p.bytes ++ l) (taken-append es before)
@@ -213,12 +213,12 @@ module _ (r : Rules) (w : Lawful r) (p q : Place) (s t : State) (m n : Bool) (es
       ≡ turns_at r p (taken es) ++ turns_at r q (taken before)
   turns_both before = ap (turns r p.left p.greeted) (both before)
       ∙ turns_cut r w p.left p.greeted (p.bytes ++ taken es) (taken before)
-      ∙ ap (λ (k : Place). turns_at r p (taken es) ++ turns_at r k (taken before)) (sym place)
+      ∙ ap (λ (k : ConnectionPlace). turns_at r p (taken es) ++ turns_at r k (taken before)) (sym place)
 
   final_both : (before : Log) → final_at r p (taken (es ++ before)) ≡ final_at r q (taken before)
   final_both before = ap (final r p.left p.greeted) (both before)
       ∙ final_cut r w p.left p.greeted (p.bytes ++ taken es) (taken before)
-      ∙ ap (λ (k : Place). final_at r k (taken before)) (sym place)
+      ∙ ap (λ (k : ConnectionPlace). final_at r k (taken before)) (sym place)
 
   idle_one : (before : Log) (ns : List ℕ) → Idle r q t n ns before
       → Idle r p s m (ms ++ ns) (es ++ before)
@@ -226,9 +226,9 @@ module _ (r : Rules) (w : Lawful r) (p q : Place) (s t : State) (m n : Bool) (es
       let front = turns_at r p (taken es) in
       let back = turns_at r q (taken before) in
       record {
-        goes_on = over-append es before ∙ ap (λ b. b || over before) more ∙ i.goes_on;
+        goes_on = over-append es before ∙ ap (λ b. b || no_more_bytes before) more ∙ i.goes_on;
         heard = well_both r s t m n front es ms clear d before i.heard;
-        goes = subst (λ (k : Place). 0 < k.left) (sym (final_both before)) i.goes;
+        goes = subst (λ (k : ConnectionPlace). 0 < k.left) (sym (final_both before)) i.goes;
         first = ms ++ i.first;
         rest = i.rest;
         moments = ap (λ (l : List ℕ). ms ++ l) i.moments ∙ sym (append_assoc ms i.first i.rest);
@@ -237,7 +237,7 @@ module _ (r : Rules) (w : Lawful r) (p q : Place) (s t : State) (m n : Bool) (es
             let all = asks-append front back in
             let one = exact_count r s t m n front es ms clear d in
             let two = i.count in
-            let same = ap asks (turns_both before) in
+            let same = ap moments_taken (turns_both before) in
             omega (arith, sum, all, one, two, same);
         said = said_both r s t m n front es ms clear d back before i.first
             (neither_first n (says_failed before) i.heard) i.said

@@ -9,7 +9,7 @@ use Rattle.alt_http.specs.Dates.{date_at}
 use Rattle.alt_http.specs.Replies.{continue_text, head_text, reply_text, refusal_status, refusal_body}
 use Rattle.alt_http.specs.Fields.{is_word, values_named}
 use Rattle.alt_http.specs.Lengths.{is_other_length}
-use Rattle.alt_http.specs.Judged.{IsScan, Parts, refusal_of, answered, length_refusal, has_value, most_of_body, by_head, by_bad, by_size, by_more, parts_of}
+use Rattle.alt_http.specs.Judged.{IsScan, Parts, head_refusal, answer_to_head, length_refusal, has_value, most_of_body, by_head, by_bad, by_size, by_more, parts_of}
 use Rattle.alt_http.specs.declared.outcome.Scan.{Scan}
 use Rattle.alt_http.specs.declared.outcome.Scan.TheVariants.{More, Refused, Head}
 use Rattle.alt_http.proofs.Answering.{scan_of-nothing, scan_of-refused, scan_of-head, scan_of-within}
@@ -17,7 +17,7 @@ use Rattle.alt_machine.specs.Outcomes.{last_state}
 use Rattle.alt_machine.specs.State.{State}
 use Rattle.alt_machine.specs.Wanted.{wanted}
 use Rattle.alt_talks.specs.Own.{after_behind, own_behind, own_between}
-use Rattle.alt_talks.specs.TalkRules.{rules, outcome_of, left_by, http_text}
+use Rattle.alt_talks.specs.TalkRules.{talk_rules, outcome_of, left_by, http_text}
 use Rattle.alt_talks.specs.TalkViews.{scanned}
 use Rattle.alt_talks.specs.Turns.{or_next}
 use Rattle.alt_talks.specs.Talks.{unread, bad, good, Request, Head as TalkHead}
@@ -25,57 +25,57 @@ use Rattle.alt_talks.specs.private.Lawful.{Lawful}
 
 -- ---- the rules
 
-pub rules-scan : (bytes : List ℕ) → rules.scan bytes ≡ scanned (scan_of bytes)
-unfolding rules
+pub rules-scan : (bytes : List ℕ) → talk_rules.scan bytes ≡ scanned (scan_of bytes)
+unfolding talk_rules
 rules-scan bytes = refl
 
-pub rules-greeting : rules.greeting ≡ continue_text
-unfolding rules
+pub rules-greeting : talk_rules.greeting ≡ continue_text
+unfolding talk_rules
 rules-greeting = refl
 
 pub rules-refusal : (k m : ℕ)
-    → rules.refusal k m ≡ reply_text (refusal_status k) m true (refusal_body k)
-unfolding rules
+    → talk_rules.refusal k m ≡ reply_text (refusal_status k) m true (refusal_body k)
+unfolding talk_rules
 rules-refusal k m = refl
 
 pub rules-reply : (s : State) (q : Request) (m : ℕ)
-    → rules.reply s q m ≡ http_text (outcome_of s q m).answer m q.close
-unfolding rules
+    → talk_rules.reply s q m ≡ http_text (outcome_of s q m).answer m q.close
+unfolding talk_rules
 rules-reply s q m = refl
 
 pub rules-next : (s : State) (q : Request) (m : ℕ)
-    → rules.next s q m ≡ after_behind (left_by s q m)
-unfolding rules
+    → talk_rules.next s q m ≡ after_behind (left_by s q m)
+unfolding talk_rules
 rules-next s q m = refl
 
 pub rules-atoms : (s : State) (q : Request) (m : ℕ)
-    → rules.atoms s q m ≡ (outcome_of s q m).atoms
-unfolding rules
+    → talk_rules.atoms s q m ≡ (outcome_of s q m).atoms
+unfolding talk_rules
 rules-atoms s q m = refl
 
 pub rules-alone : (s : State) (q : Request) (m : ℕ)
-    → rules.alone s q m ≡ wanted s (outcome_of s q m)
-unfolding rules
+    → talk_rules.alone s q m ≡ wanted s (outcome_of s q m)
+unfolding talk_rules
 rules-alone s q m = refl
 
 pub rules-wants : (s : State) (q : Request) (m : ℕ)
-    → rules.wants s q m ≡ or_next (wanted s (outcome_of s q m)) (own_behind (left_by s q m)).lacks
-unfolding rules
+    → talk_rules.wants s q m ≡ or_next (wanted s (outcome_of s q m)) (own_behind (left_by s q m)).lacks
+unfolding talk_rules
 rules-wants s q m = refl
 
 pub rules-own : (s : State) (q : Request) (m : ℕ)
-    → rules.own s q m ≡ (own_behind (left_by s q m)).atoms
-unfolding rules
+    → talk_rules.own s q m ≡ (own_behind (left_by s q m)).atoms
+unfolding talk_rules
 rules-own s q m = refl
 
 pub rules-between : (number : ℕ) (moment : Option ℕ) (s : State)
-    → rules.between number moment s ≡ own_between number moment s
-unfolding rules
+    → talk_rules.between number moment s ≡ own_between number moment s
+unfolding talk_rules
 rules-between number moment s = refl
 
 -- the state that a request's own writes leave
 pub rules-left : (s : State) (q : Request) (m : ℕ)
-    → last_state s (rules.atoms s q m) ≡ left_by s q m
+    → last_state s (talk_rules.atoms s q m) ≡ left_by s q m
 rules-left s q m = ap (last_state s) (rules-atoms s q m)
 
 -- ---- lawful
@@ -109,7 +109,7 @@ reply_says status m close body =
     let l = length-append (head_text status (date_at m) close (length body)) body in
     omega (arith, h, l)
 
-pub lawful : Lawful rules
+pub lawful : Lawful talk_rules
 lawful = record {
   nothing = rules-scan [] ∙ ap scanned scan_of-nothing;
   stays_bad = λ a b k e.
@@ -123,7 +123,7 @@ lawful = record {
       scan_of-within a h.taken h.target h.length h.expect h.close is;
   steps = λ s q m. rules-next s q m
       ∙ ap (λ (xs : List State). last_state (left_by s q m) xs) (sym (rules-own s q m))
-      ∙ ap (λ (u : State). last_state u (rules.own s q m)) (sym (rules-left s q m));
+      ∙ ap (λ (u : State). last_state u (talk_rules.own s q m)) (sym (rules-left s q m));
   replies = λ s q m. subst (λ (bs : List ℕ). 0 < length bs) (sym (rules-reply s q m))
       (reply_says _ m q.close _);
   refuses = λ k m. subst (λ (bs : List ℕ). 0 < length bs) (sym (rules-refusal k m))
@@ -138,15 +138,15 @@ Known More = Unit {0}
 Known (Refused n) = (1 ≤ n) × (n ≤ 9)
 Known (Head taken target length expect close) = Unit {0}
 
-known : (p : Parts) (n : ℕ) → 1 ≤ n → n ≤ 9 → Known (answered p (Some n))
+known : (p : Parts) (n : ℕ) → 1 ≤ n → n ≤ 9 → Known (answer_to_head p (Some n))
 known p n low high = (low, high)
 
-by_test : (p : Parts) (b : Bool) (x y : Option ℕ) → Known (answered p x) → Known (answered p y)
-    → Known (answered p (cond b x y))
+by_test : (p : Parts) (b : Bool) (x y : Option ℕ) → Known (answer_to_head p x) → Known (answer_to_head p y)
+    → Known (answer_to_head p (cond b x y))
 by_test p true x y h k = h
 by_test p false x y h k = k
 
-by_lengths : (p : Parts) (vs : List (List ℕ)) → Known (answered p (length_refusal vs))
+by_lengths : (p : Parts) (vs : List (List ℕ)) → Known (answer_to_head p (length_refusal vs))
 by_lengths p [] = known p 7 (omega arith) (omega arith)
 by_lengths p (v ∷ vs) = by_test p (list_any (is_other_length v) (v ∷ vs)) (Some 8)
     (cond (nat_lt most_of_body (digits_value 10 v)) (Some 9) None)
@@ -154,7 +154,7 @@ by_lengths p (v ∷ vs) = by_test p (list_any (is_other_length v) (v ∷ vs)) (S
     (by_test p (nat_lt most_of_body (digits_value 10 v)) (Some 9) None
     (known p 9 (omega arith) (omega arith)) tt)
 
-by_parts : (p : Parts) → Known (answered p (refusal_of p))
+by_parts : (p : Parts) → Known (answer_to_head p (head_refusal p))
 by_parts p =
     by_test p (has_value (codes "transfer-encoding") (λ v. true) p) (Some 3) _
     (known p 3 (omega arith) (omega arith))

@@ -6,11 +6,11 @@ use Rattle.std.specs.List.{list_any}
 use Rattle.alt_base.proofs.Bools.{or_grouped}
 use Rattle.alt_disk.specs.Disk.{DiskState}
 use Rattle.alt_shell.specs.Calls.{Keeps}
-use Rattle.alt_shell.specs.Log.{Log, Grows, Tells, moments_of, event_of, Event, is_say_failed, is_bound, says_failed, crosses}
+use Rattle.alt_shell.specs.Log.{Log, Grows, TellsMoments, moments_of, event_of, Event, is_say_failed, is_bound, says_failed, crosses}
 use Rattle.alt_shell.proofs.Telling.{Grows-then, Tells-then, Tells-nil}
 use Rattle.alt_talks.specs.Runs.{OfStretch, Stretch}
 use Rattle.alt_talks.specs.Stops.{AreWithin}
-use Rattle.alt_talks.specs.Stretches.{is_over, over, is_say, says, Hushes}
+use Rattle.alt_talks.specs.Stretches.{is_last_take, no_more_bytes, is_say, says_something, Hushes}
 use Rattle.alt_talks.proofs.Stopping.{trusts-kept, within-then, within-wider}
 
 any-append : (test : Option Event → Bool) (es fs : Log)
@@ -22,8 +22,8 @@ any-append test (e ∷ es) fs = ap (λ b. test (event_of e.1) || b) (any-append 
     ∙ or_grouped (test (event_of e.1)) (list_any (λ (e : ℕ × List ℕ). test (event_of e.1)) es)
     (list_any (λ (e : ℕ × List ℕ). test (event_of e.1)) fs)
 
-pub over-append : (es fs : Log) → over (es ++ fs) ≡ (over es || over fs)
-over-append es fs = any-append is_over es fs
+pub over-append : (es fs : Log) → no_more_bytes (es ++ fs) ≡ (no_more_bytes es || no_more_bytes fs)
+over-append es fs = any-append is_last_take es fs
 
 pub broken-append : (es fs : Log) → says_failed (es ++ fs) ≡ (says_failed es || says_failed fs)
 broken-append es fs = any-append is_say_failed es fs
@@ -31,15 +31,15 @@ broken-append es fs = any-append is_say_failed es fs
 pub crosses-append : (es fs : Log) → crosses (es ++ fs) ≡ (crosses es || crosses fs)
 crosses-append es fs = any-append is_bound es fs
 
-pub says-append : (es fs : Log) → says (es ++ fs) ≡ (says es || says fs)
+pub says-append : (es fs : Log) → says_something (es ++ fs) ≡ (says_something es || says_something fs)
 says-append es fs = any-append is_say es fs
 
 -- nothing is said behind a say that failed in the first entries, nor behind one in the others
-pub hushes-append : (es fs : Log) → Hushes es → Hushes fs → (says_failed es ≡ true → says fs ≡ false)
+pub hushes-append : (es fs : Log) → Hushes es → Hushes fs → (says_failed es ≡ true → says_something fs ≡ false)
     → Hushes (es ++ fs)
 hushes-append [] fs h k still = k
 hushes-append (e ∷ es) fs h k still = (
-  λ f. says-append es fs ∙ ap (λ b. b || says fs) (h.0 f)
+  λ f. says-append es fs ∙ ap (λ b. b || says_something fs) (h.0 f)
       ∙ still (ap (λ b. b || says_failed es) f),
   hushes-append es fs h.1 k
       (λ f. still (ap (λ b. is_say_failed (event_of e.1) || b) f
@@ -98,7 +98,7 @@ then_one a b c x P Q g m low high keeps join p = record {
   entries = p.entries ++ x ∷ [];
   told = p.told;
   grows = Grows-then a.beside b.beside c.beside p.entries (x ∷ []) p.grows g;
-  tells = subst (λ (ms : List ℕ). Tells (moments_of a.beside) (moments_of c.beside) ms)
+  tells = subst (λ (ms : List ℕ). TellsMoments (moments_of a.beside) (moments_of c.beside) ms)
       (append-nil p.told)
       (Tells-then (moments_of a.beside) (moments_of b.beside) (moments_of c.beside) p.told [] p.tells
       (Tells-nil (moments_of b.beside) (moments_of c.beside) m));

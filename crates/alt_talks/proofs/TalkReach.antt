@@ -6,14 +6,14 @@ use Rattle.alt_machine.specs.State.{State}
 use Rattle.alt_shell.specs.Log.{Log}
 use Rattle.alt_tables.specs.Stands.{Stands, bounds_of}
 use Rattle.alt_tables.specs.declared.tables.Tables.{Tables}
-use Rattle.alt_talks.specs.TalkRules.{rules}
+use Rattle.alt_talks.specs.TalkRules.{talk_rules}
 use Rattle.alt_talks.specs.TalkStops.{ServedOn, ServedSomeOn, LeavesNow}
 use Rattle.alt_talks.specs.Faults.{reach}
 use Rattle.alt_talks.specs.Runs.{Counting, LeadsOn, OfStretch, Stretch}
 use Rattle.alt_talks.specs.declared.fault.RunFault.{RunFault}
 use Rattle.alt_talks.proofs.FileFaults.{reach_both, reach_least}
 use Rattle.alt_talks.proofs.Stretching.{stretch_none, stretch_as, stretch_then}
-use Rattle.alt_talks.proofs.Stopping.{Meet}
+use Rattle.alt_talks.proofs.StretchLeaving.{Meet}
 use Rattle.alt_tables.proofs.Left.{stands_left}
 
 -- nothing was done
@@ -80,16 +80,16 @@ reach_break a b c next t1 P Q R wider law p go =
 -- connections that were served, whichever state that left: a stop now leaves it
 pub run_served : {T : Type 0} (result : Result T RunFault) (a d : DiskState) (tables : Tables)
     (per count next : ℕ) (s : State)
-    → MatchResult result (λ _. LeadsOn next a d tables (λ t. ServedOn rules per count s t))
-    (λ f. Stretch a d (ServedSomeOn rules per count f next s))
+    → MatchResult result (λ _. LeadsOn next a d tables (λ t. ServedOn talk_rules per count s t))
+    (λ f. Stretch a d (ServedSomeOn talk_rules per count f next s))
     → MatchResult result
-    (λ _. Stretch a d (λ old new es ms. (t : State) × ServedOn rules per count s t old new es ms
+    (λ _. Stretch a d (λ old new es ms. (t : State) × ServedOn talk_rules per count s t old new es ms
     × LeavesNow new t))
-    (λ f. Stretch a d (ServedSomeOn rules per count f next s))
+    (λ f. Stretch a d (ServedSomeOn talk_rules per count f next s))
 run_served (Ok x) a d tables per count next s h =
     stretch_as a d
-    {P = Counting next (bounds_of tables).file (ServedOn rules per count s h.to)}
-    {Q = λ old new es ms. (t : State) × ServedOn rules per count s t old new es ms × LeavesNow new t}
+    {P = Counting next (bounds_of tables).file (ServedOn talk_rules per count s h.to)}
+    {Q = λ old new es ms. (t : State) × ServedOn talk_rules per count s t old new es ms × LeavesNow new t}
     (λ es ms within y. (
       h.to,
       y.0,

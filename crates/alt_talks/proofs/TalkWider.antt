@@ -4,7 +4,7 @@ use Rattle.alt_disk.specs.Disk.{DiskState}
 use Rattle.alt_machine.specs.State.{State}
 use Rattle.alt_shell.specs.Log.{Log, taken}
 use Rattle.alt_talks.specs.Connections.{turns_of}
-use Rattle.alt_talks.specs.Talks.{Place, Rules, Turn, turns, turns_at}
+use Rattle.alt_talks.specs.Talks.{ConnectionPlace, Rules, Turn, turns, turns_at}
 use Rattle.alt_talks.specs.private.RungStops.{AnswersSomeOn, ComesSomeOn, GoesSomeOn, MovesSomeOn}
 use Rattle.alt_talks.specs.declared.fault.RunFault.{RunFault}
 use Rattle.alt_talks.proofs.Breaking.{some_wider}
@@ -18,7 +18,7 @@ module _ (r : Rules) (fault : RunFault) (a b : DiskState) (k l : ℕ) (s : State
     x.1,
   )
 
-  pub moves_wider : (p : Place) (m : Bool) → MovesSomeOn r fault k p s m a b es ms
+  pub moves_wider : (p : ConnectionPlace) (m : Bool) → MovesSomeOn r fault k p s m a b es ms
       → MovesSomeOn r fault l p s m a b es ms
   moves_wider p m x = (
     record {
@@ -28,7 +28,7 @@ module _ (r : Rules) (fault : RunFault) (a b : DiskState) (k l : ℕ) (s : State
     x.1,
   )
 
-  pub goes_wider : (p : Place) (m : Bool) → GoesSomeOn r fault k p s m a b es ms
+  pub goes_wider : (p : ConnectionPlace) (m : Bool) → GoesSomeOn r fault k p s m a b es ms
       → GoesSomeOn r fault l p s m a b es ms
   goes_wider p m x = (
     record {

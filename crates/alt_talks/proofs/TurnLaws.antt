@@ -2,11 +2,11 @@
 use Rattle.std.proofs.Common.{◌≡◌, List, [], ◌∷◌, ◌++◌, None, refl, ap, sym, ◌∙◌, append_assoc}
 use Rattle.std.proofs.lemmas.Grind.{flat_map-append}
 use Rattle.alt_machine.specs.State.{State}
-use Rattle.alt_talks.specs.Turns.{DoesWrite, Turn, WritesLast, text_of, after, after_turn, or_next, wanted}
+use Rattle.alt_talks.specs.Turns.{DoesWrite, Turn, WritesLast, turns_text, after, after_turn, or_next, wanted_by_turns}
 use Rattle.alt_talks.proofs.TalkFolds.{first_none}
 
 -- what is said in all
-pub text_of-append : (ts us : List Turn) → text_of (ts ++ us) ≡ text_of ts ++ text_of us
+pub text_of-append : (ts us : List Turn) → turns_text (ts ++ us) ≡ turns_text ts ++ turns_text us
 text_of-append ts us = flat_map-append (λ (t : Turn). t.text) ts us
 
 -- the state after all
@@ -15,14 +15,14 @@ after-append s [] us = refl
 after-append s (t ∷ ts) us = after-append (after_turn s t) ts us
 
 -- what is wanted where the first turns had all that they wanted
-pub wanted-append : (ts us : List Turn) → wanted ts ≡ None → wanted (ts ++ us) ≡ wanted us
+pub wanted-append : (ts us : List Turn) → wanted_by_turns ts ≡ None → wanted_by_turns (ts ++ us) ≡ wanted_by_turns us
 wanted-append [] us e = refl
 wanted-append (t ∷ ts) us e =
-    let here = first_none t.lacks (wanted ts) e in
-    ap (λ w. or_next w (wanted (ts ++ us))) here.0 ∙ wanted-append ts us here.1
+    let here = first_none t.lacks (wanted_by_turns ts) e in
+    ap (λ w. or_next w (wanted_by_turns (ts ++ us))) here.0 ∙ wanted-append ts us here.1
 
 -- the last of these turns writes something behind others that lacked nothing
-pub writes_behind : (ts us : List Turn) → wanted ts ≡ None → WritesLast us → WritesLast (ts ++ us)
+pub writes_behind : (ts us : List Turn) → wanted_by_turns ts ≡ None → WritesLast us → WritesLast (ts ++ us)
 writes_behind ts us enough w = record {
   before = ts ++ w.before;
   turn = w.turn;

@@ -15,10 +15,10 @@ use Rattle.alt_talks.specs.Faults.{IsAnswerFault, IsCausedBy, reach}
 use Rattle.alt_talks.specs.declared.fault.RunFault.{RunFault}
 use Rattle.alt_talks.specs.declared.fault.RunFault.TheVariants.{NoMemory}
 use Rattle.alt_talks.specs.Turns.{or_next}
-use Rattle.alt_talks.specs.Talks.{Turn, onward, asked, refused, Rules, Request, Place, at, turns, final, has_refused}
-use Rattle.alt_talks.specs.TalkTexts.{text, after, requests, asks, wanted}
-use Rattle.alt_talks.specs.Stretches.{SaidOf, Does, DoesSome, BreaksFor, over, says, Counted, Begins}
-use Rattle.alt_talks.specs.private.Rungs.{Quiet, Utters, AnswersSome, Moves, MovesAll, MovesSome, AtRest}
+use Rattle.alt_talks.specs.Talks.{Turn, onward, asked, refused, Rules, Request, ConnectionPlace, at, turns, final, has_refused}
+use Rattle.alt_talks.specs.TalkTexts.{text, after, request_count, moments_taken, wanted_by_talk}
+use Rattle.alt_talks.specs.Stretches.{SaidOf, Does, DoesSome, TurnsBreakOffFor, no_more_bytes, says_something, MomentsAreCounted, Begins}
+use Rattle.alt_talks.specs.private.Rungs.{TakesNothing, Utters, AnswersSome, MovesConnection, MovesAll, MovesSome, AtRest}
 use Rattle.alt_talks.proofs.Breaking.{breaks_behind}
 use Rattle.alt_talks.proofs.FileFaults.{IsTurnFault, file_more}
 use Rattle.alt_talks.proofs.Stretching.{said_in-append, taken-append}
@@ -142,10 +142,10 @@ or_true false b n e h = absurd (let f : ⊥ = cc in f)
 -- turns and then more; the first hold no refusal, since that ends them
 module _ (r : Rules) (s t u : State) (m n o : Bool) (ts us : List Turn) (es fs : Log) (ms ns : List ℕ) (clear : has_refused ts ≡ false)
     (p : Does r s m ts t n es ms) (q : Does r t n us u o fs ns) where
-  exact : length ms ≡ asks ts
+  exact : length ms ≡ moments_taken ts
   exact = exact_count r s t m n ts es ms clear p
 
-  counted : Counted r s m (ts ++ us) o (es ++ fs) (ms ++ ns)
+  counted : MomentsAreCounted r s m (ts ++ us) o (es ++ fs) (ms ++ ns)
   counted = elim q.count [
     | inl e ↦ inl (
       let a = length-append ms ns in let b = asks-append ts us in let c = exact in let d = e.0 in omega (arith, a, b, c, d),
@@ -166,7 +166,7 @@ module _ (r : Rules) (s t u : State) (m n o : Bool) (ts us : List Turn) (es fs :
         (λ e. (q.silent e).0) (or_true n (says_failed fs) o q.broke)));
     state = q.state ∙ ap (λ v. after r v us ns) p.state ∙ sym (after-append r s ts us ms ns exact);
     count = counted;
-    enough = wanted-append r s ts us ms ns exact p.enough ∙ ap (λ v. wanted r v us ns) (sym p.state) ∙ q.enough;
+    enough = wanted-append r s ts us ms ns exact p.enough ∙ ap (λ v. wanted_by_talk r v us ns) (sym p.state) ∙ q.enough;
     broke = q.broke ∙ ap (λ b. b || says_failed fs) p.broke ∙ sym (or_grouped m (says_failed es)
         (says_failed fs)) ∙ ap (λ b. m || b) (sym (broken-append es fs));
     silent = λ e.
@@ -175,17 +175,17 @@ module _ (r : Rules) (s t u : State) (m n o : Bool) (ts us : List Turn) (es fs :
           let a = length-append ms ns in let b = requests-append ts us in let c = (p.silent e).1 in let d = (q.silent mute).1 in omega (arith, a, b, c, d),
         );
     hush = hushes-append es fs p.hush q.hush (λ e. q.still (broken_now e));
-    still = λ e. says-append es fs ∙ ap (λ b. b || says fs) (p.still e) ∙ q.still (or_true m (says_failed es) n p.broke e);
+    still = λ e. says-append es fs ∙ ap (λ b. b || says_something fs) (p.still e) ∙ q.still (or_true m (says_failed es) n p.broke e);
   }
 
-pub quiet_then : (es fs : Log) → Quiet es → Quiet fs → Quiet (es ++ fs)
+pub quiet_then : (es fs : Log) → TakesNothing es → TakesNothing fs → TakesNothing (es ++ fs)
 quiet_then es fs a b = record {
   still = taken-append es fs ∙ ap (λ bs. bs ++ taken fs) a.still ∙ b.still;
-  goes_on = over-append es fs ∙ ap (λ e. e || over fs) a.goes_on ∙ b.goes_on;
+  goes_on = over-append es fs ∙ ap (λ e. e || no_more_bytes fs) a.goes_on ∙ b.goes_on;
   inside = crosses-append es fs ∙ ap (λ e. e || crosses fs) a.inside ∙ b.inside;
 }
 
-pub quiet_none : Quiet []
+pub quiet_none : TakesNothing []
 quiet_none = record { still = refl; goes_on = refl; inside = refl }
 
 pub clear_then : (ts us : List Turn) → has_refused ts ≡ false → has_refused us ≡ false → has_refused (ts ++ us) ≡ false
@@ -195,9 +195,9 @@ clear_then (asked q ∷ ts) us a b = clear_then ts us a b
 clear_then (refused k ∷ ts) us a b = absurd (let f : ⊥ = cc in f)
 
 -- moves and then more, where turns may still come
-module _ (r : Rules) (p q v : Place) (s t u : State) (m n o : Bool) (es fs : Log) (ms ns : List ℕ) (going : 0 < q.left)
-    (a : Moves r p s m q t n es ms) (b : Moves r q t n v u o fs ns) where
-  unfoldable pub moves_then : Moves r p s m v u o (es ++ fs) (ms ++ ns)
+module _ (r : Rules) (p q v : ConnectionPlace) (s t u : State) (m n o : Bool) (es fs : Log) (ms ns : List ℕ) (going : 0 < q.left)
+    (a : MovesConnection r p s m q t n es ms) (b : MovesConnection r q t n v u o fs ns) where
+  unfoldable pub moves_then : MovesConnection r p s m v u o (es ++ fs) (ms ++ ns)
   moves_then = record {
     done = a.done ++ b.done;
     does = does_then r s t u m n o a.done b.done es fs ms ns (a.clear going) a.does b.does;
@@ -208,8 +208,8 @@ module _ (r : Rules) (p q v : Place) (s t u : State) (m n o : Bool) (es fs : Log
   }
 
 -- where none is left at hand
-pub moves_all : (r : Rules) (p q : Place) (s t : State) (m n : Bool) (es : Log) (ms : List ℕ)
-    → turns r q.left q.greeted q.bytes ≡ [] → final r q.left q.greeted q.bytes ≡ q → Moves r p s m q t n es ms → MovesAll r p s m q t n es ms
+pub moves_all : (r : Rules) (p q : ConnectionPlace) (s t : State) (m n : Bool) (es : Log) (ms : List ℕ)
+    → turns r q.left q.greeted q.bytes ≡ [] → final r q.left q.greeted q.bytes ≡ q → MovesConnection r p s m q t n es ms → MovesAll r p s m q t n es ms
 moves_all r p q s t m n es ms none here a =
     let all : turns r p.left p.greeted p.bytes ≡ a.done = a.splits ∙ ap (λ ts. a.done ++ ts) none ∙ append-nil a.done in record {
       does = subst (λ (ts : List Turn). Does r s m ts t n es ms) (sym all) a.does;
@@ -227,7 +227,7 @@ pub begins_none : (r : Rules) (s : State) (ts : List Turn) → Begins r s ts []
 begins_none r s ts = record { done = []; begun = []; rest = ts; parts = refl; few = omega arith; count = inl refl; enough = refl }
 
 -- the one turn was, and asked for its moment
-begins_one : (r : Rules) (s : State) (t : Turn) (at : ℕ) → 1 ≡ asks (t ∷ [])
+begins_one : (r : Rules) (s : State) (t : Turn) (at : ℕ) → 1 ≡ moments_taken (t ∷ [])
     → Begins r s (t ∷ []) (at ∷ [])
 begins_one r s t at e =
     record { done = []; begun = t ∷ []; rest = []; parts = refl; few = omega arith; count = inl e; enough = refl }
@@ -239,7 +239,7 @@ answers_some_none r next s m ts = record { some = record { said = (text r s ts [
 -- why a request has no answer is why it broke off
 asked_breaks : (r : Rules) (fault : RunFault) (next : ℕ) (s : State) (m : Bool) (q : Request) (at : ℕ)
     → IsTurnFault next (r.alone s q at) (r.wants s q at) (r.atoms s q at) fault
-    → BreaksFor r fault next s m (asked q ∷ []) [] (at ∷ [])
+    → TurnsBreakOffFor r fault next s m (asked q ∷ []) [] (at ∷ [])
 asked_breaks r fault next s m q at (inl w) =
     inl (subst (λ v. IsCausedBy v fault) (alone (r.wants s q at)) w)
 asked_breaks r fault next s m q at (inr last) = inr (
@@ -278,7 +278,7 @@ some_asked r fault next s m q at es ms t w =
 
 -- why what follows a request isn't made is why it broke off
 own_breaks : (r : Rules) (fault : RunFault) (next : ℕ) (s : State) (m : Bool) (q : Request) (at : ℕ) (es : Log)
-    → IsAnswerFault next (r.wants s q at) (r.own s q at) fault → BreaksFor r fault next s m (asked q ∷ []) es (at ∷ [])
+    → IsAnswerFault next (r.wants s q at) (r.own s q at) fault → TurnsBreakOffFor r fault next s m (asked q ∷ []) es (at ∷ [])
 own_breaks r fault next s m q at es (inl w) =
     inl (subst (λ v. IsCausedBy v fault) (alone (r.wants s q at)) w)
 own_breaks r fault next s m q at es (inr last) = inr (
@@ -328,16 +328,16 @@ some_refused r next s m k at es ms t =
 -- turns and then a break
 module _ (r : Rules) (fault : RunFault) (next : ℕ) (s t : State) (m n : Bool) (ts us : List Turn) (es fs : Log) (ms ns : List ℕ) (clear : has_refused ts ≡ false)
     (a : Does r s m ts t n es ms) (b : DoesSome r fault (reach next ms) t n us fs ns) where
-  told_of : length ms ≡ asks ts
+  told_of : length ms ≡ moments_taken ts
   told_of = exact_count r s t m n ts es ms clear a
 
-  begun_both : (us ks : List Turn) → (length ns ≡ asks (us ++ ks)) ⊎ (length ns ≡ requests (us ++ ks))
-      → (length (ms ++ ns) ≡ asks ((ts ++ us) ++ ks)) ⊎ (length (ms ++ ns) ≡ requests ((ts ++ us) ++ ks))
+  begun_both : (us ks : List Turn) → (length ns ≡ moments_taken (us ++ ks)) ⊎ (length ns ≡ request_count (us ++ ks))
+      → (length (ms ++ ns) ≡ moments_taken ((ts ++ us) ++ ks)) ⊎ (length (ms ++ ns) ≡ request_count ((ts ++ us) ++ ks))
   begun_both us ks (inl e) =
-      let same = ap asks (append_assoc ts us ks) in
+      let same = ap moments_taken (append_assoc ts us ks) in
       inl (let a = length-append ms ns in let b = asks-append ts (us ++ ks) in let c = told_of in omega (arith, same, a, b, c, e))
   begun_both us ks (inr e) =
-      let same = ap requests (append_assoc ts us ks) in
+      let same = ap request_count (append_assoc ts us ks) in
       inr (let a = length-append ms ns in let b = requests-append ts (us ++ ks) in let c = told_of in let d = asks-requests ts clear in omega (arith, same, a, b, c, d, e))
 
   begins_both : Begins r s (ts ++ us) (ms ++ ns)
@@ -349,7 +349,7 @@ module _ (r : Rules) (fault : RunFault) (next : ℕ) (s t : State) (m n : Bool) 
     few = b.begins.few;
     count = begun_both b.begins.done b.begins.begun b.begins.count;
     enough = wanted-append r s ts b.begins.done ms ns told_of a.enough
-        ∙ ap (λ (v : State). wanted r v b.begins.done ns) (sym a.state) ∙ b.begins.enough;
+        ∙ ap (λ (v : State). wanted_by_talk r v b.begins.done ns) (sym a.state) ∙ b.begins.enough;
   }
 
   pub does_break : DoesSome r fault next s m (ts ++ us) (es ++ fs) (ms ++ ns)
@@ -364,24 +364,24 @@ module _ (r : Rules) (fault : RunFault) (next : ℕ) (s t : State) (m n : Bool) 
     silent = λ e. said_in-append es fs ∙ ap (λ bs. bs ++ said_in fs) (a.silent e).0 ∙ b.silent (or_true m (says_failed es) n a.broke e);
     hush =
         hushes-append es fs a.hush b.hush (λ e. b.still (a.broke ∙ ap (λ v. m || v) e ∙ or-true m));
-    still = λ e. says-append es fs ∙ ap (λ v. v || says fs) (a.still e) ∙ b.still (or_true m (says_failed es) n a.broke e);
+    still = λ e. says-append es fs ∙ ap (λ v. v || says_something fs) (a.still e) ∙ b.still (or_true m (says_failed es) n a.broke e);
     begins = begins_both;
   }
 
 -- moves and then a break
-pub moves_break : (r : Rules) (fault : RunFault) (next : ℕ) (p q : Place) (s t : State) (m n : Bool) (es fs : Log) (ms ns : List ℕ) → 0 < q.left
-    → Moves r p s m q t n es ms → MovesSome r fault (reach next ms) q t n fs ns → MovesSome r fault next p s m (es ++ fs) (ms ++ ns)
+pub moves_break : (r : Rules) (fault : RunFault) (next : ℕ) (p q : ConnectionPlace) (s t : State) (m n : Bool) (es fs : Log) (ms ns : List ℕ) → 0 < q.left
+    → MovesConnection r p s m q t n es ms → MovesSome r fault (reach next ms) q t n fs ns → MovesSome r fault next p s m (es ++ fs) (ms ++ ns)
 moves_break r fault next p q s t m n es fs ms ns going a b = record {
   some = subst (λ (ts : List Turn). DoesSome r fault next s m ts (es ++ fs) (ms ++ ns)) (sym a.splits)
       (does_break r fault next s t m n a.done (turns r q.left q.greeted q.bytes) es fs ms ns (a.clear going) a.does b.some);
   quiet = quiet_then es fs a.quiet b.quiet;
 }
 
-unfoldable pub moves_none : (r : Rules) (p : Place) (s : State) (m : Bool) → Moves r p s m p s m [] []
+unfoldable pub moves_none : (r : Rules) (p : ConnectionPlace) (s : State) (m : Bool) → MovesConnection r p s m p s m [] []
 moves_none r p s m = record { done = []; does = does_none r s m; splits = refl; same = refl; clear = λ _. refl; quiet = quiet_none }
 
 -- where no request may come any more, none is at hand
-pub rests_at_end : (r : Rules) (q : Place) → q.left ≡ 0 → AtRest r q
+pub rests_at_end : (r : Rules) (q : ConnectionPlace) → q.left ≡ 0 → AtRest r q
 rests_at_end r q e = (ap (λ (n : ℕ). turns r n q.greeted q.bytes) e, ap (λ (n : ℕ). final r n q.greeted q.bytes) e ∙ ap (λ (n : ℕ). at n q.greeted q.bytes) (sym e))
 
 -- a say that failed in a talk in which none had failed

@@ -7,9 +7,9 @@ use Rattle.alt_shell.specs.Log.{Log, accepted, none_came, hung_up, entry, taken,
 use Rattle.alt_talks.specs.Faults.{IsCausedBy, reach}
 use Rattle.alt_talks.specs.Own.{BetweenNot, last_told}
 use Rattle.alt_talks.specs.declared.fault.RunFault.{RunFault}
-use Rattle.alt_talks.specs.Talks.{Turn, Rules, Place, at, turns, closes}
+use Rattle.alt_talks.specs.Talks.{Turn, Rules, ConnectionPlace, at, turns, closes}
 use Rattle.alt_talks.specs.TalkTexts.{after}
-use Rattle.alt_talks.specs.Stretches.{Does, DoesSome, TakesIdle, over}
+use Rattle.alt_talks.specs.Stretches.{Does, DoesSome, TakesIdle, no_more_bytes}
 
 -- A connection: the moment at which it was accepted and how many moments had been told by then, the entries from then on, its hanging up
 -- among them, and the moments told on it.
@@ -20,8 +20,8 @@ pub record Connection : Type 0 where
   pub told : List ℕ
 
 -- what connections add to the log, one after another
-abbrev pub entries_of : List Connection → Log
-entries_of ks = flat_map (λ k. entry k.moment k.clocked accepted ∷ k.entries) ks
+abbrev pub connection_entries : List Connection → Log
+connection_entries ks = flat_map (λ k. entry k.moment k.clocked accepted ∷ k.entries) ks
 
 -- the moments told on them
 abbrev pub told_of : List Connection → List ℕ
@@ -32,16 +32,16 @@ abbrev pub turns_of : Rules → ℕ → Connection → List Turn
 turns_of r per k = turns r per false (taken k.entries)
 
 -- where a connection begins
-abbrev pub start : ℕ → Place
-start per = at per false []
+abbrev pub connection_start : ℕ → ConnectionPlace
+connection_start per = at per false []
 
 -- A connection was served and hung up: where its end was taken, a take or a say on it failed, or its turns ended. Where no say failed
 -- its whole text was said, and else a part from the front; the state is that of its requests, answered or not. Bytes were taken only
 -- where all turns of those before were done, and none once the turns had ended or a say failed.
 pub record Serves (r : Rules) (per : ℕ) (s : State) (k : Connection) (t : State) : Type 0 where
   pub does : Does r s false (turns_of r per k) t (says_failed k.entries) k.entries k.told
-  pub cause : (over k.entries ≡ true) ⊎ (says_failed k.entries ≡ true) ⊎ (closes (turns_of r per k) ≡ true)
-  pub idle : TakesIdle r (start per) s false k.told [] k.entries
+  pub cause : (no_more_bytes k.entries ≡ true) ⊎ (says_failed k.entries ≡ true) ⊎ (closes (turns_of r per k) ≡ true)
+  pub idle : TakesIdle r (connection_start per) s false k.told [] k.entries
   pub before : Log
   pub at : ℕ
   pub clocked : ℕ
@@ -49,9 +49,9 @@ pub record Serves (r : Rules) (per : ℕ) (s : State) (k : Connection) (t : Stat
   pub inside : crosses before ≡ false
 
 -- Serving a connection broke off, and it was hung up; bytes were taken as on one that was served, and no other connection came or went.
-pub record Breaks (r : Rules) (per : ℕ) (fault : RunFault) (next : ℕ) (s : State) (k : Connection) : Type 0 where
+pub record ConnectionBreaksOff (r : Rules) (per : ℕ) (fault : RunFault) (next : ℕ) (s : State) (k : Connection) : Type 0 where
   pub some : DoesSome r fault next s false (turns_of r per k) k.entries k.told
-  pub idle : TakesIdle r (start per) s false k.told [] k.entries
+  pub idle : TakesIdle r (connection_start per) s false k.told [] k.entries
   pub before : Log
   pub at : ℕ
   pub clocked : ℕ
@@ -81,7 +81,7 @@ after_all r per number moment s (k ∷ ks) = after_all r per (suc number) (last_
 pub record Served (r : Rules) (per connections : ℕ) (s t : State) (entries : Log) (told : List ℕ) : Type 0 where
   pub all : List Connection
   pub last : Log
-  pub made : entries ≡ entries_of all ++ last
+  pub made : entries ≡ connection_entries all ++ last
   pub moments : told ≡ told_of all
   pub each : ServesAll r per 1 None s all t
   pub state : t ≡ after_all r per 1 None s all
@@ -102,8 +102,8 @@ pub record ServedSome (r : Rules) (per connections : ℕ) (fault : RunFault) (ne
   pub halfway : State
   pub each : ServesAll r per 1 None s all halfway
   pub last : List Connection
-  pub made : entries ≡ entries_of all ++ entries_of last
+  pub made : entries ≡ connection_entries all ++ connection_entries last
   pub moments : told ≡ told_of all ++ told_of last
-  pub some : ((last ≡ []) × IsCausedBy None fault) ⊎ ((k : Connection) × (last ≡ k ∷ []) × Breaks r per fault (reach next (told_of all)) halfway k)
+  pub some : ((last ≡ []) × IsCausedBy None fault) ⊎ ((k : Connection) × (last ≡ k ∷ []) × ConnectionBreaksOff r per fault (reach next (told_of all)) halfway k)
       ⊎ ((k : Connection) × (last ≡ k ∷ []) × BreaksBetween r per (reach next told) (suc (length all)) (last_told None told) fault halfway k)
   pub most : length all + length last ≤ connections

@@ -2,7 +2,7 @@
 use Rattle.std.specs.Prelude.{◌≡◌, ◌≤◌, ℕ, List}
 use Rattle.alt_disk.specs.Disk.{DiskState, IsTrusted}
 use Rattle.alt_machine.specs.State.{State}
-use Rattle.alt_shell.specs.Log.{Log, Grows, Tells, moments_of, notes_of, talks}
+use Rattle.alt_shell.specs.Log.{Log, Grows, TellsMoments, moments_of, notes_of, talks}
 use Rattle.alt_tables.specs.Stands.{Stands, bounds_of}
 use Rattle.alt_tables.specs.declared.tables.Tables.{Tables}
 use Rattle.alt_talks.specs.Faults.{reach}
@@ -17,7 +17,7 @@ pub record Stretch (old new : DiskState) (P : OfStretch) : Type 0 where
   pub entries : Log
   pub told : List ℕ
   pub grows : Grows old.beside new.beside entries
-  pub tells : Tells (moments_of old.beside) (moments_of new.beside) told
+  pub tells : TellsMoments (moments_of old.beside) (moments_of new.beside) told
   pub within : AreWithin old.moment new.moment entries
   pub later : old.moment ≤ new.moment
   pub trusts : IsTrusted old → IsTrusted new

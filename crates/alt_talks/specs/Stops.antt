@@ -6,7 +6,7 @@ use Rattle.alt_disk.specs.Runs.{Spans}
 use Rattle.alt_machine.specs.Outcomes.{last_state, state_after}
 use Rattle.alt_machine.specs.State.{State}
 use Rattle.alt_shell.specs.Log.{Log}
-use Rattle.alt_talks.specs.Turns.{after_turn, answered, Turn, text_of}
+use Rattle.alt_talks.specs.Turns.{after_turn, answered_turns, Turn, turns_text}
 use Rattle.alt_tables.specs.Images.{StandsFor}
 
 -- files as a stop leaves them
@@ -31,8 +31,8 @@ pub record StandsBehind (image : Image) (s : State) (ts least : List Turn) : Typ
 -- A stop leaves this while turns are done from a state and so much was said of their text: it stands for the state behind a prefix of them that
 -- contains every one whose whole text was said, and what was said is the front of their text.
 pub record IsLeft (s : State) (ts : List Turn) (said : List ℕ) (image : Image) : Type 0 where
-  pub behind : StandsBehind image s ts (answered ts said)
-  pub front : IsPrefix said (text_of ts)
+  pub behind : StandsBehind image s ts (answered_turns ts said)
+  pub front : IsPrefix said (turns_text ts)
 
 -- On a disk that can be relied on, whatever a stop at a moment of this stretch leaves has P of that moment.
 abbrev pub AtEach : DiskState → DiskState → (ℕ → Image → Type 0) → Type 0

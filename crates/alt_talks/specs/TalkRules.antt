@@ -31,8 +31,8 @@ abbrev pub http_text : Answer → ℕ → Bool → List ℕ
 http_text a moment close = reply_text (status_said a.status) moment close (compact_text a.body)
 
 -- the rules by which connections are served
-unfoldable pub rules : Rules
-rules = record {
+unfoldable pub talk_rules : Rules
+talk_rules = record {
   scan = λ bytes. scanned (scan_of bytes);
   next = λ s q moment. after_behind (left_by s q moment);
   atoms = λ s q moment. (outcome_of s q moment).atoms;

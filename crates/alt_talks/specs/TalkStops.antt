@@ -4,11 +4,11 @@ use Rattle.alt_disk.specs.Disk.{DiskState, IsImage, IsTrusted}
 use Rattle.alt_machine.specs.State.{State}
 use Rattle.alt_shell.specs.Log.{Log, until, taken, said_in}
 use Rattle.alt_tables.specs.Images.{StandsFor}
-use Rattle.alt_talks.specs.Connections.{Connection, after_own, start, Served, ServedSome, entries_of, turns_of}
+use Rattle.alt_talks.specs.Connections.{Connection, after_own, connection_start, Served, ServedSome, connection_entries, turns_of}
 use Rattle.alt_talks.specs.Own.{last_told}
 use Rattle.alt_talks.specs.Runs.{OfStretch}
 use Rattle.alt_talks.specs.Stops.{Image, IsAmong, IsLeft, AtEach}
-use Rattle.alt_talks.specs.Talks.{Turn, onward, asked, refused, Rules, Request, Place, turns_at}
+use Rattle.alt_talks.specs.Talks.{Turn, onward, asked, refused, Rules, Request, ConnectionPlace, turns_at}
 use Rattle.alt_talks.specs.TalkTexts.{after}
 use Rattle.alt_talks.specs.Turns.{Turn as Deed}
 use Rattle.alt_talks.specs.declared.fault.RunFault.{RunFault}
@@ -43,7 +43,7 @@ LeftOn r s ts entries told t image = IsLeft s (deeds r s ts told) (said_in (unti
 
 -- What a stop at a moment leaves while bytes are taken at a place and their turns are done from a state: the turns are those of the bytes
 -- taken by then. So nothing is left of a request that wasn't whole by then, and what was said by then is the front of their text.
-abbrev pub LeftTaken : Rules → Place → State → Log → List ℕ → ℕ → Image → Type 0
+abbrev pub LeftTaken : Rules → ConnectionPlace → State → Log → List ℕ → ℕ → Image → Type 0
 LeftTaken r p s entries told t image =
     LeftOn r s (turns_at r p (taken (until t entries))) entries told t image
 
@@ -66,8 +66,8 @@ LeftBetween r number moment s image = IsAmong image s (r.between number moment s
 abbrev pub LeftAmong : Rules → ℕ → ℕ → Option ℕ → State → List Connection → ℕ → Image → Type 0
 LeftAmong r per number moment s [] t image = StandsFor image s
 LeftAmong r per number moment s (k ∷ ks) t image =
-    (LeftTaken r (start per) s k.entries k.told t image × (until t (entries_of ks) ≡ []))
-    ⊎ (((until t k.entries ≡ k.entries) × (until t (entries_of ks) ≡ [])
+    (LeftTaken r (connection_start per) s k.entries k.told t image × (until t (connection_entries ks) ≡ []))
+    ⊎ (((until t k.entries ≡ k.entries) × (until t (connection_entries ks) ≡ [])
     × LeftBetween r number (last_told moment k.told) (after r s (turns_of r per k) k.told) image)
     ⊎ ((until t k.entries ≡ k.entries)
     × LeftAmong r per (suc number) (last_told moment k.told)

@@ -24,24 +24,24 @@ after r s (refused k ∷ ts) [] = after r s ts []
 after r s (refused k ∷ ts) (m ∷ ms) = after r s ts ms
 
 -- how many requests stand among the turns
-abbrev pub requests : List Turn → ℕ
-requests [] = 0
-requests (onward ∷ ts) = requests ts
-requests (asked q ∷ ts) = suc (requests ts)
-requests (refused k ∷ ts) = requests ts
+abbrev pub request_count : List Turn → ℕ
+request_count [] = 0
+request_count (onward ∷ ts) = request_count ts
+request_count (asked q ∷ ts) = suc (request_count ts)
+request_count (refused k ∷ ts) = request_count ts
 
 -- how many turns take a moment where no say failed
-abbrev pub asks : List Turn → ℕ
-asks [] = 0
-asks (onward ∷ ts) = asks ts
-asks (asked q ∷ ts) = suc (asks ts)
-asks (refused k ∷ ts) = suc (asks ts)
+abbrev pub moments_taken : List Turn → ℕ
+moments_taken [] = 0
+moments_taken (onward ∷ ts) = moments_taken ts
+moments_taken (asked q ∷ ts) = suc (moments_taken ts)
+moments_taken (refused k ∷ ts) = suc (moments_taken ts)
 
 -- the first number or family that a request wants and can't have
-abbrev pub wanted : Rules → State → List Turn → List ℕ → Option Lack
-wanted r s [] ms = None
-wanted r s (onward ∷ ts) ms = wanted r s ts ms
-wanted r s (asked q ∷ ts) [] = None
-wanted r s (asked q ∷ ts) (m ∷ ms) = or_next (r.wants s q m) (wanted r (r.next s q m) ts ms)
-wanted r s (refused k ∷ ts) [] = wanted r s ts []
-wanted r s (refused k ∷ ts) (m ∷ ms) = wanted r s ts ms
+abbrev pub wanted_by_talk : Rules → State → List Turn → List ℕ → Option Lack
+wanted_by_talk r s [] ms = None
+wanted_by_talk r s (onward ∷ ts) ms = wanted_by_talk r s ts ms
+wanted_by_talk r s (asked q ∷ ts) [] = None
+wanted_by_talk r s (asked q ∷ ts) (m ∷ ms) = or_next (r.wants s q m) (wanted_by_talk r (r.next s q m) ts ms)
+wanted_by_talk r s (refused k ∷ ts) [] = wanted_by_talk r s ts []
+wanted_by_talk r s (refused k ∷ ts) (m ∷ ms) = wanted_by_talk r s ts ms

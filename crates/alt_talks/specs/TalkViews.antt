@@ -5,8 +5,8 @@ use Rattle.alt_http.specs.declared.outcome.Scan.TheVariants.{More, Refused, Head
 use Rattle.alt_talks.specs.Talks.{Scanned, unread, bad, good, Head as TalkHead}
 
 -- a head of these parts
-abbrev pub head_of : ℕ → Option (List ℕ) → ℕ → Bool → Bool → TalkHead
-head_of taken target length expect close = record {
+abbrev pub head_of_parts : ℕ → Option (List ℕ) → ℕ → Bool → Bool → TalkHead
+head_of_parts taken target length expect close = record {
   taken = taken;
   target = target;
   length = length;
@@ -18,4 +18,4 @@ head_of taken target length expect close = record {
 abbrev pub scanned : Scan → Scanned
 scanned More = unread
 scanned (Refused k) = bad k
-scanned (Head taken target length expect close) = good (head_of taken target length expect close)
+scanned (Head taken target length expect close) = good (head_of_parts taken target length expect close)

@@ -52,12 +52,12 @@ pub record Rules : Type 0 where
   pub greeting : List ℕ
 
 -- the bytes of a head and its body
-abbrev pub size_of : Head → ℕ
-size_of h = h.taken + h.length
+abbrev pub request_size : Head → ℕ
+request_size h = h.taken + h.length
 
 -- whether they are all there
-abbrev pub is_whole : Head → List ℕ → Bool
-is_whole h bytes = nat_le (size_of h) (length bytes)
+abbrev pub is_request_whole : Head → List ℕ → Bool
+is_request_whole h bytes = nat_le (request_size h) (length bytes)
 
 -- the request of a head behind which so many more may come: it closes by itself, or since none may follow it
 abbrev pub request_of : Head → List ℕ → ℕ → Request
@@ -77,34 +77,34 @@ abbrev pub turns : Rules → ℕ → Bool → List ℕ → List Turn
 turns r zero greeted bytes = []
 turns r (suc n) greeted bytes =
     by_scan [] (λ k. refused k ∷ [])
-    (λ h. greets greeted h.expect ++ (if is_whole h bytes then asked (request_of h bytes n) ∷ (if h.close then [] else turns r n false (drop (size_of h) bytes)) else []))
+    (λ h. greets greeted h.expect ++ (if is_request_whole h bytes then asked (request_of h bytes n) ∷ (if h.close then [] else turns r n false (drop (request_size h) bytes)) else []))
     (r.scan bytes)
 
 -- Where a connection stands: how many requests may come, none where its turns have ended; whether the head in front was told to
 -- go on; and the bytes that are left.
-pub record Place : Type 0 where
+pub record ConnectionPlace : Type 0 where
   pub left : ℕ
   pub greeted : Bool
   pub bytes : List ℕ
 
 -- a place
-abbrev pub at : ℕ → Bool → List ℕ → Place
+abbrev pub at : ℕ → Bool → List ℕ → ConnectionPlace
 at n greeted bytes = record { left = n; greeted = greeted; bytes = bytes }
 
 -- where the turns of these bytes leave it
-abbrev pub final : Rules → ℕ → Bool → List ℕ → Place
+abbrev pub final : Rules → ℕ → Bool → List ℕ → ConnectionPlace
 final r zero greeted bytes = at 0 greeted bytes
 final r (suc n) greeted bytes =
     by_scan (at (suc n) greeted bytes) (λ k. at 0 greeted bytes)
-    (λ h. if is_whole h bytes then (if h.close then at 0 false (drop (size_of h) bytes) else final r n false (drop (size_of h) bytes)) else at (suc n) (greeted || h.expect) bytes)
+    (λ h. if is_request_whole h bytes then (if h.close then at 0 false (drop (request_size h) bytes) else final r n false (drop (request_size h) bytes)) else at (suc n) (greeted || h.expect) bytes)
     (r.scan bytes)
 
 -- the turns from a place on, with more bytes
-abbrev pub turns_at : Rules → Place → List ℕ → List Turn
+abbrev pub turns_at : Rules → ConnectionPlace → List ℕ → List Turn
 turns_at r p more = turns r p.left p.greeted (p.bytes ++ more)
 
 -- where these leave it
-abbrev pub final_at : Rules → Place → List ℕ → Place
+abbrev pub final_at : Rules → ConnectionPlace → List ℕ → ConnectionPlace
 final_at r p more = final r p.left p.greeted (p.bytes ++ more)
 
 -- a turn that ends the connection: the last request or one that closes, or a refusal

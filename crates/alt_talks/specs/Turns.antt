@@ -24,8 +24,8 @@ after_turn s t = last_state (last_state s t.atoms) t.own
 -- ---- what they come to together
 
 -- all that is said
-abbrev pub text_of : List Turn → List ℕ
-text_of ts = flat_map (λ t. t.text) ts
+abbrev pub turns_text : List Turn → List ℕ
+turns_text ts = flat_map (λ t. t.text) ts
 
 -- the state after the last
 abbrev pub after : State → List Turn → State
@@ -38,9 +38,9 @@ or_next None next = next
 or_next (Some lack) next = Some lack
 
 -- the first number or family that is wanted and can't be had
-abbrev pub wanted : List Turn → Option Lack
-wanted [] = None
-wanted (t ∷ ts) = or_next t.lacks (wanted ts)
+abbrev pub wanted_by_turns : List Turn → Option Lack
+wanted_by_turns [] = None
+wanted_by_turns (t ∷ ts) = or_next t.lacks (wanted_by_turns ts)
 
 -- A turn writes something and lacks nothing by itself; or the server writes something behind it, and neither lacks anything.
 abbrev pub DoesWrite : Turn → Type 0
@@ -52,12 +52,12 @@ pub record WritesLast (ts : List Turn) : Type 0 where
   pub before : List Turn
   pub turn : Turn
   pub parts : ts ≡ before ++ turn ∷ []
-  pub enough : wanted before ≡ None
+  pub enough : wanted_by_turns before ≡ None
   pub writes : DoesWrite turn
 
 -- the turns, from the first on, whose whole texts stand in the bytes said
-abbrev pub answered : List Turn → List ℕ → List Turn
-answered [] bytes = []
-answered (t ∷ ts) bytes =
-    if nat_le (length t.text) (length bytes) then t ∷ answered ts
+abbrev pub answered_turns : List Turn → List ℕ → List Turn
+answered_turns [] bytes = []
+answered_turns (t ∷ ts) bytes =
+    if nat_le (length t.text) (length bytes) then t ∷ answered_turns ts
     (drop (length t.text) bytes) else []

@@ -10,7 +10,7 @@ use Rattle.alt_tables.specs.Merged.{IsMergedFor}
 use Rattle.alt_talks.specs.Stops.{AtEach, IsAmong}
 
 -- Work on a store that stands for a state: calls of the disk alone, and whatever a stop leaves at a moment of them stands for that state.
-pub record Works (old new : DiskState) (s : State) : Type 0 where
+pub record WorksOnStore (old new : DiskState) (s : State) : Type 0 where
   pub goes : Goes old new
   pub leaves : AtEach old new (λ _ image. StandsFor image s)
 

@@ -7,7 +7,7 @@ ghost use Rattle.alt_disk.specs.Disk.{Goes};
 ghost use Rattle.alt_tables.specs.EngineDeclaredTask.TheVariants.{Step};
 ghost use Rattle.alt_machine.specs.State.{State};
 ghost use Rattle.alt_tables.specs.FilesLeft.{most_files};
-ghost use Rattle.alt_tables.specs.Stands.{AreReady, Stands, bounds_of, limits_of};
+ghost use Rattle.alt_tables.specs.Stands.{AreReady, Stands, bounds_of, limits_of_tables};
 ghost use Rattle.alt_talks.specs.Own.{BetweenNot, FollowsNot, after_behind, own_behind, own_between};
 ghost use Rattle.alt_talks.specs.private.Rungs.{after_between};
 ghost use Rattle.alt_talks.specs.Works.{AfterWork, Follows};
@@ -34,8 +34,8 @@ pub fn follow<D: Disk>(tables: &mut Tables, disk: &mut D, works: bool) -> Result
     ensures files { (s : State) → Stands (D.state disk.old) tables.old s → OnOk result
         ((bounds_of tables.new).file ≤ (bounds_of tables.old).file + most_files) }
     ensures entries { works ≡ true
-        → OnOk result (AfterWork Step (limits_of tables.old).flush (D.state disk.new)) }
-    ensures limits { limits_of tables.new ≡ limits_of tables.old }
+        → OnOk result (AfterWork Step (limits_of_tables tables.old).flush (D.state disk.new)) }
+    ensures limits { limits_of_tables tables.new ≡ limits_of_tables tables.old }
     ensures goes { Goes (D.state disk.old) (D.state disk.new) }
     ensures cause { IsErrOf result RunFault.Failed
         → Rose (D.state disk.old).faults (D.state disk.new).faults }

@@ -31,13 +31,13 @@ pub(crate) struct Front {
 
 impl Model for Front {
     ghost use Rattle.std.specs.Prelude.{ℕ, List};
-    ghost use Rattle.alt_talks.specs.private.HeadViews.{AreRead};
+    ghost use Rattle.alt_talks.specs.private.HeadViews.{HeadIsScanned};
 
     ghost Value = { List ℕ };
 
     ghost view = { λ f. f.bytes.items };
 
-    ghost invariant = { λ f. AreRead f.bytes.items f.seen f.head };
+    ghost invariant = { λ f. HeadIsScanned f.bytes.items f.seen f.head };
 }
 
 impl Front {

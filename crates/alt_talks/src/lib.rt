@@ -7,6 +7,8 @@ mod fault;
 mod following;
 mod front;
 mod response;
+mod saying;
+mod turns;
 mod working;
 
 pub use alt_dispatch::{answer, operation_named};

@@ -1,5 +1,5 @@
 -- What the list of the items that are due next tells of places that are ready, and what it knows once it is told of one.
-use Rattle.std.proofs.Common.{◌≡◌, ◌<◌, ◌≤◌, ◌^◌, refl, sym, ap, subst, ◌∙◌, ℕ, Bool, true, false, List, [], ◌∷◌, ◌++◌, ◌⊎◌, inl, inr, Option, Some, None, append_assoc, is_some, option_map, arith}
+use Rattle.std.proofs.Common.{◌≡◌, ◌<◌, ◌≤◌, ◌^◌, refl, sym, ap, subst, ◌∙◌, ℕ, Bool, true, false, List, [], ◌∷◌, inl, inr, Option, Some, None, is_some, option_map, arith}
 use Rattle.std.specs.Prelude.{◌&&◌, option_and_then}
 use Rattle.std.specs.FinMap as finite
 use Rattle.std.specs.Option.{option_map_or}
@@ -8,8 +8,8 @@ use Rattle.std.proofs.lemmas.Bool.{false≢true, cases_lt, and_from}
 use Rattle.std.specs.Cmp.{second_so}
 use Rattle.alt_base.proofs.Orderings.{nat_cmp-greater}
 use Rattle.alt_cells.proofs.SameKeys.{key_itself, one_key}
-use Rattle.alt_due.specs.Due.{FindsNext, IsReady, IsRipe, KeepsKnown, KeepsOthers, Knows, KnowsFrom, Lists, NoneDue, covers, is_before, is_behind, is_within}
-use Rattle.alt_due.specs.Order.{spot_cmp, spot_of}
+use Rattle.alt_due.specs.Due.{FindsNext, IsReady, IsRipe, KeepsKnown, KeepsOthers, Knows, KnowsFrom, Lists, NoneDue, is_before, is_behind, suffices_at}
+use Rattle.alt_due.specs.Order.{spot_of}
 use Rattle.alt_due.specs.declared.due.Due.{Due}
 use Rattle.alt_due.specs.declared.spot.Spot.{Spot}
 use Rattle.alt_machine.specs.Expiry.{all_expired, is_expired, is_over}
@@ -18,11 +18,12 @@ use Rattle.alt_machine.specs.declared.Standing.{Standing}
 use Rattle.alt_machine.specs.State.{State, Table, Texts, descriptions}
 use Rattle.alt_machine.proofs.Descriptions.{get-descriptions}
 use Rattle.alt_schema.specs.declared.schema.TableSchema.{TableSchema}
-use Rattle.alt_request.specs.TablesForeseen.{Foresees, ForeseesItem, IsFrom, IsMetFrom}
+use Rattle.alt_request.specs.TablesForeseen.{Foresees, ForeseesItem, IsMomentFrom, IsMetFrom}
 use Rattle.alt_request.specs.TablesSeveral.{Every}
 use Rattle.alt_request.proofs.TablesEach.{every_weaker}
-use Rattle.alt_ttl.specs.private.Foresight.{Defers, ForeseesPlaced, Settles, Suffices, is_over_at, spot_at}
-use Rattle.alt_ttl.proofs.Ordered.{NoneBetween, every_over, has_over, is_less, left_behind, left_none, left_other, left_own, less_trans, rise_all}
+use Rattle.alt_ttl.specs.private.Foresight.{Defers, ForeseesPlaced, ListSettles, ListSuffices, is_over_at, spot_at}
+use Rattle.alt_ttl.proofs.Ordered.{every_over, has_over, is_less, less_trans, rise_all}
+use Rattle.alt_ttl.proofs.LeftBehind.{NoneBetween, left_behind, left_none, left_other, left_own}
 use Rattle.alt_value.specs.Item.{at_name}
 use Rattle.alt_value.specs.Members.{text_order}
 use Rattle.alt_value.specs.Tree.{Pair}
@@ -30,7 +31,7 @@ use Rattle.alt_value.specs.Tree.{Pair}
 -- ---- places that are ready
 
 module _ (s : State) (due : Due) (moment : ℕ) (fits : moment < 2 ^ 64)
-    (knows : Foresees s.tables due) (ripe : IsRipe moment due) (enough : Suffices due moment) where
+    (knows : Foresees s.tables due) (ripe : IsRipe moment due) (enough : ListSuffices due moment) where
   -- a place before the end at which an item has expired is ready
   ready_over : (y : Spot) → is_over_at s moment y ≡ true → is_before due.end y ≡ true → IsReady due y
   ready_over y over before = by (finite.get s.tables y.table) refl over
@@ -47,7 +48,7 @@ module _ (s : State) (due : Due) (moment : ℕ) (fits : moment < 2 ^ 64)
           → option_map_or (is_expired t.description moment) o false ≡ true → IsReady due y
       in_table t at None at_i over = absurd (false≢true over)
       in_table t at (Some item) at_i is = lists (knows y.table y.place t item at at_i moment fits is
-          (and_from (is_within due moment) (is_before due.end y) enough.within before))
+          (and_from (suffices_at due moment) (is_before due.end y) enough.within before))
 
       by : (o : Option Table) → finite.get s.tables y.table ≡ o
           → option_map_or (λ (t : Table). option_map_or (is_expired t.description moment)
@@ -163,7 +164,7 @@ foresees_told s spot old new others own knows name place t item at there moment 
 -- so it does where it is told of the item that was looked at
 pub foresees_settled : (s : State) (t : Table) (spot : Spot) (moment : ℕ) (item : Option (List Pair))
     (old new : Due) → finite.get s.tables spot.table ≡ Some t → item ≡ finite.get t.items spot.place
-    → Settles t.description moment spot item old new → old.since ≡ moment
+    → ListSettles t.description moment spot item old new → old.since ≡ moment
     → Foresees s.tables old → Foresees s.tables new
 foresees_settled s t spot moment item old new at is settles since knows =
     foresees_told s spot old new settles.others (λ u i at_u at_i.
@@ -250,7 +251,7 @@ module _ (d : TableSchema) (moment : ℕ) (spot : Spot) (item : List Pair)
   ]
     where
       by : (o : Option ℕ) → first ≡ o → moment ≤ m → Knows new m spot
-      by None is high = let far : 2 ^ 64 ≤ m = subst (λ x. IsFrom x m) is (met.from m fits over) in
+      by None is high = let far : 2 ^ 64 ≤ m = subst (λ x. IsMomentFrom x m) is (met.from m fits over) in
           absurd (omega (arith, far, fits))
       by (Some f) is high = absurd (false≢true (sym stale
           ∙ met.upto f moment m is (passed f is) high over))
@@ -299,7 +300,7 @@ module _ (d : TableSchema) (name : List ℕ) (item : List Pair) (due : Due) (r :
   -- one that never expires is known of
   pub placed_never : r ≡ None → ForeseesPlaced d name due item
   placed_never is place at m fits over =
-      let far : 2 ^ 64 ≤ m = subst (λ x. IsFrom x m) is (met.from m fits over) in
+      let far : 2 ^ 64 ≤ m = subst (λ x. IsMomentFrom x m) is (met.from m fits over) in
       absurd (omega (arith, far, fits))
 
   -- so is one that is noted at its place
@@ -308,7 +309,7 @@ module _ (d : TableSchema) (name : List ℕ) (item : List Pair) (due : Due) (r :
       → ForeseesPlaced d name due item
   placed_noted first is own place same placed known q at m fits over =
       subst (λ p. Knows due m (spot_of name p)) (same ∙ same_some place q (sym placed ∙ at))
-      (known m (subst (λ x. IsFrom x m) is (met.from m fits over)))
+      (known m (subst (λ x. IsMomentFrom x m) is (met.from m fits over)))
     where
       same_some : (a b : List ℕ) → Some a ≡ Some b → a ≡ b
       same_some a b e = cc

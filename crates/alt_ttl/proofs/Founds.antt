@@ -14,7 +14,7 @@ use Rattle.alt_machine.specs.State.{Texts}
 use Rattle.alt_request.proofs.TablesOpeningOneColumn.{bytes_differ}
 use Rattle.alt_schema.specs.declared.schema.TableSchema.{TableSchema}
 use Rattle.alt_request.specs.TablesSeveral.{AreAllApart, AreApart, Every, MayWrite}
-use Rattle.alt_ttl.specs.private.Searched.{AreNamed, has_twice, is_one, standing_of, standings_of}
+use Rattle.alt_ttl.specs.private.Searched.{StandingTablesAreThere, has_twice, is_same_standing, standing_of, standings_of}
 use Rattle.alt_value.specs.Tree.{Pair}
 
 -- ---- once
@@ -22,7 +22,7 @@ use Rattle.alt_value.specs.Tree.{Pair}
 -- one from a place on stands twice where it does behind it, or one behind it does
 has_twice_from_suc : (es : List Standing) (i : ℕ) (e : Standing) → i < length es
     → has_twice (drop i es)
-    ≡ (list_any (is_one (get_or es i e)) (drop (suc i) es) || has_twice (drop (suc i) es))
+    ≡ (list_any (is_same_standing (get_or es i e)) (drop (suc i) es) || has_twice (drop (suc i) es))
 has_twice_from_suc [] i e h = absurd (omega arith)
 has_twice_from_suc (x ∷ xs) zero e h = refl
 has_twice_from_suc (x ∷ xs) (suc i) e h = has_twice_from_suc xs i e (omega arith)
@@ -30,11 +30,11 @@ has_twice_from_suc (x ∷ xs) (suc i) e h = has_twice_from_suc xs i e (omega ari
 -- the same, with the next place counted by + 1
 pub has_twice_from : (es : List Standing) (i : ℕ) (e : Standing) → i < length es
     → has_twice (drop i es)
-    ≡ (list_any (is_one (get_or es i e)) (drop (i + 1) es) || has_twice (drop (i + 1) es))
+    ≡ (list_any (is_same_standing (get_or es i e)) (drop (i + 1) es) || has_twice (drop (i + 1) es))
 has_twice_from es i e h = rw add-one (has_twice_from_suc es i e h)
 
 -- two that aren't one are at different places
-two : (e f : Standing) → is_one e f ≡ false → AreApart (gone_at e) (gone_at f)
+two : (e f : Standing) → is_same_standing e f ≡ false → AreApart (gone_at e) (gone_at f)
 two e f differ table place = by (bytes_eq e.table f.table) refl differ
   where
     by : (b : Bool) → bytes_eq e.table f.table ≡ b → (b && bytes_eq e.place f.place) ≡ false → ⊥
@@ -42,24 +42,24 @@ two e f differ table place = by (bytes_eq e.table f.table) refl differ
     by false is g = bytes_differ e.table f.table is table
 
 -- so is one of all others
-apart_from : (e : Standing) (es : List Standing) → list_any (is_one e) es ≡ false
+apart_from : (e : Standing) (es : List Standing) → list_any (is_same_standing e) es ≡ false
     → Every (AreApart (gone_at e)) (map gone_at es)
 apart_from e [] h = tt
 apart_from e (f ∷ fs) h =
-    let both = or_parts (is_one e f) (list_any (is_one e) fs) h in
+    let both = or_parts (is_same_standing e f) (list_any (is_same_standing e) fs) h in
     (two e f both.0, apart_from e fs both.1)
 
 -- and so are all, where none stands twice
 pub all_apart : (es : List Standing) → has_twice es ≡ false → AreAllApart (map gone_at es)
 all_apart [] h = tt
 all_apart (e ∷ es) h =
-    let both = or_parts (list_any (is_one e) es) (has_twice es) h in
+    let both = or_parts (list_any (is_same_standing e) es) (has_twice es) h in
     (apart_from e es both.0, all_apart es both.1)
 
 -- ---- tables
 
 -- nothing may be left at a place of a table that is there
-pub may_go : (catalog : Texts TableSchema) (es : List Standing) → AreNamed catalog es
+pub may_go : (catalog : Texts TableSchema) (es : List Standing) → StandingTablesAreThere catalog es
     → Every (MayWrite catalog) (map gone_at es)
 may_go catalog [] named = tt
 may_go catalog (e ∷ es) named =
@@ -103,11 +103,11 @@ unplaced d name moment item none =
 -- the table of one that was found is the one that was looked through
 pub standing_named : (catalog : Texts TableSchema) (d : TableSchema) (name : List ℕ) (moment : ℕ)
     (item : List Pair) → finite.contains_key catalog name ≡ true
-    → AreNamed catalog (standing_of d name moment item)
+    → StandingTablesAreThere catalog (standing_of d name moment item)
 standing_named catalog d name moment item there =
     by (is_expired d moment item) (place_of d item)
   where
-    by : (b : Bool) (o : Option (List ℕ)) → AreNamed catalog (if b
+    by : (b : Bool) (o : Option (List ℕ)) → StandingTablesAreThere catalog (if b
         then option_map_or (λ place. record { table = name; place = place } ∷ []) o [] else [])
     by true None = tt
     by true (Some place) = (there, tt)
@@ -115,7 +115,7 @@ standing_named catalog d name moment item there =
 
 pub standings_named : (catalog : Texts TableSchema) (d : TableSchema) (name : List ℕ) (moment : ℕ)
     (items : List (List Pair)) → finite.contains_key catalog name ≡ true
-    → AreNamed catalog (standings_of d name moment items)
+    → StandingTablesAreThere catalog (standings_of d name moment items)
 standings_named catalog d name moment [] there = tt
 standings_named catalog d name moment (i ∷ is) there =
     every_both (λ (e : Standing). finite.contains_key catalog e.table ≡ true)
@@ -126,10 +126,10 @@ standings_named catalog d name moment (i ∷ is) there =
 -- so are those of what was found with what is found now, as many as are taken
 pub taken_named : (catalog : Texts TableSchema) (d : TableSchema) (name : List ℕ) (moment : ℕ)
     (items : List (List Pair)) (out next : List Standing)
-    → finite.contains_key catalog name ≡ true → AreNamed catalog out
-    → next ≡ take MOST_EXPIRED (out ++ standings_of d name moment items) → AreNamed catalog next
+    → finite.contains_key catalog name ≡ true → StandingTablesAreThere catalog out
+    → next ≡ take MOST_EXPIRED (out ++ standings_of d name moment items) → StandingTablesAreThere catalog next
 taken_named catalog d name moment items out next there named is =
-    subst (AreNamed catalog) (sym is)
+    subst (StandingTablesAreThere catalog) (sym is)
     (every_take (λ (e : Standing). finite.contains_key catalog e.table ≡ true) MOST_EXPIRED
     (out ++ standings_of d name moment items)
     (every_both (λ (e : Standing). finite.contains_key catalog e.table ≡ true) out

@@ -2,6 +2,7 @@ pub mod Deleting
 pub mod Foretelling
 pub mod Founds
 pub mod Fronts
+pub mod LeftBehind
 pub mod Looking
 pub mod Ordered
 pub mod Ripening

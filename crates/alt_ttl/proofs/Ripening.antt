@@ -18,17 +18,17 @@ use Rattle.alt_request.specs.TablesStands.{AreReady, KeepsCatalog, Stands}
 use Rattle.alt_request.specs.TablesDeclaredTables.{Tables}
 use Rattle.alt_request.proofs.TablesLooking.{catalog_then}
 use Rattle.alt_request.proofs.TablesStanding.{one_stands}
-use Rattle.alt_ttl.specs.private.Foresight.{PutsOver, Suffices, is_over_at, spot_at}
-use Rattle.alt_ttl.specs.private.Searched.{AreNamed}
+use Rattle.alt_ttl.specs.private.Foresight.{PutsOver, ListSuffices, is_over_at, spot_at}
+use Rattle.alt_ttl.specs.private.Searched.{StandingTablesAreThere}
 use Rattle.alt_ttl.proofs.Foretelling.{left_nothing, left_over, left_stale, none_over}
 use Rattle.alt_ttl.proofs.Founds.{every_both}
 use Rattle.alt_ttl.proofs.Fronts.{take_full, take_whole}
-use Rattle.alt_ttl.proofs.Ordered.{left_behind}
+use Rattle.alt_ttl.proofs.LeftBehind.{left_behind}
 
 -- ---- one more place
 
 module _ (s : State) (due : Due) (moment : ℕ) (fits : moment < 2 ^ 64)
-    (knows : Foresees s.tables due) (ripe : IsRipe moment due) (enough : Suffices due moment)
+    (knows : Foresees s.tables due) (ripe : IsRipe moment due) (enough : ListSuffices due moment)
     (after : Option Spot) (out : List Standing)
     (so : out ++ left_behind after (all_expired s moment) ≡ all_expired s moment) where
   -- an item there has expired
@@ -75,16 +75,16 @@ put_few y out new few false put = omega (arith, few, ap length put)
 
 -- in tables that are there
 pub put_named : (catalog : Texts TableSchema) (y : Spot) (out new : List Standing)
-    → AreNamed catalog out → (over : Bool)
+    → StandingTablesAreThere catalog out → (over : Bool)
     → (over ≡ true → map.contains_key catalog y.table ≡ true) → PutsOver over y out new
-    → AreNamed catalog new
+    → StandingTablesAreThere catalog new
 put_named catalog y out new named true there put =
-    subst (AreNamed catalog) (sym put.2)
+    subst (StandingTablesAreThere catalog) (sym put.2)
     (every_both (λ (e : Standing). map.contains_key catalog e.table ≡ true) out (put.0 ∷ []) named (
       ap (λ (x : Spot). map.contains_key catalog x.table) put.1 ∙ there refl,
       tt,
     ))
-put_named catalog y out new named false there put = subst (AreNamed catalog) (sym put) named
+put_named catalog y out new named false there put = subst (StandingTablesAreThere catalog) (sym put) named
 
 -- as many as an ExpireItems deletes are those that it deletes
 pub ripe_full : (s : State) (moment : ℕ) (after : Option Spot) (out : List Standing)

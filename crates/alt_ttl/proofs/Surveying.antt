@@ -1,7 +1,7 @@
 -- What a list of the items that are due next knows behind a walk over the items of tables.
-use Rattle.std.proofs.Common.{◌≡◌, ◌<◌, ◌≤◌, refl, sym, ap, subst, ◌∙◌, cond, ℕ, zero, suc, Bool, true, false, T, List, [], ◌∷◌, ◌++◌, ◌⊎◌, inl, inr, map, take, drop, length, Option, Some, None, All, take-append-drop, is_some, arith}
+use Rattle.std.proofs.Common.{◌≡◌, ◌<◌, ◌≤◌, refl, sym, ap, subst, ◌∙◌, cond, ℕ, zero, suc, Bool, true, false, List, [], ◌∷◌, ◌++◌, ◌⊎◌, inl, inr, map, take, drop, length, Option, Some, None, All, take-append-drop, is_some, arith}
 use Rattle.std.specs.Prelude.{◌&&◌, not}
-use Rattle.std.specs.BTreeMap.Range.{entries_between, range_contains}
+use Rattle.std.specs.BTreeMap.Range.{entries_between}
 use Rattle.std.specs.FinMap as finite
 use Rattle.std.specs.FinMap.Entries.{find}
 use Rattle.std.specs.List.{last_or}
@@ -14,22 +14,21 @@ use Rattle.std.proofs.lemmas.Bool.{false≢true}
 use Rattle.std.proofs.lemmas.List.Elements.{All-head, All-tail}
 use Rattle.alt_cells.proofs.CellLaws.{key_total}
 use Rattle.alt_cells.proofs.SameKeys.{one_key}
-use Rattle.alt_due.specs.Due.{KeepsKnown, Knows, covers, is_before, is_within}
-use Rattle.alt_due.specs.Order.{spot_cmp, spot_of, spot_total}
+use Rattle.alt_due.specs.Due.{KeepsKnown, is_before, suffices_at}
+use Rattle.alt_due.specs.Order.{spot_of}
 use Rattle.alt_due.specs.declared.due.Due.{Due}
 use Rattle.alt_due.specs.declared.spot.Spot.{Spot}
 use Rattle.alt_machine.specs.Keys.{place_of}
 use Rattle.alt_machine.specs.State.{State, Table}
 use Rattle.alt_machine.specs.Walks.{items_between}
 use Rattle.alt_ops_query.proofs.Beyond.{beyond_after}
-use Rattle.alt_ops_query.proofs.Lists.{each_entry}
 use Rattle.alt_ops_query.proofs.Rests.{contains_so}
 use Rattle.alt_ops_query.proofs.Steps.{IsLast, last_of_step}
 use Rattle.alt_schema.specs.declared.schema.TableSchema.{TableSchema}
 use Rattle.alt_request.specs.TablesForeseen.{ForeseesItem}
 use Rattle.alt_request.specs.TablesReading.{places_between}
 use Rattle.alt_request.specs.TablesSeveral.{Every}
-use Rattle.alt_ttl.specs.private.Foresight.{ForeseesPlaced, ForeseesRest, ForeseesTable, LeadsOn}
+use Rattle.alt_ttl.specs.private.Foresight.{ForeseesPlaced, ForeseesRest, ForeseesTable, ForeseesFromNext}
 use Rattle.alt_ttl.proofs.Foretelling.{no_time}
 use Rattle.alt_ttl.proofs.Founds.{every_both}
 use Rattle.alt_ttl.proofs.Ordered.{lies, lies_before, lies_behind, lies_there, is_less, less_trans}
@@ -113,7 +112,7 @@ module _ (name : List ℕ) (t : Table)
       (given : items ≡ take most (items_between t None from None true))
       (noted : Every (ForeseesPlaced t.description name due) items) where
     -- behind the last page nothing is left
-    pub surveyed_last : length items < most → LeadsOn name t from due None
+    pub surveyed_last : length items < most → ForeseesFromNext name t from due None
     surveyed_last few = subst (Every (ForeseesPlaced t.description name due)) (given ∙ short most
         (items_between t None from None true) (subst (λ l. length l < most) given few)) noted
       where
@@ -125,7 +124,7 @@ module _ (name : List ℕ) (t : Table)
     -- behind another one what stands behind its last item
     pub surveyed_on : 0 < most → most ≤ length items → (last : Option (List ℕ)) (place : List ℕ)
         → last ≡ last_or None (take most (places_between t None from None true))
-        → last ≡ Some place → LeadsOn name t from due (Some (place ++ 0 ∷ []))
+        → last ≡ Some place → ForeseesFromNext name t from due (Some (place ++ 0 ∷ []))
     surveyed_on some many last place told is later keeps h =
         let end : IsLast t None true from None most items last =
         last_of_step t None stored true from None most items last given told some many in
@@ -157,7 +156,7 @@ module _ (name : List ℕ) (t : Table)
 
   -- where the list ends up to a place, it knows of all items from there on
   pub surveyed_ended : (from : List ℕ) (due : Due)
-      → not (is_before due.end (spot_of name from)) ≡ true → LeadsOn name t from due None
+      → not (is_before due.end (spot_of name from)) ≡ true → ForeseesFromNext name t from due None
   surveyed_ended from due ends = each (finite.entries t.items)
       (each_found (λ e. place_of t.description e.1 ≡ Some e.0) (finite.entries t.items)
       (finite.entries_sorted t.items)
@@ -196,7 +195,7 @@ module _ (name : List ℕ) (t : Table)
       knows e is le place at moment fits over covered =
           absurd (never due.end ends place (subst (λ p. is_le (text_order from p) ≡ true)
           (same_some e.0 place (sym is ∙ at)) le)
-          (right (is_within due moment) (is_before due.end (spot_of name place)) covered))
+          (right (suffices_at due moment) (is_before due.end (spot_of name place)) covered))
         where
           same_some : (x y : List ℕ) → Some x ≡ Some y → x ≡ y
           same_some x y e = cc

@@ -2,7 +2,7 @@
 use Rattle.std.proofs.Common.{◌≡◌, ◌≤◌, ◌-◌, ◌+◌, ◌*◌, ◌^◌, refl, sym, ap, subst, ◌∙◌, ℕ, zero, suc, inl, inr, arith, Ok, Err, Result}
 use Rattle.std.proofs.Math.IntN.{ℤ, pos, neg_ℤ, nat_abs, ◌+ℤ◌, ◌-ℤ◌, +ℤ_assoc, +ℤ_idl, +ℤ_invr, +ℤ-neg_ℤ_cancel, neg_ℤ-+ℤ}
 use Rattle.std.proofs.Math.Nat.{add-mul}
-use Rattle.alt_decimal.specs.Number.{Fits, IsMagnitude, fitted_units, units_in}
+use Rattle.alt_decimal.specs.Number.{FitsDecimal, IsMagnitude, fitted_units, units_in}
 use Rattle.alt_decimal.specs.declared.fault.NumberFault.{NumberFault}
 use Rattle.alt_decimal.proofs.Fitting.{fitted_units-Fits}
 
@@ -13,22 +13,22 @@ abs_neg zero = refl
 abs_neg (suc m) = refl
 
 -- what fits does so below zero
-below_fits : (m : ℕ) → Fits (pos m) → Fits (pos 0 -ℤ pos m)
-below_fits m h = subst Fits (sym (+ℤ_idl (neg_ℤ (pos m)))) (elim h [
+below_fits : (m : ℕ) → FitsDecimal (pos m) → FitsDecimal (pos 0 -ℤ pos m)
+below_fits m h = subst FitsDecimal (sym (+ℤ_idl (neg_ℤ (pos m)))) (elim h [
   | inl none ↦ inl (ap (λ (z : ℤ). neg_ℤ z) none)
   | inr size ↦ inr (subst IsMagnitude (sym (abs_neg m)) size)
 ])
 
 -- so it is the difference to zero
-pub below_zero : (m : ℕ) → Fits (pos m) → fitted_units (pos 0 -ℤ pos m) ≡ Ok (pos 0 -ℤ pos m)
+pub below_zero : (m : ℕ) → FitsDecimal (pos m) → fitted_units (pos 0 -ℤ pos m) ≡ Ok (pos 0 -ℤ pos m)
 below_zero m h = fitted_units-Fits (pos 0 -ℤ pos m) (below_fits m h)
 
 -- of a number of seconds
 pub is_below : (n : ℕ) (zero_is count_is : ℤ) (r : Result ℤ NumberFault) → zero_is ≡ units_in 0
-    → count_is ≡ units_in n → Fits count_is → r ≡ fitted_units (zero_is -ℤ count_is)
+    → count_is ≡ units_in n → FitsDecimal count_is → r ≡ fitted_units (zero_is -ℤ count_is)
     → r ≡ Ok (units_in 0 -ℤ units_in n)
 is_below n zero_is count_is r none some fits is =
-    is ∙ (λ i. fitted_units (none i -ℤ some i)) ∙ below_zero (n * 10 ^ 167) (subst Fits some fits)
+    is ∙ (λ i. fitted_units (none i -ℤ some i)) ∙ below_zero (n * 10 ^ 167) (subst FitsDecimal some fits)
 
 pub same_ok : (r : Result ℤ NumberFault) (x y : ℤ) → r ≡ Ok x → r ≡ Ok y → x ≡ y
 same_ok r x y e f = cc

@@ -8,8 +8,8 @@ ghost use Rattle.alt_machine.specs.State.{State};
 ghost use Rattle.alt_request.specs.TablesForeseen.{Foresees};
 ghost use Rattle.alt_request.specs.TablesLooking.{FailsReading, OnlyReads};
 ghost use Rattle.alt_request.specs.TablesStands.{AreReady, Stands, catalog_of};
-ghost use Rattle.alt_ttl.specs.private.Foresight.{PutsOver, Suffices, is_over_at, spot_at};
-ghost use Rattle.alt_ttl.specs.private.Searched.{AreNamed};
+ghost use Rattle.alt_ttl.specs.private.Foresight.{PutsOver, ListSuffices, is_over_at, spot_at};
+ghost use Rattle.alt_ttl.specs.private.Searched.{StandingTablesAreThere};
 
 use crate::settling::{may_expire, settle};
 use crate::survey::survey;
@@ -32,7 +32,7 @@ pub(crate) fn foreseen<D: Disk>(
     ensures standings { (s : State) → Stands (D.state disk.old) tables.old s
         → IfOk result (λ o. IfSome o (λ v. v.items ≡ expiring s moment)) }
     ensures named { IfOk result (λ o. IfSome o (λ v.
-        AreNamed (catalog_of tables.old) v.items)) }
+        StandingTablesAreThere (catalog_of tables.old) v.items)) }
     ensures only { OnlyReads (D.state disk.old) (D.state disk.new) tables.old tables.new }
     ensures fails { FailsReading (D.state disk.old) (D.state disk.new) tables.old result }
 {
@@ -90,7 +90,7 @@ fn ripe<D: Disk>(
         → Foresees s.tables due.old
         → IfOk result (λ o. IfSome o (λ v. v.items ≡ expiring s moment)) }
     ensures named { IfOk result (λ o. IfSome o (λ v.
-        AreNamed (catalog_of tables.old) v.items)) }
+        StandingTablesAreThere (catalog_of tables.old) v.items)) }
     ensures known { (s : State) → Stands (D.state disk.old) tables.old s
         → Foresees s.tables due.old → OnOk result (Foresees s.tables due.new) }
     ensures only { OnlyReads (D.state disk.old) (D.state disk.new) tables.old tables.new }
@@ -120,7 +120,7 @@ fn ripe<D: Disk>(
 
 /// Whether a list begins at the moment and covers it.
 fn suffices(due: &Due, moment: u64) -> bool
-    ensures { result ≡ true → Suffices due.now moment }
+    ensures { result ≡ true → ListSuffices due.now moment }
 {
     due.since() == moment && due.covers(moment)
 }

@@ -1,6 +1,6 @@
 //! Whether the time of an item is over.
 
-ghost use Rattle.std.specs.Prelude.{◌≡◌, ◌<◌, ◌-ℤ◌, ◌&&◌};
+ghost use Rattle.std.specs.Prelude.{◌≡◌, ◌-ℤ◌, ◌&&◌};
 ghost use Rattle.std.specs.Ordering.{int_cmp, is_lt, is_le};
 ghost use Rattle.alt_decimal.specs.Number.{units_in};
 ghost use Rattle.alt_machine.specs.Expiry as machine;

@@ -1,7 +1,7 @@
 //! The search for expired items: all tables by their names, and in each all its items by their places, until there are as many as an
 //! ExpireItems deletes.
 
-ghost use Rattle.std.specs.Prelude.{◌≡◌, ◌≤◌, ◌++◌, ◌∷◌, [], is_some, true, List, Some, None, length, map as each, take, IfOk, OnOk};
+ghost use Rattle.std.specs.Prelude.{◌≡◌, ◌≤◌, ◌++◌, ◌∷◌, [], is_some, true, Some, None, length, map as each, take, IfOk, OnOk};
 ghost use Rattle.std.specs.FinMap as map;
 ghost use Rattle.alt_machine.specs.declared.TheConstants.{MOST_EXPIRED};
 ghost use Rattle.alt_machine.specs.Expiry.{expired_in, expiring, gone_at};
@@ -11,7 +11,7 @@ ghost use Rattle.alt_schema.specs.declared.schema.TableSchema.{TableSchema};
 ghost use Rattle.alt_request.specs.TablesLooking.{FailsReading, OnlyReads};
 ghost use Rattle.alt_request.specs.TablesSeveral.{AreAllApart, Every, IsFound, MayWrite, written_at};
 ghost use Rattle.alt_request.specs.TablesStands.{AreReady, Stands, catalog_of};
-ghost use Rattle.alt_ttl.specs.private.Searched.{AreNamed, left_in, left_of};
+ghost use Rattle.alt_ttl.specs.private.Searched.{StandingTablesAreThere, left_in, standings_left};
 
 use crate::foresight::foreseen;
 use crate::standings::{has_twice, put_expired};
@@ -69,7 +69,7 @@ fn expiring<D: Disk>(
     requires ready { AreReady (D.state disk.old) tables.old }
     ensures standings { (s : State) → Stands (D.state disk.old) tables.old s
         → IfOk result (λ v. v.items ≡ expiring s moment) }
-    ensures named { IfOk result (λ v. AreNamed (catalog_of tables.old) v.items) }
+    ensures named { IfOk result (λ v. StandingTablesAreThere (catalog_of tables.old) v.items) }
     ensures only { OnlyReads (D.state disk.old) (D.state disk.new) tables.old tables.new }
     ensures fails { FailsReading (D.state disk.old) (D.state disk.new) tables.old result }
 {
@@ -90,7 +90,7 @@ fn searched<D: Disk>(
     requires ready { AreReady (D.state disk.old) tables.old }
     ensures standings { (s : State) → Stands (D.state disk.old) tables.old s
         → IfOk result (λ v. v.items ≡ expiring s moment) }
-    ensures named { IfOk result (λ v. AreNamed (catalog_of tables.old) v.items) }
+    ensures named { IfOk result (λ v. StandingTablesAreThere (catalog_of tables.old) v.items) }
     ensures only { OnlyReads (D.state disk.old) (D.state disk.new) tables.old tables.new }
     ensures fails { FailsReading (D.state disk.old) (D.state disk.new) tables.old result }
 {
@@ -134,12 +134,12 @@ fn search_table<D: Disk>(
     requires ready { AreReady (D.state disk.old) tables.old }
     requires there { map.contains_key (catalog_of tables.old) name.now ≡ true }
     requires few { length out.old.items ≤ MOST_EXPIRED }
-    requires named { AreNamed (catalog_of tables.old) out.old.items }
+    requires named { StandingTablesAreThere (catalog_of tables.old) out.old.items }
     ensures found { (s : State) (t : Table) → Stands (D.state disk.old) tables.old s
         → map.get s.tables name.now ≡ Some t → OnOk result (out.new.items
         ≡ take MOST_EXPIRED (out.old.items ++ expired_in moment name.now t)) }
     ensures few { OnOk result (length out.new.items ≤ MOST_EXPIRED) }
-    ensures named { OnOk result (AreNamed (catalog_of tables.old) out.new.items) }
+    ensures named { OnOk result (StandingTablesAreThere (catalog_of tables.old) out.new.items) }
     ensures only { OnlyReads (D.state disk.old) (D.state disk.new) tables.old tables.new }
     ensures fails { FailsReading (D.state disk.old) (D.state disk.new) tables.old result }
 {
@@ -182,13 +182,13 @@ fn search_page<D: Disk>(
     requires ready { AreReady (D.state disk.old) tables.old }
     requires there { map.contains_key (catalog_of tables.old) name.now ≡ true }
     requires few { length out.old.items ≤ MOST_EXPIRED }
-    requires named { AreNamed (catalog_of tables.old) out.old.items }
+    requires named { StandingTablesAreThere (catalog_of tables.old) out.old.items }
     ensures left { (s : State) (t : Table) → Stands (D.state disk.old) tables.old s
         → map.get s.tables name.now ≡ Some t → IfOk result (λ next.
-        left_of name.now t moment out.new.items next
+        standings_left name.now t moment out.new.items next
         ≡ left_in name.now t moment out.old.items from) }
     ensures few { OnOk result (length out.new.items ≤ MOST_EXPIRED) }
-    ensures named { OnOk result (AreNamed (catalog_of tables.old) out.new.items) }
+    ensures named { OnOk result (StandingTablesAreThere (catalog_of tables.old) out.new.items) }
     ensures only { OnlyReads (D.state disk.old) (D.state disk.new) tables.old tables.new }
     ensures fails { FailsReading (D.state disk.old) (D.state disk.new) tables.old result }
 {
@@ -232,7 +232,7 @@ fn find_all<D: Disk>(
     standings: Vec<Standing>,
 ) -> Result<Vec<ItemChange>, TableFault>
     requires ready { AreReady (D.state disk.old) tables.old }
-    requires named { AreNamed (catalog_of tables.old) standings.items }
+    requires named { StandingTablesAreThere (catalog_of tables.old) standings.items }
     ensures written { IfOk result (λ v. each written_at v.items ≡ each gone_at standings.items) }
     ensures found { (s : State) → Stands (D.state disk.old) tables.old s
         → IfOk result (λ v. Every (IsFound s) v.items) }

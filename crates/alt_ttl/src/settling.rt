@@ -7,7 +7,7 @@ ghost use Rattle.alt_due.specs.Due.{IsRipe};
 ghost use Rattle.alt_machine.specs.Expiry as machine;
 ghost use Rattle.alt_schema.specs.declared.schema.TableSchema.{TableSchema};
 ghost use Rattle.alt_request.specs.TablesStands.{catalog_of};
-ghost use Rattle.alt_ttl.specs.private.Foresight.{Defers, Settles};
+ghost use Rattle.alt_ttl.specs.private.Foresight.{Defers, ListSettles};
 
 use crate::over::is_expired;
 use alt_due::{Due, Spot};
@@ -37,7 +37,7 @@ pub(crate) fn settle(
     ensures over { (d : TableSchema) → map.get (catalog_of tables.now) spot.now.table ≡ Some d
         → result ≡ option_map_or (machine.is_expired d moment) item.now false }
     ensures settles { (d : TableSchema) → map.get (catalog_of tables.now) spot.now.table ≡ Some d
-        → Settles d moment spot.now item.now due.old due.new }
+        → ListSettles d moment spot.now item.now due.old due.new }
     ensures ripe { IsRipe moment due.old → IsRipe moment due.new }
 {
     let Some(schema) = tables.table(spot.table.as_str()) else {

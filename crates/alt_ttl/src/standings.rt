@@ -1,10 +1,9 @@
 //! Where expired items stand: those among some items of a table, and whether each stands once.
 
-ghost use Rattle.std.specs.Prelude.{◌≡◌, ◌≤◌, ◌++◌, length, map as each, take, IfOk, OnOk, option_map, IsTrue};
+ghost use Rattle.std.specs.Prelude.{◌≡◌, ◌≤◌, ◌++◌, length, take, OnOk};
 ghost use Rattle.std.specs.List.{list_any};
 ghost use Rattle.alt_machine.specs.declared.TheConstants.{MOST_EXPIRED};
-ghost use Rattle.alt_machine.specs.Expiry.{gone_at};
-ghost use Rattle.alt_ttl.specs.private.Searched.{has_twice, is_one, standing_of, standings_of};
+ghost use Rattle.alt_ttl.specs.private.Searched.{has_twice, is_same_standing, standing_of, standings_of};
 
 use crate::over::is_expired;
 use alt_base::NoMemory;
@@ -74,14 +73,14 @@ pub(crate) fn has_twice(standings: &[Standing]) -> bool
 }
 
 fn is_among(standings: &[Standing], standing: &Standing) -> bool
-    ensures { result ≡ list_any (is_one standing.now) standings.now }
+    ensures { result ≡ list_any (is_same_standing standing.now) standings.now }
 {
     standings.iter().any(|other| is_one(standing, other))
 }
 
 /// Whether two are one.
 fn is_one(standing: &Standing, other: &Standing) -> bool
-    ensures { result ≡ is_one standing.now other.now }
+    ensures { result ≡ is_same_standing standing.now other.now }
 {
     standing.table.as_str() == other.table.as_str()
         && standing.place.as_slice() == other.place.as_slice()

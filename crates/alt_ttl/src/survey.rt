@@ -9,7 +9,7 @@ ghost use Rattle.alt_request.specs.TablesForeseen.{Foresees};
 ghost use Rattle.alt_request.specs.TablesLooking.{FailsReading, OnlyReads};
 ghost use Rattle.alt_request.specs.TablesSeveral.{Every};
 ghost use Rattle.alt_request.specs.TablesStands.{AreReady, Stands, catalog_of};
-ghost use Rattle.alt_ttl.specs.private.Foresight.{ForeseesPlaced, ForeseesTable, LeadsOn};
+ghost use Rattle.alt_ttl.specs.private.Foresight.{ForeseesPlaced, ForeseesTable, ForeseesFromNext};
 
 use crate::search::{PAGE, behind, has_time, names};
 use alt_base::NoMemory;
@@ -91,7 +91,7 @@ fn survey_page<D: Disk>(
     requires there { map.contains_key (catalog_of tables.old) name.now ≡ true }
     ensures known { (s : State) (t : Table) → Stands (D.state disk.old) tables.old s
         → map.get s.tables name.now ≡ Some t
-        → IfOk result (LeadsOn name.now t from due.new) }
+        → IfOk result (ForeseesFromNext name.now t from due.new) }
     ensures keeps { KeepsKnown due.old due.new }
     ensures only { OnlyReads (D.state disk.old) (D.state disk.new) tables.old tables.new }
     ensures fails { FailsReading (D.state disk.old) (D.state disk.new) tables.old result }

@@ -21,11 +21,11 @@ use Rattle.alt_expr.specs.declared.path.PathPart.TheVariants.{Name}
 use Rattle.alt_expr.specs.declared.update.Action.{Action}
 use Rattle.alt_expr.specs.UpdateLanguage.{target, begins_with_name, begin_with_names}
 use Rattle.alt_expr.specs.Located.{View}
-use Rattle.alt_expr.specs.Updated.{Edit, Fault, ◌>>=◌, edit, edits, under, after}
+use Rattle.alt_expr.specs.Updated.{Edit, ActionFault, ◌>>=◌, edit, edits, under, place_after}
 use Rattle.alt_updeval.specs.declared.made.Made.{Made}
 use Rattle.alt_updeval.specs.declared.update.AttrChange.{AttrChange}
 use Rattle.alt_updeval.specs.Changes.{changed_by}
-use Rattle.alt_updeval.specs.Shown.{shown, shown_at, named_edits}
+use Rattle.alt_updeval.specs.Shown.{edit_behind_step, attribute_edit, named_edits}
 use Rattle.alt_updeval.proofs.Groups.{group_at, no_group}
 use Rattle.alt_updeval.proofs.Steps.{str_cmp}
 use Rattle.alt_updeval.proofs.Under.{changed-none, named-under}
@@ -33,16 +33,16 @@ use Rattle.alt_updeval.proofs.Under.{changed-none, named-under}
 -- ---- edits
 
 -- the edits that are known, before those to come
-abbrev pub known : List Edit → Result (List Edit) Fault → Result (List Edit) Fault
+abbrev pub known : List Edit → Result (List Edit) ActionFault → Result (List Edit) ActionFault
 known es rest = rest >>= (λ more. Ok (es ++ more))
 
 -- with no edit known yet, all are those of the rest
-pub known-none : (rest : Result (List Edit) Fault) → rest ≡ known [] rest
+pub known-none : (rest : Result (List Edit) ActionFault) → rest ≡ known [] rest
 known-none (Ok es) = refl
 known-none (Err f) = refl
 
 -- one edit more is known before the rest
-pub known-more : (es : List Edit) (e : Edit) (rest : Result (List Edit) Fault)
+pub known-more : (es : List Edit) (e : Edit) (rest : Result (List Edit) ActionFault)
     → known es (rest >>= (λ more. Ok (e ∷ more))) ≡ known (es ++ e ∷ []) rest
 known-more es e (Ok more) = ap Ok (sym (append_assoc es (e ∷ []) more))
 known-more es e (Err f) = refl
@@ -58,7 +58,7 @@ edits_more item actions i a es e lt is done so_far =
     ∙ ap (λ x. x ∷ drop (suc i) actions) (sym is)
     ∙ ap (λ n. a ∷ drop n actions) (sym (add-one i)) in
     so_far ∙ ap (λ (xs : List Action). known es (edits item xs)) here
-    ∙ ap (λ (r : Result Edit Fault). known es
+    ∙ ap (λ (r : Result Edit ActionFault). known es
     (r >>= (λ f. edits item rest >>= (λ more. Ok (f ∷ more))))) done
     ∙ known-more es e (edits item rest)
 
@@ -91,10 +91,10 @@ Rest = Bor (List PathPart) × Option Made
 
 -- a name, and what is changed behind it
 abbrev shown_name : Bor (List ℕ) × Rest → List ℕ × Edit
-shown_name e = (e.0.now, shown e.1)
+shown_name e = (e.0.now, edit_behind_step e.1)
 
 by_names : (pairs : List (Bor (List ℕ) × Rest))
-    → map shown_name pairs ≡ named_edits (map shown_at pairs)
+    → map shown_name pairs ≡ named_edits (map attribute_edit pairs)
 by_names [] = refl
 by_names (p ∷ ps) = ap (λ es. shown_name p ∷ es) (by_names ps)
 
@@ -104,7 +104,7 @@ is_seen gs q = list_any (λ (p : Bor (List ℕ) × Vec Rest Global). eq_by_cmp t
 
 -- what becomes of a name
 abbrev pub wanted : View → List Edit → List ℕ → Option Tree
-wanted item es q = after (under (Name q) es) (item q)
+wanted item es q = place_after (under (Name q) es) (item q)
 
 -- each name that was seen is changed as the edits say, and no other is
 abbrev pub Changes : View → List Edit → List (Bor (List ℕ) × Vec Rest Global)
@@ -155,13 +155,13 @@ module _ (item : View) (pairs : List (Bor (List ℕ) × Rest))
     (filter (λ (p : Bor (List ℕ) × Rest). eq_by_cmp str_cmp p.0 q) pairs)) where
   -- the edits of the update
   abbrev es : List Edit
-  es = map shown_at pairs
+  es = map attribute_edit pairs
 
   -- a group in its place has the edits behind its name
   pub group_is : (i : ℕ) (x : Bor (List ℕ) × Vec Rest Global) → slice_get xs i ≡ Some x
-      → map shown x.1.items ≡ under (Name x.0.now) es
+      → map edit_behind_step x.1.items ≡ under (Name x.0.now) es
   group_is i x stands =
-      group_at (λ (k : Bor (List ℕ)). k.now) text_order text_total shown pairs (named_edits es)
+      group_at (λ (k : Bor (List ℕ)). k.now) text_order text_total edit_behind_step pairs (named_edits es)
       (by_names pairs) xs rising held i x.0 x.1 stands
       ∙ named-under x.0.now es
 
@@ -184,13 +184,13 @@ module _ (item : View) (pairs : List (Bor (List ℕ) × Rest))
   -- the change of one group more is made, as its edits say
   pub change_more : (gs : List (Bor (List ℕ) × Vec Rest Global))
       (x : Bor (List ℕ) × Vec Rest Global) (cs : List AttrChange) (c : AttrChange)
-      → map shown x.1.items ≡ under (Name x.0.now) es → Changes item es gs cs → c.name ≡ x.0.now
-      → option_map tree_of c.value ≡ after (map shown x.1.items) (item x.0.now)
+      → map edit_behind_step x.1.items ≡ under (Name x.0.now) es → Changes item es gs cs → c.name ≡ x.0.now
+      → option_map tree_of c.value ≡ place_after (map edit_behind_step x.1.items) (item x.0.now)
       → Changes item es (gs ++ x ∷ []) (cs ++ c ∷ [])
   change_more gs x cs c group was named value q =
       let name : List ℕ = x.0.now in
       let new : option_map tree_of c.value ≡ wanted item es name = value
-      ∙ ap (λ (us : List Edit). after us (item name)) group in
+      ∙ ap (λ (us : List Edit). place_after us (item name)) group in
       let told : bytes_eq q c.name ≡ eq_by_cmp text_order q name = ap (bytes_eq q) named
       ∙ texts_ties q name in
       changed_by-more cs c item q
@@ -215,21 +215,21 @@ module _ (item : View) (pairs : List (Bor (List ℕ) × Rest))
       any_false false t u = refl
 
   -- what no edit is under stays as it is
-  untouched : (o : Option Tree) → o ≡ after [] o
+  untouched : (o : Option Tree) → o ≡ place_after [] o
   untouched None = refl
   untouched (Some t) = sym (changed-none t)
 
   -- behind the last group the changes are those of all edits
   pub change_all : (cs : List AttrChange) → Changes item es xs cs → (q : List ℕ)
-      → changed_by cs item q ≡ after (under (Name q) es) (item q)
+      → changed_by cs item q ≡ place_after (under (Name q) es) (item q)
   change_all cs was q =
       was q ∙ elim (is_seen xs q) as (λ b. is_seen xs q ≡ b
       → cond b (wanted item es q) (item q) ≡ wanted item es q) [
         | true ↦ λ e. refl
         | false ↦ λ e.
             let none : under (Name q) es ≡ [] = sym (named-under q es)
-            ∙ no_group (λ (k : Bor (List ℕ)). k.now) text_order text_total shown pairs
+            ∙ no_group (λ (k : Bor (List ℕ)). k.now) text_order text_total edit_behind_step pairs
             (named_edits es) (by_names pairs) xs rising held
             (record { ref_ptr = (0, 0); now = q }) e in
-            untouched (item q) ∙ ap (λ (us : List Edit). after us (item q)) (sym none)
+            untouched (item q) ∙ ap (λ (us : List Edit). place_after us (item q)) (sym none)
       ] refl

@@ -16,9 +16,9 @@ use Rattle.alt_base.proofs.Lists.{length-front}
 use Rattle.alt_base.proofs.Orderings.{less-holds, is_eq-true}
 use Rattle.alt_value.specs.Tree.{Tree, trees_of, elements}
 use Rattle.alt_expr.specs.declared.path.PathPart.TheVariants.{Name, Index}
-use Rattle.alt_expr.specs.Updated.{Edit, under, changed, changed_elements, put_here, past}
+use Rattle.alt_expr.specs.Updated.{Edit, under, changed, changed_elements, put_here, elements_past_end}
 use Rattle.alt_expr.proofs.Picked.{elements-then, passed}
-use Rattle.alt_updeval.specs.Shown.{indexed_edits, past_end}
+use Rattle.alt_updeval.specs.Shown.{indexed_edits, edits_past_end}
 use Rattle.alt_updeval.proofs.Under.{at_key, at_filter, indexed-under}
 
 -- what becomes of elements from i on
@@ -66,12 +66,12 @@ walked-more f xs i t le e =
 
 -- ---- what is put past the end
 
-sorted-past : (n : ℕ) (es : List Edit) → T (is_sorted nat_cmp (past n es))
+sorted-past : (n : ℕ) (es : List Edit) → T (is_sorted nat_cmp (elements_past_end n es))
 sorted-past n [] = tt
 sorted-past n ((Index i ∷ [], Some t) ∷ es) =
     elim (nat_le n i) as (λ b. T
-    (is_sorted nat_cmp (if b then put nat_cmp i t (past n es) else past n es))) [
-      | true ↦ is_sorted-put nat_cmp nat_cmp_total i t (past n es) (sorted-past n es)
+    (is_sorted nat_cmp (if b then put nat_cmp i t (elements_past_end n es) else elements_past_end n es))) [
+      | true ↦ is_sorted-put nat_cmp nat_cmp_total i t (elements_past_end n es) (sorted-past n es)
       | false ↦ sorted-past n es
     ]
 sorted-past n (_ ∷ es) = sorted-past n es
@@ -88,21 +88,21 @@ nothing false = refl
 
 -- an index past the end that is put, or isn't
 at_past : (n q i : ℕ) (t : Tree) (es : List Edit)
-    → find nat_cmp q (past n es) ≡ from_n n q (put_here (under (Index q) es))
-    → find nat_cmp q (if nat_le n i then put nat_cmp i t (past n es) else past n es)
+    → find nat_cmp q (elements_past_end n es) ≡ from_n n q (put_here (under (Index q) es))
+    → find nat_cmp q (if nat_le n i then put nat_cmp i t (elements_past_end n es) else elements_past_end n es)
     ≡ from_n n q (put_here (cond (q == i) (([], Some t) ∷ []) [] ++ under (Index q) es))
 at_past n q i t es rest =
     let told : eq_by_cmp nat_cmp q i ≡ (q == i) = sym (unsigned_ties q i) in
     elim (eq_by_cmp nat_cmp q i) as (λ b. eq_by_cmp nat_cmp q i ≡ b
-    → find nat_cmp q (if nat_le n i then put nat_cmp i t (past n es) else past n es)
+    → find nat_cmp q (if nat_le n i then put nat_cmp i t (elements_past_end n es) else elements_past_end n es)
     ≡ from_n n q (put_here (cond b (([], Some t) ∷ []) [] ++ under (Index q) es))) [
       | true ↦ λ e.
           let same = same_index q i e in
           elim (nat_le n i) as (λ b. nat_le n i ≡ b
-          → find nat_cmp q (if b then put nat_cmp i t (past n es) else past n es)
+          → find nat_cmp q (if b then put nat_cmp i t (elements_past_end n es) else elements_past_end n es)
           ≡ from_n n q (Some t)) [
-            | true ↦ λ le. find-put nat_cmp nat_cmp_total q i t (past n es)
-                ∙ ap (λ b. cond b (Some t) (find nat_cmp q (past n es))) e
+            | true ↦ λ le. find-put nat_cmp nat_cmp_total q i t (elements_past_end n es)
+                ∙ ap (λ b. cond b (Some t) (find nat_cmp q (elements_past_end n es))) e
                 ∙ ap (λ b. if b then Some t else None) (sym (ap (nat_le n) same ∙ le))
             | false ↦ λ gt. rest ∙ ap (λ b. if b then put_here (under (Index q) es) else None)
                 (ap (nat_le n) same ∙ gt)
@@ -110,16 +110,16 @@ at_past n q i t es rest =
           ] refl
       | false ↦ λ e.
           elim (nat_le n i) as (λ b. find nat_cmp q
-          (if b then put nat_cmp i t (past n es) else past n es)
+          (if b then put nat_cmp i t (elements_past_end n es) else elements_past_end n es)
           ≡ from_n n q (put_here (under (Index q) es))) [
-            | true ↦ find-put nat_cmp nat_cmp_total q i t (past n es)
-                ∙ ap (λ b. cond b (Some t) (find nat_cmp q (past n es))) e ∙ rest
+            | true ↦ find-put nat_cmp nat_cmp_total q i t (elements_past_end n es)
+                ∙ ap (λ b. cond b (Some t) (find nat_cmp q (elements_past_end n es))) e ∙ rest
             | false ↦ rest
           ]
     ] refl ∙ ap (λ b. from_n n q (put_here (cond b (([], Some t) ∷ []) [] ++ under (Index q) es)))
     told
 
-find-past : (n q : ℕ) (es : List Edit) → find nat_cmp q (past n es)
+find-past : (n q : ℕ) (es : List Edit) → find nat_cmp q (elements_past_end n es)
     ≡ from_n n q (put_here (under (Index q) es))
 find-past n q [] = nothing (nat_le n q)
 find-past n q (([], v) ∷ es) = find-past n q es
@@ -254,9 +254,9 @@ module _ {V : Type 0} (edits : V → List Edit) where
   pub puts-past : (n : ℕ) (es : List Edit) (gs : List (ℕ × V))
       → IsStrictlySortedBy nat_cmp (keys_of gs)
       → ((q : ℕ) → edits_of (lookup (eq_by_cmp nat_cmp q) gs)
-      ≡ (if nat_le n q then under (Index q) es else [])) → puts gs ≡ past n es
+      ≡ (if nat_le n q then under (Index q) es else [])) → puts gs ≡ elements_past_end n es
   puts-past n es gs s held =
-      same_entries nat_cmp nat_cmp_total nat_cmp-IsAntisymmetric (puts gs) (past n es)
+      same_entries nat_cmp nat_cmp_total nat_cmp-IsAntisymmetric (puts gs) (elements_past_end n es)
       (sorted-puts gs s) (sorted-past n es)
       (λ q. find-puts q gs s ∙ put_edits (lookup (eq_by_cmp nat_cmp q) gs) ∙ ap put_here (held q)
       ∙ chosen (nat_le n q) (under (Index q) es) ∙ sym (find-past n q es))
@@ -268,7 +268,7 @@ module _ {V : Type 0} (edits : V → List Edit) where
 
 -- the edits past the end at an index are those at it, or none
 pub past-under : (n k : ℕ) (es : List Edit) → at_key (λ i. eq_by_cmp nat_cmp i k)
-    (past_end n (indexed_edits es)) ≡ (if nat_le n k then under (Index k) es else [])
+    (edits_past_end n (indexed_edits es)) ≡ (if nat_le n k then under (Index k) es else [])
 past-under n k es =
     at_filter nat_cmp nat_cmp-IsAntisymmetric (nat_le n) k (indexed_edits es)
     ∙ ap (λ (l : List Edit). if nat_le n k then l else []) (indexed-under k es)

@@ -3,7 +3,7 @@ use Rattle.std.proofs.Common.{◌≡◌, refl, sym, ap, subst, ◌∙◌, ℕ, s
 use Rattle.std.proofs.lemmas.Bool.{and_parts}
 use Rattle.std.specs.Prelude.{Result}
 use Rattle.alt_expr.specs.Located.{View}
-use Rattle.alt_expr.specs.Updated.{Edit, Fault, ◌>>=◌, edit, edits, under, after, updated}
+use Rattle.alt_expr.specs.Updated.{Edit, ActionFault, ◌>>=◌, edit, edits, under, place_after, updated}
 use Rattle.alt_expr.specs.UpdateLanguage.{begin_with_names}
 use Rattle.alt_expr.specs.declared.path.PathPart.TheVariants.{Name}
 use Rattle.alt_expr.specs.declared.update.Action.{Action}
@@ -54,7 +54,7 @@ sketched-more item actions i a es fs f e whole same lt is done here alike pushed
 
 -- the first action that is refused
 pub sketched-refused : (item : View) (actions : List Action) (i : ℕ) (a : Action) (es : List Edit)
-    (whole : Bool) (fault : Fault) → i < length actions → a ≡ get_or actions i a
+    (whole : Bool) (fault : ActionFault) → i < length actions → a ≡ get_or actions i a
     → edit item a ≡ Err fault → SketchedSoFar item actions i es whole
     → edits item actions ≡ Err fault
 sketched-refused item actions i a es whole fault lt is refused so_far =
@@ -63,7 +63,7 @@ sketched-refused item actions i a es whole fault lt is refused so_far =
     ∙ ap (λ x. x ∷ drop (suc i) actions) (sym is)
     ∙ ap (λ n. a ∷ drop n actions) (sym (add-one i)) in
     so_far.told ∙ ap (λ (xs : List Action). known so_far.all (edits item xs)) here
-    ∙ ap (λ (r : Result Edit Fault). known so_far.all
+    ∙ ap (λ (r : Result Edit ActionFault). known so_far.all
     (r >>= (λ f. edits item rest >>= (λ more. Ok (f ∷ more))))) refused
 
 append_none : (es : List Edit) → es ++ [] ≡ es
@@ -85,18 +85,18 @@ sketched-all item actions i es whole end so_far = record {
 -- what the changes by these edits say of the item
 pub sketch_of : (item : View) (actions : List Action) (es : List Edit) (s : Sketch)
     → AreSketched (edits item actions) es s.whole
-    → ((name : List ℕ) → changed_by s.changes.items item name ≡ after (under (Name name) es) (item name))
+    → ((name : List ℕ) → changed_by s.changes.items item name ≡ place_after (under (Name name) es) (item name))
     → IsSketch item (updated item actions) s
 sketch_of item actions es s sketched made = record {
-  new = λ name. after (under (Name name) sketched.all) (item name);
-  updated = ap (λ (r : Result (List Edit) Fault). r
-      >>= (λ fs. Ok (λ (name : List ℕ). after (under (Name name) fs) (item name)))) sketched.are;
+  new = λ name. place_after (under (Name name) sketched.all) (item name);
+  updated = ap (λ (r : Result (List Edit) ActionFault). r
+      >>= (λ fs. Ok (λ (name : List ℕ). place_after (under (Name name) fs) (item name)))) sketched.are;
   stands_in = λ name.
-      subst (λ o. StandsInIf o (after (under (Name name) sketched.all) (item name)))
+      subst (λ o. StandsInIf o (place_after (under (Name name) sketched.all) (item name)))
       (sym (made name))
       (after_in (under (Name name) es) (under (Name name) sketched.all)
       (under_in (Name name) es sketched.all sketched.stand_in) (item name));
   whole = λ e. λ j. λ name.
-      (made name ∙ ap (λ (fs : List Edit). after (under (Name name) fs) (item name))
+      (made name ∙ ap (λ (fs : List Edit). place_after (under (Name name) fs) (item name))
       (sketched.same e)) j;
 }

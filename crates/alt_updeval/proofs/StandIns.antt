@@ -9,7 +9,7 @@ use Rattle.alt_value.specs.Members.{text_order}
 use Rattle.alt_value.specs.Size.{depth, elements_depth, fields_depth, elements_size, fields_size}
 use Rattle.alt_value.specs.Tree.{Tree, S_tree, N_tree, B_tree, BOOL_tree, NULL_tree, SS_tree, NS_tree, BS_tree, L_tree, M_tree, Trees, no_trees, tree_then, Fields, no_fields, field_then, Pair, trees_of, fields_of, elements, pairs}
 use Rattle.alt_expr.specs.Projected.{same_step, element_then, pair_then}
-use Rattle.alt_expr.specs.Updated.{Edit, behind, under, put_here, is_taken, past, put_name, put_names, outcome, changed, changed_elements, changed_fields, after}
+use Rattle.alt_expr.specs.Updated.{Edit, edits_behind, under, put_here, is_taken, elements_past_end, put_name, put_names, outcome, changed, changed_elements, changed_fields, place_after}
 use Rattle.alt_expr.specs.declared.path.PathPart.{PathPart}
 use Rattle.alt_expr.specs.declared.path.PathPart.TheVariants.{Name, Index}
 use Rattle.alt_updeval.specs.StandsIn.{StandsIn, StandsInIf, EachOfTwo, StandsInAt, StandsInEdit}
@@ -136,7 +136,7 @@ put_name_in (c ∷ cs) t u here ps qs h = put_in text_order (c ∷ cs) t u here 
 -- ---- edits
 
 behind_in : (s : PathPart) (path : List PathPart) (v w : Option Tree) → StandsInIf v w
-    → EachOfTwo StandsInEdit (behind s (path, v)) (behind s (path, w))
+    → EachOfTwo StandsInEdit (edits_behind s (path, v)) (edits_behind s (path, w))
 behind_in s [] v w h = tt
 behind_in s (p ∷ ps) v w h = elim (same_step s p) as (λ (b : Bool). EachOfTwo StandsInEdit
     (if b then (ps, v) ∷ [] else []) (if b then (ps, w) ∷ [] else [])) [
@@ -149,8 +149,8 @@ pub under_in : (s : PathPart) (es fs : List Edit) → EachOfTwo StandsInEdit es 
     → EachOfTwo StandsInEdit (under s es) (under s fs)
 under_in s [] [] h = tt
 under_in s (e ∷ es) (f ∷ fs) h =
-    each-append StandsInEdit (behind s e) (behind s f) (under s es) (under s fs)
-    (subst (λ (p : List PathPart). EachOfTwo StandsInEdit (behind s e) (behind s (p, f.1))) h.0.0
+    each-append StandsInEdit (edits_behind s e) (edits_behind s f) (under s es) (under s fs)
+    (subst (λ (p : List PathPart). EachOfTwo StandsInEdit (edits_behind s e) (edits_behind s (p, f.1))) h.0.0
     (behind_in s e.0 e.1 f.1 h.0.1)) (under_in s es fs h.1)
 under_in s [] (f ∷ fs) h = absurd h
 under_in s (e ∷ es) [] h = absurd h
@@ -192,17 +192,17 @@ taken_in [] (f ∷ fs) h = absurd h
 taken_in (e ∷ es) [] h = absurd h
 
 past_one : (n : ℕ) (path : List PathPart) (v w : Option Tree) (es fs : List Edit) → StandsInIf v w
-    → EachOfTwo StandsInAt (past n es) (past n fs)
-    → EachOfTwo StandsInAt (past n ((path, v) ∷ es)) (past n ((path, w) ∷ fs))
+    → EachOfTwo StandsInAt (elements_past_end n es) (elements_past_end n fs)
+    → EachOfTwo StandsInAt (elements_past_end n ((path, v) ∷ es)) (elements_past_end n ((path, w) ∷ fs))
 past_one n [] v w es fs h rest = rest
 past_one n (Name name ∷ ps) v w es fs h rest = rest
 past_one n (Index i ∷ p ∷ ps) v w es fs h rest = rest
 past_one n (Index i ∷ []) None None es fs h rest = rest
 past_one n (Index i ∷ []) (Some t) (Some u) es fs h rest =
     elim (nat_le n i) as (λ (b : Bool). EachOfTwo StandsInAt
-    (if b then entries.put nat_cmp i t (past n es) else past n es)
-    (if b then entries.put nat_cmp i u (past n fs) else past n fs)) [
-      | true ↦ put_in nat_cmp i t u h (past n es) (past n fs) rest
+    (if b then entries.put nat_cmp i t (elements_past_end n es) else elements_past_end n es)
+    (if b then entries.put nat_cmp i u (elements_past_end n fs) else elements_past_end n fs)) [
+      | true ↦ put_in nat_cmp i t u h (elements_past_end n es) (elements_past_end n fs) rest
       | false ↦ rest
     ]
 past_one n (Index i ∷ []) None (Some u) es fs h rest = absurd h
@@ -210,11 +210,11 @@ past_one n (Index i ∷ []) (Some t) None es fs h rest = absurd h
 
 -- what is put past the end
 past_in : (n : ℕ) (es fs : List Edit) → EachOfTwo StandsInEdit es fs
-    → EachOfTwo StandsInAt (past n es) (past n fs)
+    → EachOfTwo StandsInAt (elements_past_end n es) (elements_past_end n fs)
 past_in n [] [] h = tt
 past_in n (e ∷ es) (f ∷ fs) h =
-    subst (λ (p : List PathPart). EachOfTwo StandsInAt (past n (e ∷ es))
-    (past n ((p, f.1) ∷ fs))) h.0.0
+    subst (λ (p : List PathPart). EachOfTwo StandsInAt (elements_past_end n (e ∷ es))
+    (elements_past_end n ((p, f.1) ∷ fs))) h.0.0
     (past_one n e.0 e.1 f.1 es fs h.0.1 (past_in n es fs h.1))
 past_in n [] (f ∷ fs) h = absurd h
 past_in n (e ∷ es) [] h = absurd h
@@ -279,12 +279,12 @@ mutual
   changed_in es fs h (L_tree ts) =
       outcome_in (put_here es) (put_here fs) (is_taken es) (is_taken fs) _ _
       (here_in es fs h) (taken_in es fs h)
-      (list_in (elements (changed_elements es 0 ts) ++ map (λ p. p.1) (past (length (elements ts)) es))
-      (elements (changed_elements fs 0 ts) ++ map (λ p. p.1) (past (length (elements ts)) fs))
+      (list_in (elements (changed_elements es 0 ts) ++ map (λ p. p.1) (elements_past_end (length (elements ts)) es))
+      (elements (changed_elements fs 0 ts) ++ map (λ p. p.1) (elements_past_end (length (elements ts)) fs))
       (each-append StandsIn (elements (changed_elements es 0 ts)) (elements (changed_elements fs 0 ts))
-      (map (λ p. p.1) (past (length (elements ts)) es))
-      (map (λ p. p.1) (past (length (elements ts)) fs)) (elements_in es fs h 0 ts)
-      (values_in (past (length (elements ts)) es) (past (length (elements ts)) fs)
+      (map (λ p. p.1) (elements_past_end (length (elements ts)) es))
+      (map (λ p. p.1) (elements_past_end (length (elements ts)) fs)) (elements_in es fs h 0 ts)
+      (values_in (elements_past_end (length (elements ts)) es) (elements_past_end (length (elements ts)) fs)
       (past_in (length (elements ts)) es fs h))))
   changed_in es fs h (M_tree gs) =
       outcome_in (put_here es) (put_here fs) (is_taken es) (is_taken fs) _ _
@@ -333,6 +333,6 @@ mutual
 
 -- what becomes of a place
 pub after_in : (es fs : List Edit) → EachOfTwo StandsInEdit es fs → (o : Option Tree)
-    → StandsInIf (after es o) (after fs o)
+    → StandsInIf (place_after es o) (place_after fs o)
 after_in es fs h None = here_in es fs h
 after_in es fs h (Some t) = changed_in es fs h t

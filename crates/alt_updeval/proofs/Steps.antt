@@ -17,9 +17,9 @@ use Rattle.alt_value.specs.Tree.{Tree, Pair, trees_of, elements}
 use Rattle.alt_value.proofs.Texts.{text_total, text_apart}
 use Rattle.alt_expr.specs.declared.path.PathPart.{PathPart}
 use Rattle.alt_expr.specs.declared.path.PathPart.TheVariants.{Name, Index}
-use Rattle.alt_expr.specs.Updated.{Edit, under, changed, changed_elements, put_here, past}
+use Rattle.alt_expr.specs.Updated.{Edit, under, changed, changed_elements, put_here, elements_past_end}
 use Rattle.alt_updeval.specs.declared.made.Made.{Made}
-use Rattle.alt_updeval.specs.Shown.{way_of, way_at_name, way_at_index, ways_in, named_edits, indexed_edits, new_names, past_end, put_at, new_at, put_new_if}
+use Rattle.alt_updeval.specs.Shown.{way_of, way_at_name, way_at_index, ways_in, named_edits, indexed_edits, new_names, edits_past_end, put_at, new_at, put_new_if}
 use Rattle.alt_updeval.proofs.Groups.{any_more, commute, group_at, no_group}
 use Rattle.alt_updeval.proofs.Lists.{walked, walked-more, walked-elements, puts, puts-more, puts-past, edits_of, past-under}
 use Rattle.alt_updeval.proofs.Maps.{Seen, seen_more, put_new}
@@ -84,11 +84,11 @@ list_more es us ts i t before now is lt stands was put =
 -- behind the last element stand those that are put past the end
 pub list_all : (es : List Edit) (ts : List Tree) (i : ℕ) (out now : List Tree) → length ts ≤ i
     → out ≡ walked (λ k. under (Index k) es) 0 (take i ts)
-    → now ≡ out ++ map (λ (p : ℕ × Tree). p.1) (past (length ts) es)
+    → now ≡ out ++ map (λ (p : ℕ × Tree). p.1) (elements_past_end (length ts) es)
     → now ≡ elements (changed_elements es 0 (trees_of ts))
-    ++ map (λ (p : ℕ × Tree). p.1) (past (length ts) es)
+    ++ map (λ (p : ℕ × Tree). p.1) (elements_past_end (length ts) es)
 list_all es ts i out now le was put =
-    put ∙ ap (λ (l : List Tree). l ++ map (λ (p : ℕ × Tree). p.1) (past (length ts) es))
+    put ∙ ap (λ (l : List Tree). l ++ map (λ (p : ℕ × Tree). p.1) (elements_past_end (length ts) es))
     (was ∙ ap (walked (λ k. under (Index k) es) 0) (take_all i ts le) ∙ walked-elements es 0 ts)
 
 -- ---- what is put past the end
@@ -98,7 +98,7 @@ abbrev pub shown_group : Vec Way Global → List Edit
 shown_group v = map way_of v.items
 
 module _ (es : List Edit) (n : ℕ) (pairs : List (ℕ × Way))
-    (same : map way_at_index pairs ≡ past_end n (indexed_edits es))
+    (same : map way_at_index pairs ≡ edits_past_end n (indexed_edits es))
     (xs : List (ℕ × Vec Way Global)) (rising : IsStrictlySortedBy nat_cmp (keys_of xs))
     (held : (q : ℕ) → option_map_or (λ g. g.items) (lookup (eq_by_cmp nat_cmp q) xs) []
     ≡ map (λ (p : ℕ × Way). p.1)
@@ -119,7 +119,7 @@ module _ (es : List Edit) (n : ℕ) (pairs : List (ℕ × Way))
   -- behind the last group all that is put past the end stands
   pub past_all : (i : ℕ) (base out : List Tree) → length xs ≤ i
       → out ≡ base ++ map (λ (p : ℕ × Tree). p.1) (puts shown_group (take i xs))
-      → out ≡ base ++ map (λ (p : ℕ × Tree). p.1) (past n es)
+      → out ≡ base ++ map (λ (p : ℕ × Tree). p.1) (elements_past_end n es)
   past_all i base out le was =
       was ∙ ap (λ (gs : List (ℕ × Vec Way Global)). base
       ++ map (λ (p : ℕ × Tree). p.1) (puts shown_group gs)) (take_all i xs le)

@@ -7,7 +7,7 @@ use Rattle.alt_expr.specs.declared.path.PathPart.{PathPart}
 use Rattle.alt_expr.specs.declared.update.Term.{Term, the_lemmas}
 use Rattle.alt_expr.specs.declared.update.Term.TheVariants as term
 use Rattle.alt_expr.specs.Located.{View, located}
-use Rattle.alt_expr.specs.Updated.{◌>>=◌, there, or_else, joined, term as value}
+use Rattle.alt_expr.specs.Updated.{◌>>=◌, there, or_else, appended_list, term as value}
 
 -- a path that stands as a term has to be there
 pub term-At : (item : View) (path : List PathPart)
@@ -29,7 +29,7 @@ term-IfNotExists item path other = search (rules, the_lemmas)
 -- list_append joins what its terms stand for, the first before the second
 pub term-ListAppend : (item : View) (x y : Term)
     → value item (term.ListAppend x y)
-    ≡ (value item x >>= (λ s. value item y >>= (λ t. joined s t)))
+    ≡ (value item x >>= (λ s. value item y >>= (λ t. appended_list s t)))
 unfolding value
 term-ListAppend item x y = search (rules, the_lemmas)
 

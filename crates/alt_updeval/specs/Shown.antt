@@ -8,7 +8,7 @@ use Rattle.alt_value.specs.Size.{size}
 use Rattle.alt_value.specs.Stands.{tree_of}
 use Rattle.alt_value.specs.declared.attr.Attr.{Attr}
 use Rattle.alt_value.specs.Tree.{Tree, N_tree, L_tree, Pair, trees_of, elements}
-use Rattle.alt_expr.specs.Updated.{Edit, Fault, wrong_kind, put_here, under}
+use Rattle.alt_expr.specs.Updated.{Edit, ActionFault, wrong_kind, put_here, under}
 use Rattle.alt_expr.specs.declared.path.PathPart.{PathPart}
 use Rattle.alt_expr.specs.declared.path.PathPart.TheVariants.{Name, Index}
 use Rattle.alt_updeval.specs.StandsIn.{longest_key, as_key, EachOfTwo, StandsInEdit}
@@ -30,9 +30,9 @@ joined_pieces [] = []
 joined_pieces (p ∷ ps) = elements_of (tree_of p.now) ++ joined_pieces ps
 
 -- the value that an operand stands for
-abbrev pub operand_tree : Operand → Tree
-operand_tree (operand.One a) = tree_of a.now
-operand_tree (operand.Lists pieces) = L_tree (trees_of (joined_pieces pieces.items))
+abbrev pub operand_value : Operand → Tree
+operand_value (operand.One a) = tree_of a.now
+operand_value (operand.Lists pieces) = L_tree (trees_of (joined_pieces pieces.items))
 
 -- A value that is larger than the longest key, and is no key.
 pub record IsLarge (t : Tree) : Type 0 where
@@ -56,24 +56,24 @@ made_tree (Joined pieces) = L_tree (trees_of (joined_pieces pieces.items))
 made_tree (Own a) = tree_of a
 
 -- the elements of a list
-abbrev pub list_in : Tree → Result (List Tree) Fault
-list_in (L_tree ts) = Ok (elements ts)
-list_in _ = Err wrong_kind
+abbrev pub list_in_tree : Tree → Result (List Tree) ActionFault
+list_in_tree (L_tree ts) = Ok (elements ts)
+list_in_tree _ = Err wrong_kind
 
 -- the number that a value is
-abbrev pub number_in : Tree → Option ℤ
-number_in (N_tree z) = Some z
-number_in _ = None
+abbrev pub number_in_tree : Tree → Option ℤ
+number_in_tree (N_tree z) = Some z
+number_in_tree _ = None
 
 -- ---- edits
 
 -- what is changed behind the first step
-abbrev pub shown : Bor (List PathPart) × Option Made → Edit
-shown e = (e.0.now, option_map made_tree e.1)
+abbrev pub edit_behind_step : Bor (List PathPart) × Option Made → Edit
+edit_behind_step e = (e.0.now, option_map made_tree e.1)
 
 -- an edit of an attribute, by its name and what stands behind it
-abbrev pub shown_at : Bor (List ℕ) × (Bor (List PathPart) × Option Made) → Edit
-shown_at e = (Name e.0.now ∷ e.1.0.now, option_map made_tree e.1.1)
+abbrev pub attribute_edit : Bor (List ℕ) × (Bor (List PathPart) × Option Made) → Edit
+attribute_edit e = (Name e.0.now ∷ e.1.0.now, option_map made_tree e.1.1)
 
 -- the same of a borrowed value
 abbrev pub way_of : Bor (List PathPart) × Option (Bor Made) → Edit
@@ -98,14 +98,14 @@ is_put ([], Some t) = true
 is_put _ = false
 
 -- this very place is taken out
-abbrev pub is_out : Edit → Bool
-is_out ([], None) = true
-is_out _ = false
+abbrev pub is_taken_out : Edit → Bool
+is_taken_out ([], None) = true
+is_taken_out _ = false
 
 -- the only change is that of the place itself
-abbrev pub is_whole : List Edit → Bool
-is_whole (([], v) ∷ []) = true
-is_whole _ = false
+abbrev pub is_edited_whole : List Edit → Bool
+is_edited_whole (([], v) ∷ []) = true
+is_edited_whole _ = false
 
 -- ---- edits by their first step
 
@@ -126,8 +126,8 @@ abbrev pub new_names : List Pair → List (List ℕ × Edit) → List (List ℕ 
 new_names ps es = filter (λ e. is_none (at_name e.0 ps)) es
 
 -- those of an index past the end
-abbrev pub past_end : ℕ → List (ℕ × Edit) → List (ℕ × Edit)
-past_end n es = filter (λ e. nat_le n e.0) es
+abbrev pub edits_past_end : ℕ → List (ℕ × Edit) → List (ℕ × Edit)
+edits_past_end n es = filter (λ e. nat_le n e.0) es
 
 -- what edits put at a name that isn't empty
 abbrev pub put_at : List Edit → List ℕ → Option Tree
@@ -151,7 +151,7 @@ put_new_if (c ∷ cs) o ps = put_if (c ∷ cs) o ps
 -- ---- sketches
 
 -- edits that stand in for those of the definition, and are the same where nothing was left out
-pub record AreSketched (told : Result (List Edit) Fault) (es : List Edit) (whole : Bool) : Type 0 where
+pub record AreSketched (told : Result (List Edit) ActionFault) (es : List Edit) (whole : Bool) : Type 0 where
   pub all : List Edit
   pub are : told ≡ Ok all
   pub stand_in : EachOfTwo StandsInEdit es all

@@ -5,8 +5,8 @@ ghost use Rattle.alt_value.specs.Stands.{tree_of};
 ghost use Rattle.alt_expr.specs.Updated as spec;
 ghost use Rattle.alt_expr.specs.UpdateLanguage.{begins_with_name, target};
 ghost use Rattle.alt_expr.specs.declared.update.Action.TheVariants as action;
-ghost use Rattle.alt_updeval.specs.Answers.{Answers};
-ghost use Rattle.alt_updeval.specs.Shown.{made_tree, shown_at};
+ghost use Rattle.alt_updeval.specs.Answers.{AnswersAsDefined};
+ghost use Rattle.alt_updeval.specs.Shown.{made_tree, attribute_edit};
 
 use crate::UpdateFault;
 use crate::made::Made;
@@ -30,7 +30,7 @@ pub(crate) fn edit<'a, V: AttrView>(
     view: &'a V,
 ) -> Result<Edit<'a>, UpdateFault>
     requires { begins_with_name (target action.now) ≡ true }
-    ensures { Answers shown_at result (spec.edit (V.attribute view.now) action.now) }
+    ensures { AnswersAsDefined attribute_edit result (spec.edit (V.attribute view.now) action.now) }
 {
     match action {
         Action::Set(path, sum) => set(alloc, path.as_slice(), sum, view),
@@ -47,7 +47,7 @@ fn set<'a, V: AttrView>(
     view: &'a V,
 ) -> Result<Edit<'a>, UpdateFault>
     requires { begins_with_name path.now ≡ true }
-    ensures { Answers shown_at result
+    ensures { AnswersAsDefined attribute_edit result
         (spec.edit (V.attribute view.now) (action.Set path.now sum.now)) }
 {
     let value = sum_of(alloc, sum, view)?;
@@ -57,7 +57,7 @@ fn set<'a, V: AttrView>(
 
 fn remove<'a, V: AttrView>(path: &'a [PathPart], view: &V) -> Result<Edit<'a>, UpdateFault>
     requires { begins_with_name path.now ≡ true }
-    ensures { Answers shown_at result (spec.edit (V.attribute view.now) (action.Remove path.now)) }
+    ensures { AnswersAsDefined attribute_edit result (spec.edit (V.attribute view.now) (action.Remove path.now)) }
 {
     parent(path, view)?;
     Ok(at(path, None))
@@ -66,7 +66,7 @@ fn remove<'a, V: AttrView>(path: &'a [PathPart], view: &V) -> Result<Edit<'a>, U
 /// The place of a path, with its new value.
 fn at<'a>(path: &'a [PathPart], value: Option<Made<'a>>) -> Edit<'a>
     requires { begins_with_name path.now ≡ true }
-    ensures { shown_at result ≡ (path.now, option_map made_tree value.entry) }
+    ensures { attribute_edit result ≡ (path.now, option_map made_tree value.entry) }
 {
     match path {
         [PathPart::Name(name), rest @ ..] => (name.get().as_str(), (rest, value)),
@@ -76,7 +76,7 @@ fn at<'a>(path: &'a [PathPart], value: Option<Made<'a>>) -> Edit<'a>
 
 /// A path of more than one part needs its parent.
 fn parent<V: AttrView>(path: &[PathPart], view: &V) -> Result<(), UpdateFault>
-    ensures { Answers (λ u. u) result (spec.parent (V.attribute view.now) path.now) }
+    ensures { AnswersAsDefined (λ u. u) result (spec.parent (V.attribute view.now) path.now) }
 {
     let count = path.len();
     if count <= 1 {
@@ -90,7 +90,7 @@ fn parent<V: AttrView>(path: &[PathPart], view: &V) -> Result<(), UpdateFault>
 
 /// A map takes a name, and a list an index.
 fn takes(parent: &Attr, last: &PathPart) -> Result<(), UpdateFault>
-    ensures { Answers (λ u. u) result (spec.takes (tree_of parent.now) (Some last.now)) }
+    ensures { AnswersAsDefined (λ u. u) result (spec.takes (tree_of parent.now) (Some last.now)) }
 {
     match (parent, last) {
         (Attr::M(_), PathPart::Name(_)) => Ok(()),
@@ -100,7 +100,7 @@ fn takes(parent: &Attr, last: &PathPart) -> Result<(), UpdateFault>
 }
 
 fn add<'a, V: AttrView>(name: &'a str, value: &'a Attr, view: &V) -> Result<Edit<'a>, UpdateFault>
-    ensures { Answers shown_at result
+    ensures { AnswersAsDefined attribute_edit result
         (spec.edit (V.attribute view.now) (action.Add name.now value.now)) }
 {
     let new = match view.attr(name) {
@@ -115,7 +115,7 @@ fn delete<'a, V: AttrView>(
     value: &'a Attr,
     view: &V,
 ) -> Result<Edit<'a>, UpdateFault>
-    ensures { Answers shown_at result
+    ensures { AnswersAsDefined attribute_edit result
         (spec.edit (V.attribute view.now) (action.Delete name.now value.now)) }
 {
     let rest = match view.attr(name) {

@@ -1,7 +1,7 @@
 //! What a term stands for: a value of the item or of the update, a sum or a set that was made, or
 //! lists one behind another. Nothing is copied before it is put somewhere.
 
-ghost use Rattle.std.specs.Prelude.{◌≡◌, ◌++◌, ◌<◌, [], Some, length, slice_get, IfOk, OnOk};
+ghost use Rattle.std.specs.Prelude.{◌≡◌, ◌++◌, ◌<◌, Some, length, slice_get, IfOk, OnOk};
 ghost use Rattle.alt_value.specs.Stands.{tree_of};
 ghost use Rattle.alt_value.specs.Tree.{L_tree, trees_of};
 ghost use Rattle.alt_updeval.specs.Shown.{made_tree, joined_pieces, elements_of};

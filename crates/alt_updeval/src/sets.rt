@@ -4,7 +4,7 @@ ghost use Rattle.std.specs.Prelude.{◌≡◌, None, Some, option_map};
 ghost use Rattle.alt_value.specs.Stands.{tree_of};
 ghost use Rattle.alt_value.specs.Tree.{SS_tree, NS_tree, BS_tree};
 ghost use Rattle.alt_expr.specs.Updated as spec;
-ghost use Rattle.alt_updeval.specs.Answers.{Answers};
+ghost use Rattle.alt_updeval.specs.Answers.{AnswersAsDefined};
 ghost use Rattle.alt_updeval.specs.Shown.{made_tree};
 
 use crate::UpdateFault;
@@ -14,7 +14,7 @@ use alt_value::{Attr, BytesSet, NumberSet, TextSet};
 
 /// A number or a set, where nothing was.
 pub(crate) fn put_first(value: &Attr) -> Result<Made<'_>, UpdateFault>
-    ensures { Answers made_tree result (spec.added None (tree_of value.now)) }
+    ensures { AnswersAsDefined made_tree result (spec.added None (tree_of value.now)) }
 {
     match value {
         Attr::N(_) | Attr::Ss(_) | Attr::Ns(_) | Attr::Bs(_) => Ok(Made::Borrowed(value)),
@@ -24,7 +24,7 @@ pub(crate) fn put_first(value: &Attr) -> Result<Made<'_>, UpdateFault>
 
 /// A number that is added to, or a set that is united with one of its kind.
 pub(crate) fn added<'a>(old: &Attr, value: &Attr) -> Result<Made<'a>, UpdateFault>
-    ensures { Answers made_tree result (spec.added (Some (tree_of old.now)) (tree_of value.now)) }
+    ensures { AnswersAsDefined made_tree result (spec.added (Some (tree_of old.now)) (tree_of value.now)) }
 {
     match (old, value) {
         (Attr::N(number), Attr::N(more)) => as_number(number.add(more)),
@@ -37,7 +37,7 @@ pub(crate) fn added<'a>(old: &Attr, value: &Attr) -> Result<Made<'a>, UpdateFaul
 
 /// Members of a set, where nothing is.
 pub(crate) fn take_none<'a>(value: &Attr) -> Result<Option<Made<'a>>, UpdateFault>
-    ensures { Answers (option_map made_tree) result (spec.taken None (tree_of value.now)) }
+    ensures { AnswersAsDefined (option_map made_tree) result (spec.taken_from_set None (tree_of value.now)) }
 {
     match value {
         Attr::Ss(_) | Attr::Ns(_) | Attr::Bs(_) => Ok(None),
@@ -47,8 +47,8 @@ pub(crate) fn take_none<'a>(value: &Attr) -> Result<Option<Made<'a>>, UpdateFaul
 
 /// A set without members that are taken out, which are of its kind; none where it is left empty.
 pub(crate) fn taken<'a>(old: &Attr, value: &Attr) -> Result<Option<Made<'a>>, UpdateFault>
-    ensures { Answers (option_map made_tree) result
-        (spec.taken (Some (tree_of old.now)) (tree_of value.now)) }
+    ensures { AnswersAsDefined (option_map made_tree) result
+        (spec.taken_from_set (Some (tree_of old.now)) (tree_of value.now)) }
 {
     match (old, value) {
         (Attr::Ss(set), Attr::Ss(less)) => Ok(texts_left(set.without(less)?)),

@@ -5,8 +5,8 @@ ghost use Rattle.std.specs.List.Sorted.{IsStrictlySortedBy};
 ghost use Rattle.alt_value.specs.Members.{text_order};
 ghost use Rattle.alt_expr.specs.Updated as spec;
 ghost use Rattle.alt_expr.specs.UpdateLanguage.{begin_with_names};
-ghost use Rattle.alt_updeval.specs.Answers.{IsFault};
-ghost use Rattle.alt_updeval.specs.Shown.{shown_at, AreSketched};
+ghost use Rattle.alt_updeval.specs.Answers.{IsFaultAsDefined};
+ghost use Rattle.alt_updeval.specs.Shown.{attribute_edit, AreSketched};
 ghost use Rattle.alt_updeval.specs.Sketched.{IsSketch};
 ghost use Rattle.alt_updeval.specs.StandsIn.{StandsInEdit};
 
@@ -37,7 +37,7 @@ pub fn sketched<V: AttrView>(
     requires begins { begin_with_names update.now ≡ true }
     ensures sketch { IfOk result
         (IsSketch (V.attribute view.now) (spec.updated (V.attribute view.now) update.now)) }
-    ensures refused { IfErr result (IsFault (spec.updated (V.attribute view.now) update.now)) }
+    ensures refused { IfErr result (IsFaultAsDefined (spec.updated (V.attribute view.now) update.now)) }
     ensures rising { IfOk result
         (λ s. IsStrictlySortedBy text_order (map (λ c. c.name) s.changes.items)) }
 {
@@ -55,8 +55,8 @@ fn edits<'a, V: AttrView>(
 ) -> Result<(Vec<Edit<'a>>, bool), UpdateFault>
     requires { begin_with_names actions.now ≡ true }
     ensures edits { IfOk result (λ r. AreSketched (spec.edits (V.attribute view.now) actions.now)
-        (map shown_at r.0.items) r.1) }
-    ensures refused { IfErr result (IsFault (spec.edits (V.attribute view.now) actions.now)) }
+        (map attribute_edit r.0.items) r.1) }
+    ensures refused { IfErr result (IsFaultAsDefined (spec.edits (V.attribute view.now) actions.now)) }
 {
     let mut all = Vec::new(alloc);
     let mut whole = true;
@@ -77,8 +77,8 @@ fn both(before: bool, now: bool) -> bool
 
 /// An edit, and true; or one with what stands in for its value, and false.
 fn cut<'a>(alloc: Global, edit: Edit<'a>, left: &mut u64) -> Result<(Edit<'a>, bool), NoMemory>
-    ensures edit { IfOk result (λ r. StandsInEdit (shown_at r.0) (shown_at edit.entry)) }
-    ensures same { IfOk result (λ r. r.1 ≡ true → shown_at r.0 ≡ shown_at edit.entry) }
+    ensures edit { IfOk result (λ r. StandsInEdit (attribute_edit r.0) (attribute_edit edit.entry)) }
+    ensures same { IfOk result (λ r. r.1 ≡ true → attribute_edit r.0 ≡ attribute_edit edit.entry) }
 {
     let (name, (path, value)) = edit;
     let Some(value) = value else {

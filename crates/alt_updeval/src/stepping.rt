@@ -79,7 +79,7 @@ pub(crate) fn past_end<'a>(
     count: usize,
 ) -> Result<Vec<(usize, Way<'a>)>, NoMemory>
     ensures { IfOk result (λ v. map spec.way_at_index v.items
-        ≡ spec.past_end count (spec.indexed_edits (map spec.way_of ways.now))) }
+        ≡ spec.edits_past_end count (spec.indexed_edits (map spec.way_of ways.now))) }
 {
     let mut indexed = Vec::new(alloc);
     for way in ways {

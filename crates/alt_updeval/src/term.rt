@@ -1,11 +1,10 @@
 //! Terms and sums: what they stand for, over the item before the update.
 
-ghost use Rattle.std.specs.Prelude.{◌≡◌, ◌++◌, Ok};
+ghost use Rattle.std.specs.Prelude.{◌≡◌, Ok};
 ghost use Rattle.alt_value.specs.Stands.{tree_of};
-ghost use Rattle.alt_value.specs.Tree.{L_tree, trees_of};
 ghost use Rattle.alt_expr.specs.Updated as spec;
-ghost use Rattle.alt_updeval.specs.Answers.{Answers};
-ghost use Rattle.alt_updeval.specs.Shown.{made_tree, operand_tree, joined_pieces, list_in, number_in};
+ghost use Rattle.alt_updeval.specs.Answers.{AnswersAsDefined};
+ghost use Rattle.alt_updeval.specs.Shown.{made_tree, operand_value, joined_pieces, list_in_tree, number_in_tree};
 
 use crate::UpdateFault;
 use crate::made::Made;
@@ -28,7 +27,7 @@ pub(crate) fn sum_of<'a, V: AttrView>(
     sum: &'a Sum,
     view: &'a V,
 ) -> Result<Made<'a>, UpdateFault>
-    ensures { Answers made_tree result (spec.sum_of (V.attribute view.now) sum.now) }
+    ensures { AnswersAsDefined made_tree result (spec.sum_of (V.attribute view.now) sum.now) }
 {
     match sum {
         Sum::One(x) => Ok(made_of(term(alloc, x, view)?)),
@@ -47,7 +46,7 @@ pub(crate) fn sum_of<'a, V: AttrView>(
 
 /// An operand as what is put.
 fn made_of<'a>(operand: Operand<'a>) -> Made<'a>
-    ensures { made_tree result ≡ operand_tree operand.entry }
+    ensures { made_tree result ≡ operand_value operand.entry }
 {
     match operand {
         Operand::One(value) => Made::Borrowed(value),
@@ -63,7 +62,7 @@ fn term<'a, V: AttrView>(
     term_of: &'a Term,
     view: &'a V,
 ) -> Result<Operand<'a>, UpdateFault>
-    ensures { Answers operand_tree result (spec.term (V.attribute view.now) term_of.now) }
+    ensures { AnswersAsDefined operand_value result (spec.term (V.attribute view.now) term_of.now) }
 {
     match term_of {
         Term::At(path) => match located(path.as_slice(), view) {
@@ -89,8 +88,8 @@ fn append<'a>(
     front: Operand<'a>,
     back: Operand<'a>,
 ) -> Result<Operand<'a>, UpdateFault>
-    ensures { Answers operand_tree result
-        (spec.joined (operand_tree front.entry) (operand_tree back.entry)) }
+    ensures { AnswersAsDefined operand_value result
+        (spec.appended_list (operand_value front.entry) (operand_value back.entry)) }
 {
     let mut pieces = pieces_of(alloc, front)?;
     let more = pieces_of(alloc, back)?;
@@ -100,7 +99,7 @@ fn append<'a>(
 
 /// The lists whose elements a list has, one behind another.
 fn pieces_of<'a>(alloc: Global, made: Operand<'a>) -> Result<Vec<&'a Attr>, UpdateFault>
-    ensures { Answers (λ v. joined_pieces v.items) result (list_in (operand_tree made.entry)) }
+    ensures { AnswersAsDefined (λ v. joined_pieces v.items) result (list_in_tree (operand_value made.entry)) }
 {
     match made {
         Operand::Lists(pieces) => Ok(pieces),
@@ -110,7 +109,7 @@ fn pieces_of<'a>(alloc: Global, made: Operand<'a>) -> Result<Vec<&'a Attr>, Upda
 
 /// A list alone.
 fn one_piece(alloc: Global, value: &Attr) -> Result<Vec<&Attr>, UpdateFault>
-    ensures { Answers (λ v. joined_pieces v.items) result (list_in (tree_of value.now)) }
+    ensures { AnswersAsDefined (λ v. joined_pieces v.items) result (list_in_tree (tree_of value.now)) }
 {
     match value {
         Attr::L(_) => {
@@ -123,7 +122,7 @@ fn one_piece(alloc: Global, value: &Attr) -> Result<Vec<&Attr>, UpdateFault>
 }
 
 fn plus<'a>(a: &Operand<'_>, b: &Operand<'_>) -> Result<Made<'a>, UpdateFault>
-    ensures { Answers made_tree result (spec.plus (operand_tree a.now) (operand_tree b.now)) }
+    ensures { AnswersAsDefined made_tree result (spec.plus (operand_value a.now) (operand_value b.now)) }
 {
     match (number(a), number(b)) {
         (Some(x), Some(y)) => as_number(x.add(&y)),
@@ -132,7 +131,7 @@ fn plus<'a>(a: &Operand<'_>, b: &Operand<'_>) -> Result<Made<'a>, UpdateFault>
 }
 
 fn minus<'a>(a: &Operand<'_>, b: &Operand<'_>) -> Result<Made<'a>, UpdateFault>
-    ensures { Answers made_tree result (spec.minus (operand_tree a.now) (operand_tree b.now)) }
+    ensures { AnswersAsDefined made_tree result (spec.minus (operand_value a.now) (operand_value b.now)) }
 {
     match (number(a), number(b)) {
         (Some(x), Some(y)) => as_number(x.subtract(&y)),
@@ -142,7 +141,7 @@ fn minus<'a>(a: &Operand<'_>, b: &Operand<'_>) -> Result<Made<'a>, UpdateFault>
 
 /// The number that a value is.
 fn number(made: &Operand<'_>) -> Option<Decimal>
-    ensures { result ≡ number_in (operand_tree made.now) }
+    ensures { result ≡ number_in_tree (operand_value made.now) }
 {
     match made {
         Operand::One(Attr::N(number)) => Some(*number),
@@ -152,7 +151,7 @@ fn number(made: &Operand<'_>) -> Option<Decimal>
 
 /// A sum as a value, where it fits.
 pub(crate) fn as_number<'a>(sum: Result<Decimal, NumberFault>) -> Result<Made<'a>, UpdateFault>
-    ensures { Answers made_tree result (spec.as_number sum) }
+    ensures { AnswersAsDefined made_tree result (spec.as_number sum) }
 {
     match sum {
         Ok(number) => Ok(Made::Own(Attr::N(number))),

@@ -7,9 +7,9 @@ ghost use Rattle.alt_value.specs.Stands.{tree_of};
 ghost use Rattle.alt_expr.specs.Updated as spec;
 ghost use Rattle.alt_expr.specs.UpdateLanguage.{begin_with_names};
 ghost use Rattle.alt_expr.specs.declared.path.PathPart.TheVariants.{Name};
-ghost use Rattle.alt_updeval.specs.Answers.{Answers};
+ghost use Rattle.alt_updeval.specs.Answers.{AnswersAsDefined};
 ghost use Rattle.alt_updeval.specs.Changes.{changed_by};
-ghost use Rattle.alt_updeval.specs.Shown.{shown, shown_at, way_of, is_whole as is_whole_edit};
+ghost use Rattle.alt_updeval.specs.Shown.{edit_behind_step, attribute_edit, way_of, is_edited_whole as is_whole_edit};
 
 use crate::UpdateFault;
 use crate::action::{Edit, Rest, edit};
@@ -37,7 +37,7 @@ pub fn changed<V: AttrView>(
     view: &V,
 ) -> Result<Vec<AttrChange>, UpdateFault>
     requires begins { begin_with_names update.now ≡ true }
-    ensures changed { Answers (λ cs. changed_by cs.items (V.attribute view.now)) result
+    ensures changed { AnswersAsDefined (λ cs. changed_by cs.items (V.attribute view.now)) result
         (spec.updated (V.attribute view.now) update.now) }
     ensures rising { IfOk result
         (λ cs. IsStrictlySortedBy text_order (map (λ c. c.name) cs.items)) }
@@ -53,7 +53,7 @@ fn edits<'a, V: AttrView>(
     view: &'a V,
 ) -> Result<Vec<Edit<'a>>, UpdateFault>
     requires { begin_with_names actions.now ≡ true }
-    ensures { Answers (λ v. map shown_at v.items) result
+    ensures { AnswersAsDefined (λ v. map attribute_edit v.items) result
         (spec.edits (V.attribute view.now) actions.now) }
 {
     let mut all = Vec::new(alloc);
@@ -71,7 +71,7 @@ pub(crate) fn changes<V: AttrView>(
 ) -> Result<Vec<AttrChange>, NoMemory>
     ensures after { IfOk result (λ cs. (name : List ℕ)
         → changed_by cs.items (V.attribute view.now) name
-        ≡ spec.after (spec.under (Name name) (map shown_at all.entry.items))
+        ≡ spec.place_after (spec.under (Name name) (map attribute_edit all.entry.items))
         (V.attribute view.now name)) }
     ensures rising { IfOk result
         (λ cs. IsStrictlySortedBy text_order (map (λ c. c.name) cs.items)) }
@@ -91,7 +91,7 @@ fn change<V: AttrView>(
 ) -> Result<AttrChange, NoMemory>
     ensures name { IfOk result (λ c. c.name ≡ name.now) }
     ensures value { IfOk result (λ c. option_map tree_of c.value
-        ≡ spec.after (map shown rests.entry.items) (V.attribute view.now name.now)) }
+        ≡ spec.place_after (map edit_behind_step rests.entry.items) (V.attribute view.now name.now)) }
 {
     let value = new_value(alloc, rests, view.attr(name))?;
     Ok(AttrChange {
@@ -107,7 +107,7 @@ fn new_value(
     old: Option<&Attr>,
 ) -> Result<Option<Attr>, NoMemory>
     ensures { IfOk result (λ o. option_map tree_of o
-        ≡ spec.after (map shown rests.entry.items) (option_map (λ a. tree_of a.now) old.entry)) }
+        ≡ spec.place_after (map edit_behind_step rests.entry.items) (option_map (λ a. tree_of a.now) old.entry)) }
 {
     if !is_whole(rests.as_slice()) {
         return within(alloc, rests.as_slice(), old);
@@ -121,7 +121,7 @@ fn new_value(
 
 /// Whether the only change is that of the attribute itself.
 fn is_whole(rests: &[Rest<'_>]) -> bool
-    ensures { result ≡ is_whole_edit (map shown rests.now) }
+    ensures { result ≡ is_whole_edit (map edit_behind_step rests.now) }
 {
     match rests {
         [(path, _)] => path.is_empty(),
@@ -131,7 +131,7 @@ fn is_whole(rests: &[Rest<'_>]) -> bool
 
 fn within(alloc: Global, rests: &[Rest<'_>], old: Option<&Attr>) -> Result<Option<Attr>, NoMemory>
     ensures { IfOk result (λ o. option_map tree_of o
-        ≡ spec.after (map shown rests.now) (option_map (λ a. tree_of a.now) old.entry)) }
+        ≡ spec.place_after (map edit_behind_step rests.now) (option_map (λ a. tree_of a.now) old.entry)) }
 {
     let ways = ways_of(alloc, rests)?;
     match old {
@@ -145,7 +145,7 @@ fn within(alloc: Global, rests: &[Rest<'_>], old: Option<&Attr>) -> Result<Optio
 
 /// The changes, borrowed.
 fn ways_of<'a>(alloc: Global, rests: &'a [Rest<'a>]) -> Result<Vec<Way<'a>>, NoMemory>
-    ensures { IfOk result (λ v. map way_of v.items ≡ map shown rests.now) }
+    ensures { IfOk result (λ v. map way_of v.items ≡ map edit_behind_step rests.now) }
 {
     let mut ways = Vec::with_capacity(alloc, rests.len())?;
     for rest in rests {

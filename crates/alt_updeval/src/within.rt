@@ -6,7 +6,7 @@ ghost use Rattle.alt_value.specs.Item.{IsItem, at_name};
 ghost use Rattle.alt_value.specs.Stands.{tree_of};
 ghost use Rattle.alt_value.specs.Tree.{trees_of, fields_of, elements, pairs};
 ghost use Rattle.alt_expr.specs.Updated as spec;
-ghost use Rattle.alt_updeval.specs.Shown.{made_tree, way_of, is_put, is_out, ways_in, new_at, put_if, put_new_if};
+ghost use Rattle.alt_updeval.specs.Shown.{made_tree, way_of, is_put, is_taken_out, ways_in, new_at, put_if, put_new_if};
 
 use crate::made::{Made, copied, element};
 use crate::stepping::{Way, by_index, by_name, by_new_name, past_end};
@@ -71,7 +71,7 @@ fn is_taken(ways: &[Way<'_>]) -> bool
 }
 
 fn takes_here(way: &Way<'_>) -> bool
-    ensures { result ≡ is_out (way_of way.now) }
+    ensures { result ≡ is_taken_out (way_of way.now) }
 {
     way.0.is_empty() && way.1.is_none()
 }
@@ -85,7 +85,7 @@ fn changed_list<'a>(
 ) -> Result<AttrList, NoMemory>
     ensures { IfOk result (λ l. l
         ≡ elements (spec.changed_elements (map way_of ways.now) 0 (trees_of list.now))
-        ++ map (λ p. p.1) (spec.past (length list.now) (map way_of ways.now))) }
+        ++ map (λ p. p.1) (spec.elements_past_end (length list.now) (map way_of ways.now))) }
 {
     let indexed = gathered(alloc, by_index(alloc, ways)?)?;
     let mut out = AttrList::new(alloc);
@@ -131,7 +131,7 @@ fn push_past(
     count: usize,
 ) -> Result<(), NoMemory>
     ensures { OnOk result
-        (out.new ≡ out.old ++ map (λ p. p.1) (spec.past count (map way_of ways.now))) }
+        (out.new ≡ out.old ++ map (λ p. p.1) (spec.elements_past_end count (map way_of ways.now))) }
 {
     let indexed = groups(alloc, past_end(alloc, ways, count)?)?;
     for (_, behind) in &indexed {

@@ -1,8 +1,7 @@
 //! Single actions, read from tokens.
 
-ghost use Rattle.std.specs.Prelude.{◌≡◌};
-ghost use Rattle.alt_expr.specs.Reader.{left, Reads};
-ghost use Rattle.alt_expr.specs.Lookups.{given_to};
+ghost use Rattle.alt_expr.specs.Reader.{left, ReadsExpression};
+ghost use Rattle.alt_expr.specs.Lookups.{given_by_lookups};
 ghost use Rattle.alt_expr.specs.UpdateReader as spec;
 
 use crate::term::sum;
@@ -16,7 +15,7 @@ pub(crate) fn action(
     given: &Lookups<'_>,
     tokens: &mut Cursor<'_>,
 ) -> Result<Action, ExprFault>
-    ensures { Reads (spec.action (given_to given.now) clause (left tokens.old)) result
+    ensures { ReadsExpression (spec.action (given_by_lookups given.now) clause (left tokens.old)) result
         (left tokens.new) }
 {
     match clause {
@@ -30,7 +29,7 @@ pub(crate) fn action(
 
 #[tactic(auto, unfolding(alt_expr::specs::UpdateReader::set))]
 fn set(given: &Lookups<'_>, tokens: &mut Cursor<'_>) -> Result<Action, ExprFault>
-    ensures { Reads (spec.set (given_to given.now) (left tokens.old)) result (left tokens.new) }
+    ensures { ReadsExpression (spec.set (given_by_lookups given.now) (left tokens.old)) result (left tokens.new) }
 {
     let path = read_path(given.alloc, given.names, tokens)?;
     tokens.expect(Mark::Equal)?;
@@ -39,14 +38,14 @@ fn set(given: &Lookups<'_>, tokens: &mut Cursor<'_>) -> Result<Action, ExprFault
 
 #[tactic(auto, unfolding(alt_expr::specs::UpdateReader::remove))]
 fn remove(given: &Lookups<'_>, tokens: &mut Cursor<'_>) -> Result<Action, ExprFault>
-    ensures { Reads (spec.remove (given_to given.now) (left tokens.old)) result (left tokens.new) }
+    ensures { ReadsExpression (spec.remove (given_by_lookups given.now) (left tokens.old)) result (left tokens.new) }
 {
     Ok(Action::Remove(read_path(given.alloc, given.names, tokens)?))
 }
 
 #[tactic(auto, unfolding(alt_expr::specs::UpdateReader::add))]
 fn add(given: &Lookups<'_>, tokens: &mut Cursor<'_>) -> Result<Action, ExprFault>
-    ensures { Reads (spec.add (given_to given.now) (left tokens.old)) result (left tokens.new) }
+    ensures { ReadsExpression (spec.add (given_by_lookups given.now) (left tokens.old)) result (left tokens.new) }
 {
     let name = tokens.name(given.alloc, given.names)?;
     Ok(Action::Add(name, value(given, tokens)?))
@@ -54,7 +53,7 @@ fn add(given: &Lookups<'_>, tokens: &mut Cursor<'_>) -> Result<Action, ExprFault
 
 #[tactic(auto, unfolding(alt_expr::specs::UpdateReader::delete))]
 fn delete(given: &Lookups<'_>, tokens: &mut Cursor<'_>) -> Result<Action, ExprFault>
-    ensures { Reads (spec.delete (given_to given.now) (left tokens.old)) result (left tokens.new) }
+    ensures { ReadsExpression (spec.delete (given_by_lookups given.now) (left tokens.old)) result (left tokens.new) }
 {
     let name = tokens.name(given.alloc, given.names)?;
     Ok(Action::Delete(name, value(given, tokens)?))
@@ -63,7 +62,7 @@ fn delete(given: &Lookups<'_>, tokens: &mut Cursor<'_>) -> Result<Action, ExprFa
 /// The value of a `:` word.
 #[tactic(auto, unfolding(alt_expr::specs::UpdateReader::value))]
 fn value(given: &Lookups<'_>, tokens: &mut Cursor<'_>) -> Result<Shared<Attr>, ExprFault>
-    ensures { Reads (spec.value (given_to given.now) (left tokens.old)) result (left tokens.new) }
+    ensures { ReadsExpression (spec.value (given_by_lookups given.now) (left tokens.old)) result (left tokens.new) }
 {
     match tokens.peek() {
         Some(Token::ColonWord(word)) => {

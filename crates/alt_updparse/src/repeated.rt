@@ -2,7 +2,7 @@
 
 ghost use Rattle.std.specs.Prelude.{◌≡◌, false, map};
 ghost use Rattle.std.specs.List.{list_any};
-ghost use Rattle.alt_expr.specs.Tokens.{tok_of, is_key as key_is};
+ghost use Rattle.alt_expr.specs.Tokens.{tok_of, is_keyword as key_is};
 ghost use Rattle.alt_expr.specs.UpdateLanguage.{clause_keys};
 ghost use Rattle.alt_expr.specs.UpdateKeys as spec;
 

@@ -1,8 +1,7 @@
 //! Terms and sums, read from tokens.
 
-ghost use Rattle.std.specs.Prelude.{◌≡◌};
-ghost use Rattle.alt_expr.specs.Reader.{left, Reads};
-ghost use Rattle.alt_expr.specs.Lookups.{given_to};
+ghost use Rattle.alt_expr.specs.Reader.{left, ReadsExpression};
+ghost use Rattle.alt_expr.specs.Lookups.{given_by_lookups};
 ghost use Rattle.alt_expr.specs.UpdateReader as spec;
 
 use alt_expr::{Boxed, Cursor, ExprFault, Lookups, Mark, Sum, Term, Token, read_path};
@@ -10,7 +9,7 @@ use alt_expr::{Boxed, Cursor, ExprFault, Lookups, Mark, Sum, Term, Token, read_p
 /// A term, or the sum or difference of two.
 #[tactic(auto, unfolding(alt_expr::specs::UpdateReader::sum))]
 pub(crate) fn sum(given: &Lookups<'_>, tokens: &mut Cursor<'_>) -> Result<Sum, ExprFault>
-    ensures { Reads (spec.sum (given_to given.now) (left tokens.old)) result (left tokens.new) }
+    ensures { ReadsExpression (spec.sum (given_by_lookups given.now) (left tokens.old)) result (left tokens.new) }
 {
     let first = whole_term(given, tokens)?;
     if tokens.eat(Mark::Plus) {
@@ -25,7 +24,7 @@ pub(crate) fn sum(given: &Lookups<'_>, tokens: &mut Cursor<'_>) -> Result<Sum, E
 /// A term, whose functions stand no deeper in one another than there are tokens.
 #[tactic(auto, unfolding(alt_expr::specs::UpdateReader::whole_term))]
 fn whole_term(given: &Lookups<'_>, tokens: &mut Cursor<'_>) -> Result<Term, ExprFault>
-    ensures { Reads (spec.whole_term (given_to given.now) (left tokens.old)) result
+    ensures { ReadsExpression (spec.whole_term (given_by_lookups given.now) (left tokens.old)) result
         (left tokens.new) }
 {
     let most = tokens.len();
@@ -35,7 +34,7 @@ fn whole_term(given: &Lookups<'_>, tokens: &mut Cursor<'_>) -> Result<Term, Expr
 /// A term, in which functions stand at most so deep in one another.
 #[cycle(term)]
 fn term(given: &Lookups<'_>, tokens: &mut Cursor<'_>, depth: usize) -> Result<Term, ExprFault>
-    ensures { Reads (spec.term (given_to given.now) depth (left tokens.old)) result
+    ensures { ReadsExpression (spec.term (given_by_lookups given.now) depth (left tokens.old)) result
         (left tokens.new) }
 {
     if depth == 0 {
@@ -59,8 +58,8 @@ fn if_not_exists(
     tokens: &mut Cursor<'_>,
     depth: usize,
 ) -> Result<Term, ExprFault>
-    ensures { Reads
-        (spec.if_not_exists (given_to given.now) (spec.term (given_to given.now) depth)
+    ensures { ReadsExpression
+        (spec.if_not_exists (given_by_lookups given.now) (spec.term (given_by_lookups given.now) depth)
         (left tokens.old)) result (left tokens.new) }
 {
     let path = read_path(given.alloc, given.names, tokens)?;
@@ -77,7 +76,7 @@ fn list_append(
     tokens: &mut Cursor<'_>,
     depth: usize,
 ) -> Result<Term, ExprFault>
-    ensures { Reads (spec.list_append (spec.term (given_to given.now) depth) (left tokens.old))
+    ensures { ReadsExpression (spec.list_append (spec.term (given_by_lookups given.now) depth) (left tokens.old))
         result (left tokens.new) }
 {
     let front = term(given, tokens, depth)?;
@@ -93,7 +92,7 @@ fn list_append(
 /// A `:` word or a path.
 #[tactic(auto, unfolding(alt_expr::specs::UpdateReader::operand))]
 fn operand(given: &Lookups<'_>, tokens: &mut Cursor<'_>) -> Result<Term, ExprFault>
-    ensures { Reads (spec.operand (given_to given.now) (left tokens.old)) result (left tokens.new) }
+    ensures { ReadsExpression (spec.operand (given_by_lookups given.now) (left tokens.old)) result (left tokens.new) }
 {
     match tokens.peek() {
         Some(Token::ColonWord(word)) => {
@@ -107,7 +106,7 @@ fn operand(given: &Lookups<'_>, tokens: &mut Cursor<'_>) -> Result<Term, ExprFau
 /// A path, behind whose first word no bracket stands.
 #[tactic(auto, unfolding(alt_expr::specs::UpdateReader::located))]
 fn located(given: &Lookups<'_>, tokens: &mut Cursor<'_>) -> Result<Term, ExprFault>
-    ensures { Reads (spec.located (given_to given.now) (left tokens.old)) result (left tokens.new) }
+    ensures { ReadsExpression (spec.located (given_by_lookups given.now) (left tokens.old)) result (left tokens.new) }
 {
     if tokens.is_call() {
         return Err(ExprFault::Syntax);

@@ -5,7 +5,7 @@ ghost use Rattle.alt_expr.specs.Tokens.{tok_of};
 ghost use Rattle.alt_expr.specs.Faults.{Parsed, NotesHashes, NotesColons, KeepsNames};
 ghost use Rattle.alt_expr.specs.Told.{IsOnly};
 ghost use Rattle.alt_expr.specs.UpdateLanguage.{updates, begin_with_names};
-ghost use Rattle.alt_expr.specs.Lookups.{given_by, given_to};
+ghost use Rattle.alt_expr.specs.Lookups.{given_by, given_by_lookups};
 ghost use Rattle.alt_expr.specs.Given.{with_hashes, with_colons};
 ghost use Rattle.alt_expr.specs.NamesGiven.{given_values, used_names, used_values};
 ghost use Rattle.alt_expr.specs.Read.{ReadsWhole, ReadTokens};
@@ -122,7 +122,7 @@ fn read(
 
 /// The actions that the tokens are, whether their words are given or not.
 fn read_whole(given: &Lookups<'_>, tokens: &[Token<'_>]) -> Result<Update, ExprFault>
-    ensures { ReadsWhole updates (given_to given.now) (map tok_of tokens.now) result }
+    ensures { ReadsWhole updates (given_by_lookups given.now) (map tok_of tokens.now) result }
 {
     let mut cursor = Cursor::new(tokens);
     update(given, &mut cursor)

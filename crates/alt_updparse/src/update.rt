@@ -1,8 +1,8 @@
 //! Clauses, read from tokens.
 
-ghost use Rattle.std.specs.Prelude.{◌≡◌, ◌∷◌, ◌++◌, []};
-ghost use Rattle.alt_expr.specs.Reader.{left, Reads};
-ghost use Rattle.alt_expr.specs.Lookups.{given_to};
+ghost use Rattle.std.specs.Prelude.{◌≡◌};
+ghost use Rattle.alt_expr.specs.Reader.{left, ReadsExpression};
+ghost use Rattle.alt_expr.specs.Lookups.{given_by_lookups};
 ghost use Rattle.alt_expr.specs.UpdateReader as spec;
 
 use crate::action::action;
@@ -10,7 +10,7 @@ use alt_expr::{Cursor, ExprFault, Items, Keyword, Lookups, Mark, Token, Update};
 
 /// All actions of one or more clauses, up to the last token.
 pub(crate) fn update(given: &Lookups<'_>, tokens: &mut Cursor<'_>) -> Result<Update, ExprFault>
-    ensures { Reads (spec.update (given_to given.now) (left tokens.old)) result (left tokens.new) }
+    ensures { ReadsExpression (spec.update (given_by_lookups given.now) (left tokens.old)) result (left tokens.new) }
 {
     let turns = tokens.len();
     let mut found = clause(given, tokens, Items::new(given.alloc))?;
@@ -33,7 +33,7 @@ fn is_done(tokens: &Cursor<'_>) -> bool
 /// The actions found, and behind them those of a clause.
 #[tactic(auto, unfolding(alt_expr::specs::UpdateReader::clause))]
 fn clause(given: &Lookups<'_>, tokens: &mut Cursor<'_>, found: Update) -> Result<Update, ExprFault>
-    ensures { Reads (spec.clause (given_to given.now) found (left tokens.old)) result
+    ensures { ReadsExpression (spec.clause (given_by_lookups given.now) found (left tokens.old)) result
         (left tokens.new) }
 {
     match tokens.peek() {
@@ -52,8 +52,8 @@ fn actions(
     tokens: &mut Cursor<'_>,
     found: Update,
 ) -> Result<Update, ExprFault>
-    ensures { Reads
-        (spec.listed_behind (spec.action (given_to given.now) clause) found (left tokens.old))
+    ensures { ReadsExpression
+        (spec.listed_behind (spec.action (given_by_lookups given.now) clause) found (left tokens.old))
         result (left tokens.new) }
 {
     let turns = tokens.len();

@@ -14,7 +14,7 @@ use Rattle.alt_value.specs.Members.{text_order}
 use Rattle.alt_value.specs.Tree.{Tree, Pair}
 use Rattle.alt_value.specs.Stands.{tree_of, pair_of}
 use Rattle.alt_value.specs.Item.{IsItem, at_name, with_pair, without}
-use Rattle.alt_value.specs.Place.{StandsAt, GoesTo}
+use Rattle.alt_value.specs.Place.{NameStandsAt, GoesTo}
 use Rattle.alt_value.proofs.Places.{turned, Rises, before_tied}
 use Rattle.alt_value.proofs.TextTies.{same_text}
 use Rattle.alt_value.proofs.Texts.{text_total, text_apart}
@@ -74,7 +74,7 @@ after_more name es i e item within at h k d from below =
 -- where the entry has the name, it stands there
 pub stands_here : (name : List ℕ) (es : List Entry) (i : ℕ) (e : Entry) → IsItem (map pair_of es)
     → i < length es → e ≡ get_or es i e
-    → text_order e.name name ≡ Equal → StandsAt name es i
+    → text_order e.name name ≡ Equal → NameStandsAt name es i
 stands_here name es i e item within at h =
     let tied : (d : Entry) → text_order (get_or es i d).name name ≡ Equal =
     λ d. rw (get_or_default es i d e within, ← at) h in
@@ -97,7 +97,7 @@ name_before name e h = turned text_order text_total e.name name Greater h
 
 -- behind the first entry a name stands, or goes, one place earlier
 later_stands : (name : List ℕ) (e : Entry) (es : List Entry) (i : ℕ)
-    → StandsAt name (e ∷ es) (suc i) → StandsAt name es i
+    → NameStandsAt name (e ∷ es) (suc i) → NameStandsAt name es i
 later_stands name e es i s = record {
   within = let w : suc i < suc (length es) = s.within in omega arith;
   same = s.same;
@@ -135,7 +135,7 @@ without-above name other (f ∷ fs) e h =
 -- ---- a name that stands there
 
 -- its value is found there
-pub at_name-stands : (name : List ℕ) (es : List Entry) (i : ℕ) (d : Entry) → StandsAt name es i
+pub at_name-stands : (name : List ℕ) (es : List Entry) (i : ℕ) (d : Entry) → NameStandsAt name es i
     → at_name name (map pair_of es) ≡ Some (tree_of (get_or es i d).value)
 at_name-stands name [] i d s = let w : i < 0 = s.within in absurd (omega arith)
 at_name-stands name (e ∷ es) zero d s = rw (same_text name e.name (s.same e)) refl
@@ -145,7 +145,7 @@ at_name-stands name (e ∷ es) (suc i) d s =
 
 -- and another value is put there
 pub with_pair-stands : (name : List ℕ) (a : Attr) (es : List Entry) (i : ℕ) (d : Entry)
-    → StandsAt name es i
+    → NameStandsAt name es i
     → with_pair name (tree_of a) (map pair_of es)
     ≡ map pair_of (set es i (record (get_or es i d) { value = a }))
 with_pair-stands name a [] i d s = let w : i < 0 = s.within in absurd (omega arith)
@@ -157,7 +157,7 @@ with_pair-stands name a (e ∷ es) (suc i) d s =
 
 -- and it is taken out there
 pub without-stands : (name : List ℕ) (es : List Entry) (i : ℕ) → IsItem (map pair_of es)
-    → StandsAt name es i
+    → NameStandsAt name es i
     → without name (map pair_of es) ≡ map pair_of (remove es i)
 without-stands name [] i item s = let w : i < 0 = s.within in absurd (omega arith)
 without-stands name (e ∷ es) zero item s =

@@ -5,7 +5,7 @@ use Rattle.alt_value.specs.declared.attr.Pair.{Pair as Entry}
 use Rattle.alt_value.specs.Members.{text_order}
 
 -- the name stands at the place, and the names before it are below it
-pub record StandsAt (name : List ℕ) (entries : List Entry) (i : ℕ) : Type 0 where
+pub record NameStandsAt (name : List ℕ) (entries : List Entry) (i : ℕ) : Type 0 where
   pub within : i < length entries
   pub same : (d : Entry) → (slice_index_or entries i d).name ≡ name
   pub before : (k : ℕ) (d : Entry) → k < i → text_order (slice_index_or entries k d).name name

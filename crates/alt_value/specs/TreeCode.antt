@@ -7,10 +7,10 @@ use denote.Struct.Codes.{itself}
 use Rattle.alt_value.specs.Tree.{Tree, S_tree, N_tree, B_tree, BOOL_tree, NULL_tree, SS_tree, NS_tree, BS_tree, L_tree, M_tree, Trees, no_trees, tree_then, Fields, no_fields, field_then, Pair}
 
 -- the number of a leaf
-abbrev pub number_in : Gv → ℕ
-number_in gnil = 0
-number_in (gnum n) = n
-number_in (gcons a b) = 0
+abbrev pub leaf_number : Gv → ℕ
+leaf_number gnil = 0
+leaf_number (gnum n) = n
+leaf_number (gcons a b) = 0
 
 -- a list of numbers, a pair for each
 abbrev pub code_bytes : List ℕ → Gv
@@ -18,13 +18,13 @@ code_bytes [] = gnil
 code_bytes (n ∷ ns) = gcons (gnum n) (code_bytes ns)
 
 -- the list of numbers that was coded so
-abbrev pub bytes_in : Gv → List ℕ
-bytes_in gnil = []
-bytes_in (gnum n) = []
-bytes_in (gcons a b) = number_in a ∷ bytes_in b
+abbrev pub decoded_bytes : Gv → List ℕ
+decoded_bytes gnil = []
+decoded_bytes (gnum n) = []
+decoded_bytes (gcons a b) = leaf_number a ∷ decoded_bytes b
 
 -- its code gives a list of numbers back
-bytes_in-code_bytes : (s : List ℕ) → bytes_in (code_bytes s) ≡ s
+bytes_in-code_bytes : (s : List ℕ) → decoded_bytes (code_bytes s) ≡ s
 bytes_in-code_bytes [] = refl
 bytes_in-code_bytes (n ∷ ns) = ap (λ (t : List ℕ). n ∷ t) (bytes_in-code_bytes ns)
 
@@ -37,7 +37,7 @@ code_texts (s ∷ ss) = gcons (code_bytes s) (code_texts ss)
 abbrev pub texts_in : Gv → List (List ℕ)
 texts_in gnil = []
 texts_in (gnum n) = []
-texts_in (gcons a b) = bytes_in a ∷ texts_in b
+texts_in (gcons a b) = decoded_bytes a ∷ texts_in b
 
 -- its code gives a list of lists back
 texts_in-code_texts : (ss : List (List ℕ)) → texts_in (code_texts ss) ≡ ss
@@ -59,7 +59,7 @@ signed_by (gcons a b) n = negsuc n
 abbrev pub whole_in : Gv → ℤ
 whole_in gnil = pos 0
 whole_in (gnum n) = pos 0
-whole_in (gcons a b) = signed_by a (number_in b)
+whole_in (gcons a b) = signed_by a (leaf_number b)
 
 -- its code gives a whole number back
 whole_in-code_whole : (z : ℤ) → whole_in (code_whole z) ≡ z
@@ -88,13 +88,13 @@ code_truth false = gnil
 code_truth true = gnum 1
 
 -- the truth value that was coded so
-abbrev pub truth_in : Gv → Bool
-truth_in gnil = false
-truth_in (gnum n) = true
-truth_in (gcons a b) = true
+abbrev pub coded_truth : Gv → Bool
+coded_truth gnil = false
+coded_truth (gnum n) = true
+coded_truth (gcons a b) = true
 
 -- its code gives a truth value back
-truth_in-code_truth : (b : Bool) → truth_in (code_truth b) ≡ b
+truth_in-code_truth : (b : Bool) → coded_truth (code_truth b) ≡ b
 truth_in-code_truth true = refl
 truth_in-code_truth false = refl
 
@@ -124,24 +124,24 @@ abbrev mutual
       (gcons (code_tree t) (code_fields fs))
 
 -- the tree of that kind, by its number
-abbrev pub of_kind : ℕ → Gv → Trees → Fields → Tree
-of_kind zero g ts fs = S_tree (bytes_in g)
-of_kind (suc zero) g ts fs = N_tree (whole_in g)
-of_kind (suc (suc zero)) g ts fs = B_tree (bytes_in g)
-of_kind (suc (suc (suc zero))) g ts fs = BOOL_tree (truth_in g)
-of_kind (suc (suc (suc (suc zero)))) g ts fs = NULL_tree
-of_kind (suc (suc (suc (suc (suc zero))))) g ts fs = SS_tree (texts_in g)
-of_kind (suc (suc (suc (suc (suc (suc zero)))))) g ts fs = NS_tree (wholes_in g)
-of_kind (suc (suc (suc (suc (suc (suc (suc zero))))))) g ts fs = BS_tree (texts_in g)
-of_kind (suc (suc (suc (suc (suc (suc (suc (suc zero)))))))) g ts fs = L_tree ts
-of_kind (suc (suc (suc (suc (suc (suc (suc (suc (suc n))))))))) g ts fs = M_tree fs
+abbrev pub tree_of_kind : ℕ → Gv → Trees → Fields → Tree
+tree_of_kind zero g ts fs = S_tree (decoded_bytes g)
+tree_of_kind (suc zero) g ts fs = N_tree (whole_in g)
+tree_of_kind (suc (suc zero)) g ts fs = B_tree (decoded_bytes g)
+tree_of_kind (suc (suc (suc zero))) g ts fs = BOOL_tree (coded_truth g)
+tree_of_kind (suc (suc (suc (suc zero)))) g ts fs = NULL_tree
+tree_of_kind (suc (suc (suc (suc (suc zero))))) g ts fs = SS_tree (texts_in g)
+tree_of_kind (suc (suc (suc (suc (suc (suc zero)))))) g ts fs = NS_tree (wholes_in g)
+tree_of_kind (suc (suc (suc (suc (suc (suc (suc zero))))))) g ts fs = BS_tree (texts_in g)
+tree_of_kind (suc (suc (suc (suc (suc (suc (suc (suc zero)))))))) g ts fs = L_tree ts
+tree_of_kind (suc (suc (suc (suc (suc (suc (suc (suc (suc n))))))))) g ts fs = M_tree fs
 
 -- the tree that was coded so
 abbrev mutual
   pub tree_in : Gv → Tree
   tree_in gnil = NULL_tree
   tree_in (gnum n) = NULL_tree
-  tree_in (gcons a b) = of_kind (number_in a) b (trees_in b) (fields_in b)
+  tree_in (gcons a b) = tree_of_kind (leaf_number a) b (trees_in b) (fields_in b)
 
   -- the elements that were coded so
   trees_in : Gv → Trees
@@ -153,7 +153,7 @@ abbrev mutual
   fields_in : Gv → Fields
   fields_in gnil = no_fields
   fields_in (gnum n) = no_fields
-  fields_in (gcons a b) = fields_behind (bytes_in a) b
+  fields_in (gcons a b) = fields_behind (decoded_bytes a) b
 
   -- a pair of that name, and the pairs behind it
   fields_behind : List ℕ → Gv → Fields

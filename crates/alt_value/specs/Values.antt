@@ -5,7 +5,7 @@ use Rattle.std.specs.List.{AllByRecursion}
 use Rattle.std.specs.Ordering.{int_cmp}
 use Rattle.std.specs.Str.{IsUtf8}
 use Rattle.std.specs.declared.cmp.Ordering.{Ordering}
-use Rattle.alt_decimal.specs.Number.{Fits}
+use Rattle.alt_decimal.specs.Number.{FitsDecimal}
 use Rattle.alt_fields.specs.Bytes.{IsShort, IsBytes}
 use Rattle.alt_value.specs.Item.{IsItem}
 use Rattle.alt_value.specs.Members.{IsSet, text_order}
@@ -24,12 +24,12 @@ AreMembers P R ks = AllByRecursion P ks × IsSet R ks × IsShort ks
 abbrev mutual
   pub IsValue : Tree → Type 0
   IsValue (S_tree s) = IsText s
-  IsValue (N_tree z) = Fits z
+  IsValue (N_tree z) = FitsDecimal z
   IsValue (B_tree b) = IsBytes b
   IsValue (BOOL_tree b) = Unit {0}
   IsValue NULL_tree = Unit {0}
   IsValue (SS_tree ss) = AreMembers IsText text_order ss
-  IsValue (NS_tree zs) = AreMembers Fits int_cmp zs
+  IsValue (NS_tree zs) = AreMembers FitsDecimal int_cmp zs
   IsValue (BS_tree bs) = AreMembers IsBytes text_order bs
   IsValue (L_tree ts) = AreValues ts × IsShort (elements ts)
   IsValue (M_tree fs) = IsItem (pairs fs) × AreFields fs × IsShort (pairs fs)
@@ -55,9 +55,9 @@ pub record IsItemOfValues (item : List Pair) : Type 0 where
   pub count : IsShort item
 
 -- a set with one member at least
-abbrev pub is_full : {K : Type 0} → List K → Bool
-is_full [] = false
-is_full (k ∷ ks) = true
+abbrev pub is_nonempty_set : {K : Type 0} → List K → Bool
+is_nonempty_set [] = false
+is_nonempty_set (k ∷ ks) = true
 
 -- no set in the value is empty
 abbrev mutual
@@ -67,9 +67,9 @@ abbrev mutual
   sets_full (B_tree b) = true
   sets_full (BOOL_tree b) = true
   sets_full NULL_tree = true
-  sets_full (SS_tree ss) = is_full ss
-  sets_full (NS_tree zs) = is_full zs
-  sets_full (BS_tree bs) = is_full bs
+  sets_full (SS_tree ss) = is_nonempty_set ss
+  sets_full (NS_tree zs) = is_nonempty_set zs
+  sets_full (BS_tree bs) = is_nonempty_set bs
   sets_full (L_tree ts) = elements_full ts
   sets_full (M_tree fs) = fields_full fs
 

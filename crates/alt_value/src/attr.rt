@@ -5,10 +5,9 @@
 ghost use Rattle.std.specs.Prelude.{◌≡◌, [], ◌∷◌, ◌++◌, ◌<◌, length, slice_get, option_map, map, slice_set, slice_index_or, vec_len, IfOk, OnOk, OnErr, MatchResult};
 ghost use Rattle.alt_value.specs.Stands.{tree_of, pair_of};
 ghost use Rattle.alt_value.specs.Item.{IsItem, at_name, with_pair, without};
-ghost use Rattle.alt_value.specs.Members.{text_order};
 ghost use Rattle.alt_value.specs.declared.attr.Pair.{Pair as Entry};
-ghost use Rattle.alt_value.specs.Place.{StandsAt, GoesTo};
-ghost use Rattle.alt_value.specs.Values.{IsText, IsValue, IsListOfValues, IsItemOfValues};
+ghost use Rattle.alt_value.specs.Place.{NameStandsAt, GoesTo};
+ghost use Rattle.alt_value.specs.Values.{IsValue, IsListOfValues, IsItemOfValues};
 
 use crate::{BytesSet, NumberSet, Text, TextSet};
 use alt_base::NoMemory;
@@ -139,12 +138,6 @@ pub fn held(a: &Attr)
     }
 }
 
-fn text_held(text: &str)
-    ensures { IsText text.now }
-{
-    let _count = text.len();
-}
-
 impl AttrList {
     /// The list without elements.
     pub fn new(alloc: Global) -> Self
@@ -238,15 +231,24 @@ impl Item {
         ensures ok { OnOk result (self.new ≡ with_pair name.now (tree_of a) self.old) }
         ensures err { OnErr result (self.new ≡ self.old) }
     {
+        let name = Text::new(*self.entries.allocator(), name)?;
+        self.put_owned(name, a)
+    }
+
+    /// The same for a name of its own, which is moved and not copied.
+    pub fn put_owned(&mut self, name: Text, a: Attr) -> Result<(), NoMemory>
+        requires { 0 < length name }
+        ensures ok { OnOk result (self.new ≡ with_pair name (tree_of a) self.old) }
+        ensures err { OnErr result (self.new ≡ self.old) }
+    {
         held(&a);
-        text_held(name);
-        match place_to_put(&self.entries, name) {
+        let _length = name.len();
+        match place_to_put(&self.entries, name.as_str()) {
             Ok(i) => {
                 replace(&mut self.entries, i, a);
                 let _count = self.entries.len();
             }
             Err(i) => {
-                let name = Text::new(*self.entries.allocator(), name)?;
                 self.entries.insert(i, Pair { name, value: a })?;
                 let _count = self.entries.len();
             }
@@ -272,7 +274,7 @@ impl Item {
 /// Where a name stands, or where it is to go.
 fn place(entries: &Vec<Pair>, name: &str) -> Result<usize, usize>
     requires { IsItem (map pair_of entries.now.items) }
-    ensures { MatchResult result (StandsAt name.now entries.now.items)
+    ensures { MatchResult result (NameStandsAt name.now entries.now.items)
         (GoesTo name.now entries.now.items) }
 {
     let mut low = 0;
@@ -291,7 +293,7 @@ fn place(entries: &Vec<Pair>, name: &str) -> Result<usize, usize>
 /// The same, at once for a name above all others, as names come that are read in their order.
 fn place_to_put(entries: &Vec<Pair>, name: &str) -> Result<usize, usize>
     requires { IsItem (map pair_of entries.now.items) }
-    ensures { MatchResult result (StandsAt name.now entries.now.items)
+    ensures { MatchResult result (NameStandsAt name.now entries.now.items)
         (GoesTo name.now entries.now.items) }
 {
     let count = entries.len();

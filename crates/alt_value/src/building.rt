@@ -116,7 +116,7 @@ fn item_of_pairs(pairs: Vec<Pair>) -> Result<Item, NoMemory>
     sort_by_name(&mut pairs)?;
     for pair in pairs {
         let Pair { name, value } = pair;
-        item.put(name.as_str(), value)?;
+        item.put_owned(name, value)?;
     }
     Ok(item)
 }

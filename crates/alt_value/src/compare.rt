@@ -2,7 +2,7 @@
 
 ghost use Rattle.std.specs.Prelude.{◌≡◌, ◌↔◌, IsTrue};
 ghost use Rattle.alt_value.specs.Stands.{tree_of, pair_of};
-ghost use Rattle.alt_value.specs.Tree.{Tree, S_tree, N_tree, B_tree, BOOL_tree, NULL_tree, SS_tree, NS_tree, BS_tree, L_tree, M_tree, trees_of, fields_of};
+ghost use Rattle.alt_value.specs.Tree.{S_tree, N_tree, B_tree, BOOL_tree, NULL_tree, SS_tree, NS_tree, BS_tree, L_tree, M_tree, trees_of, fields_of};
 ghost use Rattle.alt_value.specs.Order.{tree_order};
 
 use crate::attr::Pair;

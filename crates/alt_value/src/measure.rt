@@ -1,6 +1,6 @@
 //! Sizes and depths of values, counted without memory and only as far as a limit.
 
-ghost use Rattle.std.specs.Prelude.{◌≡◌, nat_le, ◌+◌, ◌-◌, ◌<◌, ◌≤◌, length, sum_by, Option, Some, None, if◌then◌else◌};
+ghost use Rattle.std.specs.Prelude.{◌≡◌, nat_le, ◌+◌, ◌-◌, ◌<◌, length, sum_by, Option, Some};
 ghost use Rattle.alt_value.specs.Stands.{tree_of};
 ghost use Rattle.alt_value.specs.Tree.{L_tree, M_tree, trees_of, fields_of};
 ghost use Rattle.alt_value.specs.Size.{size, elements_size, fields_size, item_size, number_size, depth, elements_depth, fields_depth, within, left_after};

@@ -13,9 +13,9 @@ pub type NumberSet = Set<Decimal>;
 
 impl Member for Decimal {
     ghost use Rattle.std.specs.FinMap.{int_cmp-IsAntisymmetric};
-    ghost use Rattle.alt_decimal.specs.Number.{Fits};
+    ghost use Rattle.alt_decimal.specs.Number.{FitsDecimal};
 
-    ghost IsMember = { Fits };
+    ghost IsMember = { FitsDecimal };
 
     fn member_held(&self) {
         self.held();

@@ -1,6 +1,6 @@
 //! Sets: members in value order, without repeats.
 
-ghost use Rattle.std.specs.Prelude.{◌≡◌, [], ◌++◌, length, not, slice_get, option_map, IfOk, OnOk, OnErr};
+ghost use Rattle.std.specs.Prelude.{◌≡◌, [], ◌++◌, length, not, IfOk, OnOk, OnErr};
 ghost use Rattle.std.specs.List.{AllByRecursion};
 ghost use Rattle.std.specs.FinMap.{IsAntisymmetric};
 ghost use Rattle.alt_value.specs.Members.{IsSet, has_member, with_member, with_members, without_members, set_of};

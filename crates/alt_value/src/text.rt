@@ -1,9 +1,11 @@
 //! A text of its own, seen as the list of its bytes in UTF-8.
 
-ghost use Rattle.std.specs.Prelude.{◌≡◌, length, IfOk};
+ghost use Rattle.std.specs.Prelude.{◌≡◌, length, IfOk, IfSome, IfNone};
+ghost use Rattle.std.specs.Str.{IsUtf8};
 ghost use Rattle.alt_value.specs.Values.{IsText};
 
 use alt_base::NoMemory;
+use alt_fields::Bytes;
 use std::alloc::Global;
 use std::cmp::Ordering;
 use std::marker::Model;
@@ -29,6 +31,17 @@ impl Text {
     {
         let inner = String::from_str(alloc, text)?;
         Ok(Text { inner })
+    }
+
+    /// The text with these bytes, which are moved and not copied; None where they are not UTF-8.
+    pub fn from_bytes(bytes: Bytes) -> Option<Text>
+        ensures same { IfSome result (λ t. t ≡ bytes) }
+        ensures none { IfNone result (IsUtf8 bytes → ⊥) }
+    {
+        match String::from_utf8(bytes.into_vec()) {
+            Ok(inner) => Some(Text { inner }),
+            Err(_) => None,
+        }
     }
 
     pub fn copy(&self) -> Result<Text, NoMemory>

@@ -15,11 +15,11 @@ use Rattle.alt_cells.specs.Keys.{key_cmp}
 use Rattle.alt_cells.specs.declared.batch.RowChange.{RowChange}
 use Rattle.alt_cells.proofs.Searched.{get_entry}
 use Rattle.alt_keyorder.specs.Place.{Place, place_bytes}
-use Rattle.alt_machine.specs.Building.{is_reached, reaches}
+use Rattle.alt_machine.specs.Building.{is_built_of_item, reaches}
 use Rattle.alt_machine.specs.Indexed.{index_place}
 use Rattle.alt_machine.specs.Keys.{place_of}
 use Rattle.alt_schema.specs.Bare.{is_whole}
-use Rattle.alt_schema.specs.Indexes.{has_part, is_in_index, is_key, is_key_value, is_projected, cut, longest_hash, longest_range, of_range, stands_in}
+use Rattle.alt_schema.specs.Indexes.{has_part, is_in_index, is_key, is_key_value, is_projected, cut, longest_hash, longest_range, of_range, stands_among_names}
 use Rattle.alt_schema.specs.declared.schema.IndexSchema.{IndexSchema}
 use Rattle.alt_schema.specs.declared.schema.KeyAttr.{KeyAttr}
 use Rattle.alt_schema.specs.declared.schema.TableSchema.{TableSchema}
@@ -27,8 +27,8 @@ use Rattle.alt_value.specs.Item.{at_name}
 use Rattle.alt_value.specs.Members.{text_order}
 use Rattle.alt_value.specs.Tree.{Pair}
 use Rattle.alt_value.proofs.Texts.{text_total, text_apart}
-use Rattle.alt_views.specs.private.Changed.{AreAlikeBeside, DifferAt, may_change}
-use Rattle.alt_views.specs.IndexRows.{KeyedRow, built_row, changes_in, if_said, index_columns, moved_changes, row_in_index}
+use Rattle.alt_views.specs.private.Changed.{AreAlikeBeside, DifferAt, index_may_change}
+use Rattle.alt_views.specs.IndexRows.{KeyedRow, built_row, built_row_changes, if_said, index_columns, moved_changes, row_in_index}
 use Rattle.alt_views.proofs.Keeping.{hash_is_key, range_is_key, own_kept, own_place-cut, place-cut}
 use Rattle.alt_views.proofs.Parts.{at_name-where}
 
@@ -79,13 +79,13 @@ moved_changes-same family (Some r) =
 
 -- a name that passes isn't among names that don't
 not_among : (p : List ℕ → Bool) (names : List (List ℕ)) (name : List ℕ)
-    → list_any p names ≡ false → p name ≡ true → stands_in names name ≡ false
+    → list_any p names ≡ false → p name ≡ true → stands_among_names names name ≡ false
 not_among p [] name none passes = refl
 not_among p (n ∷ ns) name none passes = by (λ none. not_among p ns name none passes)
     (p n) refl (bytes_eq n name) refl none
   where
-    by : (list_any p ns ≡ false → stands_in ns name ≡ false) → (a : Bool) → p n ≡ a → (b : Bool)
-        → bytes_eq n name ≡ b → (a || list_any p ns) ≡ false → (b || stands_in ns name) ≡ false
+    by : (list_any p ns ≡ false → stands_among_names ns name ≡ false) → (a : Bool) → p n ≡ a → (b : Bool)
+        → bytes_eq n name ≡ b → (a || list_any p ns) ≡ false → (b || stands_among_names ns name) ≡ false
     by rest true of b same none = absurd (false≢true (sym none))
     by rest false of false same none = rest none
     by rest false of true same none =
@@ -147,7 +147,7 @@ module _ (d : TableSchema) (i : IndexSchema) where
 
   -- an index is built of both or of neither
   reached-alike : (o n : List Pair) → cut d i o ≡ cut d i n
-      → is_reached d i.built o ≡ is_reached d i.built n
+      → is_built_of_item d i.built o ≡ is_built_of_item d i.built n
   reached-alike o n same = ap (λ p. option_map_or (reaches d i.built) p (is_whole i.built))
       (sym (own_place-cut d i o) ∙ ap (place_of d) same ∙ own_place-cut d i n)
 
@@ -157,7 +157,7 @@ module _ (d : TableSchema) (i : IndexSchema) where
 
   -- An index that keeps none of the names at which items differ has no change.
   pub nothing_changes : (names : Option (List (List ℕ))) (old new : Option (List Pair))
-      → DifferAt names old new → may_change d i names ≡ false → changes_in d old new i ≡ []
+      → DifferAt names old new → index_may_change d i names ≡ false → built_row_changes d old new i ≡ []
   nothing_changes None old new differ unkept = absurd (false≢true (sym unkept))
   nothing_changes (Some names) None new differ unkept = absurd differ
   nothing_changes (Some names) (Some o) None differ unkept = absurd differ

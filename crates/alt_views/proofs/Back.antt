@@ -17,7 +17,7 @@ use Rattle.alt_value.proofs.Entries.{IsItem-with_pair}
 use Rattle.alt_value.proofs.TextTies.{text_ties}
 use Rattle.alt_value.proofs.Texts.{text_total, text_apart}
 use Rattle.alt_views.specs.IndexRows.{beside}
-use Rattle.alt_views.specs.Read.{AreValuesOf, IsRangeOf, with_range, with_values}
+use Rattle.alt_views.specs.Read.{AreValuesOf, IsRangeValueOf, with_range, with_values}
 use Rattle.alt_views.proofs.Parts.{at_name-where}
 use Rattle.alt_views.proofs.Values.{HasValues, StandsAt}
 
@@ -84,7 +84,7 @@ agrees-values whole item names hash range values has agrees =
     by_range range values.range refl has.range_at has.are.1 agrees
   where
     by_range : (r : Option KeyAttr) (o : Option Tree) → values.range ≡ o → StandsAt whole r o
-        → IsRangeOf r o
+        → IsRangeValueOf r o
         → AgreesBut whole (names_of hash r ++ names) item
         → AgreesBut whole names
         (with_range r o (with_pair hash.name values.hash item))
@@ -104,7 +104,7 @@ values_item hash range values item are item_is = by range values.range are.1
     put : IsItem (with_pair hash.name values.hash item)
     put = IsItem-with_pair hash.name values.hash item are.0.1 item_is
 
-    by : (r : Option KeyAttr) (o : Option Tree) → IsRangeOf r o
+    by : (r : Option KeyAttr) (o : Option Tree) → IsRangeValueOf r o
         → IsItem (with_range r o (with_pair hash.name values.hash item))
     by None None of = put
     by None (Some t) of = absurd of

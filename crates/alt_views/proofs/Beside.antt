@@ -10,7 +10,7 @@ use Rattle.std.specs.Ordering.{eq_by_cmp}
 use Rattle.std.specs.Str.{bytes_eq}
 use Rattle.alt_base.proofs.Bools.{neither_first, neither_second}
 use Rattle.alt_base.proofs.Lists.{bytes_eq-itself}
-use Rattle.alt_schema.specs.Indexes.{stands_in}
+use Rattle.alt_schema.specs.Indexes.{stands_among_names}
 use Rattle.alt_value.specs.Item.{IsItem, at_name}
 use Rattle.alt_value.specs.Members.{text_order}
 use Rattle.alt_value.specs.Tree.{Tree, Pair}
@@ -37,7 +37,7 @@ told names = map (λ n. n.now) names
 -- an attribute at a name that isn't among these has the property
 abbrev pub HoldsBeside : List (List ℕ) → (List ℕ → Tree → Type 0) → List Pair → Type 0
 HoldsBeside names P ps =
-    (q : List ℕ) (t : Tree) → stands_in names q ≡ false → at_name q ps ≡ Some t → P q t
+    (q : List ℕ) (t : Tree) → stands_among_names names q ≡ false → at_name q ps ≡ Some t → P q t
 
 -- what is found in one place more was found before or stands there
 found_more : (ps : List Pair) (k : ℕ) (e : Pair) (q : List ℕ) (t : Tree)
@@ -70,7 +70,7 @@ module _ (names : List (List ℕ)) (P : List ℕ → Tree → Type 0) where
   pub beside-more : (ps : List Pair) (n : List ℕ) → HoldsBeside names P ps
       → HoldsBeside (names ++ n ∷ []) P ps
   beside-more ps n h = λ q t free found. h q t
-      (neither_first (stands_in names q) _
+      (neither_first (stands_among_names names q) _
       (sym (list_any-append (λ other. bytes_eq other q) names (n ∷ [])) ∙ free)) found
 
   module _ (ps : List Pair) (k : ℕ) (e : Pair) (at : Some e ≡ slice_get ps k)
@@ -81,7 +81,7 @@ module _ (names : List (List ℕ)) (P : List ℕ → Tree → Type 0) where
         by q t free (found_more ps k e q t (sym at)
         (subst (λ n. at_name q (take n ps) ≡ Some t) (add-one k) found))
       where
-        by : (q : List ℕ) (t : Tree) → stands_in names q ≡ false
+        by : (q : List ℕ) (t : Tree) → stands_among_names names q ≡ false
             → (at_name q (take k ps) ≡ Some t) ⊎ ((q ≡ e.0) × (e.1 ≡ t)) → P q t
         by q t free (inl before) = h q t free before
         by q t free (inr is) = subst (λ v. P q v) is.1 (subst (λ n. P n e.1) (sym is.0) here)
@@ -93,11 +93,11 @@ module _ (names : List (List ℕ)) (P : List ℕ → Tree → Type 0) where
         (found_more ps k e q t (sym at)
         (subst (λ n. at_name q (take n ps) ≡ Some t) (add-one k) found))
       where
-        by : (q : List ℕ) (t : Tree) → (stands_in names q || (bytes_eq e.0 q || false)) ≡ false
+        by : (q : List ℕ) (t : Tree) → (stands_among_names names q || (bytes_eq e.0 q || false)) ≡ false
             → (at_name q (take k ps) ≡ Some t) ⊎ ((q ≡ e.0) × (e.1 ≡ t)) → P q t
-        by q t free (inl before) = h q t (neither_first (stands_in names q) _ free) before
+        by q t free (inl before) = h q t (neither_first (stands_among_names names q) _ free) before
         by q t free (inr is) = absurd (false≢true
-            (sym (neither_first (bytes_eq e.0 q) _ (neither_second (stands_in names q) _ free))
+            (sym (neither_first (bytes_eq e.0 q) _ (neither_second (stands_among_names names q) _ free))
             ∙ ap (bytes_eq e.0) is.0 ∙ bytes_eq-itself e.0))
 
 -- the old item has the value that the new one has at a name
@@ -118,7 +118,7 @@ alike_beside names old new k m old_item new_item all_new all_old stays named = r
   values = λ q free. by q free (at_name q new) refl (at_name q old) refl;
 }
   where
-    by : (q : List ℕ) → stands_in names q ≡ false → (n : Option Tree) → at_name q new ≡ n
+    by : (q : List ℕ) → stands_among_names names q ≡ false → (n : Option Tree) → at_name q new ≡ n
         → (o : Option Tree) → at_name q old ≡ o → at_name q old ≡ at_name q new
     by q free (Some t) is o was = stays q t free
         (ap (at_name q) (ap (λ x. take x new) (sym all_new) ∙ take-length new) ∙ is) ∙ sym is

@@ -1,8 +1,9 @@
 -- The columns of an item's row, in order, and the item that is read from them.
 use Rattle.std.proofs.Common.{◌≡◌, ◌<◌, ◌≤◌, ◌+◌, refl, sym, ap, subst, ◌∙◌, ℕ, zero, suc, T, List, [], ◌∷◌, ◌++◌, map, length, get_or, take, drop, Some, None, slice_get, add-one, arith}
 use Rattle.std.proofs.Math.Seq.{take-suc}
-use Rattle.std.proofs.lemmas.List.{map-append, take-append-drop}
+use Rattle.std.proofs.lemmas.List.{map-append, map-id, take-append-drop}
 use Rattle.std.specs.Ordering.{is_lt}
+use Rattle.std.specs.List.{remove}
 use Rattle.std.specs.Prelude.{◌&&◌}
 use Rattle.std.specs.FinMap.{entries, entries_sorted, entries-from_sorted, from_entries, from_sorted, get-from_entries, get-from_sorted, same_entries_map, same_map}
 use Rattle.std.specs.FinMap.Entries.{below_all, is_sorted}
@@ -118,6 +119,22 @@ put_more ps new p es k e sorted within at so_far is put =
     let last : new ≡ ps ++ p ∷ [] = put ∙ with_pair-last ps p.0 p.1 p.1 item in
     (last, ap (map column_of) last ∙ more)
 
+-- the same where the columns so far are those that a walk has given
+pub put_next : (ps new : List Pair) (p : Pair) (es given : List (List ℕ × List ℕ))
+    (e : List ℕ × List ℕ) → T (is_sorted key_cmp (([], []) ∷ es))
+    → map (λ x. x) given ≡ take (length given) es → length given < length es
+    → e ≡ get_or es (length given) e → map column_of ps ≡ given → e ≡ column_of p
+    → new ≡ with_pair p.0 p.1 ps
+    → (new ≡ ps ++ p ∷ []) × (map column_of new ≡ given ++ e ∷ [])
+put_next ps new p es given e sorted front within at so_far is put =
+    let k = length given in
+    let first : given ≡ take k es = sym (map-id given) ∙ front in
+    let more = put_more ps new p es k e sorted within at (so_far ∙ first) is put in (
+      more.0,
+      more.1 ∙ ap (λ n. take n es) (add-one k) ∙ take-suc es k e within
+          ∙ (λ i. sym first i ++ sym at i ∷ []),
+    )
+
 -- no set in it is empty, where none is in what was there and in what came
 pub full_more : (ps : List Pair) (p : Pair) → T (fields_full (fields_of ps)) → T (sets_full p.1)
     → T (fields_full (fields_of (ps ++ p ∷ [])))
@@ -219,6 +236,12 @@ pub behind_rises : (row : Columns) (es rest : List (List ℕ × List ℕ)) → e
     → es ≡ ([], []) ∷ rest → T (is_sorted key_cmp (([], []) ∷ rest))
 behind_rises row es rest at marked = subst (λ x. T (is_sorted key_cmp x)) (sym at ∙ marked)
     (entries_sorted row)
+
+-- what is left when the first is taken out stands behind it
+pub without_first : (es left rest : List (List ℕ × List ℕ)) → es ≡ ([], []) ∷ rest
+    → left ≡ remove es 0 → es ≡ ([], []) ∷ left
+without_first es left rest marked is =
+    marked ∙ ap (λ x. ([], []) ∷ x) (sym (is ∙ ap (λ x. remove x 0) marked))
 
 -- what was read of them is the row's item
 pub read_is : (row : Columns) (es rest : List (List ℕ × List ℕ)) (ps : List Pair) → IsReadItem ps

@@ -3,7 +3,7 @@ use Rattle.std.proofs.Common.{◌≡◌, ◌<◌, refl, sym, ap, subst, ◌∙�
 use Rattle.std.proofs.lemmas.Bool.{or_right, or_left}
 use Rattle.std.proofs.lemmas.Option.{none-some, same_Some}
 use Rattle.std.specs.Cmp.{first_so, second_so}
-use Rattle.std.specs.Prelude.{◌&&◌, not, if◌then◌else◌, option_and_then}
+use Rattle.std.specs.Prelude.{◌&&◌, not, option_and_then}
 use Rattle.std.specs.Str.{bytes_eq}
 use Rattle.alt_base.proofs.Lists.{all_at, bytes_eq-itself}
 use Rattle.alt_keyorder.specs.Place.{place_bytes, place_in_table}

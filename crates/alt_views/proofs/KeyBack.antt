@@ -28,7 +28,7 @@ use Rattle.alt_value.specs.Values.{IsItemOfValues, IsValue}
 use Rattle.alt_value.specs.declared.kind.KeyKind.{KeyKind}
 use Rattle.alt_value.specs.declared.kind.KeyKind.TheVariants.{S, N, B}
 use Rattle.alt_value.proofs.NamedPairs.{value_at}
-use Rattle.alt_views.specs.Read.{IsValueOf, Takes, with_values}
+use Rattle.alt_views.specs.Read.{IsValueOf, TakesKeyPart, with_values}
 use Rattle.alt_views.specs.declared.item_row.Unread.{Unread}
 use Rattle.alt_views.specs.declared.item_row.Unread.TheVariants.{Bad, NoMemory}
 use Rattle.alt_views.proofs.Back.{AgreesBut, agrees-beside, agrees-values, agrees_all, agrees_itself, names_of, values_item}
@@ -182,7 +182,7 @@ module _ (d : TableSchema) (key : List Pair) (place : List ℕ) (is : IsItemOfVa
 
 -- nothing that is wanted is bad
 pub takes_bad : (wanted : List Pair) (key behind : List ℕ) (item : List Pair) (e : Unread)
-    → Takes wanted key behind item (Err e) → e ≡ Bad → ⊥
+    → TakesKeyPart wanted key behind item (Err e) → e ≡ Bad → ⊥
 takes_bad wanted key behind item Bad takes bad = takes
 takes_bad wanted key behind item NoMemory takes bad = let no : NoMemory ≡ Bad = bad in cc no
 

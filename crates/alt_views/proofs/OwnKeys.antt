@@ -10,7 +10,7 @@ use Rattle.alt_base.proofs.Orderings.{is_eq-true}
 use Rattle.alt_cells.specs.Keys.{key_cmp}
 use Rattle.alt_fields.specs.Bytes.{IsShort}
 use Rattle.alt_keyorder.specs.Place.{place_in_table, place_bytes}
-use Rattle.alt_machine.specs.Keys.{if_key, key_value, place_beside, place_of, byte_count, is_within, key_fits}
+use Rattle.alt_machine.specs.Keys.{if_key, key_value, place_beside, place_of, byte_count, is_key_value_within, key_fits}
 use Rattle.alt_machine.specs.Valid.{deepest}
 use Rattle.alt_schema.specs.Indexes.{is_key, of_range, longest_hash, longest_range}
 use Rattle.alt_schema.specs.declared.schema.KeyAttr.{KeyAttr}
@@ -24,7 +24,7 @@ use Rattle.alt_value.proofs.Budget.{left_short, left_on, enough, wanting}
 use Rattle.alt_value.proofs.Texts.{text_total, text_apart}
 use Rattle.alt_views.specs.ItemRows.{IsAttribute, IsReadItem, column_of}
 use Rattle.alt_views.specs.OwnKeys.{HasKeyOf}
-use Rattle.alt_views.specs.private.OwnKeys.{kept, left_behind}
+use Rattle.alt_views.specs.private.OwnKeys.{key_with_own_attribute, left_behind}
 use Rattle.alt_views.proofs.Columns.{put_more, full_more, depth_more, rise_item}
 use Rattle.alt_views.proofs.Keeping.{hash_is_key, range_is_key}
 
@@ -139,7 +139,7 @@ module _ (d : TableSchema) (item key : List Pair) (p : Pair) (has : HasKeyOf d i
           (sym (text_apart name p.0 (is_eq-true (text_order name p.0) e))) ∙ is))
 
   -- so the key stays that of the item
-  pub has_more : (new : List Pair) → new ≡ kept d p key
+  pub has_more : (new : List Pair) → new ≡ key_with_own_attribute d p key
       → HasKeyOf d (with_pair p.0 p.1 item) new
   has_more new put = by (is_key d.hash d.range p.0) refl
     where
@@ -154,7 +154,7 @@ pub read_more : (d : TableSchema) (most : ℕ) (es : List (List ℕ × List ℕ)
     (key new : List Pair) (left after : Option ℕ) (p : Pair) (e : List ℕ × List ℕ)
     → T (is_sorted key_cmp (([], []) ∷ es)) → k < length es → e ≡ get_or es k e
     → IsAttribute p → e ≡ column_of p → IsReadTo d most es k key left
-    → after ≡ left_behind p left → new ≡ kept d p key
+    → after ≡ left_behind p left → new ≡ key_with_own_attribute d p key
     → IsReadTo d most es (k + 1) new after
 read_more d most es k key new left after p e sorted within at attribute is so less put =
     let has : HasKeyOf d (with_pair p.0 p.1 so.item) new = has_more d so.item key p so.own new put in
@@ -229,7 +229,7 @@ module _ (d : TableSchema) (item key : List Pair) (has : HasKeyOf d item key) wh
   value_same k is = ap (option_and_then (if_key k.kind)) (has k.name is)
 
   within_same : (most : ℕ) (k : KeyAttr) → is_key d.hash d.range k.name ≡ true
-      → is_within most key k ≡ is_within most item k
+      → is_key_value_within most key k ≡ is_key_value_within most item k
   within_same most k is = ap (λ o. option_map_or (λ t. nat_le (byte_count t) most) o true)
       (has k.name is)
 
@@ -259,8 +259,8 @@ module _ (d : TableSchema) (item key : List Pair) (has : HasKeyOf d item key) wh
 
   range_fits : (r : Option KeyAttr)
       → ((k : KeyAttr) → r ≡ Some k → is_key d.hash d.range k.name ≡ true)
-      → of_range (is_within longest_range key) true r
-      ≡ of_range (is_within longest_range item) true r
+      → of_range (is_key_value_within longest_range key) true r
+      ≡ of_range (is_key_value_within longest_range item) true r
   range_fits None is = refl
   range_fits (Some r) is = within_same longest_range r (is r refl)
 

@@ -6,9 +6,9 @@ use Rattle.alt_schema.specs.Bare.{is_whole}
 use Rattle.alt_schema.specs.declared.schema.IndexSchema.{IndexSchema}
 use Rattle.alt_schema.specs.declared.schema.TableSchema.{TableSchema}
 use Rattle.alt_value.specs.Tree.{Pair}
-use Rattle.alt_machine.specs.Building.{is_reached, reaches}
+use Rattle.alt_machine.specs.Building.{is_built_of_item, reaches}
 use Rattle.alt_machine.specs.Keys.{place_of}
-use Rattle.alt_views.specs.IndexRows.{built_row, changes_in, moved_changes, moves_in, row_in_index}
+use Rattle.alt_views.specs.IndexRows.{built_row, built_row_changes, moved_changes, moves_in, row_in_index}
 
 module _ (d : TableSchema) (i : IndexSchema) (place : List ℕ) where
   -- an item, where it is there, is of that place
@@ -17,7 +17,7 @@ module _ (d : TableSchema) (i : IndexSchema) (place : List ℕ) where
 
   -- the index is built of it exactly where it reaches the place
   reached_at : (item : List Pair) → place_of d item ≡ Some place
-      → is_reached d i.built item ≡ reaches d i.built place
+      → is_built_of_item d i.built item ≡ reaches d i.built place
   reached_at item at = ap (λ o. option_map_or (reaches d i.built) o (is_whole i.built)) at
 
   row_at_place : (o : Option (List Pair)) → IsAt o → option_and_then (built_row d i) o
@@ -32,7 +32,7 @@ module _ (d : TableSchema) (i : IndexSchema) (place : List ℕ) where
 
   -- Where it reaches the place its rows change as those of one that is whole, and else none does.
   pub changes_at : (old new : Option (List Pair)) → IsAt old → IsAt new
-      → changes_in d old new i ≡ (if reaches d i.built place then moves_in d old new i else [])
+      → built_row_changes d old new i ≡ (if reaches d i.built place then moves_in d old new i else [])
   changes_at old new at_old at_new =
       (λ j. moved_changes i.family (row_at_place old at_old j) (row_at_place new at_new j))
       ∙ by (reaches d i.built place)

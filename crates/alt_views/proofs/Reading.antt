@@ -18,7 +18,7 @@ use Rattle.alt_schema.specs.declared.schema.TableSchema.{TableSchema}
 use Rattle.alt_value.specs.Tree.{Pair}
 use Rattle.alt_views.specs.IndexRows.{beside_keys}
 use Rattle.alt_views.specs.ItemRows.{IsReadItem, item_columns}
-use Rattle.alt_views.specs.Read.{IsKeptAt, Reads, Takes, with_values}
+use Rattle.alt_views.specs.Read.{IsKeptAt, ReadsIndexRow, TakesKeyPart, with_values}
 use Rattle.alt_views.specs.declared.item_row.Unread.{Unread}
 use Rattle.alt_views.specs.declared.item_row.Unread.TheVariants.{Bad, NoMemory}
 use Rattle.alt_views.proofs.Back.{agrees-beside, agrees-values, agrees_all, agrees_itself, names_of, values_item}
@@ -30,19 +30,19 @@ use Rattle.alt_views.proofs.Values.{HasValues, has_values}
 -- ---- what isn't read
 
 -- An error that is none of the row is want of memory.
-pub reads_not : (item : List Pair) (e : Unread) → (e ≡ Bad → ⊥) → Reads item (Err e)
+pub reads_not : (item : List Pair) (e : Unread) → (e ≡ Bad → ⊥) → ReadsIndexRow item (Err e)
 reads_not item Bad sound = sound refl
 reads_not item NoMemory sound = tt
 
 -- what was passed on is as what was told
 pub reads_passed : (item : List Pair) (r : Result (List Pair) Unread) (e : Unread)
-    → IsErr r × IsErrAnd r (λ x. x ≡ e) → Reads item (Err e) → Reads item r
+    → IsErr r × IsErrAnd r (λ x. x ≡ e) → ReadsIndexRow item (Err e) → ReadsIndexRow item r
 reads_passed item (Ok x) e passed reads = absurd (false≢true passed.0)
-reads_passed item (Err x) e passed reads = subst (λ y. Reads item (Err y)) (sym passed.1) reads
+reads_passed item (Err x) e passed reads = subst (λ y. ReadsIndexRow item (Err y)) (sym passed.1) reads
 
 -- where nothing is taken, nothing is read
 pub reads_none : (wanted : List Pair) (key behind : List ℕ) (item : List Pair) (e : Unread)
-    (kept : List Pair) → Takes wanted key behind item (Err e) → Reads kept (Err e)
+    (kept : List Pair) → TakesKeyPart wanted key behind item (Err e) → ReadsIndexRow kept (Err e)
 reads_none wanted key behind item Bad kept takes = takes
 reads_none wanted key behind item NoMemory kept takes = tt
 

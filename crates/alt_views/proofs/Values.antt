@@ -1,7 +1,7 @@
 -- The values of a key as an item has them.
 use Rattle.std.proofs.Common.{◌≡◌, ◌<◌, refl, ap, subst, ◌∙◌, List, length, Option, Some, None, option_map}
 use Rattle.std.proofs.lemmas.Option.{none-some, same_Some}
-use Rattle.std.specs.Prelude.{if◌then◌else◌, option_and_then}
+use Rattle.std.specs.Prelude.{option_and_then}
 use Rattle.alt_base.proofs.Options.{some_if}
 use Rattle.alt_keyorder.specs.KeyBytes.{IsKeyOf}
 use Rattle.alt_machine.specs.Indexed.{KeyValues, values_beside, values_of}

@@ -7,7 +7,7 @@ use Rattle.std.specs.FinMap.Entries.{where_key}
 use Rattle.alt_cells.specs.declared.batch.RowChange.{RowChange}
 use Rattle.alt_cells.specs.Changes.{Columns, change_between}
 use Rattle.alt_cells.specs.Keys.{key_cmp}
-use Rattle.alt_machine.specs.Building.{is_reached}
+use Rattle.alt_machine.specs.Building.{is_built_of_item}
 use Rattle.alt_machine.specs.Indexed.{index_entry}
 use Rattle.alt_schema.specs.Indexes.{indexes, is_key}
 use Rattle.alt_schema.specs.declared.schema.IndexSchema.{IndexSchema}
@@ -41,7 +41,7 @@ row_in_index d i item = option_map (λ e. (e.0, index_columns d i e.1)) (index_e
 
 -- the same, if the index is built of it
 abbrev pub built_row : TableSchema → IndexSchema → List Pair → Option KeyedRow
-built_row d i item = if is_reached d i.built item then row_in_index d i item else None
+built_row d i item = if is_built_of_item d i.built item then row_in_index d i item else None
 
 -- ---- changes
 
@@ -70,11 +70,11 @@ moves_in d old new i = moved_changes i.family (option_and_then (row_in_index d i
     (option_and_then (row_in_index d i) new)
 
 -- and of one that is built of some
-abbrev pub changes_in : TableSchema → Option (List Pair) → Option (List Pair) → IndexSchema
+abbrev pub built_row_changes : TableSchema → Option (List Pair) → Option (List Pair) → IndexSchema
     → List RowChange
-changes_in d old new i = moved_changes i.family (option_and_then (built_row d i) old)
+built_row_changes d old new i = moved_changes i.family (option_and_then (built_row d i) old)
     (option_and_then (built_row d i) new)
 
 -- and those of all indexes of a table
 abbrev pub index_changes : TableSchema → Option (List Pair) → Option (List Pair) → List RowChange
-index_changes d old new = flat_map (changes_in d old new) (indexes d)
+index_changes d old new = flat_map (built_row_changes d old new) (indexes d)

@@ -41,15 +41,15 @@ abbrev pub IsValueOf : KeyAttr → Tree → Type 0
 IsValueOf attribute t = IsKeyOf attribute.kind t × (0 < length attribute.name)
 
 -- the same of a RANGE value, which is there exactly where the key has the attribute
-abbrev pub IsRangeOf : Option KeyAttr → Option Tree → Type 0
-IsRangeOf None None = Unit {0}
-IsRangeOf None (Some t) = ⊥
-IsRangeOf (Some r) None = ⊥
-IsRangeOf (Some r) (Some t) = IsValueOf r t
+abbrev pub IsRangeValueOf : Option KeyAttr → Option Tree → Type 0
+IsRangeValueOf None None = Unit {0}
+IsRangeValueOf None (Some t) = ⊥
+IsRangeValueOf (Some r) None = ⊥
+IsRangeValueOf (Some r) (Some t) = IsValueOf r t
 
 -- values of these key attributes
 abbrev pub AreValuesOf : KeyAttr → Option KeyAttr → KeyValues → Type 0
-AreValuesOf hash range values = IsValueOf hash values.hash × IsRangeOf range values.range
+AreValuesOf hash range values = IsValueOf hash values.hash × IsRangeValueOf range values.range
 
 -- an item with a RANGE value, where the key has one
 abbrev pub with_range : Option KeyAttr → Option Tree → List Pair → List Pair
@@ -62,13 +62,13 @@ with_values hash range values item =
     with_range range values.range (with_pair hash.name values.hash item)
 
 -- The item is as wanted, and the key goes on behind the place that is told; where it isn't, memory was refused.
-abbrev pub Takes : List Pair → List ℕ → List ℕ → List Pair → Result ℕ Unread → Type 0
-Takes wanted key behind item (Ok end) = (item ≡ wanted) × (drop end key ≡ behind)
-Takes wanted key behind item (Err Bad) = ⊥
-Takes wanted key behind item (Err NoMemory) = Unit {0}
+abbrev pub TakesKeyPart : List Pair → List ℕ → List ℕ → List Pair → Result ℕ Unread → Type 0
+TakesKeyPart wanted key behind item (Ok end) = (item ≡ wanted) × (drop end key ≡ behind)
+TakesKeyPart wanted key behind item (Err Bad) = ⊥
+TakesKeyPart wanted key behind item (Err NoMemory) = Unit {0}
 
 -- That is the item; where none is told, memory was refused.
-abbrev pub Reads : List Pair → Result (List Pair) Unread → Type 0
-Reads item (Ok read) = read ≡ item
-Reads item (Err Bad) = ⊥
-Reads item (Err NoMemory) = Unit {0}
+abbrev pub ReadsIndexRow : List Pair → Result (List Pair) Unread → Type 0
+ReadsIndexRow item (Ok read) = read ≡ item
+ReadsIndexRow item (Err Bad) = ⊥
+ReadsIndexRow item (Err NoMemory) = Unit {0}

@@ -6,8 +6,8 @@ use Rattle.alt_value.specs.Stands.{tree_of}
 use Rattle.alt_views.specs.declared.place.KeyValues.{KeyValues}
 
 -- as the machine has them
-abbrev pub values_in : KeyValues → machine.KeyValues
-values_in values = record {
+abbrev pub machine_key_values : KeyValues → machine.KeyValues
+machine_key_values values = record {
   hash = tree_of values.hash.now;
   range = option_map (λ a. tree_of a.now) values.range;
 }

@@ -5,7 +5,7 @@ ghost use Rattle.std.specs.List.{list_any};
 ghost use Rattle.alt_schema.specs.Indexes.{is_projected};
 ghost use Rattle.alt_value.specs.Item.{at_name};
 ghost use Rattle.alt_value.specs.Stands.{tree_of};
-ghost use Rattle.alt_views.specs.private.Changed.{AreAlikeBeside, DifferAt, may_change};
+ghost use Rattle.alt_views.specs.private.Changed.{AreAlikeBeside, DifferAt, index_may_change};
 
 use crate::rows::projection::is_projected;
 use alt_base::NoMemory;
@@ -76,7 +76,7 @@ fn has_name(item: &Item, name: &str) -> bool
 
 /// Whether an index keeps one of these names; where none are told it may keep one that changes.
 pub fn may_change(schema: &TableSchema, index: &IndexSchema, names: &Option<Vec<&str>>) -> bool
-    ensures kept { result ≡ may_change schema.now index.now
+    ensures kept { result ≡ index_may_change schema.now index.now
         (option_map (λ v. map (λ n. n.now) v.items) names.now) }
 {
     match names {

@@ -7,7 +7,7 @@ ghost use Rattle.alt_schema.specs.Indexes.{indexes};
 ghost use Rattle.alt_schema.specs.declared.schema.IndexSchema.{IndexSchema};
 ghost use Rattle.alt_views.specs.Batches.{AreNew, AreOfOwnFamilies};
 ghost use Rattle.alt_views.specs.private.Changed.{DifferAt};
-ghost use Rattle.alt_views.specs.IndexRows.{built_row, changes_in, if_said, index_changes, moved_changes};
+ghost use Rattle.alt_views.specs.IndexRows.{built_row, built_row_changes, if_said, index_changes, moved_changes};
 ghost use Rattle.alt_views.specs.Read.{row_at};
 
 use crate::changed::{changed_names, may_change};
@@ -59,9 +59,9 @@ fn change_index(
         (option_map (λ i. i.now) old) (option_map (λ i. i.now) new) }
     requires rows { (i : IndexSchema) → slice_get (indexes schema.now) number ≡ Some i
         → AreNew batch.old
-        (changes_in schema.now (option_map (λ i. i.now) old) (option_map (λ i. i.now) new) i) }
+        (built_row_changes schema.now (option_map (λ i. i.now) old) (option_map (λ i. i.now) new) i) }
     ensures changes { (i : IndexSchema) → slice_get (indexes schema.now) number ≡ Some i
-        → OnOk result (batch.new ≡ batch.old ++ changes_in schema.now
+        → OnOk result (batch.new ≡ batch.old ++ built_row_changes schema.now
         (option_map (λ i. i.now) old.entry) (option_map (λ i. i.now) new.entry) i) }
 {
     let index = index_at(schema, number);

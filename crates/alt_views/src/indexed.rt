@@ -12,7 +12,7 @@ ghost use Rattle.alt_value.specs.Item.{with_pair};
 ghost use Rattle.alt_value.specs.Tree.{Tree, Pair};
 ghost use Rattle.alt_value.specs.Values.{IsItemOfValues};
 ghost use Rattle.alt_views.specs.IndexRows.{beside, beside_keys, row_in_index};
-ghost use Rattle.alt_views.specs.Read.{AreValuesOf, IsKeptAt, IsValueOf, Reads, Takes, row_at, with_values};
+ghost use Rattle.alt_views.specs.Read.{AreValuesOf, IsKeptAt, IsValueOf, ReadsIndexRow, TakesKeyPart, row_at, with_values};
 
 use crate::item_row::{Unread, item_of_row, row_of_item};
 use crate::place::index_place;
@@ -86,7 +86,7 @@ pub fn item_of_index_row(
 ) -> Result<Item, Unread>
     // Whatever the index keeps of an item there is read.
     ensures reads { (kept : List Pair) → IsKeptAt schema.now index.now kept key.now columns.now
-        → Reads kept result }
+        → ReadsIndexRow kept result }
 {
     let mut item = item_of_row(alloc, columns)?;
     let at = take_key(
@@ -134,7 +134,7 @@ fn take_key(
     ensures taken { (values : machine.KeyValues) (behind : List ℕ)
         → AreValuesOf hash.now range.now values
         → drop at key.now ≡ flat_map key_bytes (parts_of values.hash values.range) ++ behind
-        → Takes (with_values hash.now range.now values item.old) key.now behind item.new result }
+        → TakesKeyPart (with_values hash.now range.now values item.old) key.now behind item.new result }
 {
     let at = take_value(alloc, item, hash, key, at)?;
     match range {
@@ -153,7 +153,7 @@ fn take_value(
 ) -> Result<usize, Unread>
     ensures taken { (t : Tree) (behind : List ℕ) → IsValueOf attribute.now t
         → drop at key.now ≡ key_bytes t ++ behind
-        → Takes (with_pair attribute.now.name t item.old) key.now behind item.new result }
+        → TakesKeyPart (with_pair attribute.now.name t item.old) key.now behind item.new result }
 {
     let name = attribute.name.as_str();
     match take_part(alloc, attribute.kind, key, at)? {

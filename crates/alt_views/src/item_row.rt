@@ -12,7 +12,7 @@ use alt_base::NoMemory;
 use alt_cellbytes::{attr_within, bytes_of};
 use alt_cells::ShownRow;
 use alt_fields::{Bytes, BytesFault};
-use alt_value::{Attr, Item};
+use alt_value::{Attr, Item, Text};
 use std::alloc::Global;
 
 /// The most lists and maps around a value.
@@ -96,6 +96,20 @@ pub fn item_of_row(alloc: Global, row: &ShownRow) -> Result<Item, Unread>
     item_of_columns(alloc, columns)
 }
 
+/// The same of a row that is let go: its names are moved and not copied.
+pub fn item_from_row(alloc: Global, row: ShownRow) -> Result<Item, Unread>
+    ensures item { IfOk result (λ item. IsReadItem item × (row ≡ item_columns item)) }
+    ensures none { result ≡ Err Unread.Bad → (item : List Pair) → IsReadItem item
+        → row ≡ item_columns item → ⊥ }
+{
+    let mut columns = row.into_entries();
+    let Some(_) = behind_marker(columns.as_slice()) else {
+        return Err(Unread::Bad);
+    };
+    let _marker = columns.remove(0);
+    item_from_columns(alloc, columns)
+}
+
 /// The columns behind the marker, None where the marker isn't there.
 pub(crate) fn behind_marker(columns: &[(Bytes, Bytes)]) -> Option<&[(Bytes, Bytes)]>
     ensures behind { IfSome result (λ rest. columns.now ≡ ([], []) ∷ rest.now) }
@@ -130,6 +144,22 @@ fn item_of_columns(alloc: Global, columns: &[(Bytes, Bytes)]) -> Result<Item, Un
     Ok(item)
 }
 
+/// The item with these attributes, whose names are moved.
+fn item_from_columns(alloc: Global, columns: Vec<(Bytes, Bytes)>) -> Result<Item, Unread>
+    requires { T (is_sorted key_cmp (([], []) ∷ columns.items)) }
+    ensures item { IfOk result (λ item. IsReadItem item × (columns.items ≡ each column_of item)) }
+    ensures none { result ≡ Err Unread.Bad → (item : List Pair) → IsReadItem item
+        → columns.items ≡ each column_of item → ⊥ }
+{
+    let mut item = Item::with_capacity(alloc, columns.len())?;
+    for (called, stored) in columns {
+        let (name, value) = attribute_from(alloc, called, &stored)?;
+        item.put_owned(name, value)?;
+    }
+    let _count = item.len();
+    Ok(item)
+}
+
 /// The name and the value of an attribute.
 pub(crate) fn attribute_of<'r>(
     alloc: Global,
@@ -147,6 +177,26 @@ pub(crate) fn attribute_of<'r>(
         return Err(Unread::Bad);
     }
     match attr_within(alloc, column.1.as_slice(), DEEPEST) {
+        Ok(value) => Ok((name, value)),
+        Err(BytesFault::Bad { .. }) => Err(Unread::Bad),
+        Err(BytesFault::NoMemory) => Err(Unread::NoMemory),
+    }
+}
+
+/// The same, with the name moved.
+fn attribute_from(alloc: Global, name: Bytes, value: &Bytes) -> Result<(Text, Attr), Unread>
+    ensures attribute { IfOk result (λ p. IsAttribute (p.0, tree_of p.1)
+        × ((name, value.now) ≡ column_of (p.0, tree_of p.1))) }
+    ensures none { result ≡ Err Unread.Bad → (p : Pair) → IsAttribute p
+        → (name, value.now) ≡ column_of p → ⊥ }
+{
+    let Some(name) = Text::from_bytes(name) else {
+        return Err(Unread::Bad);
+    };
+    if name.len() == 0 {
+        return Err(Unread::Bad);
+    }
+    match attr_within(alloc, value.as_slice(), DEEPEST) {
         Ok(value) => Ok((name, value)),
         Err(BytesFault::Bad { .. }) => Err(Unread::Bad),
         Err(BytesFault::NoMemory) => Err(Unread::NoMemory),

@@ -8,7 +8,7 @@ ghost use Rattle.alt_value.specs.Stands.{tree_of};
 ghost use Rattle.alt_value.specs.Tree.{Pair};
 ghost use Rattle.alt_views.specs.ItemRows.{IsReadItem, column_of, item_columns};
 ghost use Rattle.alt_views.specs.OwnKeys.{IsKeyWithin};
-ghost use Rattle.alt_views.specs.private.OwnKeys.{kept, left_behind};
+ghost use Rattle.alt_views.specs.private.OwnKeys.{key_with_own_attribute, left_behind};
 
 use crate::item_row::{Unread, attribute_of, behind_marker};
 use crate::rows::projection::is_key;
@@ -68,7 +68,7 @@ fn key_of_columns(
 /// Puts an attribute of a key into it, and drops any other.
 fn keep(schema: &TableSchema, key: &mut Item, name: &str, value: Attr) -> Result<(), NoMemory>
     requires { 0 < length name.now }
-    ensures { OnOk result (key.new ≡ kept schema.now (name.now, tree_of value) key.old) }
+    ensures { OnOk result (key.new ≡ key_with_own_attribute schema.now (name.now, tree_of value) key.old) }
 {
     if is_key(&schema.hash, &schema.range, name) {
         key.put(name, value)?;

@@ -14,7 +14,7 @@ mod start;
 
 pub use changes::index_changes;
 pub use indexed::{IndexRow, index_row, item_of_index_row, key_of_place};
-pub use item_row::{Unread, item_of_row, row_of_item};
+pub use item_row::{Unread, item_from_row, item_of_row, row_of_item};
 pub use key_row::key_of_row;
 pub use place::{KeyValues, index_place, key_fits, key_values, place_of, place_of_both};
 pub use reach::built_row;

@@ -7,9 +7,9 @@ ghost use Rattle.alt_keyorder.specs.KeyBytes.{IsKey, key_bytes};
 ghost use Rattle.alt_keyorder.specs.Place.{key_values as parts_of, place_bytes};
 ghost use Rattle.alt_keyorder.specs.Token.{token_of};
 ghost use Rattle.alt_machine.specs.Indexed.{index_place, place_of_both, values_of};
-ghost use Rattle.alt_machine.specs.Keys.{byte_count, can_be_key, is_within, key_fits, key_value, place_of};
+ghost use Rattle.alt_machine.specs.Keys.{byte_count, can_be_key, is_key_value_within, key_fits, key_value, place_of};
 ghost use Rattle.alt_value.specs.Stands.{tree_of};
-ghost use Rattle.alt_views.specs.Values.{AreKeys, values_in};
+ghost use Rattle.alt_views.specs.Values.{AreKeys, machine_key_values};
 
 use alt_base::NoMemory;
 use alt_fields::{Bytes, put_u64};
@@ -60,7 +60,7 @@ pub fn key_values<'i>(
     hash: &KeyAttr,
     range: &Option<KeyAttr>,
 ) -> Option<KeyValues<'i>>
-    ensures values { option_map values_in result
+    ensures values { option_map machine_key_values result
         ≡ values_of (key_value item.now) hash.now range.now }
     ensures keys { IfSome result AreKeys }
 {
@@ -80,7 +80,7 @@ pub fn place_of_both(alloc: Global, own: KeyValues, of_table: KeyValues) -> Resu
     requires own { AreKeys own }
     requires of_table { AreKeys of_table }
     ensures place { IfOk result (λ bytes. bytes
-        ≡ place_bytes (place_of_both (values_in own.entry) (values_in of_table.entry))) }
+        ≡ place_bytes (place_of_both (machine_key_values own.entry) (machine_key_values of_table.entry))) }
 {
     let mut out = Vec::new(alloc);
     put_u64(&mut out, token(own.hash))?;
@@ -112,7 +112,7 @@ pub fn index_place(
 fn put_values(values: KeyValues, out: &mut Vec<u8>) -> Result<(), NoMemory>
     requires { AreKeys values }
     ensures { OnOk result (out.new.items ≡ out.old.items ++ flat_map key_bytes
-        (parts_of (values_in values.entry).hash (values_in values.entry).range)) }
+        (parts_of (machine_key_values values.entry).hash (machine_key_values values.entry).range)) }
 {
     key_part(values.hash, out)?;
     match values.range {
@@ -170,7 +170,7 @@ pub fn key_fits(schema: &TableSchema, item: &Item) -> bool
 }
 
 fn is_within(most: usize, item: &Item, key: &KeyAttr) -> bool
-    ensures { result ≡ is_within most item.now key.now }
+    ensures { result ≡ is_key_value_within most item.now key.now }
 {
     match item.get(key.name.as_str()) {
         Some(value) => byte_count(value) <= most,

@@ -2,7 +2,7 @@
 //! indexes", "Backfilling").
 
 ghost use Rattle.std.specs.Prelude.{◌≡◌, ◌<◌, IfOk, Some, length, option_map, option_and_then, slice_get};
-ghost use Rattle.alt_machine.specs.Building.{is_reached};
+ghost use Rattle.alt_machine.specs.Building.{is_built_of_item};
 ghost use Rattle.alt_schema.specs.Indexes.{indexes};
 ghost use Rattle.alt_schema.specs.declared.schema.Built.TheVariants.{UpTo};
 ghost use Rattle.alt_views.specs.IndexRows.{built_row};
@@ -43,7 +43,7 @@ fn is_reached(
     built: &Built,
     item: &Item,
 ) -> Result<bool, NoMemory>
-    ensures { IfOk result (λ reached. reached ≡ is_reached schema.now built.now item.now) }
+    ensures { IfOk result (λ reached. reached ≡ is_built_of_item schema.now built.now item.now) }
 {
     match built {
         Built::Whole => Ok(true),
@@ -55,7 +55,7 @@ fn is_reached(
 /// Whether the place of an item is that of a key, or before it.
 fn is_up_to(alloc: Global, schema: &TableSchema, key: &Item, item: &Item) -> Result<bool, NoMemory>
     ensures { IfOk result (λ reached. reached
-        ≡ is_reached schema.now (UpTo (Some key.now)) item.now) }
+        ≡ is_built_of_item schema.now (UpTo (Some key.now)) item.now) }
 {
     let Some(place) = place_of(alloc, schema, item)? else {
         return Ok(false);

@@ -1,12 +1,12 @@
 //! The place of a key at which no item need be, as a page's start key and the key up to which an index is built.
 
-ghost use Rattle.std.specs.Prelude.{◌≡◌, ◌++◌, true, Some, None, IfOk, IfSome, OnOk, option_map};
+ghost use Rattle.std.specs.Prelude.{◌≡◌, true, Some, None, IfOk, IfSome, option_map};
 ghost use Rattle.alt_keyorder.specs.Place.{place_bytes};
 ghost use Rattle.alt_machine.specs.Indexed.{values_of};
 ghost use Rattle.alt_machine.specs.Lists as machine;
 ghost use Rattle.alt_machine.specs.Sources as sources;
 ghost use Rattle.alt_value.specs.Stands.{tree_of};
-ghost use Rattle.alt_views.specs.Values.{AreKeys, values_in};
+ghost use Rattle.alt_views.specs.Values.{AreKeys, machine_key_values};
 
 use crate::place::{KeyValues, place_of_both, put_hash};
 use crate::rows::projection::is_key;
@@ -74,7 +74,7 @@ fn place_in_index(
 
 /// The values of a key in a key, `None` exactly where it hasn't all of it.
 fn start_values<'k>(key: &'k Item, hash: &KeyAttr, range: &Option<KeyAttr>) -> Option<KeyValues<'k>>
-    ensures values { option_map values_in result
+    ensures values { option_map machine_key_values result
         ≡ values_of (machine.start_value key.now) hash.now range.now }
     ensures keys { IfSome result AreKeys }
 {

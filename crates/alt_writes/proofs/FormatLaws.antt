@@ -5,7 +5,7 @@ use Rattle.alt_base.proofs.Lists.{append_five}
 use Rattle.alt_cells.specs.declared.batch.RowChange.{RowChange}
 use Rattle.alt_fields.specs.Field.{field}
 use Rattle.alt_writes.specs.Writes.{Write}
-use Rattle.alt_writes.specs.Bytes.{clear_byte, cells_bytes, change_bytes, changes_bytes, write_bytes, writes_bytes, group_bytes}
+use Rattle.alt_writes.specs.Bytes.{clear_byte, columns_bytes, change_bytes, changes_bytes, write_bytes, writes_bytes, group_bytes}
 
 -- three parts put one behind another
 pub three_put : (out a b c : List ℕ) → ((out ++ a) ++ b) ++ c ≡ out ++ (a ++ (b ++ c))
@@ -16,17 +16,17 @@ pub change_bytes_put : (change : RowChange) (key : List ℕ) (cells : List (List
     (byte : ℕ) (out a b c d e : List ℕ)
     → key ≡ change.key → cells ≡ change.cells → byte ≡ clear_byte change.clear
     → a ≡ out ++ to_be_bytes w32 change.family → b ≡ a ++ field key → c ≡ b ++ byte ∷ []
-    → d ≡ c ++ to_be_bytes w64 (length cells) → e ≡ d ++ cells_bytes cells
+    → d ≡ c ++ to_be_bytes w64 (length cells) → e ≡ d ++ columns_bytes cells
     → e ≡ out ++ change_bytes change
 unfolding change_bytes
 change_bytes_put change key cells byte out a b c d e same_key same_cells same_byte p q r s t =
-    t ∙ ap (λ x. x ++ cells_bytes cells) (s ∙ ap (λ x. x ++ to_be_bytes w64 (length cells))
+    t ∙ ap (λ x. x ++ columns_bytes cells) (s ∙ ap (λ x. x ++ to_be_bytes w64 (length cells))
     (r ∙ ap (λ x. x ++ byte ∷ []) (q ∙ ap (λ x. x ++ field key) p)))
     ∙ append_five out (to_be_bytes w32 change.family) (field key) (byte ∷ [])
-    (to_be_bytes w64 (length cells)) (cells_bytes cells)
+    (to_be_bytes w64 (length cells)) (columns_bytes cells)
     ∙ (λ i. out ++ (to_be_bytes w32 change.family
     ++ (field (same_key i) ++ ((same_byte i ∷ [])
-    ++ (to_be_bytes w64 (length (same_cells i)) ++ cells_bytes (same_cells i))))))
+    ++ (to_be_bytes w64 (length (same_cells i)) ++ columns_bytes (same_cells i))))))
 
 -- and the three of a write are its
 pub write_bytes_put : (w : Write) (out a b c : List ℕ) → a ≡ out ++ to_be_bytes w64 w.number

@@ -1,3 +1,4 @@
+pub mod EntryReads
 pub mod FormatLaws
 pub mod OneWrite
 pub mod PushLaws

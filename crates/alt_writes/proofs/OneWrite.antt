@@ -6,7 +6,7 @@ use Rattle.alt_cells.specs.declared.batch.RowChange.{RowChange}
 use Rattle.alt_fields.specs.Field.{field}
 use Rattle.alt_fields.proofs.Apart.{number-apart, field-apart, number_four-apart}
 use Rattle.alt_writes.specs.Writes.{Write}
-use Rattle.alt_writes.specs.Bytes.{clear_byte, value_bytes, cells_bytes, change_bytes, changes_bytes, write_bytes, writes_bytes, group_bytes, IsShortValue, AreShortCells, IsHeldChange, AreHeldChanges, IsHeldWrite, AllHeld, IsHeldGroup}
+use Rattle.alt_writes.specs.Bytes.{clear_byte, value_bytes, columns_bytes, change_bytes, changes_bytes, write_bytes, writes_bytes, group_bytes, IsShortValue, AreShortCells, IsHeldChange, AreHeldChanges, IsHeldWrite, AllHeld, IsHeldGroup}
 
 -- two values, or none
 pub value_apart : (a b : Option (List ℕ)) (x y : List ℕ) → IsShortValue a → IsShortValue b
@@ -19,24 +19,24 @@ value_apart (Some a) (Some b) x y h k e = let parts = field-apart a b x y h k (a
 
 -- two lists of columns, of one length
 pub cells_apart : (es fs : List (List ℕ × Option (List ℕ))) (x y : List ℕ) → AreShortCells es
-    → AreShortCells fs → length es ≡ length fs → cells_bytes es ++ x ≡ cells_bytes fs ++ y
+    → AreShortCells fs → length es ≡ length fs → columns_bytes es ++ x ≡ columns_bytes fs ++ y
     → (es ≡ fs) × (x ≡ y)
 cells_apart [] [] x y h k n e = (refl, e)
 cells_apart [] (b ∷ fs) x y h k n e = absurd (omega arith)
 cells_apart (a ∷ es) [] x y h k n e = absurd (omega arith)
 cells_apart (a ∷ es) (b ∷ fs) x y h k n e =
-    let front = field-apart a.0 b.0 (value_bytes a.1 ++ (cells_bytes es ++ x))
-    (value_bytes b.1 ++ (cells_bytes fs ++ y)) h.0 k.0
+    let front = field-apart a.0 b.0 (value_bytes a.1 ++ (columns_bytes es ++ x))
+    (value_bytes b.1 ++ (columns_bytes fs ++ y)) h.0 k.0
     (sym (pieces a es x) ∙ e ∙ pieces b fs y) in
-    let value = value_apart a.1 b.1 (cells_bytes es ++ x) (cells_bytes fs ++ y) h.1 k.1 front.1 in
+    let value = value_apart a.1 b.1 (columns_bytes es ++ x) (columns_bytes fs ++ y) h.1 k.1 front.1 in
     let rest = cells_apart es fs x y h.2 k.2 (omega arith) value.1 in
     ((λ i. (front.0 i, value.0 i) ∷ rest.0 i), rest.1)
   where
     pieces : (a : List ℕ × Option (List ℕ)) (es : List (List ℕ × Option (List ℕ))) (x : List ℕ)
-        → ((field a.0 ++ value_bytes a.1) ++ cells_bytes es) ++ x
-        ≡ field a.0 ++ (value_bytes a.1 ++ (cells_bytes es ++ x))
-    pieces a es x = append_assoc (field a.0 ++ value_bytes a.1) (cells_bytes es) x
-        ∙ append_assoc (field a.0) (value_bytes a.1) (cells_bytes es ++ x)
+        → ((field a.0 ++ value_bytes a.1) ++ columns_bytes es) ++ x
+        ≡ field a.0 ++ (value_bytes a.1 ++ (columns_bytes es ++ x))
+    pieces a es x = append_assoc (field a.0 ++ value_bytes a.1) (columns_bytes es) x
+        ∙ append_assoc (field a.0) (value_bytes a.1) (columns_bytes es ++ x)
 
 -- two bytes that say whether a row is cleared
 pub clear_apart : (a b : Bool) (x y : List ℕ) → clear_byte a ∷ x ≡ clear_byte b ∷ y
@@ -49,16 +49,16 @@ clear_apart false true x y e = let no : 0 ∷ x ≡ 1 ∷ y = e in cc no
 -- the parts of a change, with what stands behind it
 pub change_pieces : (c : RowChange) (x : List ℕ) → change_bytes c ++ x
     ≡ to_be_bytes w32 c.family ++ (field c.key
-    ++ (clear_byte c.clear ∷ (to_be_bytes w64 (length c.cells) ++ (cells_bytes c.cells ++ x))))
+    ++ (clear_byte c.clear ∷ (to_be_bytes w64 (length c.cells) ++ (columns_bytes c.cells ++ x))))
 unfolding change_bytes
 change_pieces c x =
     append_assoc (to_be_bytes w32 c.family) (field c.key
-    ++ clear_byte c.clear ∷ (to_be_bytes w64 (length c.cells) ++ cells_bytes c.cells)) x
+    ++ clear_byte c.clear ∷ (to_be_bytes w64 (length c.cells) ++ columns_bytes c.cells)) x
     ∙ ap (λ s. to_be_bytes w32 c.family ++ s)
     (append_assoc (field c.key) (clear_byte
-    c.clear ∷ (to_be_bytes w64 (length c.cells) ++ cells_bytes c.cells)) x
+    c.clear ∷ (to_be_bytes w64 (length c.cells) ++ columns_bytes c.cells)) x
     ∙ ap (λ s. field c.key ++ (clear_byte c.clear ∷ s))
-    (append_assoc (to_be_bytes w64 (length c.cells)) (cells_bytes c.cells) x))
+    (append_assoc (to_be_bytes w64 (length c.cells)) (columns_bytes c.cells) x))
 
 -- two changes
 pub change_apart : (c d : RowChange) (x y : List ℕ) → IsHeldChange c → IsHeldChange d

@@ -1,19 +1,16 @@
--- Reading writes back: what was read is what was put, and where reading stops nothing was.
-use Rattle.std.proofs.Common.{◌≡◌, ◌<◌, ◌≤◌, ◌+◌, ◌-◌, ◌^◌, ℕ, Bool, true, false, List, [], ◌∷◌, ◌++◌, length, Option, Some, None, sym, ap, refl, subst, suc, ◌∙◌, arith, append_assoc, length-append}
+-- Reading writes back, up to a change: what was read is what was put, and where reading stops nothing was.
+use Rattle.std.proofs.Common.{◌≡◌, ◌<◌, ◌+◌, ◌^◌, ℕ, Bool, true, false, List, [], ◌∷◌, ◌++◌, length, Option, Some, None, sym, ap, refl, ◌∙◌, arith, append_assoc, length-append}
 use Rattle.std.proofs.lemmas.List.{append-nil}
 use Rattle.std.specs.Int.{w32, w64, to_be_bytes}
-use Rattle.alt_base.proofs.Lists.{length-zero}
 use Rattle.alt_cells.specs.declared.batch.RowChange.{RowChange}
 use Rattle.alt_fields.specs.Bytes.{IsShort}
 use Rattle.alt_fields.specs.Field.{field, told_length}
 use Rattle.alt_fields.proofs.Apart.{field_whole, number-apart, field-apart, number_four-apart}
-use Rattle.alt_writes.specs.Writes.{AreRising, Write, past}
-use Rattle.alt_writes.specs.Bytes.{clear_byte, value_bytes, cells_bytes, change_bytes, changes_bytes, write_bytes, writes_bytes, group_bytes, IsShortValue, AreShortCells, IsHeldChange, AreHeldChanges, IsHeldWrite, AllHeld, IsHeldGroup}
-use Rattle.alt_writes.specs.Reading.{IsNoGroup, IsNoWrite, IsNone, NoNumber, NoFamily, NoField, NoFlag, NoValue, NoCells, NoChange, NoChanges, NoWrite, NoWrites, write_of, writes_of}
-use Rattle.alt_writes.specs.declared.read.LoggedWrite.{LoggedWrite}
+use Rattle.alt_writes.specs.Bytes.{clear_byte, value_bytes, columns_bytes, change_bytes, changes_bytes, IsShortValue, AreShortCells, IsHeldChange, AreHeldChanges}
+use Rattle.alt_writes.specs.Reading.{IsNone, NoNumber, NoFamilyNumber, NoField, NoFlag, NoColumnValue, NoColumns, NoChange, NoChanges}
 use Rattle.alt_writes.specs.declared.read.Stop.{Stop}
 use Rattle.alt_writes.specs.declared.read.Stop.TheVariants.{Bad, NoMemory}
-use Rattle.alt_writes.proofs.OneWrite.{value_apart, clear_apart, change_pieces, change_apart, write_apart, write_pieces, writes_apart}
+use Rattle.alt_writes.proofs.OneWrite.{value_apart, clear_apart, change_pieces, change_apart}
 
 -- what is true of the bytes where one thing is bad is true where another is
 pub none_map : (P Q : Type 0) (s : Stop) → (P → Q) → IsNone P s → IsNone Q s
@@ -29,7 +26,7 @@ no_number bytes few n behind small e =
     ap length e ∙ length-append (to_be_bytes w64 n) behind in omega arith
 
 -- or for that of a family
-pub no_family : (bytes : List ℕ) → length bytes < 4 → NoFamily bytes
+pub no_family : (bytes : List ℕ) → length bytes < 4 → NoFamilyNumber bytes
 no_family bytes few n behind small e =
     let l : length bytes ≡ 4 + length behind =
     ap length e ∙ length-append (to_be_bytes w32 n) behind in omega arith
@@ -41,13 +38,13 @@ no_field bytes few s behind short e = field_whole bytes s behind short e few
 -- ---- what a column is given
 
 -- no flag
-pub no_value-flag : (bytes : List ℕ) → NoFlag bytes → NoValue bytes
+pub no_value-flag : (bytes : List ℕ) → NoFlag bytes → NoColumnValue bytes
 no_value-flag bytes non None behind short e = non false behind e
 no_value-flag bytes non (Some v) behind short e = non true (field v ++ behind) e
 
 -- the flag of a value, and no value behind it
 pub no_value-field : (bytes rest : List ℕ) → bytes ≡ clear_byte true ∷ rest → NoField rest
-    → NoValue bytes
+    → NoColumnValue bytes
 no_value-field bytes rest is non None behind short e =
     let n : 1 ∷ rest ≡ 0 ∷ behind = sym is ∙ e in cc n
 no_value-field bytes rest is non (Some v) behind short e =
@@ -57,18 +54,18 @@ no_value-field bytes rest is non (Some v) behind short e =
 
 -- a column more
 pub cells_push : (es : List (List ℕ × Option (List ℕ))) (name : List ℕ) (v : Option (List ℕ))
-    (bytes rest flagged behind : List ℕ) → bytes ≡ cells_bytes es ++ rest
+    (bytes rest flagged behind : List ℕ) → bytes ≡ columns_bytes es ++ rest
     → rest ≡ field name ++ flagged → flagged ≡ value_bytes v ++ behind
-    → bytes ≡ cells_bytes (es ++ (name, v) ∷ []) ++ behind
+    → bytes ≡ columns_bytes (es ++ (name, v) ∷ []) ++ behind
 cells_push [] name v bytes rest flagged behind is named given =
     is ∙ named ∙ ap (λ x. field name ++ x) given
     ∙ sym (append_assoc (field name) (value_bytes v) behind)
     ∙ ap (λ x. x ++ behind) (sym (append-nil (field name ++ value_bytes v)))
 cells_push (e ∷ es) name v bytes rest flagged behind is named given =
-    is ∙ append_assoc (field e.0 ++ value_bytes e.1) (cells_bytes es) rest
+    is ∙ append_assoc (field e.0 ++ value_bytes e.1) (columns_bytes es) rest
     ∙ ap (λ x. (field e.0 ++ value_bytes e.1) ++ x)
-    (cells_push es name v (cells_bytes es ++ rest) rest flagged behind refl named given)
-    ∙ sym (append_assoc (field e.0 ++ value_bytes e.1) (cells_bytes (es ++ (name, v) ∷ [])) behind)
+    (cells_push es name v (columns_bytes es ++ rest) rest flagged behind refl named given)
+    ∙ sym (append_assoc (field e.0 ++ value_bytes e.1) (columns_bytes (es ++ (name, v) ∷ [])) behind)
 
 -- which is short, so all are
 pub short_push : (es : List (List ℕ × Option (List ℕ))) (name : List ℕ) (v : Option (List ℕ))
@@ -87,44 +84,44 @@ pub record NextCell (rest : List ℕ) : Type 0 where
 
 -- where there are more columns than were read
 pub next_cell : (done es : List (List ℕ × Option (List ℕ))) (rest y : List ℕ) → AreShortCells done
-    → AreShortCells es → length done < length es → cells_bytes done ++ rest ≡ cells_bytes es ++ y
+    → AreShortCells es → length done < length es → columns_bytes done ++ rest ≡ columns_bytes es ++ y
     → NextCell rest
 next_cell [] [] rest y h k less e = absurd (omega arith)
 next_cell [] (b ∷ es) rest y h k less e = record {
   name = b.0;
   value = b.1;
-  more = cells_bytes es ++ y;
+  more = columns_bytes es ++ y;
   short = k.0;
   given = k.1;
-  is = e ∙ append_assoc (field b.0 ++ value_bytes b.1) (cells_bytes es) y
-      ∙ append_assoc (field b.0) (value_bytes b.1) (cells_bytes es ++ y);
+  is = e ∙ append_assoc (field b.0 ++ value_bytes b.1) (columns_bytes es) y
+      ∙ append_assoc (field b.0) (value_bytes b.1) (columns_bytes es ++ y);
 }
 next_cell (a ∷ done) [] rest y h k less e = absurd (omega arith)
 next_cell (a ∷ done) (b ∷ es) rest y h k less e =
-    let name = field-apart a.0 b.0 (value_bytes a.1 ++ (cells_bytes done ++ rest))
-    (value_bytes b.1 ++ (cells_bytes es ++ y)) h.0 k.0
+    let name = field-apart a.0 b.0 (value_bytes a.1 ++ (columns_bytes done ++ rest))
+    (value_bytes b.1 ++ (columns_bytes es ++ y)) h.0 k.0
     (sym (pieces a done rest) ∙ e ∙ pieces b es y) in
-    let value = value_apart a.1 b.1 (cells_bytes done ++ rest) (cells_bytes es ++ y) h.1 k.1 name.1
+    let value = value_apart a.1 b.1 (columns_bytes done ++ rest) (columns_bytes es ++ y) h.1 k.1 name.1
     in next_cell done es rest y h.2 k.2 (omega arith) value.1
   where
     pieces : (a : List ℕ × Option (List ℕ)) (es : List (List ℕ × Option (List ℕ))) (x : List ℕ)
-        → ((field a.0 ++ value_bytes a.1) ++ cells_bytes es) ++ x
-        ≡ field a.0 ++ (value_bytes a.1 ++ (cells_bytes es ++ x))
-    pieces a es x = append_assoc (field a.0 ++ value_bytes a.1) (cells_bytes es) x
-        ∙ append_assoc (field a.0) (value_bytes a.1) (cells_bytes es ++ x)
+        → ((field a.0 ++ value_bytes a.1) ++ columns_bytes es) ++ x
+        ≡ field a.0 ++ (value_bytes a.1 ++ (columns_bytes es ++ x))
+    pieces a es x = append_assoc (field a.0 ++ value_bytes a.1) (columns_bytes es) x
+        ∙ append_assoc (field a.0) (value_bytes a.1) (columns_bytes es ++ x)
 
 module _ (count : ℕ) (done : List (List ℕ × Option (List ℕ))) (bytes rest : List ℕ)
-    (few : length done < count) (short : AreShortCells done) (is : bytes ≡ cells_bytes done ++ rest)
+    (few : length done < count) (short : AreShortCells done) (is : bytes ≡ columns_bytes done ++ rest)
   where
     -- no name behind them
-    pub no_cells-name : NoField rest → NoCells count bytes
+    pub no_cells-name : NoField rest → NoColumns count bytes
     no_cells-name non es y h n e =
         let next = next_cell done es rest y short h (omega (arith, n)) (sym is ∙ e) in
         non next.name (value_bytes next.value ++ next.more) next.short next.is
 
     -- or a name with nothing that is given
     pub no_cells-value : (name flagged : List ℕ) → IsShort name → rest ≡ field name ++ flagged
-        → NoValue flagged → NoCells count bytes
+        → NoColumnValue flagged → NoColumns count bytes
     no_cells-value name flagged short_name named non es y h n e =
         let next = next_cell done es rest y short h (omega (arith, n)) (sym is ∙ e) in
         non next.value next.more next.given
@@ -135,14 +132,14 @@ module _ (count : ℕ) (done : List (List ℕ × Option (List ℕ))) (bytes rest
 
 module _ (bytes : List ℕ) where
   -- where no family is named there is no change
-  pub no_change-family : NoFamily bytes → NoChange bytes
+  pub no_change-family : NoFamilyNumber bytes → NoChange bytes
   no_change-family non d y h e = non d.family _ h.family (e ∙ change_pieces d y)
 
   module _ (family : ℕ) (keyed : List ℕ) (small : family < 2 ^ 32)
       (is : bytes ≡ to_be_bytes w32 family ++ keyed) where
     behind_family : (d : RowChange) (y : List ℕ) → IsHeldChange d → bytes ≡ change_bytes d ++ y
         → keyed ≡ field d.key ++ (clear_byte d.clear ∷ (to_be_bytes w64 (length d.cells)
-        ++ (cells_bytes d.cells ++ y)))
+        ++ (columns_bytes d.cells ++ y)))
     behind_family d y h e = (number_four-apart family d.family keyed _ small h.family
         (sym is ∙ e ∙ change_pieces d y)).1
 
@@ -153,7 +150,7 @@ module _ (bytes : List ℕ) where
       where
         behind_key : (d : RowChange) (y : List ℕ) → IsHeldChange d → bytes ≡ change_bytes d ++ y
             → flagged ≡ clear_byte d.clear ∷ (to_be_bytes w64 (length d.cells)
-            ++ (cells_bytes d.cells ++ y))
+            ++ (columns_bytes d.cells ++ y))
         behind_key d y h e = (field-apart key d.key flagged _ short h.key
             (sym named ∙ behind_family d y h e)).1
 
@@ -163,7 +160,7 @@ module _ (bytes : List ℕ) where
         module _ (clear : Bool) (counted : List ℕ)
             (flag : flagged ≡ clear_byte clear ∷ counted) where
           behind_flag : (d : RowChange) (y : List ℕ) → IsHeldChange d → bytes ≡ change_bytes d ++ y
-              → counted ≡ to_be_bytes w64 (length d.cells) ++ (cells_bytes d.cells ++ y)
+              → counted ≡ to_be_bytes w64 (length d.cells) ++ (columns_bytes d.cells ++ y)
           behind_flag d y h e =
               (clear_apart clear d.clear counted _ (sym flag ∙ behind_key d y h e)).1
 
@@ -172,16 +169,16 @@ module _ (bytes : List ℕ) where
 
           module _ (count : ℕ) (listed : List ℕ) (fits : count < 2 ^ 64)
               (told : counted ≡ to_be_bytes w64 count ++ listed) where
-            pub no_change-cells : NoCells count listed → NoChange bytes
+            pub no_change-cells : NoColumns count listed → NoChange bytes
             no_change-cells non d y h e =
                 let parts = number-apart count (length d.cells) listed
-                (cells_bytes d.cells ++ y) fits
+                (columns_bytes d.cells ++ y) fits
                 h.count (sym told ∙ behind_flag d y h e) in
                 non d.cells y h.cells (sym parts.0) parts.1
 
             -- what was read is a change
             pub change_read : (c : RowChange) (rest : List ℕ) → c.family ≡ family → c.key ≡ key
-                → c.clear ≡ clear → length c.cells ≡ count → listed ≡ cells_bytes c.cells ++ rest
+                → c.clear ≡ clear → length c.cells ≡ count → listed ≡ columns_bytes c.cells ++ rest
                 → bytes ≡ change_bytes c ++ rest
             change_read c rest f k b n cells =
                 is ∙ (λ i. to_be_bytes w32 (sym f i) ++ (named ∙ (λ i. field (sym k i)
@@ -240,177 +237,3 @@ pub no_changes : (count : ℕ) (done : List RowChange) (bytes rest : List ℕ) �
 no_changes count done bytes rest few held is non cs y h n e =
     let next = next_change done cs rest y held h (omega (arith, n)) (sym is ∙ e) in
     non next.change next.more next.held next.is
-
--- ---- a write
-
-module _ (least : ℕ) (bytes : List ℕ) where
-  -- where no number stands there is no write
-  pub no_write-number : NoNumber bytes → NoWrite least bytes
-  no_write-number non w y h later e =
-      let low = h.number in non w.number _ (omega (arith, low)) (e ∙ write_pieces w y)
-
-  module _ (number : ℕ) (counted : List ℕ) (fits : number < 2 ^ 64)
-      (is : bytes ≡ to_be_bytes w64 number ++ counted) where
-    behind_number : (w : Write) (y : List ℕ) → IsHeldWrite w → bytes ≡ write_bytes w ++ y
-        → (number ≡ w.number)
-        × (counted ≡ to_be_bytes w64 (length w.changes) ++ (changes_bytes w.changes ++ y))
-    behind_number w y h e = let low = h.number in
-        number-apart number w.number counted _ fits (omega (arith, low))
-        (sym is ∙ e ∙ write_pieces w y)
-
-    pub no_write-early : number < least → NoWrite least bytes
-    no_write-early early w y h later e =
-        let same = (behind_number w y h e).0 in omega (arith, same)
-
-    pub no_write-last : 2 ^ 62 - 1 ≤ number → NoWrite least bytes
-    no_write-last late w y h later e =
-        let same = (behind_number w y h e).0 in let low = h.number in omega (arith, same, low)
-
-    pub no_write-count : NoNumber counted → NoWrite least bytes
-    no_write-count non w y h later e = non (length w.changes) _ h.count (behind_number w y h e).1
-
-    module _ (count : ℕ) (rest : List ℕ) (small : count < 2 ^ 64)
-        (told : counted ≡ to_be_bytes w64 count ++ rest) where
-      behind_count : (w : Write) (y : List ℕ) → IsHeldWrite w → bytes ≡ write_bytes w ++ y
-          → (count ≡ length w.changes) × (rest ≡ changes_bytes w.changes ++ y)
-      behind_count w y h e = number-apart count (length w.changes) rest _ small h.count
-          (sym told ∙ (behind_number w y h e).1)
-
-      pub no_write-changes : NoChanges count rest → NoWrite least bytes
-      no_write-changes non w y h later e = let parts = behind_count w y h e in
-          non w.changes y h.changes (sym parts.0) parts.1
-
-      -- what was read is a write
-      pub write_read : (done : List RowChange) (behind : List ℕ) → length done ≡ count
-          → rest ≡ changes_bytes done ++ behind
-          → bytes ≡ write_bytes (record { number = number; changes = done }) ++ behind
-      write_read done behind n read =
-          is ∙ ap (λ x. to_be_bytes w64 number ++ x) (told
-          ∙ (λ i. to_be_bytes w64 (sym n i) ++ read i))
-          ∙ sym (write_pieces (record { number = number; changes = done }) behind)
-
--- ---- an entry that is one write
-
--- no write at the front of an entry
-pub none_whole : (least : ℕ) (bytes : List ℕ) → NoWrite least bytes → IsNoWrite least bytes
-none_whole least bytes non w h later e =
-    non w [] h later (e ∙ sym (append-nil (write_bytes w)))
-
--- bytes behind a write
-pub none_behind : (least : ℕ) (bytes : List ℕ) (v : Write) (behind : List ℕ) → IsHeldWrite v
-    → bytes ≡ write_bytes v ++ behind → 0 < length behind → IsNoWrite least bytes
-none_behind least bytes v behind k is some w h later e =
-    let none = (write_apart v w behind [] k h
-    (sym is ∙ e ∙ sym (append-nil (write_bytes w)))).1 in
-    let zero : length behind ≡ 0 = ap length none in omega (arith, zero)
-
--- a write with nothing behind it
-pub whole : (front bytes behind : List ℕ) → bytes ≡ front ++ behind → length behind ≡ 0
-    → bytes ≡ front
-whole front bytes behind is none =
-    is ∙ ap (λ x. front ++ x) (length-zero behind none) ∙ append-nil front
-
--- ---- writes
-
--- a write more
-pub writes_push : (ws : List Write) (w : Write) (bytes rest behind : List ℕ)
-    → bytes ≡ writes_bytes ws ++ rest → rest ≡ write_bytes w ++ behind
-    → bytes ≡ writes_bytes (ws ++ w ∷ []) ++ behind
-writes_push [] w bytes rest behind is next =
-    is ∙ next ∙ ap (λ x. x ++ behind) (sym (append-nil (write_bytes w)))
-writes_push (v ∷ ws) w bytes rest behind is next =
-    is ∙ append_assoc (write_bytes v) (writes_bytes ws) rest
-    ∙ ap (λ x. write_bytes v ++ x)
-    (writes_push ws w (writes_bytes ws ++ rest) rest behind refl next)
-    ∙ sym (append_assoc (write_bytes v) (writes_bytes (ws ++ w ∷ [])) behind)
-
--- those that were read, with one more
-pub reads_push : (reads : List LoggedWrite) (read : LoggedWrite)
-    → writes_of (reads ++ read ∷ []) ≡ writes_of reads ++ write_of read ∷ []
-reads_push [] read = refl
-reads_push (r ∷ reads) read = ap (λ ws. write_of r ∷ ws) (reads_push reads read)
-
--- as many
-pub length-reads : (reads : List LoggedWrite) → length (writes_of reads) ≡ length reads
-length-reads [] = refl
-length-reads (r ∷ reads) = ap (λ n. suc n) (length-reads reads)
-
--- the write behind those that were read
-pub record NextWrite (least : ℕ) (rest : List ℕ) : Type 0 where
-  pub write : Write
-  pub more : List ℕ
-  pub held : IsHeldWrite write
-  pub later : least ≤ write.number
-  pub is : rest ≡ write_bytes write ++ more
-
--- where there are more writes than were read
-pub next_write : (least : ℕ) (done ws : List Write) (rest y : List ℕ) → AllHeld done
-    → AllHeld ws → AreRising least ws → length done < length ws
-    → writes_bytes done ++ rest ≡ writes_bytes ws ++ y → NextWrite (past least done) rest
-next_write least [] [] rest y h k rising less e = absurd (omega arith)
-next_write least [] (b ∷ ws) rest y h k rising less e = record {
-  write = b;
-  more = writes_bytes ws ++ y;
-  held = k.0;
-  later = rising.0;
-  is = e ∙ append_assoc (write_bytes b) (writes_bytes ws) y;
-}
-next_write least (a ∷ done) [] rest y h k rising less e = absurd (omega arith)
-next_write least (a ∷ done) (b ∷ ws) rest y h k rising less e =
-    let first = write_apart a b (writes_bytes done ++ rest) (writes_bytes ws ++ y) h.0 k.0
-    (sym (append_assoc (write_bytes a) (writes_bytes done) rest) ∙ e
-    ∙ append_assoc (write_bytes b) (writes_bytes ws) y) in
-    next_write (a.number + 1) done ws rest y h.1 k.1
-    (subst (λ (w : Write). AreRising (w.number + 1) ws) (sym first.0) rising.1)
-    (omega (arith, less)) first.1
-
--- no write behind those that were read
-pub no_writes : (least count : ℕ) (done : List Write) (bytes rest : List ℕ) → length done < count
-    → AllHeld done → bytes ≡ writes_bytes done ++ rest → NoWrite (past least done) rest
-    → NoWrites least count bytes
-no_writes least count done bytes rest few held is non ws y h rising n e =
-    let next = next_write least done ws rest y held h rising (omega (arith, n, few))
-    (sym is ∙ e) in
-    non next.write next.more next.held next.later next.is
-
--- ---- an entry that is a group
-
-module _ (least : ℕ) (bytes : List ℕ) where
-  -- where no number stands there is no group
-  pub no_group-count : NoNumber bytes → IsNoGroup least bytes
-  unfolding group_bytes
-  no_group-count non ws h rising e = non (length ws) (writes_bytes ws) h.count e
-
-  module _ (count : ℕ) (rest : List ℕ) (small : count < 2 ^ 64)
-      (is : bytes ≡ to_be_bytes w64 count ++ rest) where
-    behind_groups : (ws : List Write) → IsHeldGroup ws → bytes ≡ group_bytes ws
-        → (count ≡ length ws) × (rest ≡ writes_bytes ws)
-    unfolding group_bytes
-    behind_groups ws h e = number-apart count (length ws) rest (writes_bytes ws) small h.count
-        (sym is ∙ e)
-
-    pub no_group-empty : count ≡ 0 → IsNoGroup least bytes
-    no_group-empty zero ws h rising e =
-        let same = (behind_groups ws h e).0 in let some = h.some in omega (arith, same, some, zero)
-
-    pub no_group-writes : NoWrites least count rest → IsNoGroup least bytes
-    no_group-writes non ws h rising e = let parts = behind_groups ws h e in
-        non ws [] h.writes rising (sym parts.0)
-        (parts.1 ∙ sym (append-nil (writes_bytes ws)))
-
-    pub no_group-behind : (done : List Write) (behind : List ℕ) → length done ≡ count
-        → AllHeld done → rest ≡ writes_bytes done ++ behind → 0 < length behind
-        → IsNoGroup least bytes
-    no_group-behind done behind n held read some ws h rising e =
-        let parts = behind_groups ws h e in
-        let none = (writes_apart done ws behind [] held h.writes (n ∙ parts.0)
-        (sym read ∙ parts.1 ∙ sym (append-nil (writes_bytes ws)))).1 in
-        let zero : length behind ≡ 0 = ap length none in omega (arith, zero, some)
-
-    -- what was read is a group
-    pub group_read : (done : List Write) (behind : List ℕ) → length done ≡ count
-        → rest ≡ writes_bytes done ++ behind → length behind ≡ 0 → bytes ≡ group_bytes done
-    unfolding group_bytes
-    group_read done behind n read none =
-        is ∙ (λ i. to_be_bytes w64 (sym n i)
-        ++ whole (writes_bytes done) rest behind read none i)

@@ -18,16 +18,16 @@ value_bytes None = 0 ∷ []
 value_bytes (Some value) = 1 ∷ field value
 
 -- the columns that a change names, with what it gives them
-abbrev pub cells_bytes : List (List ℕ × Option (List ℕ)) → List ℕ
-cells_bytes [] = []
-cells_bytes (e ∷ es) = (field e.0 ++ value_bytes e.1) ++ cells_bytes es
+abbrev pub columns_bytes : List (List ℕ × Option (List ℕ)) → List ℕ
+columns_bytes [] = []
+columns_bytes (e ∷ es) = (field e.0 ++ value_bytes e.1) ++ columns_bytes es
 
 -- a change: its family, its key, whether it clears the row, and its columns
 unfoldable pub change_bytes : RowChange → List ℕ
 change_bytes c =
     to_be_bytes w32 c.family
     ++ (field c.key ++ (clear_byte c.clear ∷ (to_be_bytes w64 (length c.cells)
-    ++ cells_bytes c.cells)))
+    ++ columns_bytes c.cells)))
 
 -- changes, one behind another
 abbrev pub changes_bytes : List RowChange → List ℕ

@@ -4,7 +4,7 @@ use Rattle.std.specs.Int.{w32, w64, to_be_bytes}
 use Rattle.alt_cells.specs.declared.batch.RowChange.{RowChange}
 use Rattle.alt_fields.specs.Bytes.{IsShort}
 use Rattle.alt_fields.specs.Field.{field}
-use Rattle.alt_writes.specs.Bytes.{clear_byte, value_bytes, cells_bytes, change_bytes, changes_bytes, write_bytes, writes_bytes, group_bytes, IsShortValue, AreShortCells, IsHeldChange, AreHeldChanges, IsHeldWrite, AllHeld, IsHeldGroup}
+use Rattle.alt_writes.specs.Bytes.{clear_byte, value_bytes, columns_bytes, change_bytes, changes_bytes, write_bytes, writes_bytes, group_bytes, IsShortValue, AreShortCells, IsHeldChange, AreHeldChanges, IsHeldWrite, AllHeld, IsHeldGroup}
 use Rattle.alt_writes.specs.Writes.{Write, AreRising}
 use Rattle.alt_writes.specs.declared.read.LoggedWrite.{LoggedWrite}
 use Rattle.alt_writes.specs.declared.read.Stop.{Stop}
@@ -28,8 +28,8 @@ abbrev pub NoNumber : List ℕ → Type 0
 NoNumber bytes = (n : ℕ) (behind : List ℕ) → n < 2 ^ 64 → bytes ≡ to_be_bytes w64 n ++ behind → ⊥
 
 -- no number of four
-abbrev pub NoFamily : List ℕ → Type 0
-NoFamily bytes = (n : ℕ) (behind : List ℕ) → n < 2 ^ 32 → bytes ≡ to_be_bytes w32 n ++ behind → ⊥
+abbrev pub NoFamilyNumber : List ℕ → Type 0
+NoFamilyNumber bytes = (n : ℕ) (behind : List ℕ) → n < 2 ^ 32 → bytes ≡ to_be_bytes w32 n ++ behind → ⊥
 
 -- no field
 abbrev pub NoField : List ℕ → Type 0
@@ -40,14 +40,14 @@ abbrev pub NoFlag : List ℕ → Type 0
 NoFlag bytes = (b : Bool) (behind : List ℕ) → bytes ≡ clear_byte b ∷ behind → ⊥
 
 -- nothing that a column may be given
-abbrev pub NoValue : List ℕ → Type 0
-NoValue bytes = (v : Option (List ℕ)) (behind : List ℕ) → IsShortValue v
+abbrev pub NoColumnValue : List ℕ → Type 0
+NoColumnValue bytes = (v : Option (List ℕ)) (behind : List ℕ) → IsShortValue v
     → bytes ≡ value_bytes v ++ behind → ⊥
 
 -- not so many columns
-abbrev pub NoCells : ℕ → List ℕ → Type 0
-NoCells count bytes = (es : List (List ℕ × Option (List ℕ))) (behind : List ℕ) → AreShortCells es
-    → length es ≡ count → bytes ≡ cells_bytes es ++ behind → ⊥
+abbrev pub NoColumns : ℕ → List ℕ → Type 0
+NoColumns count bytes = (es : List (List ℕ × Option (List ℕ))) (behind : List ℕ) → AreShortCells es
+    → length es ≡ count → bytes ≡ columns_bytes es ++ behind → ⊥
 
 -- no change
 abbrev pub NoChange : List ℕ → Type 0

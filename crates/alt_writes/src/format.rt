@@ -1,10 +1,9 @@
 //! The bytes of a write, and of a group of writes.
 
-ghost use Rattle.std.specs.Prelude.{◌≡◌, ◌<◌, ◌≤◌, ◌+◌, ◌-◌, ◌^◌, ◌++◌, ◌∷◌, [], IfOk, OnOk, length, ℕ, List};
-ghost use Rattle.std.specs.Int.{w32, w64, to_be_bytes};
+ghost use Rattle.std.specs.Prelude.{◌≡◌, ◌<◌, ◌≤◌, ◌+◌, ◌-◌, ◌^◌, ◌++◌, IfOk, OnOk, length};
 ghost use Rattle.alt_fields.specs.Bytes.{IsShort};
 ghost use Rattle.alt_fields.specs.Field.{field};
-ghost use Rattle.alt_writes.specs.Bytes.{clear_byte, value_bytes, cells_bytes, change_bytes, changes_bytes, write_bytes, writes_bytes, group_bytes, IsShortValue, AreShortCells, IsHeldChange, AreHeldChanges, IsHeldWrite, AllHeld, IsHeldGroup};
+ghost use Rattle.alt_writes.specs.Bytes.{clear_byte, value_bytes, columns_bytes, change_bytes, changes_bytes, write_bytes, writes_bytes, group_bytes, IsShortValue, AreShortCells, IsHeldChange, AreHeldChanges, IsHeldWrite, AllHeld, IsHeldGroup};
 ghost use Rattle.alt_writes.specs.Writes.{numbered};
 
 use alt_base::NoMemory;
@@ -97,7 +96,7 @@ fn clear_byte(clear: bool) -> u8
 }
 
 fn put_cells(out: &mut Vec<u8>, cells: &[(Bytes, Option<Bytes>)]) -> Result<(), NoMemory>
-    ensures appended { OnOk result (out.new.items ≡ out.old.items ++ cells_bytes cells.now) }
+    ensures appended { OnOk result (out.new.items ≡ out.old.items ++ columns_bytes cells.now) }
     ensures held { OnOk result (AreShortCells cells.now) }
 {
     for cell in cells {

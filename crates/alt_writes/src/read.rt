@@ -1,12 +1,12 @@
 //! Reading writes back from the bytes of an entry, as docs/formats/log-entries.md lays them out.
 
-ghost use Rattle.std.specs.Prelude.{◌≡◌, ◌<◌, ◌≤◌, ◌^◌, ◌∷◌, ◌++◌, ℕ, List, Option, Bool, IfOk, IfErr, length};
+ghost use Rattle.std.specs.Prelude.{◌≡◌, ◌<◌, ◌≤◌, ◌^◌, ◌∷◌, ◌++◌, Option, IfOk, IfErr, length};
 ghost use Rattle.std.specs.Int.{w32, w64, to_be_bytes};
 ghost use Rattle.alt_cells.specs.declared.batch.RowChange.{RowChange};
 ghost use Rattle.alt_fields.specs.Bytes.{IsShort};
 ghost use Rattle.alt_fields.specs.Field.{field};
-ghost use Rattle.alt_writes.specs.Bytes.{clear_byte, value_bytes, cells_bytes, change_bytes, changes_bytes, write_bytes, writes_bytes, group_bytes, IsShortValue, AreShortCells, IsHeldChange, AreHeldChanges, IsHeldWrite, AllHeld, IsHeldGroup};
-ghost use Rattle.alt_writes.specs.Reading.{IsNoGroup, IsNoWrite, IsNone, NoNumber, NoFamily, NoField, NoFlag, NoValue, NoCells, NoChange, NoChanges, NoWrite, NoWrites, write_of, writes_of};
+ghost use Rattle.alt_writes.specs.Bytes.{clear_byte, value_bytes, columns_bytes, change_bytes, changes_bytes, write_bytes, writes_bytes, group_bytes, IsShortValue, AreShortCells, IsHeldChange, AreHeldChanges, IsHeldWrite, AllHeld, IsHeldGroup};
+ghost use Rattle.alt_writes.specs.Reading.{IsNoGroup, IsNoWrite, IsNone, NoNumber, NoFamilyNumber, NoField, NoFlag, NoColumnValue, NoColumns, NoChange, NoChanges, NoWrite, NoWrites, write_of, writes_of};
 ghost use Rattle.alt_writes.specs.Writes.{AreRising};
 
 use alt_base::NoMemory;
@@ -189,8 +189,8 @@ fn take_change(alloc: Global, bytes: &[u8]) -> Result<(RowChange, &[u8]), Stop>
 /// So many columns with what they are given, and what follows them.
 fn take_cells(alloc: Global, count: u64, bytes: &[u8]) -> Result<(CellList, &[u8]), Stop>
     ensures cells { IfOk result (λ p. (length p.0 ≡ count) × AreShortCells p.0
-        × (bytes.now ≡ cells_bytes p.0 ++ p.1.now)) }
-    ensures none { IfErr result (IsNone (NoCells count bytes.now)) }
+        × (bytes.now ≡ columns_bytes p.0 ++ p.1.now)) }
+    ensures none { IfErr result (IsNone (NoColumns count bytes.now)) }
 {
     let mut cells = CellList::new(alloc);
     let mut rest = bytes;
@@ -210,7 +210,7 @@ fn take_cells(alloc: Global, count: u64, bytes: &[u8]) -> Result<(CellList, &[u8
 /// What a column is given, and what follows it.
 fn take_value(alloc: Global, bytes: &[u8]) -> Result<(Option<Bytes>, &[u8]), Stop>
     ensures value { IfOk result (λ p. IsShortValue p.0 × (bytes.now ≡ value_bytes p.0 ++ p.1.now)) }
-    ensures none { IfErr result (IsNone (NoValue bytes.now)) }
+    ensures none { IfErr result (IsNone (NoColumnValue bytes.now)) }
 {
     let (given, rest) = take_flag(bytes)?;
     if !given {
@@ -239,7 +239,7 @@ fn take_flag(bytes: &[u8]) -> Result<(bool, &[u8]), Stop>
 fn take_family(bytes: &[u8]) -> Result<(u32, &[u8]), Stop>
     ensures family { IfOk result (λ p. (p.0 < 2 ^ 32)
         × (bytes.now ≡ to_be_bytes w32 p.0 ++ p.1.now)) }
-    ensures none { IfErr result (IsNone (NoFamily bytes.now)) }
+    ensures none { IfErr result (IsNone (NoFamilyNumber bytes.now)) }
 {
     match take_u32(bytes, 0) {
         Ok((number, end)) => {

@@ -22,7 +22,7 @@ use Rattle.alt_schema.specs.declared.schema.TableSchema.{TableSchema}
 use Rattle.alt_shape.specs.Refusals.{IsKnown}
 use Rattle.alt_shape.specs.Shape.{given}
 use Rattle.alt_request.specs.TablesFaults.{IsReadFault}
-use Rattle.alt_request.specs.TablesStands.{catalog_of, family_of}
+use Rattle.alt_request.specs.TablesStands.{catalog_of, next_family_of_tables}
 use Rattle.alt_request.specs.TablesDeclaredTableFault.TheVariants.{NoMemory}
 use Rattle.alt_request.specs.TablesDeclaredTables.{Tables}
 
@@ -38,8 +38,8 @@ abbrev pub first_asked : List ℕ → Members → Option Members
 first_asked name ms = first_of (asked_at name ms)
 
 -- what a value asks at a name, where it is a change
-abbrev pub asked_of : List ℕ → Data → Option Members
-asked_of name d = option_and_then (λ u. option_and_then as_object (given name u)) (as_object d)
+abbrev pub change_asked : List ℕ → Data → Option Members
+change_asked name d = option_and_then (λ u. option_and_then as_object (given name u)) (as_object d)
 
 -- what is asked has the name of an index
 abbrev pub names_index : Members → Bool
@@ -54,16 +54,16 @@ pub record MayBeAltered (tables : Tables) (ms : Members) (later : Later) : Type 
   pub there : map.get (catalog_of tables) (table_name ms) ≡ Some description
   pub named : description.name ≡ table_name ms
   pub free : first_answer (of_indexes description ms) ≡ None
-  pub is : later.schema ≡ altered description ms (family_of tables)
+  pub is : later.schema ≡ altered description ms (next_family_of_tables tables)
   pub alters : later.alters ≡ list_any acts (changes ms)
 
 -- That is so; or the machine refuses the request too, in a valid state with these tables.
-abbrev pub IsAsked : Tables → Members → Result Later Stop → Type 0
-IsAsked tables ms (Ok later) = MayBeAltered tables ms later
-IsAsked tables ms (Err (Refused r)) = IsKnown r
+abbrev pub IsAlteringOrRefused : Tables → Members → Result Later Stop → Type 0
+IsAlteringOrRefused tables ms (Ok later) = MayBeAltered tables ms later
+IsAlteringOrRefused tables ms (Err (Refused r)) = IsKnown r
     × ((s : State) → descriptions s.tables ≡ catalog_of tables → IsValid s
     → update_table s ms ≡ refuses r)
-IsAsked tables ms (Err (Fault f)) = IsReadFault f
+IsAlteringOrRefused tables ms (Err (Fault f)) = IsReadFault f
 
 -- Of a table at hand: no refusal applies, and that is its description then; or the machine refuses it too.
 abbrev pub IsAskedOf : TableSchema → Members → ℕ → Result Later Stop → Type 0
@@ -74,9 +74,9 @@ IsAskedOf d ms family (Err (Refused r)) = IsKnown r
 IsAskedOf d ms family (Err (Fault f)) = IsReadFault f
 
 -- what a fault of a description stops a request with
-abbrev pub stop_of : SchemaFault → Stop
-stop_of (schema.Refused r) = Refused r
-stop_of schema.NoMemory = Fault NoMemory
+abbrev pub stop_of_schema_fault : SchemaFault → Stop
+stop_of_schema_fault (schema.Refused r) = Refused r
+stop_of_schema_fault schema.NoMemory = Fault NoMemory
 
 -- ---- a Build
 

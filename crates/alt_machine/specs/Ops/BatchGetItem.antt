@@ -13,7 +13,7 @@ use Rattle.alt_machine.specs.declared.BatchMember.{BatchMember}
 use Rattle.alt_machine.specs.declared.PlacedMember.{PlacedMember}
 use Rattle.alt_machine.specs.declared.Sought.TheVariants.{Key}
 use Rattle.alt_machine.specs.declared.TheConstants.{MOST_KEYS, BATCH_BYTES}
-use Rattle.alt_machine.specs.Batches.{members_in, elements_of, tables_asked, of_each, each_found, is_sized, batch_refusals, of_catalog, placed, has_repeat}
+use Rattle.alt_machine.specs.Batches.{members_in, elements_if_array, tables_asked, of_each, each_found, is_sized, batch_refusals, of_catalog, placed, has_repeat}
 use Rattle.alt_machine.specs.Expressions.{projecting, given_at, names_member, expressions}
 use Rattle.alt_machine.specs.Lists.{is_given}
 use Rattle.alt_shape.specs.Body.{items_json}
@@ -34,7 +34,7 @@ use Rattle.alt_value.specs.Tree.{Pair}
 
 -- the keys that are asked for in a table
 abbrev pub keys_in : Data → List Data
-keys_in d = elements_of (option_and_then as_array (given (codes "Keys") (members_in d)))
+keys_in d = elements_if_array (option_and_then as_array (given (codes "Keys") (members_in d)))
 
 -- one of the tables gives a member
 abbrev pub some_give : List ℕ → List (List ℕ × Data) → Bool
@@ -50,7 +50,7 @@ of_body ms = batch_refusals (bodies.batch_get_item ms)
 -- ---- what is asked of a table
 
 -- the keys that are read in a table, and what is asked of them: `words` may be the names that are given or what is to be shown
-pub record Reads (W K : Type 0) : Type 0 where
+pub record KeyReads (W K : Type 0) : Type 0 where
   pub table : List ℕ
   pub body : Members
   pub words : W
@@ -61,41 +61,41 @@ abbrev pub Shown : Type 0
 Shown = Option (List (List PathPart))
 
 -- a key is read as an item is, of at most 32 levels
-abbrev pub read_key : List ℕ → Data → Result BatchMember Answer
-read_key table d = unless_fault (item_in 32 d)
+abbrev pub read_batch_key : List ℕ → Data → Result BatchMember Answer
+read_batch_key table d = unless_fault (item_in 32 d)
     >>= (λ key. Ok (record { table = table; sought = Key; item = key }))
 
 -- the keys of a table, and then the names that are given for its projection
-abbrev pub read_table : List ℕ × Data → Result (Reads Given BatchMember) Answer
+abbrev pub read_table : List ℕ × Data → Result (KeyReads Given BatchMember) Answer
 read_table t = do
   body ← or_refused unreadable (as_object t.1)
-  keys ← each_found (read_key t.0) (keys_in t.1)
+  keys ← each_found (read_batch_key t.0) (keys_in t.1)
   words ← given_at projecting body
   Ok (record { table = t.0; body = body; words = words; keys = keys })
 
 -- what its projection says
-abbrev pub said_in : Texts TableSchema → Reads Given BatchMember
-    → Result (Reads Shown BatchMember) Answer
-said_in catalog r = do
+abbrev pub projection_said : Texts TableSchema → KeyReads Given BatchMember
+    → Result (KeyReads Shown BatchMember) Answer
+projection_said catalog r = do
   d ← or_refused not_found (finite.get catalog r.table)
   said ← expressions projecting d r.body r.words
   Ok (record { table = r.table; body = r.body; words = said.projection; keys = r.keys })
 
 -- where its keys are
-abbrev pub placed_all : Texts TableSchema → Reads Shown BatchMember
-    → Result (Reads Shown PlacedMember) Answer
+abbrev pub placed_all : Texts TableSchema → KeyReads Shown BatchMember
+    → Result (KeyReads Shown PlacedMember) Answer
 placed_all catalog r = each_found (placed catalog) r.keys
     >>= (λ keys. Ok (record { table = r.table; body = r.body; words = r.words; keys = keys }))
 
 -- The reads that are asked for, table by table, where nothing refuses them: what the body says; each table's keys and names; the tables;
 -- the projection of each; the places of its keys; and that no key stands twice.
 unfoldable pub reads_asked : Texts TableSchema → Members
-    → Result (List (Reads Shown PlacedMember)) Answer
+    → Result (List (KeyReads Shown PlacedMember)) Answer
 reads_asked catalog ms = do
   tables ← unless_answer (first_answer (of_body ms)) (tables_asked ms)
   read ← each_found read_table tables
   known ← unless_answer (first_answer (of_catalog catalog (tables_asked ms))) read
-  said ← each_found (said_in catalog) known
+  said ← each_found (projection_said catalog) known
   there ← each_found (placed_all catalog) said
   unless_answer
       (first_answer (refuse_if (list_any (λ r. has_repeat r.keys) there) bad_batch ∷ [])) there
@@ -117,7 +117,7 @@ read_of s size (m ∷ ms) =
     if nat_le BATCH_BYTES size then [] else m ∷ read_of s (size + size_at s m) ms
 
 -- what is read so far: the sizes of the items, the items of each table, and the tables with keys that are left
-pub record Read : Type 0 where
+pub record ItemsReadSoFar : Type 0 where
   pub size : ℕ
   pub responses : Members
   pub unprocessed : Members
@@ -146,30 +146,30 @@ abbrev pub keys_asked : Members → List PlacedMember → Data
 keys_asked body keys = keys_object body (array (items_json (map (λ k. k.item) keys)))
 
 -- a table is named with its keys that are left, where there are any
-abbrev pub with_left : Reads Shown PlacedMember → List PlacedMember → Members → Members
+abbrev pub with_left : KeyReads Shown PlacedMember → List PlacedMember → Members → Members
 with_left r [] ms = ms
 with_left r (k ∷ ks) ms = with_member r.table (keys_asked r.body (k ∷ ks)) ms
 
 -- what the items of these keys show; one that isn't there is left out
-abbrev pub shown : State → Reads Shown PlacedMember → List PlacedMember → Data
-shown s r keys = array (items_json (map (parts r.words) (filter_map (found_at s) keys)))
+abbrev pub shown_found_items : State → KeyReads Shown PlacedMember → List PlacedMember → Data
+shown_found_items s r keys = array (items_json (map (parts r.words) (filter_map (found_at s) keys)))
 
 -- the next table is read
-abbrev pub with_reads : State → Read → Reads Shown PlacedMember → Read
+abbrev pub with_reads : State → ItemsReadSoFar → KeyReads Shown PlacedMember → ItemsReadSoFar
 with_reads s before r =
     let read = read_of s before.size r.keys in
     record {
       size = before.size + sum_by (size_at s) read;
-      responses = with_member r.table (shown s r read) before.responses;
+      responses = with_member r.table (shown_found_items s r read) before.responses;
       unprocessed = with_left r (drop (length read) r.keys) before.unprocessed;
     }
 
 -- nothing is read yet
-abbrev pub nothing_read : Read
+abbrev pub nothing_read : ItemsReadSoFar
 nothing_read = record { size = 0; responses = no_members; unprocessed = no_members }
 
 -- the reply
-abbrev pub read_answer : Read → Answer
+abbrev pub read_answer : ItemsReadSoFar → Answer
 read_answer read = answered
     (member (codes "Responses") (object read.responses)
     (member (codes "UnprocessedKeys") (object read.unprocessed) no_members))

@@ -9,7 +9,7 @@ use Rattle.alt_shape.specs.Refusals.{Answer, not_together, table_exists, too_man
 use Rattle.alt_shape.specs.Shape.{given}
 use Rattle.alt_schema.specs.Described.{description_of}
 use Rattle.alt_schema.specs.Json.{description_json}
-use Rattle.alt_schema.specs.Rules.{refusal_of}
+use Rattle.alt_schema.specs.Rules.{create_table_refusal}
 use Rattle.alt_schema.specs.declared.schema.TableSchema.{TableSchema}
 use Rattle.alt_machine.specs.declared.TheConstants.{MOST_TABLES}
 use Rattle.alt_machine.specs.Body.{of_shape}
@@ -54,7 +54,7 @@ of_body ms =
 -- what it says of names, keys and indexes, and then what the tables say
 abbrev pub of_tables : State → Members → List (Option Answer)
 of_tables s ms =
-    refuse_by (refusal_of ms) ∷
+    refuse_by (create_table_refusal ms) ∷
     refuse_if (map.contains_key s.tables (table_name ms)) table_exists ∷
     refuse_if (nat_le MOST_TABLES (map.len s.tables)) too_many_tables ∷ []
 

@@ -4,7 +4,7 @@ use Rattle.serde_json.specs.Data.{Members}
 use Rattle.alt_shape.specs.Bodies as bodies
 use Rattle.alt_shape.specs.Refusals.{Answer}
 use Rattle.alt_value.specs.Tree.{Pair}
-use Rattle.alt_machine.specs.Body.{Rules, body_refusals}
+use Rattle.alt_machine.specs.Body.{MemberRules, body_refusals}
 use Rattle.alt_machine.specs.Conditional.{writes_if}
 use Rattle.alt_machine.specs.declared.Expressions.{Expressions}
 use Rattle.alt_machine.specs.declared.Sought.TheVariants.{Key}
@@ -14,7 +14,7 @@ use Rattle.alt_machine.specs.State.{State, Table}
 use Rattle.alt_machine.specs.Targets.{on_item}
 
 -- the rules of its members
-abbrev pub rules : Rules
+abbrev pub rules : MemberRules
 rules = record {
   legacy = codes "Expected" ∷ [];
   texts = codes "ConditionExpression" ∷ [];

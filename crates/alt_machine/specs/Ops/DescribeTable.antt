@@ -5,14 +5,14 @@ use Rattle.alt_shape.specs.Bodies as bodies
 use Rattle.alt_shape.specs.Refusals.{Answer}
 use Rattle.alt_schema.specs.Json.{description_json}
 use Rattle.alt_schema.specs.declared.schema.TableSchema.{TableSchema}
-use Rattle.alt_machine.specs.Body.{Rules, of_names, body_refusals}
+use Rattle.alt_machine.specs.Body.{MemberRules, of_names, body_refusals}
 use Rattle.alt_machine.specs.Outcomes.{Outcome, says}
 use Rattle.alt_machine.specs.Replies.{answers}
 use Rattle.alt_machine.specs.State.{State}
 use Rattle.alt_machine.specs.Targets.{on_table}
 
 -- all its members are taken
-abbrev pub rules : Rules
+abbrev pub rules : MemberRules
 rules = of_names (codes "TableName" ∷ [])
 
 -- what the body alone says

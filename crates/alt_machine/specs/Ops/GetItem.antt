@@ -9,7 +9,7 @@ use Rattle.alt_shape.specs.Refusals.{Answer}
 use Rattle.alt_expr.specs.Projected.{projected}
 use Rattle.alt_expr.specs.declared.path.PathPart.{PathPart}
 use Rattle.alt_value.specs.Tree.{Pair}
-use Rattle.alt_machine.specs.Body.{Rules, body_refusals}
+use Rattle.alt_machine.specs.Body.{MemberRules, body_refusals}
 use Rattle.alt_machine.specs.declared.Expressions.{Expressions}
 use Rattle.alt_machine.specs.declared.Sought.TheVariants.{Key}
 use Rattle.alt_machine.specs.Expressions.{projecting}
@@ -19,7 +19,7 @@ use Rattle.alt_machine.specs.State.{State, Table}
 use Rattle.alt_machine.specs.Targets.{on_item}
 
 -- the rules of its members
-abbrev pub rules : Rules
+abbrev pub rules : MemberRules
 rules = record {
   legacy = codes "AttributesToGet" ∷ [];
   texts = codes "ProjectionExpression" ∷ [];

@@ -21,12 +21,12 @@ use Rattle.alt_machine.specs.State.{State}
 use Rattle.alt_machine.specs.Streams.{all_tables, table_of_stream}
 
 -- the stream to start after, where one is given
-abbrev pub start_of : Members → Option (List ℕ)
-start_of ms = option_and_then as_str (given (codes "ExclusiveStartStreamArn") ms)
+abbrev pub start_stream_arn : Members → Option (List ℕ)
+start_stream_arn ms = option_and_then as_str (given (codes "ExclusiveStartStreamArn") ms)
 
 -- it is the stream of a table
 abbrev pub is_start : State → Members → Bool
-is_start s ms = option_map_or (λ arn. is_some (table_of_stream s arn)) (start_of ms) true
+is_start s ms = option_map_or (λ arn. is_some (table_of_stream s arn)) (start_stream_arn ms) true
 
 -- the tests of the body, the start among them
 abbrev pub refusals : State → Members → List (Option Answer)
@@ -38,16 +38,16 @@ refusals s ms =
 -- the table stands after that of the start, where a start is given
 abbrev pub is_after : State → Members → TableSchema → Bool
 is_after s ms d = option_map_or (λ t. is_lt (text_order t.description.name d.name))
-    (option_and_then (table_of_stream s) (start_of ms)) true
+    (option_and_then (table_of_stream s) (start_stream_arn ms)) true
 
 -- it is the table that is named, where one is
-abbrev pub is_named : Members → TableSchema → Bool
-is_named ms d = option_map_or (bytes_eq d.name)
+abbrev pub is_asked_table : Members → TableSchema → Bool
+is_asked_table ms d = option_map_or (bytes_eq d.name)
     (option_and_then as_str (given (codes "TableName") ms)) true
 
 -- the descriptions of the tables whose streams are asked for
 abbrev pub listed : State → Members → List TableSchema
-listed s ms = filter (λ d. is_some d.view && (is_after s ms d && is_named ms d))
+listed s ms = filter (λ d. is_some d.view && (is_after s ms d && is_asked_table ms d))
     (map (λ t. t.description) (all_tables s))
 
 -- a stream in a list

@@ -11,12 +11,12 @@ use Rattle.alt_shape.specs.Shape.{given, natural_of}
 use Rattle.alt_schema.specs.Stated.{text_of}
 use Rattle.alt_value.specs.Members.{text_order}
 use Rattle.alt_machine.specs.declared.TheConstants.{PAGE_LENGTH}
-use Rattle.alt_machine.specs.Body.{Rules, of_names, body_refusals}
+use Rattle.alt_machine.specs.Body.{MemberRules, of_names, body_refusals}
 use Rattle.alt_machine.specs.Outcomes.{Outcome, says, unless_refused}
 use Rattle.alt_machine.specs.State.{State, Texts}
 
 -- all its members are taken
-abbrev pub rules : Rules
+abbrev pub rules : MemberRules
 rules = of_names (codes "ExclusiveStartTableName" ∷ [])
 
 -- what the body alone says
@@ -47,10 +47,10 @@ listed (Some last) page =
     (member (codes "TableNames") (array (strings page)) no_members))
 
 -- the first names of those, as many as a page takes
-abbrev pub page_of : ℕ → List (List ℕ) → Answer
-page_of most names = listed (continues most names) (take most names)
+abbrev pub table_names_page : ℕ → List (List ℕ) → Answer
+table_names_page most names = listed (continues most names) (take most names)
 
 -- behind the tests the first page of the names after the one to start after is answered
 unfoldable pub list_tables : State → Members → Outcome
 list_tables s ms = unless_refused (of_body ms)
-    (says (page_of (page_length ms) (names_after (start_name ms) s.tables)))
+    (says (table_names_page (page_length ms) (names_after (start_name ms) s.tables)))

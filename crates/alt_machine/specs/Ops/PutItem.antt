@@ -8,7 +8,7 @@ use Rattle.alt_schema.specs.declared.schema.TableSchema.{TableSchema}
 use Rattle.alt_value.specs.Size.{item_size}
 use Rattle.alt_value.specs.Tree.{Pair}
 use Rattle.alt_machine.specs.declared.TheConstants.{LARGEST_ITEM}
-use Rattle.alt_machine.specs.Body.{Rules, body_refusals}
+use Rattle.alt_machine.specs.Body.{MemberRules, body_refusals}
 use Rattle.alt_machine.specs.declared.Sought.TheVariants.{Item}
 use Rattle.alt_machine.specs.Conditional.{writes_if}
 use Rattle.alt_machine.specs.declared.Expressions.{Expressions}
@@ -19,7 +19,7 @@ use Rattle.alt_machine.specs.State.{State, Table}
 use Rattle.alt_machine.specs.Targets.{on_item}
 
 -- the rules of its members
-abbrev pub rules : Rules
+abbrev pub rules : MemberRules
 rules = record {
   legacy = codes "Expected" ∷ [];
   texts = codes "ConditionExpression" ∷ [];

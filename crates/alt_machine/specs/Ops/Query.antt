@@ -13,7 +13,7 @@ use Rattle.alt_shape.specs.Bodies as bodies
 use Rattle.alt_shape.specs.Refusals.{Answer, bad_key_condition}
 use Rattle.alt_shape.specs.Shape.{given}
 use Rattle.alt_value.specs.Tree.{Pair}
-use Rattle.alt_machine.specs.Body.{Rules, paired_refusals}
+use Rattle.alt_machine.specs.Body.{MemberRules, paired_refusals}
 use Rattle.alt_machine.specs.declared.Expressions.{Expressions}
 use Rattle.alt_machine.specs.Expressions.{querying}
 use Rattle.alt_machine.specs.Lists.{is_mismatched, walk_start, listed, pages, on_list}
@@ -23,7 +23,7 @@ use Rattle.alt_machine.specs.Sources.{index_at, hash_of, range_of}
 use Rattle.alt_machine.specs.State.{State, Table}
 
 -- the rules of its members
-abbrev pub rules : Rules
+abbrev pub rules : MemberRules
 rules = record {
   legacy = codes "KeyConditions" ∷ codes "QueryFilter" ∷ codes "AttributesToGet" ∷ [];
   texts = codes "KeyConditionExpression" ∷ codes "FilterExpression"

@@ -10,7 +10,7 @@ use Rattle.alt_shape.specs.Refusals.{Answer}
 use Rattle.alt_shape.specs.Shape.{given, natural_of}
 use Rattle.alt_value.specs.Item.{at_name}
 use Rattle.alt_value.specs.Tree.{Tree, Pair}
-use Rattle.alt_machine.specs.Body.{Rules, paired_refusals}
+use Rattle.alt_machine.specs.Body.{MemberRules, paired_refusals}
 use Rattle.alt_machine.specs.declared.Expressions.{Expressions}
 use Rattle.alt_machine.specs.Expressions.{scanning}
 use Rattle.alt_machine.specs.Lists.{is_mismatched, walk_start, listed, pages, on_list}
@@ -19,7 +19,7 @@ use Rattle.alt_machine.specs.Sources.{index_at, hash_of}
 use Rattle.alt_machine.specs.State.{State, Table}
 
 -- the rules of its members
-abbrev pub rules : Rules
+abbrev pub rules : MemberRules
 rules = record {
   legacy = codes "ScanFilter" ∷ codes "AttributesToGet" ∷ [];
   texts = codes "FilterExpression" ∷ codes "ProjectionExpression" ∷ [];

@@ -28,12 +28,12 @@ use Rattle.alt_machine.specs.Targets.{on_table}
 -- ---- the body
 
 -- the members of a change, if it is an object
-abbrev pub change_of : Data → List Members
-change_of d = at_most_one (as_object d)
+abbrev pub change_members : Data → List Members
+change_members d = at_most_one (as_object d)
 
 -- the changes
 abbrev pub changes : Members → List Members
-changes = stated_at change_of (codes "GlobalSecondaryIndexUpdates")
+changes = stated_at change_members (codes "GlobalSecondaryIndexUpdates")
 
 -- one is exactly one of the three
 abbrev pub is_one : Members → Bool
@@ -67,15 +67,15 @@ abbrev pub going : Members → List (List ℕ)
 going ms = map (text_of (codes "IndexName")) (asked_at (codes "Delete") ms)
 
 -- the names of both are good
-abbrev pub names_fit : Members → Bool
-names_fit ms = list_all (λ i. is_name i.name) (coming ms) && list_all is_name (going ms)
+abbrev pub changed_index_names_fit : Members → Bool
+changed_index_names_fit ms = list_all (λ i. is_name i.name) (coming ms) && list_all is_name (going ms)
 
 -- what the body alone says: its shape, then changes that aren't single, then names
 abbrev pub of_body : Members → List (Option Answer)
 of_body ms =
     of_shape (bodies.update_table ms) ∷
     refuse_unless (are_single ms) bad_index_update ∷
-    refuse_unless (may_name ms (codes "TableName") && names_fit ms) bad_name ∷ []
+    refuse_unless (may_name ms (codes "TableName") && changed_index_names_fit ms) bad_name ∷ []
 
 -- ---- the description then
 

@@ -6,13 +6,13 @@ use Rattle.std.specs.Option.{option_map_or}
 use Rattle.std.specs.Str.{bytes_eq}
 use Rattle.serde_json.specs.Data.{Data, Members, boolean, member, no_members, object, string}
 use Rattle.serde_json.specs.Find.{as_bool, as_object}
-use Rattle.alt_shape.specs.Bodies.{first_of, in_object, required}
+use Rattle.alt_shape.specs.BodyParts.{first_shape_fault, in_object, required}
 use Rattle.alt_shape.specs.Refusals.{Answer, bad_time_to_live}
 use Rattle.alt_shape.specs.Shape.{a_text, a_truth, an_object, first_unmet, given}
 use Rattle.alt_shape.specs.declared.rule.Broken.{Broken}
 use Rattle.alt_schema.specs.Stated.{text_of}
 use Rattle.alt_schema.specs.declared.schema.TableSchema.{TableSchema}
-use Rattle.alt_machine.specs.Body.{Rules, of_names, body_refusals}
+use Rattle.alt_machine.specs.Body.{MemberRules, of_names, body_refusals}
 use Rattle.alt_machine.specs.Members.{table_name}
 use Rattle.alt_machine.specs.Outcomes.{Outcome, unless_refused, writes}
 use Rattle.alt_machine.specs.Refusals.{refuse_if}
@@ -29,12 +29,12 @@ specified = in_object (codes "TimeToLiveSpecification") (first_unmet
 
 -- it names a table, and says that of an attribute
 abbrev pub shape : Members → Option Broken
-shape ms = first_of (
+shape ms = first_shape_fault (
     first_unmet (required (codes "TableName") a_text
     ∷ required (codes "TimeToLiveSpecification") an_object ∷ []) ms ∷ specified ms ∷ [])
 
 -- all its members are taken
-abbrev pub rules : Rules
+abbrev pub rules : MemberRules
 rules = of_names (codes "TableName" ∷ [])
 
 -- what the body alone says

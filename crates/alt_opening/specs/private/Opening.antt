@@ -37,17 +37,17 @@ shares families d = list_any (λ f. list_any (λ g. g == f) families) (families_
 -- ---- a table
 
 -- Two tables have no family in common.
-pub record AreApart (d e : TableSchema) : Type 0 where
+pub record ShareNoFamily (d e : TableSchema) : Type 0 where
   pub families : (family : ℕ) → Contains (families_of d) family
       → Contains (families_of e) family → ⊥
 
 -- it is apart from each table of a catalog
 abbrev pub IsApart : Texts TableSchema → TableSchema → Type 0
 IsApart catalog d = (other : List ℕ) (e : TableSchema) → map.get catalog other ≡ Some e
-    → AreApart e d
+    → ShareNoFamily e d
 
 -- It may stand there beside the tables of a catalog, of which there are not too many, and none has its name.
-pub record MayStand (number family : ℕ) (catalog : Texts TableSchema) (name : List ℕ)
+pub record TableMayStand (number family : ℕ) (catalog : Texts TableSchema) (name : List ℕ)
     (d : TableSchema) : Type 0 where
   pub few : map.len catalog < MOST_TABLES
   pub good : IsGood number family name d
@@ -58,7 +58,7 @@ pub record MayStand (number family : ℕ) (catalog : Texts TableSchema) (name : 
 pub record IsTableAt (number family : ℕ) (catalog : Texts TableSchema) (name : List ℕ)
     (columns : Columns) (d : TableSchema) : Type 0 where
   pub row : columns ≡ table_row d
-  pub may : MayStand number family catalog name d
+  pub may : TableMayStand number family catalog name d
 
 -- ---- the catalog
 
@@ -75,7 +75,7 @@ pub record CatalogWhere (Here : List ℕ → Type 0) (l : Layout) (family : ℕ)
   pub good : (name : List ℕ) (d : TableSchema) → map.get catalog name ≡ Some d
       → IsGood l.next_number family name d
   pub apart : (name other : List ℕ) (d e : TableSchema) → map.get catalog name ≡ Some d
-      → map.get catalog other ≡ Some e → name ≢ other → AreApart d e
+      → map.get catalog other ≡ Some e → name ≢ other → ShareNoFamily d e
 
 -- all of them
 abbrev pub IsCatalog : Layout → ℕ → Texts TableSchema → Type 0

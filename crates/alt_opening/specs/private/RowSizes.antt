@@ -8,10 +8,10 @@ use Rattle.alt_schema.specs.declared.schema.TableSchema.{TableSchema}
 use Rattle.alt_tablerows.specs.ItemTests.{IsWithin}
 
 -- so it is of each row of a table
-abbrev pub AreWithin : Layout → ℕ → TableSchema → Type 0
-AreWithin l most d = RowsWhere (λ key. Unit {0}) l d.family (IsWithin most)
+abbrev pub RowsAreWithin : Layout → ℕ → TableSchema → Type 0
+RowsAreWithin l most d = RowsWhere (λ key. Unit {0}) l d.family (IsWithin most)
 
 -- and of those of all tables
 abbrev pub AreAllWithin : Layout → Texts TableSchema → ℕ → Type 0
 AreAllWithin l catalog most = (name : List ℕ) (d : TableSchema) → map.get catalog name ≡ Some d
-    → AreWithin l most d
+    → RowsAreWithin l most d

@@ -8,7 +8,7 @@ use Rattle.alt_machine.specs.declared.Sought.TheVariants.{Item, Key}
 use Rattle.alt_machine.specs.declared.TheConstants.{MOST_WRITES}
 use Rattle.alt_machine.specs.Batches.{each_found, is_sized, placed, has_repeat}
 use Rattle.alt_machine.specs.Ops.BatchWriteItem.{of_members}
-use Rattle.alt_machine.specs.Refusals.{first_answer, refuse_if, refuse_unless, unless_answer, ◌>>=◌}
+use Rattle.alt_machine.specs.Refusals.{◌>>=◌, first_answer, refuse_if, refuse_unless, unless_answer}
 use Rattle.alt_machine.specs.State.{Texts}
 use Rattle.alt_readahead.specs.declared.batch.TableWrites.{TableWrites}
 use Rattle.alt_readahead.specs.declared.batch.Write.{Write}
@@ -18,32 +18,32 @@ use Rattle.alt_schema.specs.declared.schema.TableSchema.{TableSchema}
 use Rattle.alt_shape.specs.Refusals.{Answer, not_found, bad_batch, bad_name}
 
 -- a write, with the name of its table
-abbrev pub member_of : List ℕ → Write → BatchMember
-member_of table (Put i) = record { table = table; sought = Item; item = i }
-member_of table (Delete k) = record { table = table; sought = Key; item = k }
+abbrev pub member_of_write : List ℕ → Write → BatchMember
+member_of_write table (Put i) = record { table = table; sought = Item; item = i }
+member_of_write table (Delete k) = record { table = table; sought = Key; item = k }
 
 -- those of each table, in their order
 abbrev pub members_of : List TableWrites → List BatchMember
 members_of [] = []
-members_of (t ∷ ts) = map (member_of t.table) t.writes.items ++ members_of ts
+members_of (t ∷ ts) = map (member_of_write t.table) t.writes.items ++ members_of ts
 
 -- each table is there
-abbrev pub of_catalog : Texts TableSchema → List TableWrites → List (Option Answer)
-of_catalog catalog ts =
+abbrev pub missing_table_refusals : Texts TableSchema → List TableWrites → List (Option Answer)
+missing_table_refusals catalog ts =
     refuse_unless (list_all (λ t. finite.contains_key catalog t.table) ts) not_found ∷ []
 
 -- what the number of writes and the names of their tables are refused for
-abbrev pub of_tables : Texts TableSchema → List TableWrites → List (Option Answer)
-of_tables catalog ts =
+abbrev pub table_writes_refusals : Texts TableSchema → List TableWrites → List (Option Answer)
+table_writes_refusals catalog ts =
     refuse_unless (is_sized MOST_WRITES (length (members_of ts))) bad_batch ∷
     refuse_unless (list_all (λ t. is_name t.table) ts) bad_name ∷
-    of_catalog catalog ts
+    missing_table_refusals catalog ts
 
 -- the writes, with their places, where nothing refuses them
 unfoldable pub writes_ahead : Texts TableSchema → List TableWrites
     → Result (List PlacedMember) Answer
 writes_ahead catalog ts = do
-  read ← unless_answer (first_answer (of_tables catalog ts)) (members_of ts)
+  read ← unless_answer (first_answer (table_writes_refusals catalog ts)) (members_of ts)
   there ← each_found (placed catalog) read
   unless_answer
       (first_answer (refuse_if (has_repeat there) bad_batch ∷ of_members catalog there)) there

@@ -9,9 +9,9 @@ use Rattle.alt_machine.specs.declared.BatchMember.{BatchMember}
 use Rattle.alt_machine.specs.declared.PlacedMember.{PlacedMember}
 use Rattle.alt_machine.specs.Batches.{elements_in}
 use Rattle.alt_machine.specs.Expressions.{projecting, expressions}
-use Rattle.alt_machine.specs.Ops.BatchGetItem.{Reads, Shown, keys_in}
+use Rattle.alt_machine.specs.Ops.BatchGetItem.{KeyReads, Shown, keys_in}
 use Rattle.alt_machine.specs.Ops.BatchWriteItem.{writes_asked}
-use Rattle.alt_machine.specs.Refusals.{or_refused, ◌>>=◌}
+use Rattle.alt_machine.specs.Refusals.{◌>>=◌, or_refused}
 use Rattle.alt_machine.specs.State.{Texts}
 use Rattle.alt_ops_batch.specs.declared.members.Inside.{Inside}
 use Rattle.alt_ops_batch.specs.declared.members.Inside.TheVariants.{Writes, Keys}
@@ -27,8 +27,8 @@ use Rattle.alt_schema.specs.declared.schema.TableSchema.{TableSchema}
 use Rattle.alt_shape.specs.Refusals.{Answer, not_found}
 
 -- a write, with the name of its table
-abbrev pub request_of : Request → List ℕ × Data
-request_of r = (r.table.now, view r.value.now)
+abbrev pub requested_write : Request → List ℕ × Data
+requested_write r = (r.table.now, view r.value.now)
 
 -- what a table is asked for: its writes, or its keys
 abbrev pub inside_of : Inside → Data → List Data
@@ -36,7 +36,7 @@ inside_of Writes = elements_in
 inside_of Keys = keys_in
 
 -- the keys of a table and the names that are given
-abbrev pub keys_read : KeysRead → Reads Given BatchMember
+abbrev pub keys_read : KeysRead → KeyReads Given BatchMember
 keys_read r = record {
   table = r.table;
   body = members_view r.body.now.entries;
@@ -45,7 +45,7 @@ keys_read r = record {
 }
 
 -- the keys of a table and what its projection shows
-abbrev pub keys_said : KeysSaid → Reads Shown BatchMember
+abbrev pub keys_said : KeysSaid → KeyReads Shown BatchMember
 keys_said r = record {
   table = r.table;
   body = members_view r.body.now.entries;
@@ -54,14 +54,14 @@ keys_said r = record {
 }
 
 -- what the projection of a table shows
-abbrev pub shown_in : Texts TableSchema → List ℕ → Members → Given → Result Shown Answer
-shown_in catalog table body words = do
+abbrev pub table_projection : Texts TableSchema → List ℕ → Members → Given → Result Shown Answer
+table_projection catalog table body words = do
   d ← or_refused not_found (map.get catalog table)
   said ← expressions projecting d body words
   Ok said.projection
 
 -- with their places
-abbrev pub reads_of : TableReads → Reads Shown PlacedMember
+abbrev pub reads_of : TableReads → KeyReads Shown PlacedMember
 reads_of r = record {
   table = r.table;
   body = members_view r.body.now.entries;

@@ -42,7 +42,7 @@ rises name [] = true
 rises name (t ∷ ts) = is_lt (slice_cmp nat_cmp name t.table) && rises t.table ts
 
 -- the sizes, the items of each table and the keys that are left, as JSON
-abbrev pub read_so : Read → machine.Read
+abbrev pub read_so : Read → machine.ItemsReadSoFar
 read_so read = record {
   size = read.size;
   responses = responses_of no_members read.responses.items;
@@ -58,37 +58,37 @@ abbrev pub IsBounded : ℕ → Type 0
 IsBounded size = size ≤ BATCH_BYTES + LARGEST_ITEM
 
 -- the tables of all keys are there
-abbrev pub AreKnown : Texts TableSchema → List PlacedMember → Type 0
-AreKnown catalog keys =
+abbrev pub KeyTablesAreThere : Texts TableSchema → List PlacedMember → Type 0
+KeyTablesAreThere catalog keys =
     Every (λ (k : PlacedMember). finite.contains_key catalog k.table ≡ true) keys
 
 -- those of the keys of each read are
 abbrev pub AreAllKnown : Texts TableSchema → List TableReads → Type 0
-AreAllKnown catalog asked = Every (λ (r : TableReads). AreKnown catalog r.keys.items) asked
+AreAllKnown catalog asked = Every (λ (r : TableReads). KeyTablesAreThere catalog r.keys.items) asked
 
 -- ---- the keys of a table
 
 -- a key as it is left
-abbrev pub key_json : PlacedMember → Data
-key_json key = json_of_pairs key.item
+abbrev pub unprocessed_key_json : PlacedMember → Data
+unprocessed_key_json key = json_of_pairs key.item
 
 -- The items of these keys are shown behind those before, up to the one at which the sizes reach 16 MB, and the keys behind it are left.
-pub record Takes (s : State) (paths : Shown) (before : ℕ) (keys : List PlacedMember)
+pub record TakesItems (s : State) (paths : Shown) (before : ℕ) (keys : List PlacedMember)
     (old new : Taken)
     (after : ℕ) : Type 0 where
   pub items : new.items.items ≡ old.items.items
       ++ map (parts paths) (filter_map (found_at s) (read_of s before keys))
   pub left : map view new.left.items ≡ map view old.left.items
-      ++ map key_json (drop (length (read_of s before keys)) keys)
+      ++ map unprocessed_key_json (drop (length (read_of s before keys)) keys)
   pub size : after ≡ before + sum_by (size_at s) (read_of s before keys)
 
 -- So they are, with nothing before.
-pub record IsTaken (s : State) (paths : Shown) (before : ℕ) (keys : List PlacedMember)
+pub record ItemsAreTaken (s : State) (paths : Shown) (before : ℕ) (keys : List PlacedMember)
     (taken : Taken)
     (after : ℕ) : Type 0 where
   pub items : taken.items.items
       ≡ map (parts paths) (filter_map (found_at s) (read_of s before keys))
-  pub left : map view taken.left.items ≡ map key_json (drop (length (read_of s before keys)) keys)
+  pub left : map view taken.left.items ≡ map unprocessed_key_json (drop (length (read_of s before keys)) keys)
   pub size : after ≡ before + sum_by (size_at s) (read_of s before keys)
 
 -- an item is shown behind those before it, where there is one
@@ -105,7 +105,7 @@ name_left name body [] ms = ms
 name_left name body (d ∷ ds) ms = put name (keys_object body (array (items_of (d ∷ ds)))) ms
 
 -- No keys are left, and the tables, put one after another, stand in their order.
-pub record IsWhole (responses : List TableItems) (unprocessed : Members) : Type 0 where
+pub record ResponsesAreWhole (responses : List TableItems) (unprocessed : Members) : Type 0 where
   pub ordered : responses_of no_members responses ≡ tables_json responses
   pub empty : unprocessed ≡ no_members
 

@@ -7,5 +7,5 @@ use Rattle.alt_shape.specs.Refusals.{Answer}
 use Rattle.alt_value.specs.Tree.{Pair}
 
 -- the parts that the projection chooses of the item, if one is there
-abbrev pub shown : Expressions → Option (List Pair) → Answer
-shown said item = item_answer (codes "Item") (option_map (parts said.projection) item)
+abbrev pub projected_item_answer : Expressions → Option (List Pair) → Answer
+projected_item_answer said item = item_answer (codes "Item") (option_map (parts said.projection) item)

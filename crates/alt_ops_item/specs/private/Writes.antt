@@ -8,7 +8,7 @@ use Rattle.alt_machine.specs.Expressions as words
 use Rattle.alt_machine.specs.Ops.DeleteItem as delete
 use Rattle.alt_machine.specs.Ops.PutItem as put
 use Rattle.alt_machine.specs.Ops.UpdateItem as update
-use Rattle.alt_ops_item.specs.private.Updates.{left_after}
+use Rattle.alt_ops_item.specs.private.Updates.{left_or_refusal}
 use Rattle.alt_request.specs.ItemWrites.{Writer}
 use Rattle.alt_shape.specs.Bodies as bodies
 use Rattle.alt_value.specs.Tree.{Pair}
@@ -43,14 +43,14 @@ deleting = record {
 }
 
 -- an update leaves what it makes of what is there
-abbrev pub updating : Writer
-updating = record {
+abbrev pub update_writer : Writer
+update_writer = record {
   shape = bodies.update_item;
   rules = update.rules;
   sought = Key;
   texts = words.updating;
   takes = λ d key. [];
-  leaves = left_after;
+  leaves = left_or_refusal;
   shows = λ ms said old new.
       update.not_empty (update.returned ms (unwrap_or said.update []) old new);
 }

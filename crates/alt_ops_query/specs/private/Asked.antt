@@ -39,7 +39,7 @@ AreHeld (r.Begins v) = IsValue (tree_of v)
 -- ---- a Query
 
 -- The range is the part of one that holds the keys of an ask, beyond the start key.
-pub record IsPlaced (d : TableSchema) (i : Option IndexSchema) (ask : KeyAsk)
+pub record IsRangePlaced (d : TableSchema) (i : Option IndexSchema) (ask : KeyAsk)
     (start : Option (List Pair)) (forward : Bool)
     (range : KeyRange) : Type 0 where
   pub place : Option (List ℕ)
@@ -52,13 +52,13 @@ pub record IsPlaced (d : TableSchema) (i : Option IndexSchema) (ask : KeyAsk)
 -- That is so; or the start key is refused.
 abbrev pub Places : TableSchema → Option IndexSchema → KeyAsk → Option (List Pair) → Bool
     → Result KeyRange Stop → Type 0
-Places d i ask start forward (Ok range) = IsPlaced d i ask start forward range
+Places d i ask start forward (Ok range) = IsRangePlaced d i ask start forward range
 Places d i ask start forward (Err (Refused r)) = IsKnown r
     × (walk_start d i (Some ask.hash) start ≡ Err (refused r))
 Places d i ask start forward (Err (Fault f)) = IsReadFault f
 
 -- The range holds the items of which the key condition holds, beyond the start key.
-pub record IsAsked (d : TableSchema) (i : Option IndexSchema) (condition : Option Cond)
+pub record IsRangeAsked (d : TableSchema) (i : Option IndexSchema) (condition : Option Cond)
     (start : Option (List Pair))
     (forward : Bool) (range : KeyRange) : Type 0 where
   pub ask : Ask
@@ -68,15 +68,15 @@ pub record IsAsked (d : TableSchema) (i : Option IndexSchema) (condition : Optio
   pub holds : HoldsListed forward place (passes condition) d i range.from range.to
 
 -- That is so; or the machine refuses the request there too, whatever it would go on to do.
-abbrev pub Asks : TableSchema → Option IndexSchema → Option Cond → Option (List Pair) → Bool
+abbrev pub IsRangeAskedOrRefused : TableSchema → Option IndexSchema → Option Cond → Option (List Pair) → Bool
     → Result KeyRange Stop
     → Type 0
-Asks d i condition start forward (Ok range) = IsAsked d i condition start forward range
-Asks d i condition start forward (Err (Refused r)) = IsKnown r
+IsRangeAskedOrRefused d i condition start forward (Ok range) = IsRangeAsked d i condition start forward range
+IsRangeAskedOrRefused d i condition start forward (Err (Refused r)) = IsKnown r
     × ((go : Ask → Option (List ℕ) → Outcome)
     → with_found (key_asked d i condition)
     (λ ask. with_found (walk_start d i (Some ask.hash) start) (go ask)) ≡ refuses r)
-Asks d i condition start forward (Err (Fault f)) = IsReadFault f
+IsRangeAskedOrRefused d i condition start forward (Err (Fault f)) = IsReadFault f
 
 -- ---- a Scan
 

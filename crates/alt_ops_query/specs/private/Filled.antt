@@ -8,10 +8,10 @@ use Rattle.alt_families.specs.Reads.{versions_of}
 use Rattle.alt_keyorder.specs.declared.range.KeyRange.{KeyRange}
 use Rattle.alt_machine.specs.State.{Table}
 use Rattle.alt_machine.specs.Walks.{is_beyond, items_between}
-use Rattle.alt_ops_query.specs.PageReads.{is_passed, page_end}
+use Rattle.alt_ops_query.specs.PageReads.{is_passed_by_page, page_end}
 use Rattle.alt_ops_query.specs.private.Ranges.{IsBeyond}
 use Rattle.alt_paging.specs.declared.pager.Pager.{Pager}
-use Rattle.alt_paging.specs.Offered.{WasOffered, asked_of, has_ended}
+use Rattle.alt_paging.specs.Offered.{WasOffered, asked_of_page, has_ended}
 use Rattle.alt_paging.specs.declared.ask.PageAsk.{PageAsk}
 use Rattle.alt_schema.specs.declared.schema.IndexSchema.{IndexSchema}
 use Rattle.alt_request.specs.TablesReading.{HasRowFiles, family_read, is_within}
@@ -33,8 +33,8 @@ pub record HasFilled (pager : Pager) (ask : PageAsk) (list : List (List Pair)) :
 -- ---- the steps of a walk
 
 -- A page passed the places of a range that aren't beyond this one; where there is none yet it passed nothing.
-abbrev pub is_behind : Bool → List ℕ → Option (List ℕ) → Option (List ℕ) → List ℕ → Bool
-is_behind forward from to place key = is_within from to key && not (is_beyond forward place key)
+abbrev pub is_behind_in_range : Bool → List ℕ → Option (List ℕ) → Option (List ℕ) → List ℕ → Bool
+is_behind_in_range forward from to place key = is_within from to key && not (is_beyond forward place key)
 
 -- so many versions were passed there, and each row file was read twice besides, so many times
 abbrev pub paid_for : (List ℕ → Bool) → List RowMap → ℕ → ℕ
@@ -42,7 +42,7 @@ paid_for p maps times = versions_of p maps + 2 * length maps * times
 
 -- A step examined a front of the list of its range, which has one item or more; the rest of the range lies beyond the last of these and
 -- has the others; and the places up to there were paid for.
-pub record GoesOn (a b : DiskState) (t : Table) (i : Option IndexSchema) (forward : Bool)
+pub record ContinuesPage (a b : DiskState) (t : Table) (i : Option IndexSchema) (forward : Bool)
     (ask : PageAsk) (seen : List (List Pair)) (pager : Pager) (range rest : KeyRange)
     : Type 0 where
   pub front : List (List Pair)
@@ -54,7 +54,7 @@ pub record GoesOn (a b : DiskState) (t : Table) (i : Option IndexSchema) (forwar
   pub within : is_within range.from range.to last ≡ true
   pub beyond : IsBeyond forward (Some last) range.from range.to rest.from rest.to
   pub paid : (maps : List RowMap) → HasRowFiles a.file (family_read t.description i) maps
-      → b.reads ≤ a.reads + paid_for (is_behind forward range.from range.to (Some last)) maps 1
+      → b.reads ≤ a.reads + paid_for (is_behind_in_range forward range.from range.to (Some last)) maps 1
 
 -- A step examined all that the page examines, and no less than what was seen; and the places up to the page's end were paid for.
 pub record EndsPage (a b : DiskState) (t : Table) (i : Option IndexSchema) (forward : Bool)
@@ -62,11 +62,11 @@ pub record EndsPage (a b : DiskState) (t : Table) (i : Option IndexSchema) (forw
     : Type 0 where
   pub filled : HasFilled pager ask (seen ++ list)
   pub more : length seen ≤ length (pages.examined ask.limit (seen ++ list))
-  pub within : IfSome (page_end t i (asked_of ask) (seen ++ list))
+  pub within : IfSome (page_end t i (asked_of_page ask) (seen ++ list))
       (λ place. is_within range.from range.to place ≡ true)
   pub paid : (maps : List RowMap) → HasRowFiles a.file (family_read t.description i) maps
-      → b.reads ≤ a.reads + paid_for (is_passed forward range.from range.to
-      (page_end t i (asked_of ask) (seen ++ list))) maps 1
+      → b.reads ≤ a.reads + paid_for (is_passed_by_page forward range.from range.to
+      (page_end t i (asked_of_page ask) (seen ++ list))) maps 1
 
 -- A step of a walk goes on with the rest of the range, or is the last one.
 abbrev pub Steps : DiskState → DiskState → Table → Option IndexSchema → Bool → PageAsk
@@ -74,4 +74,4 @@ abbrev pub Steps : DiskState → DiskState → Table → Option IndexSchema → 
 Steps a b t i forward ask seen pager range None = EndsPage a b t i forward ask seen
     (items_between t i range.from range.to forward) pager range
 Steps a b t i forward ask seen pager range (Some rest) =
-    GoesOn a b t i forward ask seen pager range rest
+    ContinuesPage a b t i forward ask seen pager range rest

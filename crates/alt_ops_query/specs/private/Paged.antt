@@ -9,7 +9,7 @@ use Rattle.alt_machine.specs.Ops.Scan.{whole_at}
 use Rattle.alt_machine.specs.Sources.{selects}
 use Rattle.alt_ops_query.specs.private.Filled.{HasFilled}
 use Rattle.alt_paging.specs.declared.pager.Pager.{Pager}
-use Rattle.alt_paging.specs.Offered.{asked_of}
+use Rattle.alt_paging.specs.Offered.{asked_of_page}
 use Rattle.alt_paging.specs.declared.ask.PageAsk.{PageAsk}
 use Rattle.alt_schema.specs.declared.schema.IndexSchema.{IndexSchema}
 use Rattle.alt_schema.specs.declared.schema.TableSchema.{TableSchema}
@@ -37,8 +37,8 @@ asked_page ms filter paths = record {
 -- the answer with the page of a list
 abbrev pub answer_with : TableSchema → Option IndexSchema → Members → PageAsk
     → List (List Pair) → Answer
-answer_with d i ms ask list = page_answer d i ms (pages.page_of (asked_of ask) list)
-    (last_examined (asked_of ask) list)
+answer_with d i ms ask list = page_answer d i ms (pages.page_of (asked_of_page ask) list)
+    (last_examined (asked_of_page ask) list)
 
 -- What was filled is answered as the page of each list of which it is one.
 abbrev pub AnswersPage : TableSchema → Option IndexSchema → Members → Pager → Answer → Type 0

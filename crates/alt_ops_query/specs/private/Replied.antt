@@ -8,8 +8,8 @@ use Rattle.alt_value.specs.Item.{at_name, with_pair}
 use Rattle.alt_value.specs.Tree.{Tree, Pair}
 
 -- a page of the program, as the machine has it
-abbrev pub page_of : Page → pages.Page
-page_of page = record {
+abbrev pub machine_page : Page → pages.Page
+machine_page page = record {
   items = page.items;
   count = page.count;
   scanned = page.scanned;

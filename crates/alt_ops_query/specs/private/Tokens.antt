@@ -5,8 +5,8 @@ use Rattle.alt_machine.specs.Ops.Scan as machine
 use Rattle.alt_ops_query.specs.declared.scanning.Segment.{Segment}
 
 -- the segment, as the machine has it
-abbrev pub segment_in : Segment → machine.Segment
-segment_in s = record { number = s.number; total = s.total }
+abbrev pub machine_segment : Segment → machine.Segment
+machine_segment s = record { number = s.number; total = s.total }
 
 -- the least number that, times the count of segments and divided by 2 ^ 64, is at least that of a segment
 abbrev pub first_token : ℕ → ℕ → ℕ

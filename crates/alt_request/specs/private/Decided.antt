@@ -2,7 +2,7 @@
 use Rattle.std.specs.Prelude.{◌≡◌, ℕ, false, List, Option, Result, Ok, Err, codes, if◌then◌else◌}
 use Rattle.serde_json.specs.Data.{Members}
 use Rattle.serde_json.specs.Written.{has_float}
-use Rattle.alt_machine.specs.Conditional.{meets, asked, failed}
+use Rattle.alt_machine.specs.Conditional.{meets_condition, asked, failed}
 use Rattle.alt_machine.specs.declared.Expressions.{Expressions}
 use Rattle.alt_machine.specs.Outcomes.{Outcome, says, writes}
 use Rattle.alt_machine.specs.Replies.{item_answer}
@@ -38,7 +38,7 @@ left_or_told (Err refusal) answer = tells refusal
 abbrev pub decision : Writer → Members → TableSchema → Expressions → List Pair → Option (List Pair)
     → Decision
 decision w ms d said item old =
-    if meets said.condition old
+    if meets_condition said.condition old
     then left_or_told (w.leaves d said item old)
     (λ new. item_answer (codes "Attributes") (w.shows ms said old new))
     else tells (failed (asked (codes "ReturnValuesOnConditionCheckFailure") ms old))
@@ -59,7 +59,7 @@ Decides d (Err (Refused r)) = (d ≡ tells (refused r)) × IsKnown r
 Decides d (Err (Fault f)) = IsReadFault f
 
 -- A call carries a request out and moves the disk, by this outcome in each state for which the tables stood.
-pub record Works (file : ℕ) (outcome : State → Outcome) (old now : State → Type 0) (before after : DiskState)
+pub record CarriesAndMoves (file : ℕ) (outcome : State → Outcome) (old now : State → Type 0) (before after : DiskState)
     (result : Result Reply Stop) : Type 0 where
   pub carries : Carries file outcome old now result
   pub moves : Moves outcome old before after result

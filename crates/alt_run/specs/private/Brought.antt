@@ -5,16 +5,16 @@ use Rattle.alt_lines.specs.Unread.{Unread}
 use Rattle.alt_shell.specs.Log.{Log, Grows, taken, ended}
 use Rattle.alt_run.specs.Runs.{Rests}
 use Rattle.alt_run.specs.private.Rungs.{asked_later}
-use Rattle.alt_run.specs.Turns.{Asked}
+use Rattle.alt_run.specs.Turns.{AskedLine}
 use Rattle.alt_run.specs.Behind.{Behind, last_of}
 
 -- These lines were served. If the disk was as the last line before them promises, it is as the last of them does.
-abbrev pub Brings : ℕ → List Asked → DiskState → DiskState → Type 0
-Brings flush ls old new = (was : Option Asked) → Behind flush was old
+abbrev pub Brings : ℕ → List AskedLine → DiskState → DiskState → Type 0
+Brings flush ls old new = (was : Option AskedLine) → Behind flush was old
     → Behind flush (last_of was ls) new
 
 -- so of lines that were at hand: nothing was taken
-pub record BringsAtHand (flush : ℕ) (ls : List Asked) (old new : DiskState) : Type 0 where
+pub record BringsAtHand (flush : ℕ) (ls : List AskedLine) (old new : DiskState) : Type 0 where
   pub entries : Log
   pub grows : Grows old.beside new.beside entries
   pub rests : Rests entries
@@ -22,7 +22,7 @@ pub record BringsAtHand (flush : ℕ) (ls : List Asked) (old new : DiskState) : 
 
 -- so of the lines that became whole while some of the input was taken, which has not ended
 pub record BringsSome (flush : ℕ) (u v : Unread) (old new : DiskState) : Type 0 where
-  pub done : List Asked
+  pub done : List AskedLine
   pub entries : Log
   pub grows : Grows old.beside new.beside entries
   pub lines : (more : List ℕ) (ended : Bool) → asked_later u (taken entries ++ more) ended

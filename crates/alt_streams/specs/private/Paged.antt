@@ -5,7 +5,7 @@ use Rattle.serde_json.specs.Data.{string, array, member, no_members}
 use Rattle.alt_changes.specs.KeyOf.{HasSizes}
 use Rattle.alt_expr.specs.Pages.{page_bytes, prefixes}
 use Rattle.alt_machine.specs.Changes.{record_json, record_size}
-use Rattle.alt_machine.specs.Ops.GetRecords.{changes_from, fills, next_from}
+use Rattle.alt_machine.specs.Ops.GetRecords.{changes_from, records_fill_page, next_from}
 use Rattle.alt_machine.specs.State.{Change, Table}
 use Rattle.alt_machine.specs.Streams.{Iterator, iterator_text}
 use Rattle.alt_schema.specs.Json.{stream_arn}
@@ -16,23 +16,23 @@ use Rattle.alt_shape.specs.Refusals.{Answer, answered}
 use Rattle.alt_streams.specs.declared.page.Page.{Page}
 
 -- the shortest prefix of changes that fills a page, if one does
-abbrev pub full_prefix : ℕ → (Change → ℕ) → List Change → Option (List Change)
-full_prefix most size changes = find (fills most size) (prefixes changes)
+abbrev pub full_change_prefix : ℕ → (Change → ℕ) → List Change → Option (List Change)
+full_change_prefix most size changes = find (records_fill_page most size) (prefixes changes)
 
 -- No shorter prefix of the changes fills a page.
-abbrev pub IsFirst : ℕ → (Change → ℕ) → List Change → Type 0
-IsFirst most size changes =
-    full_prefix most size changes ≡ (if fills most size changes then Some changes else None)
+abbrev pub NoShorterPrefixFills : ℕ → (Change → ℕ) → List Change → Type 0
+NoShorterPrefixFills most size changes =
+    full_change_prefix most size changes ≡ (if records_fill_page most size changes then Some changes else None)
 
 -- The page has the records of these changes of a table whose stream shows so much, of at most so many from a number on; and none of their
 -- prefixes fills a page, but for all of them.
-pub record HasRead (d : TableSchema) (shows : View) (most from : ℕ) (page : Page)
+pub record PageHasRecords (d : TableSchema) (shows : View) (most from : ℕ) (page : Page)
     (seen : List Change) : Type 0 where
   pub records : map object_json page.records.items ≡ map (record_json d shows) seen
   pub room : page.room ≡ most - length seen
   pub left : page.left ≡ page_bytes - sum_by (record_size d shows) seen
   pub next : page.next ≡ next_from from seen
-  pub first : IsFirst most (record_size d shows) seen
+  pub first : NoShorterPrefixFills most (record_size d shows) seen
 
 -- no more records may follow
 abbrev pub is_full : Page → Bool
@@ -44,19 +44,19 @@ IsFit c = (c.number < 2 ^ 62) × HasSizes c
 
 -- Behind those that were read all of these changes were, or a front of them that fills the page.
 abbrev pub Puts : TableSchema → View → ℕ → ℕ → Page → List Change → List Change → Bool → Type 0
-Puts d shows most from page seen changes true = HasRead d shows most from page (seen ++ changes)
+Puts d shows most from page seen changes true = PageHasRecords d shows most from page (seen ++ changes)
 Puts d shows most from page seen changes false = (front : List Change) × (rest : List Change)
-    × (changes ≡ front ++ rest) × HasRead d shows most from page (seen ++ front)
+    × (changes ≡ front ++ rest) × PageHasRecords d shows most from page (seen ++ front)
     × (is_full page ≡ true)
 
 -- A step read a front of the changes, and the others are those from the page's next number on; or the page or the changes end with it.
-abbrev pub Steps : TableSchema → View → ℕ → ℕ → Page → List Change → Table → List Change
+abbrev pub StepsPage : TableSchema → View → ℕ → ℕ → Page → List Change → Table → List Change
     → Bool → Type 0
-Steps d shows most from page seen t list true = (front : List Change)
-    × HasRead d shows most from page (seen ++ front)
+StepsPage d shows most from page seen t list true = (front : List Change)
+    × PageHasRecords d shows most from page (seen ++ front)
     × (list ≡ front ++ changes_from page.next t.changes)
-Steps d shows most from page seen t list false = (front : List Change) × (rest : List Change)
-    × (list ≡ front ++ rest) × HasRead d shows most from page (seen ++ front)
+StepsPage d shows most from page seen t list false = (front : List Change) × (rest : List Change)
+    × (list ≡ front ++ rest) × PageHasRecords d shows most from page (seen ++ front)
     × ((is_full page ≡ true) ⊎ (rest ≡ []))
 
 -- ---- the answer
@@ -66,7 +66,7 @@ abbrev pub iterator_at : TableSchema → ℕ → Iterator
 iterator_at d from = record { arn = stream_arn d.name d.number; from = from }
 
 -- a page as it is answered
-abbrev pub page_answer : TableSchema → Page → Answer
-page_answer d page = answered
+abbrev pub records_page_answer : TableSchema → Page → Answer
+records_page_answer d page = answered
     (member (codes "NextShardIterator") (string (iterator_text (iterator_at d page.next)))
     (member (codes "Records") (array (objects_json page.records.items)) no_members))

@@ -35,7 +35,7 @@ OnStreaming catalog arn (Err (Refused r)) = (r ≡ not_found) × IsStreamOf cata
 OnStreaming catalog arn (Err (Fault f)) = IsReadFault f
 
 -- Nothing refuses the body, its iterator stands there, and what it stands for isn't trimmed, where so much is known to be.
-pub record IsPlace (catalog : Texts TableSchema) (known : List Trimmed) (ms : Members)
+pub record IsIteratorPlace (catalog : Texts TableSchema) (known : List Trimmed) (ms : Members)
     (place : Place) : Type 0 where
   pub body : first_answer (of_shape (bodies.get_records ms) ∷ []) ≡ None
   pub iterator : Iterator
@@ -47,7 +47,7 @@ pub record IsPlace (catalog : Texts TableSchema) (known : List Trimmed) (ms : Me
 
 -- That is so; or the machine refuses the request too; or memory was wanting.
 abbrev pub OnPlace : Texts TableSchema → List Trimmed → Members → Result Place Stop → Type 0
-OnPlace catalog known ms (Ok place) = IsPlace catalog known ms place
+OnPlace catalog known ms (Ok place) = IsIteratorPlace catalog known ms place
 OnPlace catalog known ms (Err (Refused r)) = IsKnown r × ((s : State) → IsValid s
     → descriptions s.tables ≡ catalog → AreTrimmedOf s.tables known → get_records s ms ≡ refuses r)
 OnPlace catalog known ms (Err (Fault f)) = IsReadFault f

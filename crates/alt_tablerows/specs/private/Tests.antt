@@ -20,10 +20,10 @@ abbrev pub are_families : ℕ → List ℕ → Bool
 are_families next families = are_within next families && are_apart families
 
 -- a number was taken before the next one
-abbrev pub is_number : ℕ → ℕ → Bool
-is_number next number = nat_le 1 number && nat_lt number next
+abbrev pub is_number_taken : ℕ → ℕ → Bool
+is_number_taken next number = nat_le 1 number && nat_lt number next
 
 -- the tests of it, beside those of its bytes
-abbrev pub passes : ℕ → ℕ → List ℕ → TableSchema → Bool
-passes number next name d = bytes_eq d.name name && (is_as_made d && (is_number number d.number
+abbrev pub passes_description_tests : ℕ → ℕ → List ℕ → TableSchema → Bool
+passes_description_tests number next name d = bytes_eq d.name name && (is_as_made d && (is_number_taken number d.number
     && are_families next (families_of d)))

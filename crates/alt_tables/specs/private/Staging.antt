@@ -7,7 +7,7 @@ use Rattle.std.specs.Str.{bytes_eq}
 use Rattle.alt_cells.specs.declared.batch.RowChange.{RowChange}
 use Rattle.alt_codec.specs.declared.writer.Writer.{Writer}
 use Rattle.alt_layout.specs.Layout.{Layout, shown}
-use Rattle.alt_machine.specs.Ops.BatchWriteItem.{Written, writes_of_all_by}
+use Rattle.alt_machine.specs.Ops.BatchWriteItem.{PlacedWrite, writes_of_all_by}
 use Rattle.alt_machine.specs.Outcomes.{last_state}
 use Rattle.alt_machine.specs.Same.{is_same}
 use Rattle.alt_machine.specs.State.{State, Table, Texts, descriptions}
@@ -18,7 +18,7 @@ use Rattle.alt_schema.specs.declared.schema.TableSchema.{TableSchema}
 use Rattle.alt_rowchanges.specs.Fronts.{first_moment, front_at}
 use Rattle.alt_rowchanges.specs.Leftovers.{leftovers}
 use Rattle.alt_tables.specs.Several.{Every, TurnsAll, batch_of, batches_of, with_batches, written_at}
-use Rattle.alt_rowchanges.specs.Trims.{IsRest, IsTrim, is_over, leftovers_from}
+use Rattle.alt_rowchanges.specs.Trims.{IsRest, IsTrim, is_over_a_day_before, leftovers_from}
 use Rattle.alt_rowchanges.specs.declared.fronts.Front.{Front}
 use Rattle.alt_tables.specs.declared.several.ItemChange.{ItemChange}
 use Rattle.alt_tables.specs.declared.several.Noted.{Noted}
@@ -58,7 +58,7 @@ pub record IsTouched (l m : Layout) (moment : ℕ) (r : Trim) (t : Table) : Type
   pub oldest : (family : ℕ) → t.description.stream_family ≡ Some family
       → first_moment t.changes ≡ oldest_by moment r
   pub young : (family : ℕ) → t.description.stream_family ≡ Some family
-      → is_over (oldest_by moment r) moment ≡ false
+      → is_over_a_day_before (oldest_by moment r) moment ≡ false
   pub left : (family : ℕ) → t.description.stream_family ≡ Some family
       → leftovers m family r.number ≡ leftovers_from l family r.from r.number
 
@@ -75,7 +75,7 @@ IsTableAhead l m moment was now (Some e) =
     (t : Table) × (now ≡ Some t) × IsTouched l m moment e.trim t
 
 -- Behind writes of these batches, of which this is noted, one state has become another.
-pub record IsAhead (l : Layout) (s : State) (moment : ℕ) (notes : List Noted)
+pub record IsStateAhead (l : Layout) (s : State) (moment : ℕ) (notes : List Noted)
     (batches : List (List RowChange)) (r : State) : Type 0 where
   pub turns : TurnsAll batches s r
   pub number : r.next_number ≡ s.next_number + length batches
@@ -92,7 +92,7 @@ pub record IsAgain (l m : Layout) (t : Table) (moment : ℕ) (r : Trim) : Type 0
   pub rest : IsRest l m t r
 
 -- the same, with the number of the last change that was trimmed before
-pub record IsBehind (l m : Layout) (t : Table) (moment : ℕ) (r : ℕ × Trim) : Type 0 where
+pub record IsTrimmedAgain (l m : Layout) (t : Table) (moment : ℕ) (r : ℕ × Trim) : Type 0 where
   pub before : r.0 ≡ t.trimmed
   pub again : IsAgain l m t moment r.1
 
@@ -103,16 +103,16 @@ pub record IsStagedOn (l : Layout) (s : State) (moment : ℕ) (writer : Writer) 
   pub there : map.get r.tables c.table ≡ Some table
   pub batches : new.batches.items ≡ old.batches.items
       ++ batch_of (with_batches l old.batches.items) r moment writer table (written_at c) ∷ []
-  pub ahead : IsAhead l s moment new.notes.items new.batches.items
+  pub ahead : IsStateAhead l s moment new.notes.items new.batches.items
       (after_item_by r moment writer c.table table c.found.place c.new)
 
 -- ---- all of them
 
 -- These writes of a state are got ready.
-pub record IsStaged (l : Layout) (s : State) (moment : ℕ) (writer : Writer) (ws : List Written)
+pub record IsStaged (l : Layout) (s : State) (moment : ℕ) (writer : Writer) (ws : List PlacedWrite)
     (r : Staged) : Type 0 where
   pub batches : r.batches.items ≡ batches_of l s moment writer ws
-  pub ahead : IsAhead l s moment r.notes.items r.batches.items
+  pub ahead : IsStateAhead l s moment r.notes.items r.batches.items
       (last_state s (writes_of_all_by s moment writer ws))
 
 -- what is known of a front by what is noted: where a write was to a table with a stream, what it leaves

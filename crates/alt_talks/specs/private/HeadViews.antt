@@ -16,7 +16,7 @@ is_more (Refused n) = false
 is_more (Head taken target length expect close) = false
 
 -- so many of the bytes had no whole head, and this one stands in front of all of them, if it is there
-pub record AreRead (bytes : List ℕ) (seen : ℕ) (head : Option CodeHead) : Type 0 where
+pub record HeadIsScanned (bytes : List ℕ) (seen : ℕ) (head : Option CodeHead) : Type 0 where
   pub within : seen ≤ length bytes
   pub more : scan_of (take seen bytes) ≡ More
   pub found : IfSome head (λ h. scan_of bytes ≡ scan_in h)

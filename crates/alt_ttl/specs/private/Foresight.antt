@@ -2,7 +2,7 @@
 use Rattle.std.specs.Prelude.{◌≡◌, ℕ, Bool, true, false, List, [], ◌∷◌, ◌++◌, Option, Some, None}
 use Rattle.std.specs.FinMap as map
 use Rattle.std.specs.Option.{option_map_or}
-use Rattle.alt_due.specs.Due.{KeepsKnown, KeepsOthers, is_within}
+use Rattle.alt_due.specs.Due.{KeepsKnown, KeepsOthers, suffices_at}
 use Rattle.alt_due.specs.Order.{spot_of}
 use Rattle.alt_due.specs.declared.due.Due.{Due}
 use Rattle.alt_due.specs.declared.spot.Spot.{Spot}
@@ -23,9 +23,9 @@ spot_at e = spot_of e.table e.place
 -- ---- a place that is ready
 
 -- A list begins at the moment, and covers it.
-pub record Suffices (due : Due) (moment : ℕ) : Type 0 where
+pub record ListSuffices (due : Due) (moment : ℕ) : Type 0 where
   pub since : due.since ≡ moment
-  pub within : is_within due moment ≡ true
+  pub within : suffices_at due moment ≡ true
 
 -- what stands at a place has expired
 abbrev pub is_over_at : State → ℕ → Spot → Bool
@@ -46,7 +46,7 @@ pub record Defers (d : TableSchema) (moment : ℕ) (spot : Spot) (item : List Pa
       → ForeseesItem d spot.table spot.place new item
 
 -- A list knows of all other places what it knew, and of the item at this one too.
-pub record Settles (d : TableSchema) (moment : ℕ) (spot : Spot) (item : Option (List Pair))
+pub record ListSettles (d : TableSchema) (moment : ℕ) (spot : Spot) (item : Option (List Pair))
     (old new : Due) : Type 0 where
   pub others : KeepsOthers spot old new
   pub own : old.since ≡ moment → (i : List Pair) → item ≡ Some i
@@ -70,7 +70,7 @@ ForeseesRest name t from due = Every (ForeseesPlaced t.description name due)
     (items_between t None from None true)
 
 -- A list that knows all that this one does knows of the items from a place on where it knows of those from the next one on, if there is one.
-abbrev pub LeadsOn : List ℕ → Table → List ℕ → Due → Option (List ℕ) → Type 0
-LeadsOn name t from due None = ForeseesRest name t from due
-LeadsOn name t from due (Some next) = (later : Due) → KeepsKnown due later
+abbrev pub ForeseesFromNext : List ℕ → Table → List ℕ → Due → Option (List ℕ) → Type 0
+ForeseesFromNext name t from due None = ForeseesRest name t from due
+ForeseesFromNext name t from due (Some next) = (later : Due) → KeepsKnown due later
     → ForeseesRest name t next later → ForeseesRest name t from later

@@ -25,8 +25,8 @@ abbrev pub standings_of : TableSchema → List ℕ → ℕ → List (List Pair) 
 standings_of d name moment items = flat_map (standing_of d name moment) items
 
 -- their tables are there
-abbrev pub AreNamed : Texts TableSchema → List Standing → Type 0
-AreNamed catalog es = Every (λ (e : Standing). map.contains_key catalog e.table ≡ true) es
+abbrev pub StandingTablesAreThere : Texts TableSchema → List Standing → Type 0
+StandingTablesAreThere catalog es = Every (λ (e : Standing). map.contains_key catalog e.table ≡ true) es
 
 -- ---- what is left
 
@@ -36,17 +36,17 @@ left_in name t moment found from = take MOST_EXPIRED
     (found ++ standings_of t.description name moment (items_between t None from None true))
 
 -- the same where nothing may be left
-abbrev pub left_of : List ℕ → Table → ℕ → List Standing → Option (List ℕ) → List Standing
-left_of name t moment found None = found
-left_of name t moment found (Some from) = left_in name t moment found from
+abbrev pub standings_left : List ℕ → Table → ℕ → List Standing → Option (List ℕ) → List Standing
+standings_left name t moment found None = found
+standings_left name t moment found (Some from) = left_in name t moment found from
 
 -- ---- once
 
 -- two are one
-abbrev pub is_one : Standing → Standing → Bool
-is_one e f = bytes_eq e.table f.table && bytes_eq e.place f.place
+abbrev pub is_same_standing : Standing → Standing → Bool
+is_same_standing e f = bytes_eq e.table f.table && bytes_eq e.place f.place
 
 -- one of them stands where another does
 abbrev pub has_twice : List Standing → Bool
 has_twice [] = false
-has_twice (e ∷ es) = list_any (is_one e) es || has_twice es
+has_twice (e ∷ es) = list_any (is_same_standing e) es || has_twice es

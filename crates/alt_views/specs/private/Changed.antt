@@ -1,7 +1,7 @@
 -- Where an item that gives way to another differs from it, and the indexes that keep nothing there.
 use Rattle.std.specs.Prelude.{◌≡◌, ℕ, Bool, true, false, List, Option, Some, None}
 use Rattle.std.specs.List.{list_any}
-use Rattle.alt_schema.specs.Indexes.{is_projected, stands_in}
+use Rattle.alt_schema.specs.Indexes.{is_projected, stands_among_names}
 use Rattle.alt_schema.specs.declared.schema.IndexSchema.{IndexSchema}
 use Rattle.alt_schema.specs.declared.schema.TableSchema.{TableSchema}
 use Rattle.alt_value.specs.Item.{IsItem, at_name}
@@ -11,7 +11,7 @@ use Rattle.alt_value.specs.Tree.{Pair}
 pub record AreAlikeBeside (names : List (List ℕ)) (old new : List Pair) : Type 0 where
   pub old_item : IsItem old
   pub new_item : IsItem new
-  pub values : (name : List ℕ) → stands_in names name ≡ false → at_name name old ≡ at_name name new
+  pub values : (name : List ℕ) → stands_among_names names name ≡ false → at_name name old ≡ at_name name new
 
 -- Where names are told, both items are there, and have the same beside these.
 abbrev pub DifferAt : Option (List (List ℕ)) → Option (List Pair) → Option (List Pair) → Type 0
@@ -21,6 +21,6 @@ DifferAt (Some names) (Some o) None = ⊥
 DifferAt (Some names) (Some o) (Some n) = AreAlikeBeside names o n
 
 -- whether an index keeps one of the names, or may keep one where none are told
-abbrev pub may_change : TableSchema → IndexSchema → Option (List (List ℕ)) → Bool
-may_change d i None = true
-may_change d i (Some names) = list_any (is_projected d i) names
+abbrev pub index_may_change : TableSchema → IndexSchema → Option (List (List ℕ)) → Bool
+index_may_change d i None = true
+index_may_change d i (Some names) = list_any (is_projected d i) names

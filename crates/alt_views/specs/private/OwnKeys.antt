@@ -7,8 +7,8 @@ use Rattle.alt_value.specs.Size.{size, left_after}
 use Rattle.alt_value.specs.Tree.{Pair}
 
 -- a key with the attribute, where that is one of a key, and else as it was
-abbrev pub kept : TableSchema → Pair → List Pair → List Pair
-kept d p key = if is_key d.hash d.range p.0 then with_pair p.0 p.1 key else key
+abbrev pub key_with_own_attribute : TableSchema → Pair → List Pair → List Pair
+key_with_own_attribute d p key = if is_key d.hash d.range p.0 then with_pair p.0 p.1 key else key
 
 -- what is left of a budget behind the attribute, where there is one
 abbrev pub left_behind : Pair → Option ℕ → Option ℕ

@@ -2,7 +2,7 @@
 
 ghost use Rattle.std.specs.Prelude.{◌≡◌, ◌<◌, ◌+◌, Some, take, length, slice_get, option_and_then, IfOk, OnOk};
 ghost use Rattle.alt_value.specs.Item.{IsItem};
-ghost use Rattle.alt_schema.specs.Indexes.{indexes, index_row, is_in_index, has_part, cut, is_projected, is_included, is_key, has_key_name, stands_in};
+ghost use Rattle.alt_schema.specs.Indexes.{indexes, index_row, is_in_index, has_part, cut, is_projected, is_included, is_key, has_key_name, stands_among_names};
 
 use crate::rows::index::is_key_value;
 use alt_base::NoMemory;
@@ -113,7 +113,7 @@ fn is_included(projection: &Projection, name: &str) -> bool
 }
 
 fn stands_in(names: &[Text], name: &str) -> bool
-    ensures { result ≡ stands_in names.now name.now }
+    ensures { result ≡ stands_among_names names.now name.now }
 {
     names.iter().any(|other| other.as_str() == name)
 }

@@ -3,7 +3,7 @@
 ghost use Rattle.std.specs.Prelude.{◌≡◌, true, IsTrue};
 ghost use Rattle.serde_json.specs.View.{view, members_view};
 ghost use Rattle.alt_expr.specs.NamesIn.{gives_names, name_in};
-ghost use Rattle.alt_expr.specs.Given.{is_name};
+ghost use Rattle.alt_expr.specs.Given.{is_given_name};
 
 use alt_codec::{attr_of_json, item_of_json, json_of_item};
 use alt_condparse::parse;
@@ -70,7 +70,7 @@ fn are_texts(members: &Map<String, Value>) -> bool
 }
 
 fn is_text(name: &Value) -> bool
-    ensures { result ≡ is_name (name_in (view name.now)) }
+    ensures { result ≡ is_given_name (name_in (view name.now)) }
 {
     match name.as_str() {
         Some(text) => !text.is_empty(),

@@ -1,7 +1,7 @@
 //! An index that is being built through stops and failures: until it is whole its reads are refused, then they show all of it, and a run over
 //! what a stop has left goes on with it. The same through flushes, merges and reopenings, over two tables, and in a server.
 
-ghost use Rattle.std.specs.Prelude.{◌≡◌, false, IfSome};
+ghost use Rattle.std.specs.Prelude.{◌≡◌, false};
 ghost use Rattle.alt_shell.specs.Log.{talks};
 ghost use Rattle.alt_shell.specs.Memory.{shell_state};
 

@@ -1,6 +1,6 @@
 //! Items whose time is over: which of them an ExpireItems deletes, and that a server deletes them by itself behind every 64th connection.
 
-ghost use Rattle.std.specs.Prelude.{◌≡◌, false, IfSome};
+ghost use Rattle.std.specs.Prelude.{◌≡◌, false};
 ghost use Rattle.alt_shell.specs.Log.{talks};
 ghost use Rattle.alt_shell.specs.Memory.{shell_state};
 

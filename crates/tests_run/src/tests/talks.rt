@@ -2,7 +2,7 @@
 
 ghost use Rattle.std.specs.Prelude.{◌≡◌, ◌<◌, false, IfSome};
 ghost use Rattle.alt_shell.specs.Log.{talks};
-ghost use Rattle.alt_shell.specs.Memory.{shell_state, added};
+ghost use Rattle.alt_shell.specs.Memory.{shell_state};
 
 use super::over::{behind, ended, fresh, left_now, shell_over, shown};
 use super::script::choices;

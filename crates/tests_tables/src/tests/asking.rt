@@ -1,6 +1,6 @@
 //! A store that is made, opened and asked, and what it is known by.
 
-ghost use Rattle.std.specs.Prelude.{◌≡◌, IfSome};
+ghost use Rattle.std.specs.Prelude.{IfSome};
 ghost use Rattle.alt_disk.specs.MemoryState.{state_of};
 ghost use Rattle.alt_tables.specs.Stands.{AreReady};
 

@@ -1,6 +1,5 @@
 //! Walks over the items of a table, both ways.
 
-ghost use Rattle.std.specs.Prelude.{IfSome};
 ghost use Rattle.alt_disk.specs.MemoryState.{state_of};
 ghost use Rattle.alt_tables.specs.Stands.{AreReady};
 

@@ -4,7 +4,7 @@
 ghost use Rattle.std.specs.Prelude.{IfSome};
 ghost use Rattle.alt_disk.specs.Disk.{IsTrusted};
 ghost use Rattle.alt_disk.specs.MemoryState.{state_of};
-ghost use Rattle.alt_engine.specs.InHand.{Stands};
+ghost use Rattle.alt_engine.specs.InHand.{StandsForLayout};
 ghost use Rattle.alt_layout.specs.Layout.{Layout};
 
 use super::asking::{LIMITS, Request, asked, empty, opened};
@@ -60,7 +60,7 @@ fn column_of(alloc: Global, value: &[u8]) -> Option<Batch> {
 // The engine of the store on a disk.
 fn engine_of(alloc: Global, disk: &mut MemoryDisk) -> Option<Engine>
     ensures { IfSome result (λ e. IsTrusted (state_of disk.new)
-        → (l : Layout) × Stands (state_of disk.new) e l) }
+        → (l : Layout) × StandsForLayout (state_of disk.new) e l) }
 {
     match Engine::recover(alloc, disk, LIMITS) {
         Ok(engine) => Some(engine),

@@ -1,10 +1,8 @@
 -- The request is refused, or the description is answered as it is, or it changes and is answered.
-use Rattle.std.proofs.Common.{sym, ap, subst, ◌∙◌, List, [], ◌∷◌, refl}
+use Rattle.std.proofs.Common.{sym, ap, subst, ◌∙◌, [], ◌∷◌}
 use Rattle.std.specs.Prelude.{codes}
 use Rattle.serde_json.specs.Data.{Members}
 use Rattle.serde_json.specs.View.{members_view}
-use Rattle.alt_backfill.specs.declared.asked.Later.{Later}
-use Rattle.alt_backfill.specs.private.Asked.{MayBeAltered}
 use Rattle.alt_backfill.proofs.Asking.{asked_stops, asked_unfailed, comes_to_nothing}
 use Rattle.alt_backfill.proofs.Writing.{alter_made, alter_may, alter_named, alter_there, written}
 use Rattle.alt_machine.specs.Ops.UpdateTable.{coming, described, update_table, wanted_for, with_description}

@@ -2,17 +2,16 @@
 use Rattle.std.proofs.Common.{◌≡◌, refl, sym, ap, subst, ◌∙◌, ℕ, Bool, true, false, not, Ok, Err}
 use Rattle.std.proofs.lemmas.Slice.Eq.{bytes_eq-Decides}
 use Rattle.std.specs.FinMap as map
-use Rattle.serde_json.specs.Data.{Members}
 use Rattle.serde_json.specs.View.{members_view}
-use Rattle.alt_backfill.specs.private.Asked.{IsAsked, IsAskedOf}
+use Rattle.alt_backfill.specs.private.Asked.{IsAlteringOrRefused, IsAskedOf}
 use Rattle.alt_backfill.proofs.Asking.{absent_asked, here_asked, misnamed_asked, unfit_asked}
 use Rattle.alt_request.proofs.Reaching.{err_is}
-use Rattle.alt_request.specs.TablesStands.{catalog_of, family_of}
+use Rattle.alt_request.specs.TablesStands.{catalog_of}
 use Rattle.alt_backfill.proofs.asked.asked.Goals as goal
 
 pub returns-in_err-unfit : goal.returns-in_err-unfit
 returns-in_err-unfit c = record {
-  asked = subst (IsAsked c.args.tables.now (members_view c.args.body.now.entries))
+  asked = subst (IsAlteringOrRefused c.args.tables.now (members_view c.args.body.now.entries))
       (sym (err_is c.from_residual.result c.in_err-unfit.field-0.0 c.from_residual.ensures))
       (unfit_asked c.args.tables.now (members_view c.args.body.now.entries)
       c.in_err-unfit.field-0.0 c.in_err-unfit.ensures.tested);

@@ -1,8 +1,6 @@
 -- Nothing is built, or the first table of which an index is being built is built further.
-use Rattle.std.proofs.Common.{◌≡◌, sym, ap, subst, ◌∙◌, ℕ, Bool, true, List, [], ◌∷◌, Some, None, is_some, IsTrue, Result, IfOk, arith}
+use Rattle.std.proofs.Common.{◌≡◌, sym, ap, subst, ◌∙◌, ℕ, Bool, true, List, [], ◌∷◌, Some, is_some, IsTrue, Result, IfOk, arith}
 use Rattle.std.specs.Prelude.{◌↔◌}
-use Rattle.std.specs.Result.{IsErrOf}
-use Rattle.alt_base.specs.Counts.{Rose}
 use Rattle.std.specs.FinMap as map
 use Rattle.alt_backfill.proofs.Builds.{found, idle_leaves, idle_made, idle_told, one_told, unbuilt, unfound}
 use Rattle.alt_backfill.proofs.Naming.{none_built}
@@ -18,7 +16,6 @@ use Rattle.alt_request.specs.TablesImages.{Leaves}
 use Rattle.alt_request.proofs.Reaching.{err_is}
 use Rattle.alt_request.specs.TablesStands.{Stands, bounds_of, catalog_of}
 use Rattle.alt_request.specs.TablesDeclaredTableFault.{TableFault}
-use Rattle.alt_request.specs.TablesDeclaredTableFault.TheVariants.{Failed}
 
 -- values that are equal as options are equal
 some_same : {A : Type 0} (a b : A) → Some a ≡ Some b → a ≡ b

@@ -1,5 +1,5 @@
 -- The next table is the first, or the first is behind it; behind the last there is none.
-use Rattle.std.proofs.Common.{sym, ap, ◌∙◌, ℕ, List, [], Some}
+use Rattle.std.proofs.Common.{sym, ap, ◌∙◌, ℕ, List, Some}
 use Rattle.std.specs.FinMap as map
 use Rattle.alt_backfill.specs.private.Asked.{builds}
 use Rattle.alt_backfill.proofs.Naming.{all_walked, first_of_those, found_there, is_behind, names_less, next_is, next_none, walk_end, walk_here, walk_next}

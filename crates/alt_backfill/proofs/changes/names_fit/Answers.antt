@@ -1,5 +1,5 @@
 -- The names of single changes are good where the first that are asked are.
-use Rattle.std.proofs.Common.{◌≡◌, sym, ap, ◌∙◌, Bool, true, false}
+use Rattle.std.proofs.Common.{sym, ap, ◌∙◌, true}
 use Rattle.std.specs.Prelude.{◌&&◌, codes}
 use Rattle.std.specs.Option.{option_map_or}
 use Rattle.serde_json.specs.View.{members_view}

@@ -3,13 +3,13 @@ use Rattle.std.proofs.Common.{◌≡◌, ◌++◌, length}
 use Rattle.std.specs.List.{flat_map}
 use Rattle.alt_value.specs.Members.{text_order}
 use Rattle.alt_fields.specs.Bytes.{IsShort}
-use Rattle.alt_cellbytes.specs.Values.{AreRising}
+use Rattle.alt_cellbytes.specs.Values.{AreSetMembers}
 use Rattle.alt_fields.specs.Field.{field}
 use Rattle.alt_cellbytes.proofs.members.take_binaries.Given as goal
 
 abbrev pub invariant-loop-done : goal.invariant-loop-done
 invariant-loop-done l = record {
   count : length l.set ≡ l._done;
-  members : AreRising IsShort text_order l.set;
+  members : AreSetMembers IsShort text_order l.set;
   bytes : l.bytes ≡ flat_map field l.set ++ l.rest;
 }

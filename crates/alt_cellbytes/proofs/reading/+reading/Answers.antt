@@ -6,12 +6,12 @@ use Rattle.alt_base.proofs.Lists.{head_tail, cons_same}
 use Rattle.alt_value.specs.Item.{with_pair}
 use Rattle.alt_value.specs.Stands.{tree_of}
 use Rattle.alt_value.specs.Tree.{Tree}
-use Rattle.alt_cellbytes.specs.Places.{Stops, TooDeep, StopsHere, no_count, entry_bytes}
+use Rattle.alt_cellbytes.specs.Places.{ValueStops, TooDeep, StopsHere, no_count, entry_bytes}
 use Rattle.alt_cellbytes.proofs.Kept.{stop_into, both_map}
 use Rattle.alt_cellbytes.proofs.Deep.{elements_within, fields_within}
 use Rattle.alt_cellbytes.proofs.DeepFirst.{deep_kind, other_kind, list_deeper, map_deeper, list_uncounted, map_uncounted, elements_ahead, entries_ahead, ahead_stop, name_stop, behind_name, never_ok}
 use Rattle.alt_cellbytes.proofs.OneMore.{entry_more, entry_shallow, name_length}
-use Rattle.alt_cellbytes.proofs.Stopped.{stops_here, list_stops, map_stops, list_deep, map_deep}
+use Rattle.alt_cellbytes.proofs.StopsWithin.{stops_here, list_stops, map_stops, list_deep, map_deep}
 use Rattle.alt_cellbytes.proofs.Wholes.{list_whole, map_whole}
 use Rattle.alt_cellbytes.proofs.reading.+reading.Goals as goal
 
@@ -43,7 +43,7 @@ pub take_list-returns-in_err-count-clause-stop : goal.take_list-returns-in_err-c
 take_list-returns-in_err-count-clause-stop t c =
     let bytes = c.args.bytes.now in
     let p = err_from_is_err_and c.from_residual.result c.from_residual.ensures.1 in
-    rw (p.1, p.2) (stop_into _ (Stops (9 ∷ bytes))
+    rw (p.1, p.2) (stop_into _ (ValueStops (9 ∷ bytes))
     (TooDeep c.args.most (9 ∷ bytes)) c.in_err-count.field-0.0
     (λ n h. stops_here (9 ∷ bytes) n (no_count 9 bytes (omega arith) (omega arith) refl h))
     c.in_err-count.ensures.stop)
@@ -63,7 +63,7 @@ take_list-returns-in-Err-clause-stop t c =
     let count = c.in_ok-count.count in
     let rest = c.in_ok-count.rest.now in
     let told = cons_same 9 9 bytes _ refl c.in_ok-count.ensures.count.1 in
-    both_map _ (Stops (9 ∷ bytes)) _ (TooDeep most (9 ∷ bytes)) c.in-Err.stop
+    both_map _ (ValueStops (9 ∷ bytes)) _ (TooDeep most (9 ∷ bytes)) c.in-Err.stop
     (λ n h. list_stops count (9 ∷ bytes) rest n c.in_ok-count.ensures.count.0 told h)
     (λ n h. list_deep most count (9 ∷ bytes) rest n c.requires c.in_ok-count.ensures.count.0 told h)
     c.in-Err.ensures.stop
@@ -72,7 +72,7 @@ pub take_map-returns-in_err-count-clause-stop : goal.take_map-returns-in_err-cou
 take_map-returns-in_err-count-clause-stop t c =
     let bytes = c.args.bytes.now in
     let p = err_from_is_err_and c.from_residual.result c.from_residual.ensures.1 in
-    rw (p.1, p.2) (stop_into _ (Stops (10 ∷ bytes))
+    rw (p.1, p.2) (stop_into _ (ValueStops (10 ∷ bytes))
     (TooDeep c.args.most (10 ∷ bytes)) c.in_err-count.field-0.0
     (λ n h. stops_here (10 ∷ bytes) n (no_count 10 bytes (omega arith) (omega arith) refl h))
     c.in_err-count.ensures.stop)
@@ -92,7 +92,7 @@ take_map-returns-in-Err-clause-stop t c =
     let count = c.in_ok-count.count in
     let rest = c.in_ok-count.rest.now in
     let told = cons_same 10 10 bytes _ refl c.in_ok-count.ensures.count.1 in
-    both_map _ (Stops (10 ∷ bytes)) _ (TooDeep most (10 ∷ bytes)) c.in-Err.stop
+    both_map _ (ValueStops (10 ∷ bytes)) _ (TooDeep most (10 ∷ bytes)) c.in-Err.stop
     (λ n h. map_stops count (10 ∷ bytes) rest n c.in_ok-count.ensures.count.0 told h)
     (λ n h. map_deep most count (10 ∷ bytes) rest n c.requires c.in_ok-count.ensures.count.0 told h)
     c.in-Err.ensures.stop
@@ -100,7 +100,7 @@ take_map-returns-in-Err-clause-stop t c =
 pub take_value-returns-in_default-clause-stop : goal.take_value-returns-in_default-clause-stop
 take_value-returns-in_default-clause-stop t c =
     IfErr-weaker c.take_flat.result _ _
-    (λ s h. stop_into _ (Stops c.args.bytes.now) (TooDeep c.args.most c.args.bytes.now) s
+    (λ s h. stop_into _ (ValueStops c.args.bytes.now) (TooDeep c.args.most c.args.bytes.now) s
     (λ n k. stops_here c.args.bytes.now n
     (subst (λ bytes. StopsHere bytes n) (head_tail c.args.bytes.now c.in-len1-up.len_at_least) k))
     h)

@@ -3,7 +3,7 @@ use Rattle.std.proofs.Common.{◌≡◌, ◌≤◌, ◌+◌, ◌*◌, ◌++◌, 
 use Rattle.std.specs.List.{AllByRecursion, flat_map}
 use Rattle.alt_value.specs.CellBytes.{cell_bytes}
 use Rattle.alt_value.specs.Size.{depth}
-use Rattle.alt_cellbytes.specs.Places.{AreEntries, entry_bytes}
+use Rattle.alt_cellbytes.specs.Places.{AreMapEntries, entry_bytes}
 use Rattle.alt_cellbytes.specs.Values.{HasBytes}
 use Rattle.alt_cellbytes.proofs.reading.+reading.Given as goal
 
@@ -18,7 +18,7 @@ invariant-take_elements-loop-done l = record {
 abbrev pub invariant-take_entries-loop-done : goal.invariant-take_entries-loop-done
 invariant-take_entries-loop-done l = record {
   count : length l.map ≡ l._done;
-  members : AreEntries l.map;
+  members : AreMapEntries l.map;
   shallow : AllByRecursion (λ e. depth e.1 ≤ l.most) l.map;
   bytes : l.bytes ≡ flat_map entry_bytes l.map ++ l.rest;
 }

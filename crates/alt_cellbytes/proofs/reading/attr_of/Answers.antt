@@ -2,15 +2,15 @@
 -- at most holds of all.
 use Rattle.std.proofs.Common.{◌⊎◌, length, ap, inl, inr, arith, ℕ, List}
 use Rattle.std.proofs.lemmas.Result.{IfOk-weaker}
-use Rattle.alt_cellbytes.specs.Places.{IsBadAt, IsDeepAt}
+use Rattle.alt_cellbytes.specs.Places.{IsBadValueAt, IsDeepAt}
 use Rattle.alt_cellbytes.proofs.Apart.{cell_bytes-apart}
-use Rattle.alt_cellbytes.proofs.Stopped.{never_deep}
+use Rattle.alt_cellbytes.proofs.StopsWithin.{never_deep}
 use Rattle.alt_cellbytes.proofs.WholeValues.{whole_has, depth-short}
 use Rattle.alt_cellbytes.proofs.reading.attr_of.Goals as goal
 
 -- a place that isn't of what is nested too deep
-not_deep : (bytes : List ℕ) (at : ℕ) → IsBadAt bytes at ⊎ IsDeepAt (length bytes) bytes at
-    → IsBadAt bytes at
+not_deep : (bytes : List ℕ) (at : ℕ) → IsBadValueAt bytes at ⊎ IsDeepAt (length bytes) bytes at
+    → IsBadValueAt bytes at
 not_deep bytes at (inl bad) = bad
 not_deep bytes at (inr deep) = absurd (never_deep bytes deep.0 deep.1)
 

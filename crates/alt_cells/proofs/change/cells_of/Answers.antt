@@ -2,7 +2,7 @@
 use Rattle.std.proofs.Common.{T, [], None, Some, map, sym, subst, ap, ◌∙◌}
 use Rattle.std.specs.FinMap.{entries_sorted}
 use Rattle.std.specs.FinMap.Entries.{is_sorted}
-use Rattle.alt_cells.specs.Changes.{IsBelow, cells_given, change_between, with_value}
+use Rattle.alt_cells.specs.Changes.{IsRowBelow, cells_given, change_between, with_value}
 use Rattle.alt_cells.specs.Keys.{key_cmp}
 use Rattle.alt_cells.specs.Shown.{row_shown}
 use Rattle.alt_cells.proofs.AfterLaws.{made_below, copy_shown, made_is}
@@ -14,7 +14,7 @@ column_cells-requires c =
 
 pub returns-clause-below : goal.returns-clause-below
 returns-clause-below c =
-    subst (IsBelow 1)
+    subst (IsRowBelow 1)
     (sym (made_is c.in_ok-cells.cells c.args.row.now
     (c.in_ok-cells.ensures ∙ ap (λ es. cells_given 0 (map with_value es)) c.as_slice.ensures)))
     (made_below (change_between 0 [] None (Some c.args.row.now)))

@@ -1,13 +1,13 @@
 -- It is the change between the row before and the row then.
 use Rattle.std.proofs.Common.{◌∙◌, ◌++◌, ◌∷◌, [], List, Some, ap, arith, nat_eq}
-use Rattle.alt_cells.specs.Changes.{Given}
+use Rattle.alt_cells.specs.Changes.{GivenColumns}
 use Rattle.alt_cells.specs.declared.batch.RowChange.{RowChange}
 use Rattle.alt_changes.proofs.TrimLaws.{trimmed_made}
 use Rattle.alt_changes.proofs.trimming.trimmed_change.Goals as goal
 
 pub returns : goal.returns
 returns c =
-    let cells : Given = c.push.new.self in
+    let cells : GivenColumns = c.push.new.self in
     let of_key : List _ → RowChange = λ key. record {
       family = c.args.family;
       key = key;

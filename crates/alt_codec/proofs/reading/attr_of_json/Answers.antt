@@ -4,7 +4,8 @@ use Rattle.alt_value.specs.Stands.{tree_of}
 use Rattle.alt_codec.specs.Reading.{value_in}
 use Rattle.alt_codec.proofs.Fits.{Fits, value_fits}
 use Rattle.alt_codec.proofs.Numbers.{reads}
-use Rattle.alt_codec.proofs.Relation.{at_ok, no_value, number_read, number_refused, value-there}
+use Rattle.alt_codec.proofs.Relation.{at_ok, no_value, number_read, number_refused}
+use Rattle.alt_codec.proofs.ValuesThere.{value-there}
 use Rattle.alt_codec.proofs.reading.attr_of_json.Goals as goal
 
 pub returns-in-Ok-clause-json : goal.returns-in-Ok-clause-json

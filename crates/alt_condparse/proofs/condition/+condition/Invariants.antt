@@ -3,8 +3,8 @@ use Rattle.std.proofs.Common.{◌≡◌, ◌-◌, ◌+◌, ◌*◌}
 use Rattle.alt_expr.specs.declared.token.Keyword.TheVariants.{And, Or}
 use Rattle.alt_expr.specs.declared.cond.Cond.TheVariants as cond
 use Rattle.alt_expr.specs.Reader.{left, ◌<$>◌}
-use Rattle.alt_expr.specs.Lookups.{given_to}
-use Rattle.alt_expr.specs.CondReader.{one, all, joined, joined_from}
+use Rattle.alt_expr.specs.Lookups.{given_by_lookups}
+use Rattle.alt_expr.specs.CondReader.{one, all, joined_by_keyword, joined_from}
 use Rattle.alt_condparse.proofs.condition.+condition.Given as goal
 
 abbrev pub decreases-one : goal.decreases-one
@@ -21,12 +21,12 @@ decreases-prim l = 4 * l.depth + 3
 
 abbrev pub invariant-all-loop-turn : goal.invariant-all-loop-turn
 invariant-all-loop-turn l =
-    joined (one (given_to l.given) l.depth) And cond.All (left l.fn.tokens)
-    ≡ (cond.All <$> joined_from (one (given_to l.given) l.depth) And (l.turns - l._turn) l.found)
+    joined_by_keyword (one (given_by_lookups l.given) l.depth) And cond.All (left l.fn.tokens)
+    ≡ (cond.All <$> joined_from (one (given_by_lookups l.given) l.depth) And (l.turns - l._turn) l.found)
     (left l.tokens)
 
 abbrev pub invariant-any-loop-turn : goal.invariant-any-loop-turn
 invariant-any-loop-turn l =
-    joined (all (one (given_to l.given) l.depth)) Or cond.Any (left l.fn.tokens)
-    ≡ (cond.Any <$> joined_from (all (one (given_to l.given) l.depth)) Or
+    joined_by_keyword (all (one (given_by_lookups l.given) l.depth)) Or cond.Any (left l.fn.tokens)
+    ≡ (cond.Any <$> joined_from (all (one (given_by_lookups l.given) l.depth)) Or
     (l.turns - l._turn) l.found) (left l.tokens)

@@ -1,14 +1,14 @@
 -- Each turn reads one operand more, and there are turns enough.
 use Rattle.std.proofs.Common.{rules, arith}
 use Rattle.std.proofs.lemmas.Grind.{common_steps}
-use Rattle.alt_expr.specs.Reader.{left, listed, listed_from}
+use Rattle.alt_expr.specs.Reader.{left, comma_separated, listed_from}
 use Rattle.alt_expr.proofs.Turns.{one_more, no_more}
-use Rattle.alt_expr.specs.Lookups.{given_to}
+use Rattle.alt_expr.specs.Lookups.{given_by_lookups}
 use Rattle.alt_expr.specs.CondReader.{operand}
 use Rattle.alt_condparse.proofs.operand.operands.Goals as goal
 
 pub loop-turn-init : goal.loop-turn-init
-unfolding listed
+unfolding comma_separated
 loop-turn-init c =
     first_of (search rules, grind (arith, common_steps))
 
@@ -16,7 +16,7 @@ pub returns-then-not-eat : goal.returns-then-not-eat
 unfolding listed_from
 returns-then-not-eat c =
     let e = one_more
-    (λ n. listed_from (operand (given_to c.args.given.now)) n c.loop-turn.found
+    (λ n. listed_from (operand (given_by_lookups c.args.given.now)) n c.loop-turn.found
     (left c.loop-turn.tokens)) _ c.loop-turn._turn c.loop-turn-test.true
     c.loop-turn.invariant in
     first_of (search rules, grind (arith, common_steps))
@@ -25,7 +25,7 @@ pub loop-turn-preserved : goal.loop-turn-preserved
 unfolding listed_from
 loop-turn-preserved c =
     let e = one_more
-    (λ n. listed_from (operand (given_to c.args.given.now)) n c.loop-turn.found
+    (λ n. listed_from (operand (given_by_lookups c.args.given.now)) n c.loop-turn.found
     (left c.loop-turn.tokens)) _ c.loop-turn._turn c.loop-turn-test.true
     c.loop-turn.invariant in
     first_of (search rules, grind (arith, common_steps))
@@ -34,13 +34,13 @@ pub returns : goal.returns
 unfolding listed_from
 returns c =
     let e = no_more
-    (λ n. listed_from (operand (given_to c.args.given.now)) n c.loop-turn.found
+    (λ n. listed_from (operand (given_by_lookups c.args.given.now)) n c.loop-turn.found
     (left c.loop-turn.tokens)) _ c.loop-turn._turn c.loop-turn-test.false
     c.loop-turn.invariant in
     first_of (search rules, grind (arith, common_steps))
 
 pub returns-in_err-operand : goal.returns-in_err-operand
-unfolding listed
+unfolding comma_separated
 returns-in_err-operand c =
     first_of (search rules, grind (arith, common_steps))
 
@@ -48,7 +48,7 @@ pub returns-in_err-operand-2 : goal.returns-in_err-operand-2
 unfolding listed_from
 returns-in_err-operand-2 c =
     let e = one_more
-    (λ n. listed_from (operand (given_to c.args.given.now)) n c.loop-turn.found
+    (λ n. listed_from (operand (given_by_lookups c.args.given.now)) n c.loop-turn.found
     (left c.loop-turn.tokens)) _ c.loop-turn._turn c.loop-turn-test.true
     c.loop-turn.invariant in
     first_of (search rules, grind (arith, common_steps))

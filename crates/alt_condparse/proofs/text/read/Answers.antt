@@ -1,6 +1,5 @@
 -- Each test is made in the order of the faults.
-use Rattle.std.proofs.Common.{◌≡◌, sym, ◌∙◌, map, true, false}
-use Rattle.std.specs.List.{list_any}
+use Rattle.std.proofs.Common.{sym, ◌∙◌, map, true, false}
 use Rattle.alt_expr.specs.Tokens.{tok_of}
 use Rattle.alt_expr.specs.Lookups.{given_by}
 use Rattle.alt_expr.specs.Languages.{conditions}

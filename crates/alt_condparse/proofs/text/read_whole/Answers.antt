@@ -3,7 +3,7 @@ use Rattle.std.proofs.Common.{◌≡◌, ℕ, sym, ap, subst, [], map, length, S
 use Rattle.std.proofs.lemmas.List.{length-map}
 use Rattle.alt_base.proofs.Lists.{length-zero}
 use Rattle.alt_expr.specs.Tokens.{tok_of}
-use Rattle.alt_expr.specs.Lookups.{given_to}
+use Rattle.alt_expr.specs.Lookups.{given_by_lookups}
 use Rattle.alt_expr.specs.Reader.{left}
 use Rattle.alt_expr.specs.CondReader.{any, one}
 use Rattle.alt_expr.proofs.CondWhole.{read_all, read_part, read_none}
@@ -11,7 +11,7 @@ use Rattle.alt_condparse.proofs.text.read_whole.Goals as goal
 
 pub returns-in-Err : goal.returns-in-Err
 returns-in-Err c =
-    let g = given_to c.args.given.now in
+    let g = given_by_lookups c.args.given.now in
     let toks = map tok_of c.args.tokens.now in
     let n : ℕ = length c.args.tokens.now in
     read_none g toks n c.in-Err.fault (sym (length-map c.args.tokens.now tok_of))
@@ -20,7 +20,7 @@ returns-in-Err c =
 
 pub returns-then-len-ne0 : goal.returns-then-len-ne0
 returns-then-len-ne0 c =
-    let g = given_to c.args.given.now in
+    let g = given_by_lookups c.args.given.now in
     let toks = map tok_of c.args.tokens.now in
     let n : ℕ = length c.args.tokens.now in
     let rest = left c.any.new.tokens in
@@ -31,7 +31,7 @@ returns-then-len-ne0 c =
 
 pub returns-else-len-ne0 : goal.returns-else-len-ne0
 returns-else-len-ne0 c =
-    let g = given_to c.args.given.now in
+    let g = given_by_lookups c.args.given.now in
     let toks = map tok_of c.args.tokens.now in
     let n : ℕ = length c.args.tokens.now in
     let rest = left c.any.new.tokens in

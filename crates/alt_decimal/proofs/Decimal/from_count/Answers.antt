@@ -1,7 +1,7 @@
 use Rattle.std.proofs.Common.{◌≡◌, ◌*◌, ◌^◌, ◌<◌, ◌+◌, ap, ◌∙◌, sym, arith, pos}
 use Rattle.std.proofs.Math.Nat.{mul_assoc}
 use Rattle.std.proofs.lemmas.Nat.{pow-add}
-use Rattle.alt_decimal.proofs.Widths.{width-le, width-pos, width-mul}
+use Rattle.alt_decimal.proofs.Widths.{width-le, width-pos}
 use Rattle.alt_decimal.specs.Digits.{width}
 use Rattle.alt_decimal.proofs.Magnitudes.{IsNormal-from}
 use Rattle.alt_decimal.proofs.Decimal.from_count.Goals as goal

@@ -1,6 +1,7 @@
 use Rattle.std.proofs.Common.{◌≡◌, ◌<◌, ◌+◌, sym, arith, ℕ, length}
 use Rattle.std.proofs.lemmas.Bool.{eqb-true, eqb-false}
-use Rattle.alt_decimal.proofs.Reading.{AllDigits-front_digits, AllDigits-fraction_of, AllDigits-exponent, found_empty, found_broken, found}
+use Rattle.alt_decimal.proofs.Reading.{AllDigits-fraction_of, AllDigits-exponent, found_empty, found_broken, found}
+use Rattle.alt_decimal.proofs.TextParts.{AllDigits-front_digits}
 use Rattle.alt_decimal.proofs.Decimal.parse.Goals as goal
 use Rattle.alt_decimal.proofs.Decimal.parse.Goals.{else-is_empty-via-then-is_empty+else-is_empty-2, else-is_empty-via-else-is_empty}
 

@@ -1,6 +1,6 @@
 use Rattle.std.proofs.Common.{◌≡◌, ◌<◌, ◌≤◌, ◌+◌, ◌-◌, ◌*◌, ◌/◌, ◌^◌, ◌++◌, ◌%◌, ℕ, List, [], ◌∷◌, length, take, refl, ap, sym, ◌∙◌, arith, length-take}
 use Rattle.alt_decimal.specs.Digits.{width, padded, glyphs}
-use Rattle.alt_decimal.specs.Spelled.{pairs, magnitude_bytes}
+use Rattle.alt_decimal.specs.Spelled.{digit_pairs, magnitude_bytes}
 use Rattle.alt_decimal.proofs.Spelling.{spelled_bytes, small_front}
 use Rattle.alt_decimal.proofs.Padded.{length-glyphs, length-padded}
 use Rattle.alt_decimal.proofs.Widths.{width-le, mul-lt, mul-width_gt, mul-width_le}
@@ -88,7 +88,7 @@ put_spelling-requires-clause-room c = omega (
 bytes_are : (sign c z w r f count first : ℕ) (ds buf : List ℕ) → 0 < c % 10 → c < 10 ^ 38
     → w ≡ width c → f ≡ c * 10 ^ (38 - w)
     → ds ≡ glyphs 0 (padded 38 f) → count ≡ (w + 1) / 2 → first ≡ w + z - 38
-    → take r buf ≡ sign ∷ first ∷ (pairs (take (2 * count) ds) ++ 0 ∷ [])
+    → take r buf ≡ sign ∷ first ∷ (digit_pairs (take (2 * count) ds) ++ 0 ∷ [])
     → take r buf ≡ sign ∷ magnitude_bytes (c * 10 ^ z)
 bytes_are sign c z w r f count first ds buf last few e filled spread half place is =
     spelled_bytes sign c z last few w count first (take (2 * count) ds) (take r buf) e half place

@@ -1,10 +1,10 @@
 use Rattle.std.proofs.Common.{◌≡◌, ◌≤◌, ◌-◌, ◌*◌, length, take}
-use Rattle.alt_decimal.specs.Spelled.{pairs}
+use Rattle.alt_decimal.specs.Spelled.{digit_pairs}
 use Rattle.alt_decimal.proofs.spell.put_pairs.Given as goal
 
 abbrev pub invariant-loop-i : goal.invariant-loop-i
 invariant-loop-i l = record {
-  written : take l.i l.out ≡ pairs (take (2 * l.i) l.digits);
+  written : take l.i l.out ≡ digit_pairs (take (2 * l.i) l.digits);
   within : l.i ≤ length l.out;
 }
 

@@ -1,5 +1,7 @@
 use Rattle.std.proofs.Common.{arith}
-use Rattle.alt_decimal.proofs.ReadBack.{Ends-below, IsSpelledAt-read, every_empty, every_none, every_bad, every_right}
+use Rattle.alt_decimal.proofs.ReadBack.{IsSpelledAt-read}
+use Rattle.alt_decimal.proofs.CoefficientPairs.{Ends-below}
+use Rattle.alt_decimal.proofs.MagnitudeReads.{every_empty, every_none, every_bad, every_right}
 use Rattle.alt_decimal.proofs.spell.read_magnitude.Goals as goal
 
 pub decode-requires-clause-below : goal.decode-requires-clause-below

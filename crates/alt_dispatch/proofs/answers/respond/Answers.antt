@@ -5,7 +5,7 @@ use Rattle.alt_machine.specs.declared.Operation.{Operation}
 use Rattle.alt_machine.specs.Step.{step}
 use Rattle.alt_request.specs.Carried.{Carries, Moves}
 use Rattle.alt_request.specs.TablesStands.{Stands, bounds_of}
-use Rattle.alt_dispatch.specs.Reading.{OnlyReads}
+use Rattle.alt_dispatch.specs.Reading.{OperationOnlyReads}
 use Rattle.alt_request.proofs.TablesLeft.{reads_nothing}
 use Rattle.alt_dispatch.proofs.answers.respond.Goals as goal
 
@@ -44,11 +44,11 @@ returns-in_default-clause-reads g c reads = reads_nothing (g.D.Disk.state c.args
 
 pub returns-in-PutItem-clause-reads : goal.returns-in-PutItem-clause-reads
 returns-in-PutItem-clause-reads g c reads = absurd (false≢true
-    (subst OnlyReads (c.in-Some.is ∙ ap Some c.in-PutItem.is) reads))
+    (subst OperationOnlyReads (c.in-Some.is ∙ ap Some c.in-PutItem.is) reads))
 
 pub returns-in_default-operation-clause-reads : goal.returns-in_default-operation-clause-reads
 returns-in_default-operation-clause-reads g c reads =
-    c.respond_to.ensures.reads (subst OnlyReads c.in-Some.is reads)
+    c.respond_to.ensures.reads (subst OperationOnlyReads c.in-Some.is reads)
 
 pub returns-in-BatchWriteItem-clause-carried : goal.returns-in-BatchWriteItem-clause-carried
 returns-in-BatchWriteItem-clause-carried g c =
@@ -68,4 +68,4 @@ returns-in-BatchWriteItem-clause-moves g c =
 
 pub returns-in-BatchWriteItem-clause-reads : goal.returns-in-BatchWriteItem-clause-reads
 returns-in-BatchWriteItem-clause-reads g c reads = absurd (false≢true
-    (subst OnlyReads (c.in-Some.is ∙ ap Some c.in-BatchWriteItem.is) reads))
+    (subst OperationOnlyReads (c.in-Some.is ∙ ap Some c.in-BatchWriteItem.is) reads))

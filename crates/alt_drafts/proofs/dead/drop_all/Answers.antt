@@ -5,7 +5,7 @@ use Rattle.std.specs.Ordering.{nat_cmp}
 use Rattle.alt_flush.proofs.RemoveLaws.{in_more}
 use Rattle.alt_layout.proofs.MomentLaws.{same_or_not}
 use Rattle.alt_manifest.specs.Versions.{IsIn}
-use Rattle.alt_drafts.specs.Drafting.{without_all}
+use Rattle.alt_drafts.specs.Drafting.{without_families}
 use Rattle.alt_drafts.proofs.DeadLaws.{dropped_more, others_more, taken_out, others_stay, without_more}
 use Rattle.alt_drafts.proofs.MakesLaws.{empties_same}
 use Rattle.alt_drafts.proofs.dead.drop_all.Goals as goal
@@ -34,7 +34,7 @@ loop-family-preserved c =
       makes = λ s parts l live are makes. dropped_more s c.loop-family.draft c.in_ok-draft.draft old new
           parts l live dead i within (let fits = c.type_inv.dead i in omega (arith, fits)) draft none stay are
           (c.loop-family.invariant.makes s parts l live are makes);
-      version = ap (λ u. without_all u (drop (i + 1) dead)) draft
+      version = ap (λ u. without_families u (drop (i + 1) dead)) draft
           ∙ without_more c.loop-family.draft dead i within ∙ c.loop-family.invariant.version;
       gone = λ other there. ⊎_elim
           (λ (before : IsIn (take i dead) other). ⊎_elim

@@ -7,7 +7,7 @@ use Rattle.alt_disk.specs.Disk.{DiskState}
 use Rattle.alt_layout.specs.Layout.{Layout}
 use Rattle.alt_manifest.specs.Versions.{IsIn}
 use Rattle.alt_writes.specs.Writes.{Write}
-use Rattle.alt_drafts.specs.Drafting.{AreDead, Empties, Makes, without_all}
+use Rattle.alt_drafts.specs.Drafting.{AreDead, Empties, Makes, without_families}
 use Rattle.alt_drafts.proofs.dead.drop_all.Given as goal
 
 abbrev pub invariant-loop-family : goal.invariant-loop-family
@@ -15,7 +15,7 @@ invariant-loop-family l = record {
   makes : (s : DiskState) (parts : List (List Write)) (m : Layout) (live : List ℕ)
       → AreDead live l.dead → Makes s l.fn.draft l.fn.families parts m
       → (n : Layout) × Makes s l.draft l.families parts n × Empties live m n;
-  version : without_all l.draft (drop l.family-index l.dead) ≡ without_all l.fn.draft l.dead;
+  version : without_families l.draft (drop l.family-index l.dead) ≡ without_families l.fn.draft l.dead;
   gone : (family : ℕ) → IsIn (take l.family-index l.dead) family
       → get nat_cmp l.families family ≡ None;
   others : (family : ℕ) → (IsIn (take l.family-index l.dead) family → ⊥)

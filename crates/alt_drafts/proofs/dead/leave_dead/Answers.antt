@@ -5,7 +5,7 @@ use Rattle.alt_disk.specs.Disk.{DiskState}
 use Rattle.alt_layout.specs.Layout.{Layout}
 use Rattle.alt_manifest.specs.declared.version.Version.{Version}
 use Rattle.alt_writes.specs.Writes.{Write}
-use Rattle.alt_drafts.specs.Drafting.{AreDead, Empties, Makes, without_all, IsLeftOut, IsThere}
+use Rattle.alt_drafts.specs.Drafting.{AreDead, Empties, Makes, without_families, IsLeftOut, IsThere}
 use Rattle.alt_drafts.proofs.DeadLaws.{without_all-file, without_all-segments}
 use Rattle.alt_flush.specs.Laws.{DropsOnly}
 use Rattle.alt_layout.specs.Families.{files_of}
@@ -37,23 +37,23 @@ returns-clause-makes c =
 
 pub returns-clause-file : goal.returns-clause-file
 returns-clause-file c = IfOk-weaker c.drop_all.result
-    (λ (u : Version). u ≡ without_all c.args.draft c.as_slice.result.now)
+    (λ (u : Version). u ≡ without_families c.args.draft c.as_slice.result.now)
     (λ (u : Version). u.next_file ≡ c.args.draft.next_file)
     (λ u is. ap (λ (v : Version). v.next_file) is
     ∙ without_all-file c.args.draft c.as_slice.result.now) c.drop_all.ensures.version
 
 pub returns-clause-segments : goal.returns-clause-segments
 returns-clause-segments c = IfOk-weaker c.drop_all.result
-    (λ (u : Version). u ≡ without_all c.args.draft c.as_slice.result.now)
+    (λ (u : Version). u ≡ without_families c.args.draft c.as_slice.result.now)
     (λ (u : Version). u.segments ≡ c.args.draft.segments)
     (λ u is. ap (λ (v : Version). v.segments) is
     ∙ without_all-segments c.args.draft c.as_slice.result.now) c.drop_all.ensures.version
 
 pub returns-clause-version : goal.returns-clause-version
 returns-clause-version c = IfOk-weaker c.drop_all.result
-    (λ (u : Version). u ≡ without_all c.args.draft c.as_slice.result.now)
+    (λ (u : Version). u ≡ without_families c.args.draft c.as_slice.result.now)
     (λ (u : Version). (dead : List ℕ) × AreDead c.args.live.now dead
-    × (u ≡ without_all c.args.draft dead))
+    × (u ≡ without_families c.args.draft dead))
     (λ u is. (
       c.as_slice.result.now,
       subst (AreDead c.args.live.now) (sym c.as_slice.ensures.value) c.in_ok-dead.ensures.dead,
@@ -76,7 +76,7 @@ returns-clause-kept c = on_ok_weaker c.drop_all.result
 
 pub returns-clause-drops : goal.returns-clause-drops
 returns-clause-drops c = IfOk-weaker c.drop_all.result
-    (λ (u : Version). u ≡ without_all c.args.draft c.as_slice.result.now)
+    (λ (u : Version). u ≡ without_families c.args.draft c.as_slice.result.now)
     (λ (u : Version). DropsOnly c.args.draft u c.dead_of.new.files.items)
     (λ u is. drops_dead c.args.draft u c.args.live.now c.as_slice.result.now
     (subst (AreDead c.args.live.now) (sym c.as_slice.ensures.value) c.in_ok-dead.ensures.dead) is
@@ -84,7 +84,7 @@ returns-clause-drops c = IfOk-weaker c.drop_all.result
 
 pub returns-clause-bare : goal.returns-clause-bare
 returns-clause-bare c = IfOk-weaker c.drop_all.result
-    (λ (u : Version). u ≡ without_all c.args.draft c.as_slice.result.now)
+    (λ (u : Version). u ≡ without_families c.args.draft c.as_slice.result.now)
     (λ (u : Version). (family : ℕ) → (IsIn c.args.live.now family → ⊥)
     → files_of u.families family ≡ [])
     (λ u is. bare_dead c.args.draft u c.args.live.now c.as_slice.result.now
@@ -95,7 +95,7 @@ returns-clause-bare c = IfOk-weaker c.drop_all.result
 
 pub returns-clause-past : goal.returns-clause-past
 returns-clause-past c = IfOk-weaker c.drop_all.result
-    (λ (u : Version). u ≡ without_all c.args.draft c.as_slice.result.now)
+    (λ (u : Version). u ≡ without_families c.args.draft c.as_slice.result.now)
     (λ (u : Version). (family : ℕ) → (IsIn c.args.live.now family → ⊥)
     → IsThere c.args.draft (get nat_cmp c.args.families.now family) family
     → IsLeftOut u family (c.args.draft.next_number - 1))
@@ -111,7 +111,7 @@ returns-clause-past c = IfOk-weaker c.drop_all.result
 
 pub returns-clause-same : goal.returns-clause-same
 returns-clause-same c = IfOk-weaker c.drop_all.result
-    (λ (u : Version). u ≡ without_all c.args.draft c.as_slice.result.now)
+    (λ (u : Version). u ≡ without_families c.args.draft c.as_slice.result.now)
     (λ (u : Version). (family : ℕ) → IsIn c.args.live.now family
     → files_of u.families family ≡ files_of c.args.draft.families family)
     (λ u is. same_live c.args.draft u c.args.live.now c.as_slice.result.now

@@ -9,7 +9,7 @@ use Rattle.alt_disk.proofs.Runs.{spans_on, spans_weaker, trusted_back, trusted_o
 use Rattle.alt_flush.specs.Drafts.{From}
 use Rattle.alt_flush.proofs.RemoveLaws.{in_more, none_removed}
 use Rattle.alt_manifest.specs.Versions.{IsIn}
-use Rattle.alt_drafts.specs.Drafting.{IsFlushed}
+use Rattle.alt_drafts.specs.Drafting.{MemoryIsFlushed}
 use Rattle.alt_drafts.proofs.DeadLaws.{others_more}
 use Rattle.alt_drafts.proofs.NeedLaws.{before_apart, needed_more}
 use Rattle.alt_drafts.proofs.LeftOutLaws.{drops_then, in_less}
@@ -86,10 +86,10 @@ loop-family-preserved g c =
       flushed = λ other there. ⊎_elim
           (λ (earlier : IsIn (take i live) other).
           let apart : (other ≡ family → ⊥) = before_apart live i other c.requires.rising within earlier in
-          subst (IsFlushed (get nat_cmp c.args.families.now other)) (sym (one.others other apart))
+          subst (MemoryIsFlushed (get nat_cmp c.args.families.now other)) (sym (one.others other apart))
           (before.flushed other earlier))
-          (λ (e : other ≡ family). subst (λ o. IsFlushed (get nat_cmp c.args.families.now o)
-          (get nat_cmp new o)) (sym e) (subst (λ o. IsFlushed o (get nat_cmp new family))
+          (λ (e : other ≡ family). subst (λ o. MemoryIsFlushed (get nat_cmp c.args.families.now o)
+          (get nat_cmp new o)) (sym e) (subst (λ o. MemoryIsFlushed o (get nat_cmp new family))
           (before.others family (λ earlier. before_apart live i family c.requires.rising within earlier
           refl)) one.flushed)) (in_more live i other within there);
       others = λ other not_in. others_more old new c.args.families.now live i other within one.others

@@ -11,7 +11,7 @@ use Rattle.alt_layout.specs.Layout.{Layout}
 use Rattle.alt_manifest.specs.Versions.{IsIn}
 use Rattle.alt_writes.specs.Writes.{Write}
 use Rattle.alt_drafts.specs.Carrying.{CarriesDraft}
-use Rattle.alt_drafts.specs.Drafting.{IsFlushed, Makes, files_needed}
+use Rattle.alt_drafts.specs.Drafting.{MemoryIsFlushed, Makes, files_needed}
 use Rattle.alt_drafts.proofs.flushing.flush_each.Given as goal
 
 abbrev pub invariant-loop-family : goal.invariant-loop-family
@@ -28,7 +28,7 @@ invariant-loop-family g l = record {
   low : l.fn.draft.next_file ≤ l.draft.next_file;
   segments : l.draft.segments ≡ l.fn.draft.segments;
   flushed : (family : ℕ) → IsIn (take l.family-index l.live) family
-      → IsFlushed (get nat_cmp l.fn.families family) (get nat_cmp l.families family);
+      → MemoryIsFlushed (get nat_cmp l.fn.families family) (get nat_cmp l.families family);
   others : (family : ℕ) → (IsIn (take l.family-index l.live) family → ⊥)
       → get nat_cmp l.families family ≡ get nat_cmp l.fn.families family;
   drops : DropsOnly l.fn.draft l.draft [];

@@ -6,8 +6,8 @@ use Rattle.std.specs.Ordering.{nat_cmp}
 use Rattle.alt_disk.specs.Disk.{DiskState}
 use Rattle.alt_layout.specs.Layout.{RowMap}
 use Rattle.alt_manifest.specs.declared.version.Version.{Version}
-use Rattle.alt_rowfile.specs.InHand.{Stands as RowFileStands}
-use Rattle.alt_rowfile.specs.Sinks.{Anything}
+use Rattle.alt_rowfile.specs.InHand.{StandsForRows as RowFileStands}
+use Rattle.alt_rowfile.specs.Sinks.{AnyFileContents}
 use Rattle.alt_families.specs.Families.{rows_in}
 use Rattle.alt_drafts.specs.Drafting.{Makes, files_for, is_some_row, IsLeftOut}
 use Rattle.alt_drafts.proofs.DeadLaws.{no_rows_in}
@@ -18,7 +18,7 @@ use Rattle.alt_drafts.proofs.CarryDrafts.{carries_flush, carries_same}
 use Rattle.alt_flush.specs.Laws.{DropsOnly}
 use Rattle.alt_flush.proofs.NamedLaws.{flush_drops}
 use Rattle.alt_layout.specs.Families.{files_of, flushed_of}
-use Rattle.alt_layout.proofs.FlushLaws.{of-other}
+use Rattle.alt_layout.proofs.FlushedFiles.{of-other}
 use Rattle.alt_manifest.specs.declared.version.FamilyVersion.{FamilyVersion}
 use Rattle.alt_drafts.proofs.LeftOutLaws.{named_file}
 use Rattle.alt_drafts.proofs.flushing.flush_rows.Goals as goal
@@ -52,7 +52,7 @@ returns-clause-makes g c trusted parts l makes =
     let made = c.in_ok-made-in-Some in
     subst (λ (v : Version). Makes b v c.put_file.new.families parts l) (sym c.in_ok-next.ensures)
     (makes_flush a b c.args.draft c.args.families.now parts l makes c.args.family
-    (let fits = c.ranges.family in omega (arith, fits)) (search rules) Anything
+    (let fits = c.ranges.family in omega (arith, fits)) (search rules) AnyFileContents
     (made.ensures.any_moment trusted) made.made made.ensures.file
     (subst (λ (m : RowMap). RowFileStands b made.made (entries m))
     (ap rows_in c.in-Some.ensures.value) (made.ensures.rows trusted))
@@ -74,7 +74,7 @@ returns-clause-carries g c trusted parts l makes other =
     let made = c.in_ok-made-in-Some in
     subst (λ (v : Version). CarriesDraft a b c.args.draft v (get nat_cmp c.args.families.now other)
     (get nat_cmp c.put_file.new.families other) other) (sym c.in_ok-next.ensures)
-    (carries_flush a b c.args.draft c.args.families.now parts l makes c.args.family Anything
+    (carries_flush a b c.args.draft c.args.families.now parts l makes c.args.family AnyFileContents
     (made.ensures.any_moment trusted) made.made made.ensures.file
     (subst (λ (m : RowMap). RowFileStands b made.made (entries m))
     (ap rows_in c.in-Some.ensures.value) (made.ensures.rows trusted))

@@ -3,7 +3,7 @@ use Rattle.std.proofs.Common.{◌≡◌, ◌<◌, ⊎_elim, take, subst, sym, ar
 use Rattle.std.specs.BTreeMap.{get}
 use Rattle.std.specs.Ordering.{nat_cmp}
 use Rattle.alt_families.specs.Memory.{IsChanged}
-use Rattle.alt_drafts.specs.InHand.{bytes_in}
+use Rattle.alt_drafts.specs.InHand.{bytes_in_memory}
 use Rattle.alt_drafts.proofs.FullLaws.{changed_more}
 use Rattle.alt_drafts.proofs.full.fills.Goals as goal
 
@@ -15,6 +15,6 @@ loop-change-preserved c family there =
     ⊎_elim (λ (old : IsChanged (take i cs) family). c.loop-change.invariant family old)
     (λ (e : family ≡ x.family).
     let bytes = c.bytes_of.ensures in let low = c.if-bytes_of-flush.false in
-    subst (λ f. bytes_in (get nat_cmp c.args.families.now f) < c.args.flush) (sym e)
+    subst (λ f. bytes_in_memory (get nat_cmp c.args.families.now f) < c.args.flush) (sym e)
     (omega (arith, bytes, low)))
     (changed_more cs i family x c.loop-change-test.true c.change-item.is there)

@@ -4,7 +4,7 @@ use Rattle.std.specs.BTreeMap.{get}
 use Rattle.std.specs.Ordering.{nat_cmp}
 use Rattle.alt_flush.proofs.RemoveLaws.{in_more}
 use Rattle.alt_manifest.specs.Versions.{IsIn}
-use Rattle.alt_drafts.specs.InHand.{bytes_in}
+use Rattle.alt_drafts.specs.InHand.{bytes_in_memory}
 use Rattle.alt_drafts.proofs.NeedLaws.{in_before}
 use Rattle.alt_drafts.proofs.full.first_full.Goals as goal
 use Rattle.alt_manifest.proofs.Among.{in_at}
@@ -24,7 +24,7 @@ loop-family-preserved c other there full =
     let live = c.args.live.now in
     ⊎_elim (λ (earlier : IsIn (take i live) other). c.loop-family.invariant other earlier full)
     (λ (e : other ≡ get_or live i 0).
-    let it : c.args.flush ≤ bytes_in (get nat_cmp c.args.families.now (get_or live i 0)) =
-    subst (λ f. c.args.flush ≤ bytes_in (get nat_cmp c.args.families.now f)) e full in
+    let it : c.args.flush ≤ bytes_in_memory (get nat_cmp c.args.families.now (get_or live i 0)) =
+    subst (λ f. c.args.flush ≤ bytes_in_memory (get nat_cmp c.args.families.now f)) e full in
     let bytes = c.bytes_of.ensures in let low = c.if-bytes_of-flush.false in
     omega (arith, it, bytes, low)) (in_more live i other c.loop-family-test.true there)

@@ -1,4 +1,4 @@
-use Rattle.std.proofs.Common.{◌≡◌, ◌<◌, length, true, false, Some, None, Ok, subst, sym}
+use Rattle.std.proofs.Common.{true, false, Some, None, Ok, subst, sym}
 use Rattle.alt_expr.specs.Lexed.{Lexed}
 use Rattle.alt_expr.proofs.Tokenized.{Continues, ends, one_on, shorter}
 use Rattle.alt_expr.proofs.all.tokens.Goals as goal

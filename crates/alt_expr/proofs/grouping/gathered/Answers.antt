@@ -1,4 +1,4 @@
-use Rattle.std.proofs.Common.{◌≡◌, [], cond, Bool, true, false, Option, Some, None, refl, sym, ap, arith, rules, ◌∙◌}
+use Rattle.std.proofs.Common.{◌≡◌, [], cond, Bool, true, false, Some, None, refl, ap, arith, rules, ◌∙◌}
 use Rattle.std.specs.Option.{option_map_or}
 use Rattle.std.specs.Ordering.{eq_by_cmp}
 use Rattle.std.specs.BTreeMap.{get}

@@ -2,7 +2,7 @@ use Rattle.std.proofs.Common.{◌≡◌, sym, subst, ◌∙◌, ap}
 use Rattle.std.specs.Str.{IsCharBoundary}
 use Rattle.std.specs.List.{prefix_len}
 use Rattle.alt_expr.specs.Spelling.{is_blank}
-use Rattle.alt_expr.proofs.Longest.{blank_cut}
+use Rattle.alt_expr.proofs.AsciiCuts.{blank_cut}
 use Rattle.alt_expr.proofs.lexer.skip.Goals as goal
 
 pub range_from-requires : goal.range_from-requires

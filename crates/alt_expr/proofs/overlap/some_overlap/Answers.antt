@@ -1,5 +1,5 @@
 -- Paths in order overlap where one begins with the one right before it.
-use Rattle.std.proofs.Common.{◌≡◌, ap, map, sym, ◌∙◌, List}
+use Rattle.std.proofs.Common.{ap, map, sym, ◌∙◌, List}
 use denote.Ref.{Bor}
 use Rattle.alt_expr.specs.PathOrder.{is_before_one}
 use Rattle.alt_expr.specs.PathsGrammar.{some_overlap}

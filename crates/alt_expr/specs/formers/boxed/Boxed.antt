@@ -38,8 +38,8 @@ fields = via (pair (const (Ptr × Global)) this) Inside
     (λ X a. refl) (λ X v. refl)
 
 -- a box with another value in it
-abbrev with_value : {X Y : Type 0} → Box X Global → Y → Box Y Global
-with_value b y = record { ptr = b.ptr; alloc = b.alloc; value = y }
+abbrev box_with_value : {X Y : Type 0} → Box X Global → Y → Box Y Global
+box_with_value b y = record { ptr = b.ptr; alloc = b.alloc; value = y }
 
 -- a box as a type of values
 abbrev box_of : RattleType → RattleType
@@ -47,16 +47,16 @@ box_of R = box.the_row R heap.the_row ghosts
 
 module _ (R S : RattleType) (h : R.Denot → S.Denot) where
   -- boxes of values that are alike are alike
-  box_places : Alike R S h → Alike (box_of R) (box_of S) (λ b. with_value b (h b.value))
+  box_places : Alike R S h → Alike (box_of R) (box_of S) (λ b. box_with_value b (h b.value))
   unfolding part_of
   box_places a = record {
     mir_same = λ i. (box_of (one_value R (a.mir_same i) (λ _. ftrue) (λ _ _. nothing) gnil)).mir;
     own_same = λ b i.
         (box_of (one_value R (a.mir_same i) (a.own_same b.value i)
-        (a.shr_same b.value i) gnil)).own_val (with_value b tt);
+        (a.shr_same b.value i) gnil)).own_val (box_with_value b tt);
     shr_same = λ b i.
         (box_of (one_value R (a.mir_same i) (a.own_same b.value i)
-        (a.shr_same b.value i) gnil)).shr_at (with_value b tt);
+        (a.shr_same b.value i) gnil)).shr_at (box_with_value b tt);
   }
 
   -- and so are what holds them
@@ -67,7 +67,7 @@ module _ (R S : RattleType) (h : R.Denot → S.Denot) where
       (invariant R.Denot) (invariant S.Denot) (λ u p q. refl) (λ u p q. refl)
       (λ u e. tt) (λ u e. tt)
       (over (I.the_row R)) (over (I.the_row S))
-      (struct_places (I.the_type R) (I.the_type S) ((λ b. with_value b (h b.value)), tt) _
+      (struct_places (I.the_type R) (I.the_type S) ((λ b. box_with_value b (h b.value)), tt) _
       (λ d. refl) refl (laid _ _ _ (box_places a), tt))
 
   -- values with one code have it in a box too

@@ -4,7 +4,7 @@ use Rattle.alt_layout.specs.Files.{IsOf}
 use Rattle.alt_layout.specs.Fresh.{versions_file}
 use Rattle.alt_layout.proofs.FileLaws.{in_either}
 use Rattle.alt_manifest.proofs.RuleLaws.{tells_both, tells_no, tells_yes}
-use Rattle.alt_manifest.specs.Rules.{Tells}
+use Rattle.alt_manifest.specs.Rules.{Reflects}
 use Rattle.alt_manifest.specs.Versions.{IsIn, files_named, row_files}
 use Rattle.alt_flush.proofs.remove.is_of.Goals as goal
 use Rattle.alt_manifest.proofs.Among.{in_back, in_front}
@@ -29,5 +29,5 @@ returns c =
     (λ of. ⊎_elim (λ (first : file ≡ versions_file). absurd (not_first first))
     (λ (there : IsIn (files_named v) file). in_either v.segments (row_files v.families) file
     (λ here. absurd (no_segment here)) (λ later. later) there) of)
-    (subst (λ fs. Tells c.has_row_file.result (IsIn (row_files fs) file)) c.as_slice-2.ensures
+    (subst (λ fs. Reflects c.has_row_file.result (IsIn (row_files fs) file)) c.as_slice-2.ensures
     c.has_row_file.ensures)

@@ -1,5 +1,5 @@
 use Rattle.std.proofs.lemmas.Grind.{common_steps}
-use Rattle.std.proofs.Common.{◌≡◌, ◌++◌, ◌∷◌, [], arith}
+use Rattle.std.proofs.Common.{arith}
 use Rattle.alt_gatelog.specs.Log.{framed}
 use Rattle.alt_gatelog.proofs.frame.frame_of.Goals as goal
 

@@ -6,7 +6,7 @@ use Rattle.alt_layout.specs.Families.{flushed_of}
 use Rattle.alt_layout.specs.Files.{Image}
 use Rattle.alt_manifest.specs.InHand.{version_of}
 use Rattle.alt_manifest.specs.declared.version.FamilyVersion.{FamilyVersion}
-use Rattle.alt_recovery.specs.Families.{AreFamilies, ExplainsFamilies}
+use Rattle.alt_recovery.specs.Families.{AreOpenedFamilies, ExplainsFamilies}
 use Rattle.alt_recovery.specs.Replays.{ExplainsSegments, ReplaysLast}
 use Rattle.alt_recovery.specs.declared.replay.Replay.{Replay}
 use Rattle.alt_hand.specs.Recovery.{ExplainsStore}
@@ -40,7 +40,7 @@ returns-in-Ok-replay_segments-clause-ok g c told reads first =
     found_of a b d m c.in-Ok.families c.in_ok-flushed.flushed start c.replay_segments.new.replay
     c.in-Ok-replay_segments.log opened.0 reads first (c.open_families.ensures.quiet told)
     (c.replay_segments.ensures.quiet told_b)
-    (subst (λ (fs : List FamilyVersion). AreFamilies b opened.0 fs c.in-Ok.families)
+    (subst (λ (fs : List FamilyVersion). AreOpenedFamilies b opened.0 fs c.in-Ok.families)
     (c.as_slice.ensures ∙ ap (λ v. v.families) c.current.ensures) opened.1)
     (λ family. c.in_ok-flushed.ensures family ∙ ap (λ fs. flushed_of fs family)
     (c.as_slice-2.ensures ∙ ap (λ v. v.families) c.current-2.ensures)) refl

@@ -1,5 +1,5 @@
 use Rattle.std.proofs.Common.{◌+◌, Some, None, List, ℕ, take, subst, sym}
-use Rattle.alt_http.specs.Feeds.{EndsAt, IsLastFront, IsPlain}
+use Rattle.alt_http.specs.Feeds.{LastLineFeedStandsAt, IsLastFront, IsPlain}
 use Rattle.alt_http.proofs.Fronts.{last_feed, last_front}
 use Rattle.alt_http.proofs.reading.last_front.Goals as goal
 
@@ -8,9 +8,9 @@ returns-in-Some c =
     let bytes = c.args.bytes.now in
     let place = c.in-Some.place in
     let w = c.window-within.result.now in
-    let ends : EndsAt w place = last_feed w (Some place) c.in-Some.ensures in
+    let ends : LastLineFeedStandsAt w place = last_feed w (Some place) c.in-Some.ensures in
     subst (λ (l : List ℕ). IsLastFront bytes (take (place + 1) l)) (sym c.window-within.ensures)
-    (last_front bytes place (subst (λ (l : List ℕ). EndsAt l place) c.window-within.ensures ends))
+    (last_front bytes place (subst (λ (l : List ℕ). LastLineFeedStandsAt l place) c.window-within.ensures ends))
 
 pub returns-in-None : goal.returns-in-None
 returns-in-None c =

@@ -1,7 +1,7 @@
 use Rattle.std.proofs.Common.{◌≡◌, [], List, ℕ, subst}
 use Rattle.std.proofs.lemmas.Result.{IfOk-weaker}
 use Rattle.alt_http.specs.declared.outcome.Scan.TheVariants.{More}
-use Rattle.alt_http.specs.Judged.{IsScan, Stays, LiesIn}
+use Rattle.alt_http.specs.Judged.{IsScan, ScanStays, LiesIn}
 use Rattle.alt_http.specs.Reading.{scan_of}
 use Rattle.alt_http.proofs.Answering.{is-scan_of}
 use Rattle.alt_http.proofs.Laws.{IsScan_unique, IsScan_nothing, IsScan_final, IsScan_within}
@@ -15,7 +15,7 @@ returns-clause-nothing c none =
 
 pub returns-clause-stays : goal.returns-clause-stays
 returns-clause-stays c = IfOk-weaker c.answer.result (IsScan c.args.bytes.now)
-    (Stays c.args.bytes.now) (IsScan_final c.args.bytes.now) c.answer.ensures
+    (ScanStays c.args.bytes.now) (IsScan_final c.args.bytes.now) c.answer.ensures
 
 pub returns-clause-within : goal.returns-clause-within
 returns-clause-within c = IfOk-weaker c.answer.result (IsScan c.args.bytes.now)

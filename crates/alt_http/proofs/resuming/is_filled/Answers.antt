@@ -1,6 +1,6 @@
 use Rattle.std.proofs.Common.{◌-◌, length, ap, ◌∙◌, arith}
 use Rattle.std.specs.Prelude.{not}
-use Rattle.alt_http.proofs.Continuing.{blank_at}
+use Rattle.alt_http.proofs.LastLine.{blank_at}
 use Rattle.alt_http.proofs.resuming.is_filled.Goals as goal
 
 pub returns-then-lines-size-ne13-clause-blank : goal.returns-then-lines-size-ne13-clause-blank

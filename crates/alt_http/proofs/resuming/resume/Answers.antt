@@ -1,5 +1,6 @@
 use Rattle.std.proofs.Common.{◌≡◌, take, true, false, inl, inr}
-use Rattle.alt_http.proofs.Continuing.{same_front, resumed_far, within_filled}
+use Rattle.alt_http.proofs.Continuing.{same_front, resumed_far}
+use Rattle.alt_http.proofs.LastLine.{within_filled}
 use Rattle.alt_http.proofs.resuming.resume.Goals as goal
 
 pub without_head-requires : goal.without_head-requires

@@ -1,11 +1,13 @@
 -- The laws of layouts.
 use Rattle.alt_layout.proofs.BatchLaws.{shows_batch}
 use Rattle.alt_layout.proofs.FamilyLaws.{flushed_files, flushed_rows}
-use Rattle.alt_layout.proofs.FlushLaws.{flush_same, stored_with, version_with_is}
+use Rattle.alt_layout.proofs.FlushLaws.{stored_with, version_with_is}
+use Rattle.alt_layout.proofs.FlushedLayout.{flush_same}
 use Rattle.alt_layout.proofs.FreshLaws.{fresh_layout}
 use Rattle.alt_layout.proofs.CompactionLaws.{compaction, compaction_is}
 use Rattle.alt_layout.proofs.MergedLaws.{named_made, shows_made, stored_made, version_made_is}
-use Rattle.alt_layout.proofs.MergeLaws.{merged_shown, same_after_all}
+use Rattle.alt_layout.proofs.MergeLaws.{merged_shown}
+use Rattle.alt_layout.proofs.LaterWrites.{same_after_all}
 use Rattle.alt_layout.proofs.OneLayout.{one_layout}
 use Rattle.alt_layout.proofs.PastLaws.{image_past}
 use Rattle.alt_layout.proofs.ShownLaws.{get-shown_rows}

@@ -3,7 +3,7 @@ use Rattle.std.proofs.Common.{refl, sym, ap, ◌∙◌, ℕ, List, map, Option, 
 use Rattle.std.specs.Prelude.{is_some, not}
 use Rattle.serde_json.specs.View.{view, items_view}
 use Rattle.serde_json.specs.declared.value.Value.{Value}
-use Rattle.alt_legacy.specs.Trees.{path}
+use Rattle.alt_legacy.specs.Trees.{attribute_path}
 use Rattle.alt_legacy.proofs.Listed.{listed_paths, listed_twice, filled}
 use Rattle.alt_legacy.proofs.names.names_of.Goals as goal
 
@@ -32,4 +32,4 @@ returns-clause-paths c =
     ))
     (ap (λ (o : Option (List (List ℕ))). is_some o) (sym c.from_members.ensures.set)
     ∙ c.is_none.ensures ∙ ap not c.if-is_none.false)
-    (c.in_ok-paths.ensures ∙ ap (λ (ns : List (List ℕ)). map path ns) c.as_slice-2.ensures.value)
+    (c.in_ok-paths.ensures ∙ ap (λ (ns : List (List ℕ)). map attribute_path ns) c.as_slice-2.ensures.value)

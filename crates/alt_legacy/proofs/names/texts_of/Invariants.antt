@@ -2,10 +2,10 @@
 use Rattle.std.proofs.Common.{◌≡◌, ◌++◌, drop}
 use Rattle.std.specs.Prelude.{option_map}
 use Rattle.serde_json.specs.View.{items_view}
-use Rattle.alt_legacy.specs.Names.{texts_in}
+use Rattle.alt_legacy.specs.Names.{element_names}
 use Rattle.alt_legacy.proofs.names.texts_of.Given as goal
 
 abbrev pub invariant-loop-v : goal.invariant-loop-v
 invariant-loop-v l =
-    texts_in (items_view l.items) ≡ option_map (λ ns. l.found.items ++ ns)
-    (texts_in (items_view (drop l.v-index l.items)))
+    element_names (items_view l.items) ≡ option_map (λ ns. l.found.items ++ ns)
+    (element_names (items_view (drop l.v-index l.items)))

@@ -9,34 +9,34 @@ use Rattle.alt_expr.specs.declared.update.Action.{Action}
 use Rattle.alt_shape.specs.Shape.{given}
 use Rattle.alt_legacy.specs.Answered.{IsBad}
 use Rattle.alt_legacy.specs.declared.fault.LegacyFault.{LegacyFault}
-use Rattle.alt_legacy.specs.Changes.{Change, change_by, change_of, named_change}
+use Rattle.alt_legacy.specs.Changes.{AttributeChange, change_by, entry_change, named_change}
 use Rattle.alt_legacy.specs.Trees.{action_for, action_of}
 use Rattle.alt_legacy.proofs.Listed.{filled}
 use Rattle.alt_legacy.proofs.update.action.Goals as goal
 
 -- the change of a name and its action
-named_action : (name : List ℕ) (o : Option Change)
-    → option_map action_of (option_map (λ (x : Change). record { name = name; change = x }) o)
+named_action : (name : List ℕ) (o : Option AttributeChange)
+    → option_map action_of (option_map (λ (x : AttributeChange). record { name = name; change = x }) o)
     ≡ option_map (action_for name) o
 named_action name None = refl
 named_action name (Some x) = refl
 
 -- an entry of the name makes what its members do
 made : (name : List ℕ) (d : Data) (ms : Members) → 0 < length name → Some ms ≡ as_object d
-    → option_map action_of (named_change name d) ≡ option_map (action_for name) (change_of ms)
+    → option_map action_of (named_change name d) ≡ option_map (action_for name) (entry_change ms)
 made [] d ms h is = absurd (omega (arith, h))
-made (b ∷ bs) d ms h is = named_action (b ∷ bs) (option_and_then change_of (as_object d))
-    ∙ ap (λ (o : Option Members). option_map (action_for (b ∷ bs)) (option_and_then change_of o)) (sym is)
+made (b ∷ bs) d ms h is = named_action (b ∷ bs) (option_and_then entry_change (as_object d))
+    ∙ ap (λ (o : Option Members). option_map (action_for (b ∷ bs)) (option_and_then entry_change o)) (sym is)
 
 -- and makes nothing where they don't
 none_made : (name : List ℕ) (d : Data) (ms : Members) → Some ms ≡ as_object d
-    → change_of ms ≡ None → named_change name d ≡ None
+    → entry_change ms ≡ None → named_change name d ≡ None
 none_made [] d ms is e = refl
 none_made (b ∷ bs) d ms is e =
     ap (λ (o : Option Members). option_map
-    (λ (x : Change). record { name = b ∷ bs; change = x }) (option_and_then change_of o)) (sym is)
-    ∙ ap (λ (o : Option Change). option_map
-    (λ (x : Change). record { name = b ∷ bs; change = x }) o) e
+    (λ (x : AttributeChange). record { name = b ∷ bs; change = x }) (option_and_then entry_change o)) (sym is)
+    ∙ ap (λ (o : Option AttributeChange). option_map
+    (λ (x : AttributeChange). record { name = b ∷ bs; change = x }) o) e
 
 module _ (name m : List ℕ) (d : Data) (ms : Members) (word : Option (List ℕ)) (v : Option Data)
     (is : Some ms ≡ as_object d) (same : m ≡ name)

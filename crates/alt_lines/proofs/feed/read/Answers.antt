@@ -1,17 +1,17 @@
 use Rattle.std.proofs.Common.{◌≡◌, ℕ, List, Bool, true, false, cond, refl, sym, ap, ◌∙◌, subst, arith}
 use Rattle.alt_lines.specs.declared.feed.Cut.TheVariants.{Whole, TooLong}
 use Rattle.alt_lines.specs.Lines.{Line, too_long, whole, read_line}
-use Rattle.alt_lines.specs.Unread.{Tells}
+use Rattle.alt_lines.specs.Unread.{TellsLine}
 use Rattle.alt_lines.proofs.Feeds.{read_line-long, read_line-short}
 use Rattle.alt_lines.proofs.feed.read.Goals as goal
 use Rattle.alt_lines.proofs.feed.read.Goals.{then-past-via-then-past, then-past-via-else-past+then-line-most}
 
 -- a line that is too long, however it is known
 long_told : (past : Bool) (read : Line) (out : List ℕ) → (past ≡ false → read ≡ too_long)
-    → Tells (cond past too_long read) TooLong out out
+    → TellsLine (cond past too_long read) TooLong out out
 long_told true read out long = (refl, refl)
 long_told false read out long =
-    subst (λ (l : Line). Tells l TooLong out out) (sym (long refl)) (refl, refl)
+    subst (λ (l : Line). TellsLine l TooLong out out) (sym (long refl)) (refl, refl)
 
 pub returns-then-past-clause-told : goal.returns-then-past-clause-told
 returns-then-past-clause-told c =
@@ -30,7 +30,7 @@ returns-in-Ok-clause-told c =
     ≡ whole c.stripped.result.now =
     ap (λ (t : Bool). cond t too_long (read_line c.args.most line)) c.if-past.false
     ∙ read_line-short c.args.most line (omega arith) ∙ ap whole (sym c.stripped.ensures) in
-    subst (λ (l : Line). Tells l Whole out c.extend_from_slice.new.self.items) (sym read) (
+    subst (λ (l : Line). TellsLine l Whole out c.extend_from_slice.new.self.items) (sym read) (
       refl,
       c.in-Ok.ensures.items,
     )

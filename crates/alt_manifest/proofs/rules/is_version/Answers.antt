@@ -4,7 +4,7 @@ use Rattle.std.proofs.lemmas.Bool.Decides.{nat_tests}
 use Rattle.std.proofs.lemmas.Result.{IfOk-weaker}
 use Rattle.std.specs.List.{AllByRecursion}
 use Rattle.alt_manifest.specs.Versions.{AreDistinct, IsVersion, RiseFrom, files_named}
-use Rattle.alt_manifest.specs.Rules.{AreFamilies, Tells}
+use Rattle.alt_manifest.specs.Rules.{AreFamilies, Reflects}
 use Rattle.alt_manifest.proofs.RuleLaws.{tells_no, tells_yes, tells_both, from_families, named_put, is_version}
 use Rattle.alt_manifest.proofs.rules.is_version.Goals as goal
 
@@ -41,8 +41,8 @@ returns c =
     let some : 0 < length v.segments =
     subst (λ (xs : List ℕ). 0 < length xs) c.as_slice-segments.ensures
     (grind (arith, nat_tests, c.is_empty.ensures, c.if-is_empty.false)) in
-    IfOk-weaker c.are_distinct.result (λ b. Tells b (AreDistinct named))
-    (λ b. Tells b (IsVersion v)) (λ b. tells_both b (AreDistinct named) (IsVersion v)
+    IfOk-weaker c.are_distinct.result (λ b. Reflects b (AreDistinct named))
+    (λ b. Reflects b (IsVersion v)) (λ b. tells_both b (AreDistinct named) (IsVersion v)
     (λ differ. is_version v named c.requires (omega (arith, c.if-version-lt1.false))
     (omega (arith, c.if-version-gt-LAST_NUMBER.false)) some rise families put below differ)
     (λ is. subst AreDistinct (sym put) is.differ)) c.are_distinct.ensures

@@ -1,7 +1,7 @@
 use Rattle.std.proofs.Common.{◌∙◌, sym, ap, subst, add-one, Some}
 use Rattle.std.proofs.lemmas.List.{get_or_default}
 use Rattle.alt_merge.specs.declared.head.Head.TheVariants.{Due}
-use Rattle.alt_merge.specs.Merges.{IsHeld}
+use Rattle.alt_merge.specs.Merges.{HeadHoldsRow}
 use Rattle.alt_merge.specs.Tied.{BestTo, comes_before}
 use Rattle.alt_merge.proofs.Least.{best_same, best_first, best_new, best_kept, not_held}
 use Rattle.alt_merge.proofs.gather.better.Goals as goal
@@ -13,7 +13,7 @@ returns-in_default c =
     c.requires.inside in
     subst (λ n. BestTo c.args.forward c.args.heads.now n c.args.best) (sym (add-one c.args.i))
     (best_same c.args.forward c.args.heads.now c.args.best c.args.i c.requires.inside
-    (subst (λ h. IsHeld h → ⊥) here (not_held c.index-heads-i.result c.in_default.not-Held))
+    (subst (λ h. HeadHoldsRow h → ⊥) here (not_held c.index-heads-i.result c.in_default.not-Held))
     c.requires.best)
 
 pub returns-in-None : goal.returns-in-None

@@ -14,7 +14,7 @@ use Rattle.alt_hand.proofs.EndLaws.{works_same, works_still}
 use Rattle.alt_hand.proofs.NeedLaws.{before_apart}
 use Rattle.alt_merging.specs.Merged.{AreMerged}
 use Rattle.alt_layout.proofs.MomentLaws.{same_or_not}
-use Rattle.alt_hand.specs.Adding.{Adds, LeavesOut}
+use Rattle.alt_hand.specs.Adding.{AddsVersion, LeavesOut}
 use Rattle.alt_hand.proofs.LeftOutLaws.{in_first, in_less}
 use Rattle.alt_manifest.proofs.Among.{in_at}
 use Rattle.alt_merging.proofs.EachLaws.{adds_then, leaves_then, merged_on, still_back, works_on, works_then}
@@ -160,10 +160,10 @@ loop-family-preserved g c =
           (λ was now. let so_far = before.ok trusted m stands in
           adds_then a b d first old new m stands (before.adds was trusted m stands)
           (one.adds now (told trusted)) before.low (one.missing (told trusted) so_far.0 so_far.1))
-          (λ was off. subst (λ (h : Hand). Adds d first h) (sym (one.idle_hand off))
-          (subst (λ (s : DiskState). Adds s first old) (sym (one.idle_disk off))
+          (λ was off. subst (λ (h : Hand). AddsVersion d first h) (sym (one.idle_hand off))
+          (subst (λ (s : DiskState). AddsVersion s first old) (sym (one.idle_disk off))
           (before.adds was trusted m stands)))
-          (λ off now. subst (λ (h : Hand). Adds d h new) (before.idle_hand off)
+          (λ off now. subst (λ (h : Hand). AddsVersion d h new) (before.idle_hand off)
           (one.adds now (told trusted)));
       missing = λ trusted m stands f below none. let so_far = before.ok trusted m stands in
           let low = before.low in

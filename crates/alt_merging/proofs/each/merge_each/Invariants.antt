@@ -4,9 +4,9 @@ use Rattle.alt_disk.specs.Disk.{IsTrusted, Goes}
 use Rattle.alt_disk.specs.Runs.{Spans}
 use Rattle.alt_layout.specs.Layout.{Layout}
 use Rattle.alt_manifest.specs.Versions.{IsIn}
-use Rattle.alt_hand.specs.Adding.{Adds, LeavesOut, MakesNone}
+use Rattle.alt_hand.specs.Adding.{AddsVersion, LeavesOut, MakesNone}
 use Rattle.alt_hand.specs.Carrying.{AreStill}
-use Rattle.alt_hand.specs.InHand.{Stands, length_of, limits_of, next_file_of, next_of}
+use Rattle.alt_hand.specs.InHand.{HandStandsForLayout, length_of, limits_of, next_file_of, next_of}
 use Rattle.alt_hand.specs.Merging.{files_at, memory_at}
 use Rattle.alt_hand.specs.Working.{Works, WorksIn}
 use Rattle.alt_merging.specs.Merged.{AreMerged}
@@ -14,8 +14,8 @@ use Rattle.alt_merging.proofs.each.merge_each.Given as goal
 
 abbrev pub invariant-loop-family : goal.invariant-loop-family
 invariant-loop-family g l = let state = g.D.Disk.state in record {
-  ok : IsTrusted (state l.fn.disk) → (m : Layout) → Stands (state l.fn.disk) l.fn.hand m
-      → (n : Layout) × Stands (state l.disk) l.hand n × Works l.live m n;
+  ok : IsTrusted (state l.fn.disk) → (m : Layout) → HandStandsForLayout (state l.fn.disk) l.fn.hand m
+      → (n : Layout) × HandStandsForLayout (state l.disk) l.hand n × Works l.live m n;
   merged : IsTrusted (state l.fn.disk) → (family : ℕ) → IsIn (take l.family-index l.live) family
       → AreMerged (state l.disk) (files_at l.hand family);
   files : (family : ℕ) → IsIn l.live family
@@ -38,15 +38,15 @@ invariant-loop-family g l = let state = g.D.Disk.state in record {
       → files_at l.hand family ≡ files_at l.fn.hand family;
   leaves_out : l.merged ≡ true → LeavesOut l.live l.fn.hand l.hand;
   adds : l.merged ≡ true → IsTrusted (state l.fn.disk) → (m : Layout)
-      → Stands (state l.fn.disk) l.fn.hand m → Adds (state l.disk) l.fn.hand l.hand;
-  missing : IsTrusted (state l.fn.disk) → (m : Layout) → Stands (state l.fn.disk) l.fn.hand m
+      → HandStandsForLayout (state l.fn.disk) l.fn.hand m → AddsVersion (state l.disk) l.fn.hand l.hand;
+  missing : IsTrusted (state l.fn.disk) → (m : Layout) → HandStandsForLayout (state l.fn.disk) l.fn.hand m
       → MakesNone (state l.fn.disk) (state l.disk) (next_file_of l.fn.hand);
   low : next_file_of l.fn.hand ≤ next_file_of l.hand;
   next_file : next_file_of l.hand ≤ next_file_of l.fn.hand + l.family-index;
   length : length_of l.hand ≡ length_of l.fn.hand;
   next : next_of l.hand ≡ next_of l.fn.hand;
   limits : limits_of l.hand ≡ limits_of l.fn.hand;
-  spans : IsTrusted (state l.fn.disk) → (m : Layout) → Stands (state l.fn.disk) l.fn.hand m
+  spans : IsTrusted (state l.fn.disk) → (m : Layout) → HandStandsForLayout (state l.fn.disk) l.fn.hand m
       → Spans (state l.fn.disk) (state l.disk) (λ g. Unit {0}) (WorksIn l.live m);
   goes : Goes (state l.fn.disk) (state l.disk);
   well : (state l.disk).faults ≡ (state l.fn.disk).faults;

@@ -3,7 +3,7 @@ use Rattle.std.proofs.Common.{◌∷◌, length, drop, sym, ap, subst, ◌∙◌
 use Rattle.alt_disk.specs.Disk.{DiskState}
 use Rattle.alt_disk.proofs.Runs.{trusted_back, trusted_on}
 use Rattle.alt_filemerge.specs.FileMerges.{ReadEach}
-use Rattle.alt_manifest.specs.Rules.{Tells}
+use Rattle.alt_manifest.specs.Rules.{Reflects}
 use Rattle.alt_hand.specs.Merging.{files_at}
 use Rattle.alt_hand.specs.Carrying.{AreStill}
 use Rattle.alt_hand.proofs.BesideLaws.{drop_all, files_read}
@@ -26,7 +26,7 @@ returns-then-merged-clause-merged g c trusted =
     let live = c.args.live.now in
     let given = c.requires.ready trusted in
     let read = files_read a e given.0 family given.1.reads in
-    let at = subst (λ t. Tells t (AreMerged a c.files.result.now)) c.if-merged.true
+    let at = subst (λ t. Reflects t (AreMerged a c.files.result.now)) c.if-merged.true
     (c.are_merged-merged.ensures.merged a read.0
     (subst (λ fs. ReadEach a fs read.0) (sym c.files.ensures) read.1)) in
     subst (AreMerged a) c.files.ensures at
@@ -43,7 +43,7 @@ returns-then-merged-clause-idle g c off trusted =
     let live = c.args.live.now in
     let given = c.requires.ready trusted in
     let read = files_read a e given.0 family given.1.reads in
-    let at = subst (λ t. Tells t (AreMerged a c.files.result.now)) c.if-merged.true
+    let at = subst (λ t. Reflects t (AreMerged a c.files.result.now)) c.if-merged.true
     (c.are_merged-merged.ensures.merged a read.0
     (subst (λ fs. ReadEach a fs read.0) (sym c.files.ensures) read.1)) in
     subst (AreMerged a) c.files.ensures at
@@ -138,7 +138,7 @@ returns-clause-busy g c on trusted merged =
     let live = c.args.live.now in
     let given = c.requires.ready trusted in
     let read = files_read a e given.0 family given.1.reads in
-    let at = subst (λ t. Tells t (AreMerged a c.files.result.now)) c.if-merged.false
+    let at = subst (λ t. Reflects t (AreMerged a c.files.result.now)) c.if-merged.false
     (c.are_merged-merged.ensures.merged a read.0
     (subst (λ fs. ReadEach a fs read.0) (sym c.files.ensures) read.1)) in
     at (subst (AreMerged a) (sym c.files.ensures) merged)

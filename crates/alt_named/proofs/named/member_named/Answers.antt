@@ -1,5 +1,5 @@
 -- A member is passed where its name isn't among the names, and put where it is.
-use Rattle.std.proofs.Common.{◌≡◌, false, map, string_bytes, sym, ap, ◌∙◌, arith, rules}
+use Rattle.std.proofs.Common.{◌≡◌, false, map, string_bytes, ap, ◌∙◌, arith, rules}
 use Rattle.serde_json.specs.Data.{put}
 use Rattle.serde_json.specs.View.{members_view, view}
 use Rattle.serde_json.proofs.Views.{members_view-insert_entry}

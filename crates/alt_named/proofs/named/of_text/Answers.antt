@@ -1,5 +1,5 @@
 -- A text has the members that were read, or is no object.
-use Rattle.std.proofs.Common.{◌≡◌, Some, None, map, sym, subst, ap, ◌∙◌, arith}
+use Rattle.std.proofs.Common.{◌≡◌, Some, map, sym, subst, ap, arith}
 use Rattle.std.specs.Prelude.{option_and_then}
 use Rattle.serde_json.specs.Find.{as_object}
 use Rattle.serde_json.specs.Read.{read}

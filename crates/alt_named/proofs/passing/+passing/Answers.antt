@@ -2,10 +2,9 @@
 use Rattle.std.proofs.Common.{◌≡◌, ◌-◌, ◌<◌, [], ◌∷◌, length, Some, None, refl, ap, ap₂, ◌∙◌, arith}
 use Rattle.json.specs.Json.{after_end_array, items, members, parse_map, read_key, value}
 use Rattle.json.specs.Reads.{token_of}
-use Rattle.json.specs.Token.{Token}
 use Rattle.json.proofs.Grammar.{read_key-shorter, value-begin_array, value-begin_object, value_is}
 use Rattle.serde_json.specs.Data.{array, item, no_items, no_members, object, put}
-use Rattle.serde_json.specs.Read.{converted, of_items, of_json, of_members}
+use Rattle.serde_json.specs.Read.{converted, of_items, of_json}
 use Rattle.alt_named.proofs.Converted.{converted-array, converted-object, item_read, item_refused, items_over, key_refused, member_read, member_refused, members_over, none_before, one_more_passed}
 use Rattle.alt_named.proofs.Passed.{null_passed, number_passed, number_refused, text_passed, truth_passed}
 use Rattle.alt_named.proofs.passing.+passing.Goals as goal

@@ -1,7 +1,7 @@
 -- The engine reads as the files are, and its rows are those of a state, or none's.
 use Rattle.std.proofs.Common.{refl, sym, ap, subst, ◌∙◌, IsTrue, arith}
 use Rattle.alt_disk.proofs.Runs.{tells_of, trusted_on}
-use Rattle.alt_engine.specs.InHand.{Bounds, last_form_of, next_file_of}
+use Rattle.alt_engine.specs.InHand.{Bounds, last_form_of_engine, next_file_of_engine}
 use Rattle.alt_engine.proofs.HandSegmentFiles.{files_made-few}
 use Rattle.alt_opening.specs.FirstFiles.{IsFirstFile}
 use Rattle.alt_opening.proofs.Recovering.{stands_then, rows_explain, rows_no_state, files_explain, files_no_state, left_at_once, left_before, stands_like, stands_behind}
@@ -103,8 +103,8 @@ pub returns-in-Ok-read_rows-clause-next_file : goal.returns-in-Ok-read_rows-clau
 returns-in-Ok-read_rows-clause-next_file g c tells v last =
     subst (λ (b : Bounds). IsFirstFile v (g.D.Disk.state c.args.disk.now).file b.file)
     (sym c.in-Ok-read_rows.ensures.walked.bounds)
-    (let few = files_made-few (last_form_of c.in-Ok.engine) in record {
-      next = next_file_of c.in-Ok.engine;
+    (let few = files_made-few (last_form_of_engine c.in-Ok.engine) in record {
+      next = next_file_of_engine c.in-Ok.engine;
       is = c.in-Ok.ensures.next_file tells v last;
       least = omega arith;
       most = omega (arith, few);

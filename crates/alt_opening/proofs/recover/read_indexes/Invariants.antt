@@ -1,6 +1,6 @@
 -- The indexes of the tables up to this family are read.
 use Rattle.std.proofs.Common.{◌<◌, ◌-◌, ◌^◌, ℕ, IsTrue}
-use Rattle.alt_engine.specs.InHand.{Reads}
+use Rattle.alt_engine.specs.InHand.{ReadsLayout}
 use Rattle.alt_layout.specs.Layout.{Layout}
 use Rattle.alt_opening.specs.private.Opening.{AreTablesRead}
 use Rattle.alt_opening.specs.Scans.{Walked}
@@ -11,7 +11,7 @@ abbrev pub invariant-tables : goal.invariant-tables
 invariant-tables g l = record {
   walked : Walked (g.D.Disk.state l.fn.disk) (g.D.Disk.state l.disk) l.fn.engine l.engine;
   read : IsTrue (g.D.Disk.state l.fn.disk).tells → (layout : Layout) (next : ℕ)
-      → Reads (g.D.Disk.state l.fn.disk) l.fn.engine layout
+      → ReadsLayout (g.D.Disk.state l.fn.disk) l.fn.engine layout
       → AreTablesRead layout next l.catalog → IndexesUpTo layout l.catalog l.family;
   small : l.family < 2 ^ 32;
 }

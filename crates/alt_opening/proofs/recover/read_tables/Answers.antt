@@ -3,7 +3,7 @@ use Rattle.std.proofs.Common.{sym, subst, IsTrue, arith}
 use Rattle.alt_opening.specs.Scans.{ItemsRead}
 use Rattle.alt_opening.proofs.Recovering.{number_within}
 use Rattle.alt_opening.proofs.Scanning.{walk_start, walk_then, reads_on}
-use Rattle.alt_opening.specs.private.RowSizes.{AreWithin}
+use Rattle.alt_opening.specs.private.RowSizes.{RowsAreWithin}
 use Rattle.alt_opening.proofs.Sizing.{within_this, within_up}
 use Rattle.alt_opening.proofs.TableSteps.{none_yet, one_more, wrong_next}
 use Rattle.alt_opening.proofs.recover.read_tables.Goals as goal
@@ -16,7 +16,7 @@ tables-init g c = record {
       (ItemsRead layout);
   sized = λ tells layout next reads catalog. none_yet layout next c.args.catalog.now catalog
       (number_within (g.D.Disk.state c.args.disk.now) c.args.engine.now layout reads)
-      (AreWithin layout 0);
+      (RowsAreWithin layout 0);
   small = omega arith;
 }
 
@@ -49,7 +49,7 @@ tables-preserved g c = record {
       c.args.engine.now c.tables.engine layout c.tables.invariant.walked tells reads));
   sized = λ tells layout next reads catalog. one_more layout next c.args.catalog.now catalog
       (number_within (g.D.Disk.state c.args.disk.now) c.args.engine.now layout reads)
-      (AreWithin layout c.max-largest.result) c.tables.family
+      (RowsAreWithin layout c.max-largest.result) c.tables.family
       (within_up layout c.args.catalog.now c.tables.family c.tables.largest c.in-Ok.size
       c.max-largest.result c.max-largest.ensures
       (c.tables.invariant.sized tells layout next reads catalog))

@@ -3,15 +3,15 @@ use Rattle.std.proofs.Common.{◌≡◌, refl, sym, ap, ◌∙◌, List, [], ◌
 use Rattle.std.specs.Vec.Iter.{into_iter_len}
 use Rattle.std.proofs.lemmas.Iterator.Adapters.{YieldsList-from_vec}
 use Rattle.std.proofs.lemmas.Iterator.Consumers.{YieldsList-end}
-use Rattle.alt_ops_item.specs.private.Updates.{with_change, with_changes}
+use Rattle.alt_ops_item.specs.private.Updates.{with_attribute_change, with_changes}
 use Rattle.alt_updeval.specs.declared.update.AttrChange.{AttrChange}
 use Rattle.alt_value.specs.Tree.{Pair}
 use Rattle.alt_ops_item.proofs.changing.with_changes.Goals as goal
 
 with_changes-more : (cs : List AttrChange) (c : AttrChange) (item : List Pair)
-    → with_changes (cs ++ c ∷ []) item ≡ with_change c (with_changes cs item)
+    → with_changes (cs ++ c ∷ []) item ≡ with_attribute_change c (with_changes cs item)
 with_changes-more [] c item = refl
-with_changes-more (d ∷ cs) c item = with_changes-more cs c (with_change d item)
+with_changes-more (d ∷ cs) c item = with_changes-more cs c (with_attribute_change d item)
 
 map_same : {X : Type 0} (xs : List X) → map (λ (x : X). x) xs ≡ xs
 map_same [] = refl
@@ -19,7 +19,7 @@ map_same (x ∷ xs) = ap (λ l. x ∷ l) (map_same xs)
 
 pub loop-change-preserved : goal.loop-change-preserved
 loop-change-preserved c = c.in_ok-make.ensures.made
-    ∙ ap (with_change c.in-Some.change) c.loop-change.invariant
+    ∙ ap (with_attribute_change c.in-Some.change) c.loop-change.invariant
     ∙ sym (with_changes-more c.loop-change.yielded c.in-Some.change c.args.item)
 
 pub returns-clause-item : goal.returns-clause-item

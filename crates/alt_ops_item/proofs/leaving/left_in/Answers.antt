@@ -1,6 +1,6 @@
 -- What refuses the outline refuses the item, and an outline that is whole is the item.
 use Rattle.std.proofs.Common.{List, Option, sym, subst}
-use Rattle.alt_ops_item.specs.private.Updates.{left_after}
+use Rattle.alt_ops_item.specs.private.Updates.{left_or_refusal}
 use Rattle.alt_ops_item.proofs.Left.{left-unmade, left-memory}
 use Rattle.alt_ops_item.proofs.Outlined.{outline-refused, outline-whole}
 use Rattle.alt_request.specs.Steps.{Comes}
@@ -11,7 +11,7 @@ use Rattle.alt_ops_item.proofs.leaving.left_in.Goals as goal
 pub returns-in_err-outline : goal.returns-in_err-outline
 returns-in_err-outline c = record {
   left = subst (λ r. Comes {X = Option (List Pair)} (λ o. o)
-      (left_after c.args.schema.now c.args.said.now c.args.key c.args.old.now) r)
+      (left_or_refusal c.args.schema.now c.args.said.now c.args.key c.args.old.now) r)
       (sym (err_is c.from_residual.result c.in_err-outline.field-0.0 c.from_residual.ensures))
       (left-unmade c.args.schema.now c.args.said.now c.args.key c.args.old.now
       c.in_err-outline.field-0.0 c.in_err-outline.ensures.refused);
@@ -20,7 +20,7 @@ returns-in_err-outline c = record {
 pub returns-in_err-new : goal.returns-in_err-new
 returns-in_err-new c = record {
   left = subst (λ r. Comes {X = Option (List Pair)} (λ o. o)
-      (left_after c.args.schema.now c.args.said.now c.args.key c.args.old.now) r)
+      (left_or_refusal c.args.schema.now c.args.said.now c.args.key c.args.old.now) r)
       (sym (err_is c.from_residual-in_err-new.result c.in_err-new.field-0.0
       c.from_residual-in_err-new.ensures))
       (left-memory c.args.schema.now c.args.said.now c.args.key c.args.old.now

@@ -9,15 +9,15 @@ use Rattle.alt_machine.specs.Members.{table_name}
 use Rattle.alt_machine.specs.Ops.Query.{rules, query, queries}
 use Rattle.alt_machine.specs.Sources.{index_at}
 use Rattle.alt_machine.specs.Walks.{items_between}
-use Rattle.alt_ops_query.specs.PageReads.{most_reads}
-use Rattle.alt_ops_query.specs.private.Asked.{Asks}
+use Rattle.alt_ops_query.specs.PageReads.{most_reads_of_page}
+use Rattle.alt_ops_query.specs.private.Asked.{IsRangeAskedOrRefused}
 use Rattle.alt_ops_query.proofs.Answering.{within_of}
 use Rattle.alt_ops_query.proofs.Limited.{none_broken, query_limit}
 use Rattle.alt_ops_query.proofs.PageReading.{query_reads}
 use Rattle.alt_ops_query.proofs.Whole.{query_is, query_done, query_stopped, asks_unfailed}
 use Rattle.alt_request.proofs.Listing.{list_passed, list_unfailed}
 use Rattle.alt_request.proofs.Moving.{moves_stopped, moves_nothing, moves_reads}
-use Rattle.alt_request.specs.Carried.{Does}
+use Rattle.alt_request.specs.Carried.{FollowsOutcome}
 use Rattle.alt_request.proofs.TablesLeft.{reads_nothing}
 use Rattle.alt_request.specs.TablesReading.{HasRowFiles, family_read}
 use Rattle.alt_request.specs.TablesStands.{Stands, catalog_of, bounds_of}
@@ -67,12 +67,12 @@ returns-in-Ok-clause-carried g c =
     c.in_ok-target.ensures.index
     c.query-broken.result c.is_mismatched-mismatched.result c.query-broken.ensures
     c.is_mismatched-mismatched.ensures c.in_ok-target.ensures.target
-    (subst (λ b. Asks c.in_ok-target.target.schema.now
+    (subst (λ b. IsRangeAskedOrRefused c.in_ok-target.target.schema.now
     (index_at c.in_ok-target.target.schema.now c.in_ok-target.target.index)
     c.in_ok-target.target.said.key_condition c.in_ok-target.target.start b (Ok c.in-Ok.range))
     c.goes_forward-forward.ensures
     c.in-Ok.ensures.asks)
-    (λ s t stands at. subst (λ b. Does (bounds_of c.args.tables.now).file
+    (λ s t stands at. subst (λ b. FollowsOutcome (bounds_of c.args.tables.now).file
     (Stands (g.D.Disk.state c.page_of_range.new.disk) c.page_of_range.new.tables) s
     (pages t.description (index_at t.description c.in_ok-target.target.index) ms
     c.in_ok-target.target.said (items_between t (index_at t.description c.in_ok-target.target.index)
@@ -93,7 +93,7 @@ returns-clause-carried g c =
     c.in_ok-target.target c.in-Err.stop (λ s stands. stands)
     c.query-broken.result c.is_mismatched-mismatched.result c.query-broken.ensures
     c.is_mismatched-mismatched.ensures c.in_ok-target.ensures.target
-    (subst (λ b. Asks c.in_ok-target.target.schema.now
+    (subst (λ b. IsRangeAskedOrRefused c.in_ok-target.target.schema.now
     (index_at c.in_ok-target.target.schema.now c.in_ok-target.target.index)
     c.in_ok-target.target.said.key_condition c.in_ok-target.target.start b (Err c.in-Err.stop))
     c.goes_forward-forward.ensures
@@ -124,13 +124,13 @@ returns-in-Ok-clause-reads g c s stands =
     c.in_ok-target.ensures.index
     c.query-broken.result c.is_mismatched-mismatched.result c.query-broken.ensures
     c.is_mismatched-mismatched.ensures c.in_ok-target.ensures.target
-    (subst (λ b. Asks target.schema.now (index_at target.schema.now target.index)
+    (subst (λ b. IsRangeAskedOrRefused target.schema.now (index_at target.schema.now target.index)
     target.said.key_condition target.start b (Ok c.in-Ok.range)) c.goes_forward-forward.ensures
     c.in-Ok.ensures.asks)
     (λ t maps at. subst (λ forward.
     HasRowFiles a.file (family_read t.description (index_at t.description target.index)) maps
     → OnOk c.page_of_range.result (b.reads ≤ a.reads
-    + most_reads t (index_at t.description target.index) forward c.in-Ok.range.from
+    + most_reads_of_page t (index_at t.description target.index) forward c.in-Ok.range.from
     c.in-Ok.range.to (page_asked ms target.said)
     (items_between t (index_at t.description target.index) c.in-Ok.range.from c.in-Ok.range.to
     forward) maps)) c.goes_forward-forward.ensures

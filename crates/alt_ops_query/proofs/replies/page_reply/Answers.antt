@@ -3,7 +3,7 @@ use Rattle.std.proofs.Common.{ap, ◌∙◌, option_map}
 use Rattle.std.specs.Prelude.{codes}
 use Rattle.serde_json.specs.Data.{member, no_members, number, unsigned}
 use Rattle.serde_json.specs.View.{members_view}
-use Rattle.alt_ops_query.specs.private.Replied.{behind, page_of}
+use Rattle.alt_ops_query.specs.private.Replied.{behind, machine_page}
 use Rattle.alt_ops_query.proofs.Shown.{page_members}
 use Rattle.alt_shape.specs.Body.{members_json}
 use Rattle.alt_ops_query.proofs.replies.page_reply.Goals as goal
@@ -11,7 +11,7 @@ use Rattle.alt_ops_query.proofs.replies.page_reply.Goals as goal
 pub returns : goal.returns
 returns c = record {
   reply = page_members c.args.schema.now (option_map (λ i. i.now) c.args.index)
-      (members_view c.args.body.now.entries) (page_of c.args.page) c.args.page.last c.from.result
+      (members_view c.args.body.now.entries) (machine_page c.args.page) c.args.page.last c.from.result
       c.from-2.result c.into_vec.result.items (members_json c.put.new.members.items)
       (members_json c.put_items.new.members.items) (members_json c.put_last.new.members.items)
       (members_json c.put-2.new.members.items) c.from.ensures c.from-2.ensures

@@ -10,7 +10,7 @@ use Rattle.alt_machine.specs.Members.{table_name}
 use Rattle.alt_machine.specs.Ops.Scan.{rules, scan, scans, is_segment_odd}
 use Rattle.alt_machine.specs.Sources.{index_at}
 use Rattle.alt_ops_query.specs.private.Asked.{Segments}
-use Rattle.alt_ops_query.specs.private.Tokens.{segment_in}
+use Rattle.alt_ops_query.specs.private.Tokens.{machine_segment}
 use Rattle.alt_ops_query.proofs.Answering.{within_of}
 use Rattle.alt_ops_query.proofs.Limited.{none_broken, none_mismatched, scan_limit}
 use Rattle.alt_ops_query.proofs.PageReading.{scan_reads}
@@ -105,7 +105,7 @@ returns-clause-moves g c =
     (g.D.Disk.state c.args.disk.now) _
     (segments_unfailed _ c.in_ok-target.target.schema.now
     (index_at c.in_ok-target.target.schema.now c.in_ok-target.target.index)
-    (option_map segment_in c.segment_of-segment.result)
+    (option_map machine_segment c.segment_of-segment.result)
     c.in_ok-target.target.start c.in-Err.stop c.in-Err.ensures.segments)
 
 pub returns-in_err-target-clause-disk : goal.returns-in_err-target-clause-disk

@@ -6,7 +6,7 @@ use Rattle.alt_machine.specs.Ops.Scan.{is_in}
 use Rattle.alt_machine.specs.Sources.{hash_of, index_at}
 use Rattle.alt_ops_query.specs.Places.{HoldsListed}
 use Rattle.alt_ops_query.specs.private.Ranges.{IsBeyond}
-use Rattle.alt_ops_query.specs.private.Tokens.{end_token, first_token, segment_in}
+use Rattle.alt_ops_query.specs.private.Tokens.{end_token, first_token, machine_segment}
 use Rattle.alt_ops_query.proofs.Segments.{segment_holds, whole_holds}
 use Rattle.alt_ops_query.proofs.scanning.segment_range.Goals as goal
 use Rattle.alt_ops_query.proofs.scanning.segment_range.Goals.{in-Some+in_ok-range-in-Some, in-None}
@@ -31,7 +31,7 @@ returns c =
               let number = w.in-Some.segment.number in
               let total = w.in-Some.segment.total in
               subst (λ o. HoldsListed true place
-              (is_in (hash_of d i) (option_map segment_in o)) d i first last)
+              (is_in (hash_of d i) (option_map machine_segment o)) d i first last)
               (sym w.in-Some.is)
               (segment_holds d i number total
               (subst (λ o. IfSome o (λ s. s.number < s.total)) w.in-Some.is c.requires.below)
@@ -45,7 +45,7 @@ returns c =
               beyond)))
           | in-None w ↦
               subst (λ o. HoldsListed true place
-              (is_in (hash_of d i) (option_map segment_in o)) d i first last)
+              (is_in (hash_of d i) (option_map machine_segment o)) d i first last)
               (sym w.in-None.is)
               (whole_holds d i place first last
               (subst (λ x. IsBeyond true place x None first last)

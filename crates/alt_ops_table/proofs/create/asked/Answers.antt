@@ -3,16 +3,16 @@ use Rattle.std.proofs.Common.{sym, ap, subst, ◌∙◌, is_some, arith, ℕ}
 use Rattle.std.specs.FinMap as map
 use Rattle.serde_json.specs.Data.{Members}
 use Rattle.serde_json.specs.View.{members_view}
-use Rattle.alt_ops_table.specs.private.Asked.{IsAsked}
+use Rattle.alt_ops_table.specs.private.Asked.{IsToBeMadeOrRefused}
 use Rattle.alt_ops_table.proofs.Asking.{known, unfit_asked, name-described, create-refused, create-exists, create-many, some_there, none_there, free_family}
 use Rattle.alt_request.proofs.Reaching.{err_is}
-use Rattle.alt_schema.specs.Described.{HasCause, description_of}
-use Rattle.alt_request.specs.TablesStands.{catalog_of, number_of, family_of}
+use Rattle.alt_schema.specs.Described.{SchemaFaultApplies, description_of}
+use Rattle.alt_request.specs.TablesStands.{catalog_of, next_write_of_tables, next_family_of_tables}
 use Rattle.alt_ops_table.proofs.create.asked.Goals as goal
 
 pub returns-in_err-unfit : goal.returns-in_err-unfit
 returns-in_err-unfit c = record {
-  asked = subst (IsAsked c.args.tables.now c.args.moment (members_view c.args.body.now.entries))
+  asked = subst (IsToBeMadeOrRefused c.args.tables.now c.args.moment (members_view c.args.body.now.entries))
       (sym (err_is c.from_residual.result c.in_err-unfit.field-0.0 c.from_residual.ensures))
       (unfit_asked c.args.tables.now c.args.moment
       (members_view c.args.body.now.entries) c.in_err-unfit.field-0.0
@@ -22,7 +22,7 @@ returns-in_err-unfit c = record {
 pub returns-in-Err-Refused : goal.returns-in-Err-Refused
 returns-in-Err-Refused c =
     let ms : Members = members_view c.args.body.now.entries in
-    let cause = subst (HasCause ms) c.in-Err-Refused.field-0-is c.in-Err-Refused.ensures.cause in
+    let cause = subst (SchemaFaultApplies ms) c.in-Err-Refused.field-0-is c.in-Err-Refused.ensures.cause in
     record {
       asked = (
         known ms c.in-Err-Refused.refusal cause,
@@ -84,7 +84,7 @@ returns c =
             (omega (
               arith,
               c.next_family.ensures.family,
-              free_family (number_of c.args.tables.now) (family_of c.args.tables.now) free,
+              free_family (next_write_of_tables c.args.tables.now) (next_family_of_tables c.args.tables.now) free,
             ))
             ∙ c.next_family.ensures.family;
       };

@@ -2,17 +2,17 @@
 use Rattle.std.proofs.Common.{rules, arith}
 use Rattle.std.proofs.lemmas.Grind.{common_steps}
 use Rattle.alt_expr.specs.NamesGiven.{given_names}
-use Rattle.alt_expr.specs.Reader.{left, listed, listed_from, path}
+use Rattle.alt_expr.specs.Reader.{left, comma_separated, listed_from, path}
 use Rattle.alt_expr.proofs.Turns.{one_more, no_more}
 use Rattle.alt_projection.proofs.text.read_paths.Goals as goal
 
 pub loop-turn-init : goal.loop-turn-init
-unfolding listed
+unfolding comma_separated
 loop-turn-init c =
     first_of (search rules, grind (arith, common_steps))
 
 pub returns-in_err-read_path : goal.returns-in_err-read_path
-unfolding listed
+unfolding comma_separated
 returns-in_err-read_path c =
     first_of (search rules, grind (arith, common_steps))
 

@@ -1,10 +1,7 @@
 -- One write, in a list.
-use Rattle.std.proofs.Common.{◌≡◌, ◌∷◌, [], List, ap, sym, subst, ◌∙◌}
 use Rattle.alt_gatelog.specs.declared.form.Form.TheVariants.{One}
-use Rattle.alt_layout.specs.Entries.{IsEntry, IsNoEntry}
-use Rattle.alt_writes.specs.Bytes.{AllHeld}
-use Rattle.alt_writes.specs.Reading.{IsNoWrite, write_of, writes_of}
-use Rattle.alt_writes.specs.Writes.{AreRising, Write}
+use Rattle.alt_layout.specs.Entries.{IsNoEntry}
+use Rattle.alt_writes.specs.Reading.{IsNoWrite}
 use Rattle.alt_recovery.proofs.EntryLaws.{none_alone}
 use Rattle.alt_recovery.proofs.entries.read_alone.Goals as goal
 use Rattle.alt_writes.proofs.ReadLaws.{none_map}

@@ -1,7 +1,7 @@
 -- An entry that wasn't read, or holds no writes.
 use Rattle.std.proofs.Common.{◌≡◌, ◌++◌, ℕ, List, [], get_or, refl, sym, ap, subst, ◌∙◌}
 use Rattle.alt_disk.specs.Disk.{DiskState}
-use Rattle.alt_gatelog.specs.InHand.{form_of, Reads}
+use Rattle.alt_gatelog.specs.InHand.{form_of, ReadsEntries}
 use Rattle.alt_gatelog.specs.declared.form.Form.{Form}
 use Rattle.alt_gatelog.specs.declared.gatelog.GateLog.{GateLog}
 use Rattle.alt_layout.specs.Entries.{IsEntry, IsNoEntry}
@@ -25,7 +25,7 @@ returns-in-Err-Bad-clause-damaged g c told entries reads =
     ∙ ap (λ (l : List ℕ). l ++ entry) c.new-bytes.ensures.items in (
       refl,
       c.place.ensures s entries
-          (subst (λ (l : GateLog). Reads s l entries) (sym c.in-Ok.ensures.list) reads),
+          (subst (λ (l : GateLog). ReadsEntries s l entries) (sym c.in-Ok.ensures.list) reads),
       subst (λ (x : Form). IsNoEntry x c.args.least entry) form
           (subst (IsNoEntry c.form.result c.args.least) read
           (subst (IsNone (IsNoEntry c.form.result c.args.least c.as_slice.result.now))

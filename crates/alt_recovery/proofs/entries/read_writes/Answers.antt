@@ -1,5 +1,5 @@
 -- The writes of an entry, by the form of its log.
-use Rattle.std.proofs.Common.{◌≡◌, Result, IfOk, IfErr, sym, subst}
+use Rattle.std.proofs.Common.{◌≡◌, IfOk, IfErr, sym, subst}
 use Rattle.alt_gatelog.specs.declared.form.Form.{Form}
 use Rattle.alt_gatelog.specs.declared.form.Form.TheVariants.{Two}
 use Rattle.alt_gatelog.proofs.OneList.{if_err}

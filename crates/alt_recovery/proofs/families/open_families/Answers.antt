@@ -8,7 +8,7 @@ use Rattle.alt_disk.proofs.Runs.{quiet_start, quiet_then}
 use Rattle.alt_disk.proofs.Staying.{tells_on}
 use Rattle.alt_families.specs.declared.family.Family.{Family}
 use Rattle.alt_manifest.specs.declared.version.FamilyVersion.{FamilyVersion}
-use Rattle.alt_recovery.specs.Families.{AreFamilies}
+use Rattle.alt_recovery.specs.Families.{AreOpenedFamilies}
 use Rattle.alt_recovery.specs.Opening.{AreOpened, ExplainsOpening}
 use Rattle.alt_recovery.proofs.HeldLaws.{families_more, families_none, families_quiet, family_explains, with_all}
 use Rattle.alt_recovery.proofs.NumberLaws.{back_split, drop_back}
@@ -24,7 +24,7 @@ loop-i-init g c =
       quiet = λ told. quiet_start s;
       done = λ told. record {
         held = λ f. empty;
-        are = subst (λ (l : List FamilyVersion). AreFamilies s (λ f. empty) l c.new-opened.result)
+        are = subst (λ (l : List FamilyVersion). AreOpenedFamilies s (λ f. empty) l c.new-opened.result)
             (sym (drop_all (length fs - 0) fs (omega arith)))
             (families_none s (λ f. empty) c.new-opened.result c.new-opened.ensures.empty);
       };
@@ -63,7 +63,7 @@ loop-i-preserved g c =
           let opened = c.in-Ok.ensures.ok (told_b told) in
           record {
             held = with_all so_far.held f.files opened.0;
-            are = subst (λ (l : List FamilyVersion). AreFamilies d
+            are = subst (λ (l : List FamilyVersion). AreOpenedFamilies d
                 (with_all so_far.held f.files opened.0) l c.insert.new.self)
                 (sym (drop_back fs c.loop-i.i (length fs - 1 - c.loop-i.i) f c.loop-i-test.true refl
                 c.index-families-families.is))
@@ -83,5 +83,5 @@ returns-clause-ok g c told =
     let all : length fs - c.loop-i.i ≡ 0 = omega (arith, c.loop-i-test.false) in
     let done = c.loop-i.invariant.done told in (
       done.held,
-      subst (λ (n : ℕ). AreFamilies d done.held (drop n fs) c.loop-i.opened) all done.are,
+      subst (λ (n : ℕ). AreOpenedFamilies d done.held (drop n fs) c.loop-i.opened) all done.are,
     )

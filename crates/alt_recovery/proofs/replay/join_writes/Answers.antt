@@ -6,11 +6,12 @@ use Rattle.alt_cells.specs.declared.batch.RowChange.{RowChange}
 use Rattle.alt_writes.specs.Bytes.{AllHeld, IsHeldWrite}
 use Rattle.alt_writes.specs.Reading.{write_of, writes_of}
 use Rattle.alt_writes.specs.Writes.{Write}
-use Rattle.alt_writes.proofs.ReadLaws.{length-reads}
+use Rattle.alt_writes.proofs.EntryReads.{length-reads}
 use Rattle.alt_writes.specs.declared.read.LoggedWrite.{LoggedWrite}
 use Rattle.alt_recovery.specs.Replays.{IsJoinedTo, Replays}
 use Rattle.alt_recovery.specs.declared.replay.Replay.{Replay}
-use Rattle.alt_recovery.proofs.ReplayLaws.{held_at, replays_none, replays_one, replays_then, rising_at, write_at}
+use Rattle.alt_recovery.proofs.ReplayLaws.{held_at, replays_none, replays_one, replays_then, rising_at}
+use Rattle.alt_recovery.proofs.SegmentReplays.{write_at}
 use Rattle.alt_recovery.proofs.replay.join_writes.Goals as goal
 
 -- a write that was read is held

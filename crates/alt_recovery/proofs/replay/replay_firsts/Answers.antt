@@ -4,7 +4,7 @@ use Rattle.alt_disk.specs.Disk.{DiskState}
 use Rattle.alt_disk.proofs.Calls.{goes_on}
 use Rattle.alt_disk.proofs.Runs.{quiet_then}
 use Rattle.alt_disk.proofs.Staying.{tells_on}
-use Rattle.alt_recovery.proofs.ReplayLaws.{segment_explains, segments_all, segments_more, split_at}
+use Rattle.alt_recovery.proofs.SegmentReplays.{segment_explains, segments_all, segments_more, split_at}
 use Rattle.alt_recovery.proofs.replay.replay_firsts.Goals as goal
 
 pub returns-in-Err-clause-explained : goal.returns-in-Err-clause-explained

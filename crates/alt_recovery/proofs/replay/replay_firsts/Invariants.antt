@@ -2,7 +2,7 @@
 use Rattle.std.proofs.Common.{◌≡◌, IsTrue, take}
 use Rattle.alt_disk.specs.Disk.{Goes}
 use Rattle.alt_disk.specs.Runs.{Quiet}
-use Rattle.alt_recovery.proofs.ReplayLaws.{SegmentsSoFar}
+use Rattle.alt_recovery.proofs.SegmentReplays.{SegmentsSoFar}
 use Rattle.alt_recovery.proofs.replay.replay_firsts.Given as goal
 
 abbrev pub invariant-loop-f : goal.invariant-loop-f

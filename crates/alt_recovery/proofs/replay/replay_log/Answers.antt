@@ -4,10 +4,11 @@ use Rattle.alt_disk.specs.Disk.{DiskState}
 use Rattle.alt_disk.proofs.Calls.{goes_on}
 use Rattle.alt_disk.proofs.Runs.{quiet_then}
 use Rattle.alt_disk.proofs.Staying.{tells_on}
-use Rattle.alt_gatelog.specs.InHand.{form_of, Reads}
+use Rattle.alt_gatelog.specs.InHand.{form_of, ReadsEntries}
 use Rattle.alt_gatelog.specs.declared.gatelog.GateLog.{GateLog}
 use Rattle.alt_recovery.specs.Entries.{ExplainsEntry}
-use Rattle.alt_recovery.proofs.ReplayLaws.{EntryDone, entry_explains, log_while, so_far_all, so_far_more}
+use Rattle.alt_recovery.proofs.ReplayLaws.{EntryDone, entry_explains, so_far_all, so_far_more}
+use Rattle.alt_recovery.proofs.SegmentReplays.{log_while}
 use Rattle.alt_recovery.proofs.replay.replay_log.Goals as goal
 
 pub returns-in-Err-clause-damaged : goal.returns-in-Err-clause-damaged
@@ -15,9 +16,9 @@ returns-in-Err-clause-damaged g c told entries reads =
     let a : DiskState = g.D.Disk.state c.args.disk.now in
     let b : DiskState = g.D.Disk.state c.loop-i.disk in
     let inv = c.loop-i.invariant in
-    let reads_b : Reads b c.loop-i.log entries =
+    let reads_b : ReadsEntries b c.loop-i.log entries =
     log_while a b c.loop-i.log entries (inv.quiet told)
-    (subst (λ (l : GateLog). Reads a l entries) (sym inv.log) reads) in
+    (subst (λ (l : GateLog). ReadsEntries a l entries) (sym inv.log) reads) in
     let within : c.loop-i.i < length entries =
     omega (arith, c.loop-i-test.true, c.entries-i-end.ensures.list a entries reads) in
     entry_explains (form_of c.args.log.now) c.args.f c.args.replay.now c.loop-i.replay entries c.loop-i.i c.in-Err.fault
@@ -39,9 +40,9 @@ loop-i-preserved g c =
       well = c.in-Ok.ensures.well (search rules) ∙ inv.well;
       quiet = λ told. quiet_then a b d (inv.quiet told) (c.replay_entry.ensures.quiet (told_b told));
       done = λ told entries reads.
-          let reads_b : Reads b c.loop-i.log entries =
+          let reads_b : ReadsEntries b c.loop-i.log entries =
           log_while a b c.loop-i.log entries (inv.quiet told)
-          (subst (λ (l : GateLog). Reads a l entries) (sym inv.log) reads) in
+          (subst (λ (l : GateLog). ReadsEntries a l entries) (sym inv.log) reads) in
           let within : c.loop-i.i < length entries =
           omega (arith, c.loop-i-test.true, c.entries-i-end.ensures.list a entries reads) in
           so_far_more (form_of c.args.log.now) c.args.replay.now c.loop-i.replay

@@ -2,12 +2,12 @@
 use Rattle.std.proofs.Common.{ℕ, sym, subst}
 use Rattle.alt_disk.specs.Disk.{DiskState}
 use Rattle.alt_disk.proofs.Staying.{tells_on}
-use Rattle.alt_gatelog.specs.InHand.{form_of, Reads}
+use Rattle.alt_gatelog.specs.InHand.{form_of, ReadsEntries}
 use Rattle.alt_gatelog.specs.declared.gatelog.GateLog.{GateLog}
 use Rattle.alt_gatelog.proofs.Elsewhere.{reads_log}
 use Rattle.alt_gatelog.specs.Log.{IsLog}
 use Rattle.alt_layout.specs.Entries.{HoldWrites}
-use Rattle.alt_recovery.proofs.ReplayLaws.{log_explains, log_while, no_log_explains}
+use Rattle.alt_recovery.proofs.SegmentReplays.{log_explains, log_while, no_log_explains}
 use Rattle.alt_recovery.proofs.replay.replay_segment.Goals as goal
 
 pub returns-in-Err-clause-explained : goal.returns-in-Err-clause-explained
@@ -25,7 +25,7 @@ returns-in-Ok-replay_log-clause-ok g c told =
     let done = c.in-Ok-replay_log.ensures.ok told_b found.0 found.1 in (
       done.0,
       found.0,
-      subst (λ (l : GateLog). Reads d l found.0) (sym c.replay_log.ensures.log)
+      subst (λ (l : GateLog). ReadsEntries d l found.0) (sym c.replay_log.ensures.log)
           (log_while b d c.in-Ok.log found.0 (c.replay_log.ensures.quiet told_b) found.1),
       subst (λ (l : GateLog). HoldWrites (form_of l) found.0 done.0) (sym c.replay_log.ensures.log)
           done.1,

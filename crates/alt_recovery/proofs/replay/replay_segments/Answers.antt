@@ -4,12 +4,12 @@ use Rattle.std.proofs.lemmas.Bool.Decides.{nat_tests}
 use Rattle.alt_disk.specs.Disk.{DiskState}
 use Rattle.alt_disk.proofs.Runs.{quiet_then}
 use Rattle.alt_disk.proofs.Staying.{tells_on}
-use Rattle.alt_gatelog.specs.InHand.{file_of}
+use Rattle.alt_gatelog.specs.InHand.{file_of_gate_log}
 use Rattle.alt_gatelog.specs.declared.gatelog.GateLog.{GateLog}
 use Rattle.alt_gatelog.proofs.OneList.{if_err}
 use Rattle.alt_manifest.proofs.RecoverLaws.{if_both}
 use Rattle.alt_recovery.specs.Replays.{ExplainsSegment, ExplainsSegments, ReplaysLast}
-use Rattle.alt_recovery.proofs.ReplayLaws.{SegmentDone, firsts_explain, last_split, replays_last, segment_explains, so_far_of}
+use Rattle.alt_recovery.proofs.SegmentReplays.{SegmentDone, firsts_explain, last_split, replays_last, segment_explains, so_far_of}
 use Rattle.alt_recovery.proofs.replay.replay_segments.Goals as goal
 
 pub returns-in-Err-clause-explained : goal.returns-in-Err-clause-explained
@@ -30,7 +30,7 @@ returns-clause-ok g c =
     let is = c.if-is_empty.ensures in
     let some : 0 < length fs = grind (arith, nat_tests) in
     if_both c.replay_segment.result
-    (λ (log : GateLog). file_of log ≡ get_or fs (length fs - 1) 0)
+    (λ (log : GateLog). file_of_gate_log log ≡ get_or fs (length fs - 1) 0)
     (λ (log : GateLog). IsTrue b.tells
     → SegmentDone d log c.replay_firsts.new.replay c.replay_segment.new.replay)
     (λ (log : GateLog). IsTrue a.tells

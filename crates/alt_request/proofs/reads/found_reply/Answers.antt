@@ -4,7 +4,7 @@ use Rattle.std.specs.FinMap as map
 use Rattle.alt_disk.specs.Disk.{DiskState}
 use Rattle.alt_machine.specs.Outcomes.{says}
 use Rattle.alt_machine.specs.State.{State}
-use Rattle.alt_request.specs.Carried.{Does, IsPlain, Moves}
+use Rattle.alt_request.specs.Carried.{FollowsOutcome, IsPlainResult, Moves}
 use Rattle.alt_request.specs.Reads.{finds}
 use Rattle.alt_said.specs.declared.stop.Stop.TheVariants.{Fault}
 use Rattle.alt_request.proofs.Carrying.{does_say, unread, says_so, plain_so}
@@ -26,13 +26,13 @@ pub returns-in_err-found-clause-does : goal.returns-in_err-found-clause-does
 returns-in_err-found-clause-does g c s t stands there =
     let file : ℕ = (bounds_of c.args.tables.now).file in
     let now : State → Type 0 = Stands (g.D.Disk.state c.find.new.disk) c.find.new.self in
-    subst (Does file now s (finds g.R.ItemRead.answer c.args.said.now t c.args.place))
+    subst (FollowsOutcome file now s (finds g.R.ItemRead.answer c.args.said.now t c.args.place))
     (sym (err_is c.from_residual.result (Fault c.in_err-found.field-0.0) c.from_residual.ensures))
     (unread file now s (finds g.R.ItemRead.answer c.args.said.now t c.args.place) c.in_err-found.field-0.0
     (c.in_err-found.ensures.fails.fault s stands) ((c.in_err-found.ensures.only.stays s).0 stands))
 
 pub returns-in_err-found-clause-plain : goal.returns-in_err-found-clause-plain
-returns-in_err-found-clause-plain g c = subst IsPlain
+returns-in_err-found-clause-plain g c = subst IsPlainResult
     (sym (err_is c.from_residual.result (Fault c.in_err-found.field-0.0) c.from_residual.ensures))
     tt
 
@@ -45,7 +45,7 @@ returns-clause-does g c s t stands there =
     c.in_ok-found.ensures.item s stands t
     (ap (map.get s.tables) c.table_name.ensures.name ∙ there)
     ∙ ap (map.get t.items) c.in_ok-found.ensures.place in
-    subst (λ o. Does file now s (says (answer o)) c.reply.result) at
+    subst (λ o. FollowsOutcome file now s (says (answer o)) c.reply.result) at
     (does_say file now (answer c.in_ok-found.found.item) s c.reply.result
     (says_so (answer c.in_ok-found.found.item) c.reply.result c.reply.ensures.reply
     c.reply.ensures.plain c.reply.ensures.cause)

@@ -4,7 +4,7 @@ use Rattle.serde_json.specs.Data.{Members}
 use Rattle.serde_json.specs.View.{members_view}
 use Rattle.alt_machine.specs.declared.Expressions.{Expressions}
 use Rattle.alt_machine.specs.declared.Sought.TheVariants.{Key}
-use Rattle.alt_machine.specs.Body.{Rules, body_refusals}
+use Rattle.alt_machine.specs.Body.{MemberRules, body_refusals}
 use Rattle.alt_machine.specs.Expressions as words
 use Rattle.alt_machine.specs.Outcomes.{Outcome}
 use Rattle.alt_machine.specs.State.{State}
@@ -23,13 +23,13 @@ use Rattle.std.proofs.Common.{List}
 use Rattle.alt_request.proofs.reads.read_item.Goals as goal
 
 -- what the read comes to
-abbrev whole : Option Broken → Rules → words.Texts → (Expressions → Option (List Pair) → Answer)
+abbrev whole : Option Broken → MemberRules → words.Texts → (Expressions → Option (List Pair) → Answer)
     → Members → State → Outcome
 whole broken rules texts answer ms s = on_item (body_refusals broken rules ms) Key texts s ms
     (λ said key t place. finds answer said t place)
 
 -- by the shape that was found, and the rules and the texts that were given
-same : (found broken : Option Broken) → found ≡ broken → (given rules : Rules) → given ≡ rules
+same : (found broken : Option Broken) → found ≡ broken → (given rules : MemberRules) → given ≡ rules
     → (at texts : words.Texts) → at ≡ texts
     → (answer : Expressions → Option (List Pair) → Answer) (ms : Members) (s : State)
     → whole broken rules texts answer ms s ≡ whole found given at answer ms s

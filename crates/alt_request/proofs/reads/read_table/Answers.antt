@@ -2,7 +2,7 @@
 use Rattle.std.proofs.Common.{◌≡◌, sym, ap, ◌∙◌, Option}
 use Rattle.serde_json.specs.Data.{Members}
 use Rattle.serde_json.specs.View.{members_view}
-use Rattle.alt_machine.specs.Body.{Rules, body_refusals}
+use Rattle.alt_machine.specs.Body.{MemberRules, body_refusals}
 use Rattle.alt_machine.specs.Outcomes.{Outcome, says}
 use Rattle.alt_machine.specs.State.{State}
 use Rattle.alt_machine.specs.Targets.{on_table}
@@ -16,12 +16,12 @@ use Rattle.alt_said.specs.TablesStands.{Stands, catalog_of}
 use Rattle.alt_request.proofs.reads.read_table.Goals as goal
 
 -- what the read comes to
-abbrev whole : Option Broken → Rules → (TableSchema → Answer) → Members → State → Outcome
+abbrev whole : Option Broken → MemberRules → (TableSchema → Answer) → Members → State → Outcome
 whole broken rules answer ms s =
     on_table (body_refusals broken rules ms) s ms (λ t. says (answer t.description))
 
 -- by the shape that was found and the rules that were given
-same : (found broken : Option Broken) → found ≡ broken → (given rules : Rules) → given ≡ rules
+same : (found broken : Option Broken) → found ≡ broken → (given rules : MemberRules) → given ≡ rules
     → (answer : TableSchema → Answer) (ms : Members) (s : State)
     → whole broken rules answer ms s ≡ whole found given answer ms s
 same found broken e given rules r answer ms s = λ i. whole (sym e i) (sym r i) answer ms s

@@ -11,7 +11,7 @@ use Rattle.alt_machine.specs.State.{State}
 use Rattle.alt_machine.specs.Valid.{IsStored}
 use Rattle.alt_machine.specs.Writes.{item_writes}
 use Rattle.alt_request.specs.private.Decided.{decision, Decides}
-use Rattle.alt_request.specs.ItemWrites.{Writer, changes}
+use Rattle.alt_request.specs.ItemWrites.{Writer, changes_item}
 use Rattle.alt_request.specs.declared.deciding.Decided.TheVariants.{Left}
 use Rattle.alt_request.proofs.Decisions.{comes_decided, decided_left, left_answered}
 use Rattle.alt_request.proofs.Named.{table_found}
@@ -34,7 +34,7 @@ returns-in-Err g c = record {
       let ms : Members = members_view c.args.body.now.entries in
       let before : DiskState = g.D.Disk.state c.args.disk.now in
       let read : DiskState = g.D.Disk.state c.find.new.disk in
-      works_unfound (λ s. changes g.W.ItemWrite.says s c.args.moment ms c.args.said.now c.args.item t
+      works_unfound (λ s. changes_item g.W.ItemWrite.says s c.args.moment ms c.args.said.now c.args.item t
       c.args.place) (λ s. Stands before c.args.tables.now s
       × (map.get s.tables (table_name ms) ≡ Some t)) (Stands read c.find.new.self)
       c.args.tables.now before read (λ s h. h.0) c.in-Err.ensures.only.disk c.in-Err.fault
@@ -55,7 +55,7 @@ returns-in-Ok-Told g c = record {
       × (map.get s.tables (table_name ms) ≡ Some t) in
       let there : (s : State) → old s → map.get s.tables name ≡ Some t =
       λ s h. ap (map.get s.tables) c.table_name-name.ensures.name ∙ h.1 in
-      works_told (λ s. changes w s c.args.moment ms c.args.said.now c.args.item t c.args.place) old
+      works_told (λ s. changes_item w s c.args.moment ms c.args.said.now c.args.item t c.args.place) old
       (Stands read c.find.new.self) c.args.tables.now before read (λ s h. h.0) c.in-Ok.ensures.only.disk
       c.args.moment name t c.in-Ok.found.place
       (decision w ms c.in-Some.schema.now c.args.said.now c.args.item c.in-Ok.found.item)
@@ -81,7 +81,7 @@ returns-in-Err-decide g c = record {
       × (map.get s.tables (table_name ms) ≡ Some t) in
       let there : (s : State) → old s → map.get s.tables name ≡ Some t =
       λ s h. ap (map.get s.tables) c.table_name-name.ensures.name ∙ h.1 in
-      works_stopped (λ s. changes w s c.args.moment ms c.args.said.now c.args.item t c.args.place) old
+      works_stopped (λ s. changes_item w s c.args.moment ms c.args.said.now c.args.item t c.args.place) old
       (Stands read c.find.new.self) c.args.tables.now before read (λ s h. h.0) c.in-Ok.ensures.only.disk
       c.args.moment name t c.in-Ok.found.place
       (decision w ms c.in-Some.schema.now c.args.said.now c.args.item c.in-Ok.found.item)
@@ -108,7 +108,7 @@ returns-in-Ok-write g c = record {
       let there : (s : State) → old s → map.get s.tables name ≡ Some t =
       λ s h. ap (map.get s.tables) c.table_name-name.ensures.name ∙ h.1 in
       let after : DiskState = g.D.Disk.state c.write.new.disk in
-      works_wrote (λ s. changes w s c.args.moment ms c.args.said.now c.args.item t c.args.place) old
+      works_wrote (λ s. changes_item w s c.args.moment ms c.args.said.now c.args.item t c.args.place) old
       (Stands after c.write.new.self) c.args.tables.now before read (λ s h. h.0) c.in-Ok.ensures.only.disk
       c.args.moment name t c.in-Ok.found.place
       (decision w ms c.in-Some.schema.now c.args.said.now c.args.item c.in-Ok.found.item)
@@ -143,7 +143,7 @@ returns-in-Err-write g c = record {
       let there : (s : State) → old s → map.get s.tables name ≡ Some t =
       λ s h. ap (map.get s.tables) c.table_name-name.ensures.name ∙ h.1 in
       let after : DiskState = g.D.Disk.state c.write.new.disk in
-      works_broke (λ s. changes w s c.args.moment ms c.args.said.now c.args.item t c.args.place) old
+      works_broke (λ s. changes_item w s c.args.moment ms c.args.said.now c.args.item t c.args.place) old
       (Stands after c.write.new.self) c.args.tables.now before read (λ s h. h.0) c.in-Ok.ensures.only.disk
       c.args.moment name t c.in-Ok.found.place
       (decision w ms c.in-Some.schema.now c.args.said.now c.args.item c.in-Ok.found.item)

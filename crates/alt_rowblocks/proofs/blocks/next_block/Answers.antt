@@ -3,7 +3,7 @@ use Rattle.std.proofs.Common.{◌≡◌, ◌∙◌, ◌+◌, ◌==◌, ◌++◌,
 use Rattle.alt_fields.specs.Field.{field}
 use Rattle.alt_disk.specs.Disk.{DiskState, contents}
 use Rattle.alt_disk.proofs.Staying.{tells_on}
-use Rattle.alt_rowblocks.proofs.BlockLaws.{next_whole, no_next_block, no_next_field, rows_few}
+use Rattle.alt_rowblocks.proofs.BlockRuns.{next_whole, no_next_block, no_next_field, rows_few}
 use Rattle.alt_rowblocks.proofs.StreamLaws.{same_bytes, field_up_to, length_up_to, at_end}
 use Rattle.alt_rowblocks.proofs.blocks.next_block.Goals as goal
 

@@ -2,11 +2,12 @@
 use Rattle.std.proofs.Common.{◌≡◌, ◌-◌, ◌∙◌, ◌≤◌, ap, sym, subst, arith, length, refl}
 use Rattle.std.specs.Prelude.{List, slice_get, Some}
 use Rattle.std.proofs.lemmas.Bool.{false≢true}
-use Rattle.alt_rowblocks.specs.Filtering.{HoldsRows}
+use Rattle.alt_rowblocks.specs.Filtering.{FilterHoldsRows}
 use Rattle.alt_rowblocks.specs.Format.{Entry, first_key}
 use Rattle.alt_rowblocks.specs.Blocks.{IsAbove}
 use Rattle.alt_rowblocks.specs.Summaries.{summary_of}
-use Rattle.alt_rowblocks.proofs.BlockLaws.{block_read, same_rows, first_at, no_first, no_block, full_from}
+use Rattle.alt_rowblocks.proofs.BlockLaws.{block_read, same_rows, first_at, no_first, no_block}
+use Rattle.alt_rowblocks.proofs.BlockRuns.{full_from}
 use Rattle.alt_rowblocks.proofs.blocks.read_block.Goals as goal
 
 pub returns-then-decoded-ge4096-clause-none : goal.returns-then-decoded-ge4096-clause-none
@@ -49,7 +50,7 @@ returns-in-Some-last-clause-some c =
     c.in_ok-first-in-Some-last.ensures.same c.in_ok-last-in-Some-last.ensures.same
     (omega (arith, c.len-rows.ensures, c.in-Some.decoded.rows.ok)) (c.in_ok-summary-in-Some.ensures
     ∙ ap summary_of c.deref.ensures.value)
-    (subst (HoldsRows c.filter_of-filter.result) c.deref-in-Some.ensures.value c.filter_of-filter.ensures)
+    (subst (FilterHoldsRows c.filter_of-filter.result) c.deref-in-Some.ensures.value c.filter_of-filter.ensures)
 
 pub returns-in-Some-clause-none : goal.returns-in-Some-clause-none
 returns-in-Some-clause-none c = λ b next.

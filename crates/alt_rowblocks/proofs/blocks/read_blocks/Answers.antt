@@ -7,8 +7,8 @@ use Rattle.alt_disk.proofs.Calls.{goes_refl, goes_on}
 use Rattle.alt_disk.proofs.Runs.{quiet_start, quiet_then}
 use Rattle.alt_disk.proofs.Staying.{tells_on}
 use Rattle.alt_rowblocks.specs.Format.{Entry}
-use Rattle.alt_rowblocks.specs.Blocks.{IsNext, IsReadBlock}
-use Rattle.alt_rowblocks.proofs.BlockLaws.{no_blocks_yet, one_block_more, no_more_blocks}
+use Rattle.alt_rowblocks.specs.Blocks.{BeginsWithNextBlock, IsReadBlock}
+use Rattle.alt_rowblocks.proofs.BlockRuns.{no_blocks_yet, one_block_more, no_more_blocks}
 use Rattle.alt_rowblocks.proofs.StreamLaws.{same_bytes, length_up_to}
 use Rattle.alt_rowblocks.proofs.blocks.read_blocks.Goals as goal
 
@@ -49,7 +49,7 @@ each-preserved g c =
           let found = rw c.in-Some.is at
           (c.in_ok-read.ensures.some (told_b told) (omega (arith, room, ap length same))) in
           let p = subst (λ (l : List ℕ). (x : List Entry)
-          × IsNext c.each.after (drop at (take end l)) (drop next (take end l)) x
+          × BeginsWithNextBlock c.each.after (drop at (take end l)) (drop next (take end l)) x
           × IsReadBlock c.in-Some.read.first c.in-Some.read.last c.in-Some.read.rows c.in-Some.read.summary
           c.in-Some.read.filter x)
           same found in
@@ -83,4 +83,4 @@ returns-in-None-clause-none g c = λ told room.
     (drop at (take end bytes)) at c.each.after c.each.marks.items c.each.rows
     (inv.read told room) (omega (arith, length_up_to bytes at end room, c.each-test.true))
     (subst (λ (l : List ℕ). (x : List Entry) (behind : List ℕ)
-    → IsNext c.each.after (drop at (take end l)) behind x → ⊥) same none)
+    → BeginsWithNextBlock c.each.after (drop at (take end l)) behind x → ⊥) same none)

@@ -2,7 +2,7 @@
 use Rattle.std.proofs.Common.{◌≡◌, ◌≤◌, ◌-◌, IsTrue, take, drop, length}
 use Rattle.alt_disk.specs.Disk.{Goes, contents}
 use Rattle.alt_disk.specs.Runs.{Quiet}
-use Rattle.alt_rowblocks.proofs.BlockLaws.{BlocksSoFar}
+use Rattle.alt_rowblocks.proofs.BlockRuns.{BlocksSoFar}
 use Rattle.alt_rowblocks.proofs.blocks.read_blocks.Given as goal
 
 abbrev pub invariant-each : goal.invariant-each

@@ -3,7 +3,7 @@ use Rattle.std.proofs.Common.{◌-◌, refl, length, false}
 use Rattle.std.specs.Option.{option_copied}
 use Rattle.std.proofs.lemmas.Bool.{false≢true}
 use Rattle.alt_base.proofs.Numbers.{zero_from_test, above_zero_from_test}
-use Rattle.alt_rowblocks.proofs.HandLaws.{none_passed, one_passed, no_piece_there, cut_there, cut_end, begun_there, begun_end}
+use Rattle.alt_rowblocks.proofs.RowPlaces.{none_passed, one_passed, no_piece_there, cut_there, cut_end, begun_there, begun_end}
 use Rattle.alt_rowblocks.proofs.hand.pass.Goals as goal
 
 pub passed-init : goal.passed-init

@@ -1,7 +1,7 @@
 -- The rows that were passed so far, and what is left.
 use Rattle.std.proofs.Common.{length}
 use Rattle.std.specs.Option.{option_copied}
-use Rattle.alt_rowblocks.proofs.HandLaws.{PassedSoFar}
+use Rattle.alt_rowblocks.proofs.RowPlaces.{PassedSoFar}
 use Rattle.alt_rowblocks.proofs.hand.pass.Given as goal
 
 abbrev pub invariant-passed : goal.invariant-passed

@@ -5,7 +5,7 @@ use Rattle.std.proofs.lemmas.Option.{slice_get_read, same_Some}
 use Rattle.alt_cells.specs.Batches.{has_row}
 use Rattle.alt_cells.specs.Changes.{change_between}
 use Rattle.alt_schema.specs.declared.schema.IndexSchema.{IndexSchema}
-use Rattle.alt_rowchanges.specs.Steps.{step_of}
+use Rattle.alt_rowchanges.specs.Steps.{step_row_changes}
 use Rattle.alt_rowchanges.proofs.StepParts.{row_of, step_none, step_row}
 use Rattle.alt_rowchanges.proofs.build.step.Goals as goal
 use Rattle.alt_rowchanges.proofs.build.step.Goals.{in-Some+in_ok-put_row, in_default}
@@ -50,6 +50,6 @@ loop-n-preserved c i building low apart =
 pub returns : goal.returns
 returns c = record {
   changes = λ i building low apart. c.loop-n.invariant i building low apart
-      ∙ ap (step_of c.args.schema.now c.args.later.now i)
+      ∙ ap (step_row_changes c.args.schema.now c.args.later.now i)
       (take_all c.loop-n.n c.args.items.now (omega (arith, c.loop-n-test.false)));
 }

@@ -6,7 +6,7 @@ use Rattle.alt_base.proofs.Prefixes.{prefix_trans}
 use Rattle.alt_rowchanges.proofs.PageRows.{kept_row, put_kept}
 use Rattle.alt_rowchanges.proofs.PageRows.{last_row}
 use Rattle.alt_rowchanges.proofs.pages.read_index_page.Goals as goal
-use Rattle.alt_views.specs.Read.{IsKeptAt, Reads}
+use Rattle.alt_views.specs.Read.{IsKeptAt, ReadsIndexRow}
 
 pub loop-key-preserved : goal.loop-key-preserved
 loop-key-preserved c = record {
@@ -31,7 +31,7 @@ returns-in-Err-Bad-clause-fault c items are =
     c.next.ensures.steps in
     let (kept, is) = kept_row c.args.schema.now c.args.index.now c.args.page.items items
     (length c.loop-key.yielded) (c.in-Some.key, c.in-Some.row) are turn.0 turn.1 in
-    subst (λ fault. Reads kept (Err fault)) c.in-Err-Bad.field-0-is
+    subst (λ fault. ReadsIndexRow kept (Err fault)) c.in-Err-Bad.field-0-is
     (c.in-Err-Bad.ensures.reads kept
     (subst (λ key. IsKeptAt c.args.schema.now c.args.index.now kept key c.in-Some.row)
     (sym c.as_slice.ensures.same) is))

@@ -6,8 +6,8 @@ use Rattle.alt_disk.specs.Disk.{DiskState}
 use Rattle.alt_run.specs.private.Brought.{BringsSome, BringsOn}
 use Rattle.alt_tables.specs.Stands.{bounds_of}
 use Rattle.alt_talks.specs.Runs.{Leads}
-use Rattle.alt_run.specs.Runs.{Answers, AnswersSome}
-use Rattle.alt_run.specs.private.Rungs.{Goes, GoesOrEnds, GoesSome, Ends}
+use Rattle.alt_run.specs.Runs.{AnswersAllLines, AnswersSomeLines}
+use Rattle.alt_run.specs.private.Rungs.{ServesInput, GoesOrEnds, ServesSomeInput, EndsInput}
 use Rattle.alt_talks.proofs.Passing.{passes_none, passes_then, passes_back}
 use Rattle.alt_run.proofs.Pulling.{fresh, goes_none, goes_then, goes_ends, goes_breaks, answers_all, answers_some}
 use Rattle.alt_run.proofs.Bringing.{some_none, some_then, rest_then, last_line}
@@ -19,7 +19,7 @@ pub pulls-init : goal.pulls-init
 pulls-init g c =
     let old = g.S.Disk.state c.args.shell.now in (
       λ s stands. subst (λ (u : Unread). Leads old old c.args.tables.now
-          (λ t. Goes (bounds_of c.args.tables.now).file s fresh (bounds_of c.args.tables.now).file t u))
+          (λ t. ServesInput (bounds_of c.args.tables.now).file s fresh (bounds_of c.args.tables.now).file t u))
           (sym c.new-lines.ensures)
           (goes_none old c.args.tables.now s fresh stands),
       passes_none _,
@@ -63,8 +63,8 @@ returns-in-Ok-false-clause-answered g c = λ s stands.
     (bounds_of c.pull.new.tables).file t (unread c.pull.new.lines)))
     c.in-Ok-false.field-0-test (c.in-Ok-false.ensures.went front.to front.stands) in
     stretch_as (state c.args.shell.now) (state c.pull.new.shell)
-    {P = λ old new es ms. (t : State) × Ends s fresh t old new es ms × LeavesNow new t}
-    {Q = Answers s} (λ es ms within x. answers_all _ _ s x.0 es ms x.1 x.2)
+    {P = λ old new es ms. (t : State) × EndsInput s fresh t old new es ms × LeavesNow new t}
+    {Q = AnswersAllLines s} (λ es ms within x. answers_all _ _ s x.0 es ms x.1 x.2)
     (goes_ends (state c.args.shell.now) (state c.pulls.shell)
     (state c.pull.new.shell) c.pulls.tables (bounds_of c.args.tables.now).file
     (bounds_of c.pulls.tables).file s fresh (unread c.pulls.lines) front
@@ -87,8 +87,8 @@ returns-in-Err-clause-answered g c = λ s stands.
     let state = g.S.Disk.state in
     let front = c.pulls.invariant.0 s stands in
     stretch_as (state c.args.shell.now) (state c.pull.new.shell)
-    {P = GoesSome c.in-Err.fault (bounds_of c.args.tables.now).file s fresh}
-    {Q = AnswersSome c.in-Err.fault (bounds_of c.args.tables.now).file s}
+    {P = ServesSomeInput c.in-Err.fault (bounds_of c.args.tables.now).file s fresh}
+    {Q = AnswersSomeLines c.in-Err.fault (bounds_of c.args.tables.now).file s}
     (λ es ms within x. answers_some _ _ c.in-Err.fault (bounds_of c.args.tables.now).file s es ms x)
     (goes_breaks (state c.args.shell.now) (state c.pulls.shell)
     (state c.pull.new.shell) c.pulls.tables (bounds_of c.args.tables.now).file

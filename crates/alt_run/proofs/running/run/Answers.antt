@@ -3,7 +3,7 @@ use Rattle.alt_shell.specs.Log.{StillGrows, notes_of}
 use Rattle.alt_run.specs.Endings.{HasDone, note_of}
 use Rattle.alt_run.specs.Words.{command_of, bytes_of}
 use Rattle.alt_run.specs.declared.words.Command.{Command}
-use Rattle.alt_run.proofs.EndingLaws.{noted_done, noted_whole, words_end, completes, makes_all}
+use Rattle.alt_run.proofs.NotedEnding.{noted_done, noted_whole, words_end, completes, makes_all}
 use Rattle.alt_run.proofs.Bringing.{after_noted, within_noted}
 use Rattle.alt_run.proofs.Initing.{quiet_behind}
 use Rattle.alt_run.proofs.Staying.{kept_past, kept_trust, stays_whole}

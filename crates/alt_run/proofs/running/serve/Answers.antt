@@ -1,5 +1,5 @@
 use Rattle.std.proofs.Common.{arith}
-use Rattle.alt_talks.specs.TalkRules.{rules}
+use Rattle.alt_talks.specs.TalkRules.{talk_rules}
 use Rattle.alt_talks.specs.declared.fault.RunFault.TheVariants.{NoMemory}
 use Rattle.alt_tables.specs.Stands.{bounds_of}
 use Rattle.alt_tables.proofs.Left.{stands_left}
@@ -14,8 +14,8 @@ pub returns-in_default-clause-served : goal.returns-in_default-clause-served
 returns-in_default-clause-served g c = λ s stands.
     let a = g.S.Disk.state c.args.shell.now in
     stretch_none a
-    {P = ServedSomeOn rules c.args.per c.args.count NoMemory (bounds_of c.args.tables.now).file s}
-    (served_nothing_on rules c.args.per c.args.count _ a s
+    {P = ServedSomeOn talk_rules c.args.per c.args.count NoMemory (bounds_of c.args.tables.now).file s}
+    (served_nothing_on talk_rules c.args.per c.args.count _ a s
     (λ trusted image is. stands_left a c.args.tables.now s stands image is))
 
 pub returns-clause-served : goal.returns-clause-served

@@ -3,7 +3,7 @@ use Rattle.alt_tables.specs.Stands.{bounds_of}
 use Rattle.alt_run.specs.Turns.{control, obeyed}
 use Rattle.alt_run.proofs.Beginning.{begins_control}
 use Rattle.alt_run.proofs.Bringing.{at_hand_said, behind_kept, brings_line, silent_of}
-use Rattle.alt_run.proofs.Serving.{turn_alone, turn_cut, control_unsaid}
+use Rattle.alt_run.proofs.TurnServing.{turn_alone, turn_cut, control_unsaid}
 use Rattle.alt_run.proofs.serve.answer_control.Goals as goal
 
 pub returns-in-Err-clause-served : goal.returns-in-Err-clause-served

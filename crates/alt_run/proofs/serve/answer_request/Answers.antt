@@ -7,9 +7,9 @@ use Rattle.alt_tables.specs.FilesLeft.{most_files}
 use Rattle.alt_tables.specs.Stands.{bounds_of}
 use Rattle.alt_talks.specs.Own.{FollowsNot, own_behind}
 use Rattle.alt_talks.specs.Works.{HasFewEntries}
-use Rattle.alt_run.specs.Turns.{request, carried_out, outcome_of}
-use Rattle.alt_run.specs.private.Rungs.{left_by}
-use Rattle.alt_run.proofs.Serving.{turn_cut, turn_unsaid}
+use Rattle.alt_run.specs.Turns.{request, carried_out, outcome_by_name}
+use Rattle.alt_run.specs.private.Rungs.{left_by_named_request}
+use Rattle.alt_run.proofs.TurnServing.{turn_cut, turn_unsaid}
 use Rattle.alt_run.proofs.Working.{request_broke, request_served}
 use Rattle.alt_talks.proofs.Owning.{answer_first}
 use Rattle.alt_talks.proofs.Stopping.{ready_kept, stands_kept}
@@ -39,8 +39,8 @@ returns-in-Err-clause-served g c = λ s stands.
     (begins old mid new s c.args.name.now c.args.body.now m c.now-moment.ensures.call
     c.now-moment.ensures.log c.now-moment.ensures.told c.in-Err.ensures.goes
     (c.in-Err.ensures.leaves s here))
-    (answer_first _ (wanted s (outcome_of s c.args.name.now c.args.body.now m))
-    (own_behind (left_by s c.args.name.now c.args.body.now m)).lacks _ c.in-Err.fault
+    (answer_first _ (wanted s (outcome_by_name s c.args.name.now c.args.body.now m))
+    (own_behind (left_by_named_request s c.args.name.now c.args.body.now m)).lacks _ c.in-Err.fault
     (c.in-Err.ensures.cause s here))
 
 pub returns-in-Err-say-clause-served : goal.returns-in-Err-say-clause-served
@@ -77,7 +77,7 @@ follow-requires g c =
           (λ trusted.
           let first = ready_kept old mid c.args.tables.now c.now-moment.ensures.call.keeps
           c.requires.ready (trusted_back mid asked c.in-Ok.ensures.goes trusted) in (
-            left_by first.0 c.args.name.now c.args.body.now m,
+            left_by_named_request first.0 c.args.name.now c.args.body.now m,
             c.in-Ok.ensures.state first.0 first.1,
           ));
     }
@@ -93,7 +93,7 @@ returns-in-Ok-follow-clause-served g c = λ s stands.
     let name = c.args.name.now in
     let body = c.args.body.now in
     let here = stands_kept old mid c.now-moment.ensures.call.keeps c.args.tables.now s stands in
-    let left = left_by s name body m in
+    let left = left_by_named_request s name body m in
     let there = stands_kept asked done c.in-Ok-say.ensures.call.keeps c.reply_text.new.tables left
     (c.in-Ok.ensures.state s here) in
     request_served old asked done (state c.follow.new.disk) c.reply_text.new.tables s name body m
@@ -132,7 +132,7 @@ returns-clause-served g c = λ s stands.
     let name = c.args.name.now in
     let body = c.args.body.now in
     let here = stands_kept old mid c.now-moment.ensures.call.keeps c.args.tables.now s stands in
-    let left = left_by s name body m in
+    let left = left_by_named_request s name body m in
     let there = stands_kept asked done c.in-Ok-say.ensures.call.keeps c.reply_text.new.tables left
     (c.in-Ok.ensures.state s here) in
     request_broke old asked done (state c.follow.new.disk) c.reply_text.new.tables s name body m

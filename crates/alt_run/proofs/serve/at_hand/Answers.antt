@@ -1,6 +1,6 @@
 use Rattle.std.proofs.Common.{◌∙◌, ℕ, List, [], sym, subst}
 use Rattle.alt_lines.specs.Reader.{unread}
-use Rattle.alt_lines.specs.Unread.{Tells}
+use Rattle.alt_lines.specs.Unread.{TellsLine}
 use Rattle.alt_tables.specs.Stands.{bounds_of}
 use Rattle.alt_talks.specs.Runs.{Stretch}
 use Rattle.alt_run.specs.private.Rungs.{BreaksAtHand, asked_now}
@@ -16,7 +16,7 @@ pub lines-preserved : goal.lines-preserved
 lines-preserved g c =
     let state = g.S.Disk.state in
     let found = at_some _ _ _ c.in-Ok-Some.field-0-is c.in-Ok-Some.ensures.some in
-    let told = subst (λ (text : List ℕ). Tells found.0 c.in-Ok-Some.cut [] text)
+    let told = subst (λ (text : List ℕ). TellsLine found.0 c.in-Ok-Some.cut [] text)
     (sym c.deref.ensures.value) found.1 in (
       hands_line c.args.limits.flush (state c.args.shell.now) c.args.tables.now (state c.lines.shell) c.lines.tables
           (unread c.args.lines.now) (unread c.lines.lines)
@@ -32,7 +32,7 @@ pub returns-in-Err-answer_line-clause-served : goal.returns-in-Err-answer_line-c
 returns-in-Err-answer_line-clause-served g c = λ s stands.
     let state = g.S.Disk.state in
     let found = at_some _ _ _ c.in-Ok-Some.field-0-is c.in-Ok-Some.ensures.some in
-    let told = subst (λ (text : List ℕ). Tells found.0 c.in-Ok-Some.cut [] text)
+    let told = subst (λ (text : List ℕ). TellsLine found.0 c.in-Ok-Some.cut [] text)
     (sym c.deref.ensures.value) found.1 in
     hands_break c.args.limits.flush (state c.args.shell.now) c.args.tables.now (state c.lines.shell) c.lines.tables
     (unread c.args.lines.now) (unread c.lines.lines)

@@ -4,7 +4,8 @@ use Rattle.alt_lines.specs.Unread.{Unread}
 use Rattle.alt_tables.specs.Stands.{bounds_of}
 use Rattle.alt_talks.specs.Runs.{Stretch, Leads}
 use Rattle.alt_run.specs.private.Rungs.{ServesAtHand, BreaksAtHand, asked_now}
-use Rattle.alt_run.proofs.Pulling.{pull_goes, pull_breaks, pull_memory, pull_ends, pull_end_breaks, pull_failed}
+use Rattle.alt_run.proofs.Pulling.{pull_failed}
+use Rattle.alt_run.proofs.TakeServing.{pull_goes, pull_breaks, pull_memory, pull_ends, pull_end_breaks}
 use Rattle.alt_run.proofs.Bringing.{some_taken, rest_taken}
 use Rattle.alt_talks.proofs.Stopping.{ready_kept, stands_kept}
 use Rattle.alt_run.proofs.serve.pull.Goals as goal

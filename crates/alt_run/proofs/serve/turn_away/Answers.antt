@@ -1,7 +1,7 @@
 use Rattle.std.proofs.Common.{◌∷◌, [], refl}
 use Rattle.alt_tables.specs.Stands.{bounds_of}
 use Rattle.alt_run.specs.Turns.{unread, turned_away}
-use Rattle.alt_run.proofs.Serving.{turn_alone, turn_cut}
+use Rattle.alt_run.proofs.TurnServing.{turn_alone, turn_cut}
 use Rattle.alt_run.proofs.Beginning.{begins_away}
 use Rattle.alt_shell.proofs.Telling.{Grows-nil}
 use Rattle.alt_run.proofs.Bringing.{at_hand_said, brings_line}

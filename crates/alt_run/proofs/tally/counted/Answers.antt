@@ -1,7 +1,7 @@
 use Rattle.std.proofs.Common.{◌≡◌, ◌∙◌, List, ℕ, true, false, sym, ap, arith}
 use Rattle.std.specs.Prelude.{nat_eq}
 use Rattle.std.specs.List.{starts_with}
-use Rattle.alt_run.proofs.Trying.{beginning_more, one_where}
+use Rattle.alt_run.proofs.TrialRequests.{beginning_more, one_where}
 use Rattle.alt_run.proofs.tally.counted.Goals as goal
 
 pub returns-then-begins-clause-counted : goal.returns-then-begins-clause-counted

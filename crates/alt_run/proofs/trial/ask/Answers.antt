@@ -7,8 +7,8 @@ use Rattle.alt_talks.specs.Own.{FollowsNot, own_behind}
 use Rattle.alt_talks.specs.Works.{HasFewEntries}
 use Rattle.alt_run.specs.Trials.{trial_moment}
 use Rattle.alt_run.specs.Turns.{carried_out}
-use Rattle.alt_run.specs.private.Rungs.{left_by}
-use Rattle.alt_run.proofs.Trying.{one_done, one_broke, one_followed_some}
+use Rattle.alt_run.specs.private.Rungs.{left_by_named_request}
+use Rattle.alt_run.proofs.TrialRequests.{one_done, one_broke, one_followed_some}
 use Rattle.alt_run.proofs.trial.ask.Goals as goal
 
 pub returns-in-Err-clause-counted : goal.returns-in-Err-clause-counted
@@ -25,7 +25,7 @@ follow-requires g c =
       ready = λ trusted.
           let first = c.requires.ready (trusted_back (state c.args.disk.now)
           (state c.reply_text.new.disk) c.in-Ok.ensures.goes trusted) in (
-            left_by first.0 c.args.name.now c.args.body.now trial_moment,
+            left_by_named_request first.0 c.args.name.now c.args.body.now trial_moment,
             c.in-Ok.ensures.state first.0 first.1,
           );
     }
@@ -37,7 +37,7 @@ returns-in-Ok-follow-clause-counted g c = λ s stands.
     let mid = state c.reply_text.new.disk in
     let name = c.args.name.now in
     let body = c.args.body.now in
-    let left = left_by s name body trial_moment in
+    let left = left_by_named_request s name body trial_moment in
     let there = c.in-Ok.ensures.state s stands in
     one_done old mid (state c.follow.new.disk) s name body (c.in-Ok.ensures.leaves s stands)
     (trusted_on old mid c.in-Ok.ensures.goes) (c.in-Ok-follow.ensures.follows left there)
@@ -58,7 +58,7 @@ returns-in-Err-follow-clause-counted g c = λ s stands.
     let mid = state c.reply_text.new.disk in
     let name = c.args.name.now in
     let body = c.args.body.now in
-    let left = left_by s name body trial_moment in
+    let left = left_by_named_request s name body trial_moment in
     let there = c.in-Ok.ensures.state s stands in
     one_followed_some old mid (state c.follow.new.disk) s name body (c.in-Ok.ensures.leaves s stands)
     (trusted_on old mid c.in-Ok.ensures.goes) (c.in-Err-follow.ensures.follows left there)

@@ -3,9 +3,9 @@ use Rattle.std.specs.Prelude.{MatchResult}
 use Rattle.alt_lines.specs.Trial.{generator, next_line}
 use Rattle.alt_tables.specs.Stands.{bounds_of}
 use Rattle.alt_run.specs.private.Tallies.{Counted, CountedSome}
-use Rattle.alt_run.specs.Turns.{Asked, asked_by}
+use Rattle.alt_run.specs.Turns.{AskedLine, asked_by}
 use Rattle.alt_talks.specs.declared.fault.RunFault.{RunFault}
-use Rattle.alt_run.proofs.Trying.{asked_parts, none_begun}
+use Rattle.alt_run.proofs.TrialRequests.{asked_parts, none_begun}
 use Rattle.alt_run.proofs.trial.step.Goals as goal
 
 pub returns-in-Ok-clause-counted : goal.returns-in-Ok-clause-counted
@@ -13,7 +13,7 @@ returns-in-Ok-clause-counted g c = λ s stands.
     let state = g.D.Disk.state in
     let a = state c.args.disk.now in
     let b = state c.ask_line.new.disk in
-    subst (λ (l : Asked). MatchResult c.ask_line.result
+    subst (λ (l : AskedLine). MatchResult c.ask_line.result
     (λ _. Counted s (l ∷ []) c.args.tally.now c.ask_line.new.tally a b c.ask_line.new.tables)
     (λ f. CountedSome f (bounds_of c.args.tables.now).file s (l ∷ []) a b))
     (asked_parts (generator c.args.trial.now) c.deref.result.now

@@ -22,7 +22,7 @@ text_in o = option_map (λ t. t.now) o
 pub returns-in-Ok-clause-stated : goal.returns-in-Ok-clause-stated
 returns-in-Ok-clause-stated c =
     let g = names_alone (given_names c.args.names.now) in
-    ap (λ o. machine.stated paths_of g (text_in o)) c.in-Some.is
+    ap (λ o. machine.stated_by_text paths_of g (text_in o)) c.in-Some.is
     ∙ read_ok projections paths_of g (unique g) c.in-Some.text.now c.in-Ok.paths
     c.in-Ok.ensures.parsed
 
@@ -37,9 +37,9 @@ pub returns-in-Err-clause-stated : goal.returns-in-Err-clause-stated
 returns-in-Err-clause-stated c =
     let g = names_alone (given_names c.args.names.now) in
     subst (λ (stop : Stop). Comes {X = Option (List (List PathPart))} (λ x. x)
-    (machine.stated paths_of g (text_in c.args.text)) (Err stop)) (sym c.stop_of.ensures)
+    (machine.stated_by_text paths_of g (text_in c.args.text)) (Err stop)) (sym c.stop_of.ensures)
     (subst (λ o. Comes {X = Option (List (List PathPart))} (λ x. x)
-    (machine.stated paths_of g (text_in o))
+    (machine.stated_by_text paths_of g (text_in o))
     (Err (stop_of c.in-Err.fault))) (sym c.in-Some.is)
     (read_err projections paths_of g (unique g) c.in-Some.text.now c.in-Err.fault
     c.in-Err.ensures.parsed))

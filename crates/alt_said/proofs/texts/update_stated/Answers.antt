@@ -22,7 +22,7 @@ text_in o = option_map (λ t. t.now) o
 pub returns-in-Ok-clause-stated : goal.returns-in-Ok-clause-stated
 returns-in-Ok-clause-stated c =
     let g = given_by c.args.names.now c.args.values.now in
-    ap (λ o. machine.stated update_of g (text_in o)) c.in-Some.is
+    ap (λ o. machine.stated_by_text update_of g (text_in o)) c.in-Some.is
     ∙ read_ok updates update_of g (unique g) c.in-Some.text.now c.in-Ok.update
     c.in-Ok.ensures.parsed
 
@@ -44,8 +44,8 @@ pub returns-in-Err-clause-stated : goal.returns-in-Err-clause-stated
 returns-in-Err-clause-stated c =
     let g = given_by c.args.names.now c.args.values.now in
     subst (λ (stop : Stop). Comes {X = Option (List Action)} (λ x. x)
-    (machine.stated update_of g (text_in c.args.text)) (Err stop)) (sym c.stop_of.ensures)
-    (subst (λ o. Comes {X = Option (List Action)} (λ x. x) (machine.stated update_of g (text_in o))
+    (machine.stated_by_text update_of g (text_in c.args.text)) (Err stop)) (sym c.stop_of.ensures)
+    (subst (λ o. Comes {X = Option (List Action)} (λ x. x) (machine.stated_by_text update_of g (text_in o))
     (Err (stop_of c.in-Err.fault))) (sym c.in-Some.is)
     (read_err updates update_of g (unique g) c.in-Some.text.now c.in-Err.fault
     c.in-Err.ensures.parsed))

@@ -1,7 +1,7 @@
 use Rattle.std.proofs.Common.{◌≡◌, drop}
 use Rattle.serde_json.specs.View.{items_view}
 use Rattle.alt_shape.specs.Bodies as bodies
-use Rattle.alt_shape.specs.Bodies.{in_items, object_fault, text_fault}
+use Rattle.alt_shape.specs.BodyParts.{in_items, object_fault}
 use Rattle.alt_shape.proofs.inside.each_index.Given as goal
 
 -- the first fault of all the elements is that of those from here on

@@ -1,7 +1,7 @@
 use Rattle.std.proofs.Common.{◌≡◌}
 use Rattle.serde_json.specs.View.{members_view}
 use Rattle.alt_shape.specs.Bodies as bodies
-use Rattle.alt_shape.specs.Bodies.{in_items, in_members, object_fault, array_fault}
+use Rattle.alt_shape.specs.BodyParts.{in_members, object_fault}
 use Rattle.alt_shape.proofs.inside.each_table_of_keys.Given as goal
 
 -- the first fault of all the tables is that of those that are left

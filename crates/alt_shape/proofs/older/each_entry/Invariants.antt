@@ -1,6 +1,6 @@
 use Rattle.std.proofs.Common.{◌≡◌, map}
 use Rattle.serde_json.specs.View.{members_view}
-use Rattle.alt_shape.specs.Bodies.{in_members, object_fault}
+use Rattle.alt_shape.specs.BodyParts.{in_members, object_fault}
 use Rattle.alt_shape.specs.Shape.{demand_of, first_unmet}
 use Rattle.alt_shape.proofs.older.each_entry.Given as goal
 

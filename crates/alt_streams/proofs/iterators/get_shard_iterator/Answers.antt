@@ -12,7 +12,7 @@ use Rattle.alt_request.proofs.Reaching.{err_is}
 use Rattle.alt_streams.proofs.Iterating.{ends, iterator-refused, iterator-on, iterator-said, iterator-trimmed}
 use Rattle.alt_streams.proofs.Reaching.{stream_passed, stream_unfailed}
 use Rattle.alt_streams.proofs.iterators.get_shard_iterator.Goals as goal
-use Rattle.alt_shape.specs.Refusals.{trimmed}
+use Rattle.alt_shape.specs.Refusals.{change_records_trimmed}
 use Rattle.alt_request.specs.TablesStands.{Stands, bounds_of}
 
 pub returns-in_err-unfit-clause-carried : goal.returns-in_err-unfit-clause-carried
@@ -54,7 +54,7 @@ pub returns-then-is_trimmed-clause-carried : goal.returns-then-is_trimmed-clause
 returns-then-is_trimmed-clause-carried g c =
     let ms : Members = members_view c.args.body.now.entries in
     let stands : State → Type 0 = Stands (g.D.Disk.state c.args.disk.now) c.args.tables.now in
-    refused_so (λ s. get_shard_iterator s ms) stands stands trimmed tt
+    refused_so (λ s. get_shard_iterator s ms) stands stands change_records_trimmed tt
     (iterator-trimmed (g.D.Disk.state c.args.disk.now) c.args.tables.now ms c.arn_in.result.now
     c.arn_in.ensures c.in_ok-unfit.ensures.tested c.in_ok-schema.schema.now
     c.in_ok-schema.ensures.found c.starts-from.result
@@ -89,4 +89,4 @@ returns-clause-moves g c =
 pub returns-then-is_trimmed-clause-moves : goal.returns-then-is_trimmed-clause-moves
 returns-then-is_trimmed-clause-moves g c =
     moves_nothing (λ s. get_shard_iterator s (members_view c.args.body.now.entries))
-    c.args.tables.now (g.D.Disk.state c.args.disk.now) (Err (Refused trimmed)) tt
+    c.args.tables.now (g.D.Disk.state c.args.disk.now) (Err (Refused change_records_trimmed)) tt

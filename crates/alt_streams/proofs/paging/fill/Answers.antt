@@ -1,7 +1,7 @@
 -- A piece more was read, or the last one.
 use Rattle.std.proofs.Common.{sym, subst, ◌∙◌}
 use Rattle.alt_machine.specs.Ops.GetRecords.{changes_from}
-use Rattle.alt_streams.specs.private.Paged.{Steps}
+use Rattle.alt_streams.specs.private.Paged.{StepsPage}
 use Rattle.alt_streams.proofs.Pieces.{ended_before, find_passed, read_ended, read_on}
 use Rattle.alt_request.proofs.TablesLooking.{only_then, ready_only}
 use Rattle.alt_streams.proofs.paging.fill.Goals as goal
@@ -20,7 +20,7 @@ returns-then-not-more-clause-filled g c s t shows most from stands at view h =
     let so = c.pieces.invariant.read s t shows most from stands at view h in
     read_ended t.description shows most from t (changes_from c.args.page.now.next t.changes)
     c.pieces.page c.step.new.page so
-    (subst (Steps t.description shows most from c.step.new.page so.seen t
+    (subst (StepsPage t.description shows most from c.step.new.page so.seen t
     (changes_from c.pieces.page.next t.changes)) c.if-not-more.true
     (c.in_ok-more.ensures.steps s t shows most from so.seen ((c.pieces.invariant.only.stays s).0 stands)
     at view so.read))
@@ -36,7 +36,7 @@ pieces-preserved g c = record {
       let so = c.pieces.invariant.read s t shows most from stands at view h in
       read_on t.description shows most from t (changes_from c.args.page.now.next t.changes)
       c.pieces.page c.step.new.page so
-      (subst (Steps t.description shows most from c.step.new.page so.seen t
+      (subst (StepsPage t.description shows most from c.step.new.page so.seen t
       (changes_from c.pieces.page.next t.changes)) c.if-not-more.false
       (c.in_ok-more.ensures.steps s t shows most from so.seen
       ((c.pieces.invariant.only.stays s).0 stands)

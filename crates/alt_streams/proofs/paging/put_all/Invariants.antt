@@ -4,14 +4,14 @@ use Rattle.std.specs.Vec.Iter.{into_iter_items}
 use Rattle.alt_changes.specs.ChangeRows.{change_in}
 use Rattle.alt_machine.specs.State.{Change}
 use Rattle.alt_schema.specs.declared.schema.View.{View}
-use Rattle.alt_streams.specs.private.Paged.{HasRead, IsFit, is_full}
+use Rattle.alt_streams.specs.private.Paged.{PageHasRecords, IsFit, is_full}
 use Rattle.alt_streams.proofs.Pieces.{SoFar}
 use Rattle.alt_streams.proofs.paging.put_all.Given as goal
 
 abbrev pub invariant-loop-change : goal.invariant-loop-change
 invariant-loop-change l = record {
   put : (shows : View) (most from : ℕ) (seen : List Change) → l.schema.view ≡ Some shows
-      → HasRead l.schema shows most from l.fn.page seen
+      → PageHasRecords l.schema shows most from l.fn.page seen
       → All IsFit (map change_in l.fn.changes.items)
       → SoFar l.schema shows most from seen (map change_in l.fn.changes.items) l.page
       (map change_in (into_iter_items l.change-iterator));

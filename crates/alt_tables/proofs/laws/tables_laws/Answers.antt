@@ -2,7 +2,7 @@
 use Rattle.alt_tables.proofs.Left.{stands_left, stands_quiet, stands_read}
 use Rattle.alt_rowchanges.proofs.OpeningOneState.{one_state_of_image}
 use Rattle.alt_tables.proofs.Standing.{one_stands}
-use Rattle.alt_rowchanges.proofs.WriteLaws.{item_turns}
+use Rattle.alt_rowchanges.proofs.ItemTurns.{item_turns}
 use Rattle.alt_tables.proofs.Starting.{image_made}
 use Rattle.alt_tables.proofs.laws.tables_laws.Goals as goal
 

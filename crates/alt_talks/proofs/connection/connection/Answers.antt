@@ -3,11 +3,11 @@ use Rattle.alt_shell.specs.Calls.{Accepted}
 use Rattle.alt_shell.specs.Log.{Log, entry, hung_up, told_count}
 use Rattle.alt_tables.specs.Stands.{bounds_of}
 use Rattle.alt_talks.specs.Runs.{Counting, LeadsOn, Stretch}
-use Rattle.alt_talks.specs.private.Rungs.{Timed, AtRest}
+use Rattle.alt_talks.specs.private.Rungs.{KnowsLastMoment, AtRest}
 use Rattle.alt_talks.specs.Stops.{AreWithin}
-use Rattle.alt_talks.specs.TalkRules.{rules}
+use Rattle.alt_talks.specs.TalkRules.{talk_rules}
 use Rattle.alt_talks.specs.private.RungStops.{ComesOn, ComesSomeOn, EndsOn, GoesSomeOn}
-use Rattle.alt_talks.specs.private.InHand.{place_of}
+use Rattle.alt_talks.specs.private.InHand.{place_of_talk}
 use Rattle.alt_talks.specs.Talks.{at}
 use Rattle.alt_talks.proofs.FileFaults.{reach_least}
 use Rattle.alt_talks.proofs.Stretching.{stretch_as}
@@ -28,7 +28,7 @@ returns-in-Ok-clause-served g c = λ s stands.
     let d = state c.pulls-served.new.shell in
     let e = state c.hang_up.new.self in
     let per = c.args.per in
-    let q = place_of c.pulls-served.new.talk in
+    let q = place_of_talk c.pulls-served.new.talk in
     let n = c.pulls-served.new.talk.mute in
     let came = subst (λ (v : Bool). Accepted a b v) c.in-Ok-true.field-0-test
     c.in-Ok-true.ensures.accepted in
@@ -37,7 +37,7 @@ returns-in-Ok-clause-served g c = λ s stands.
     let next = (bounds_of c.args.tables.now).file in
     let k = (bounds_of c.pulls-served.new.tables).file in
     let served = subst (λ (bs : List ℕ). LeadsOn next b d c.pulls-served.new.tables
-    (λ t. Timed before last (EndsOn rules (at per false bs) s false q t n))) c.new.ensures
+    (λ t. KnowsLastMoment before last (EndsOn talk_rules (at per false bs) s false q t n))) c.new.ensures
     (c.in-Ok.ensures.ended s
     (stands_kept a b c.in-Ok-true.ensures.call.keeps c.args.tables.now s stands)) in
     record {
@@ -45,8 +45,8 @@ returns-in-Ok-clause-served g c = λ s stands.
       stands = stands_kept d e c.hang_up.ensures.call.keeps c.pulls-served.new.tables served.to
           served.stands;
       calls = stretch_hung a b d e (told_count a.beside) (told_count d.beside)
-          (Counting next k (Timed before last (EndsOn rules (at per false []) s false q served.to n)))
-          (Counting next k (Timed before last (ComesOn rules per true s served.to)))
+          (Counting next k (KnowsLastMoment before last (EndsOn talk_rules (at per false []) s false q served.to n)))
+          (Counting next k (KnowsLastMoment before last (ComesOn talk_rules per true s served.to)))
           came.0 c.in-Ok-true.ensures.moments c.in-Ok-true.ensures.call.keeps
           (c.hang_up.ensures.hung (c.pulls-served.ensures.passes.talking ∙ came.1))
           c.hang_up.ensures.moments c.hang_up.ensures.call
@@ -60,12 +60,12 @@ returns-in-Ok-clause-served g c = λ s stands.
                     entries = es ++ entry e.moment (told_count d.beside) hung_up ∷ [];
                     told = ms;
                   },
-                  serves_hung rules per s es ms b.moment (told_count a.beside) e.moment
+                  serves_hung talk_rules per s es ms b.moment (told_count a.beside) e.moment
                       (told_count d.beside) q served.to n c.requires.some p.0.0.0,
                   refl,
                   refl,
                 ),
-                left_hung rules lawful (at per false []) s a b d e (told_count a.beside)
+                left_hung talk_rules lawful (at per false []) s a b d e (told_count a.beside)
                     (told_count d.beside)
                     c.in-Ok-true.ensures.call.keeps c.hang_up.ensures.call
                     (λ trusted image is. stands_left a c.args.tables.now s stands image is)
@@ -91,11 +91,11 @@ returns-in-Ok-true-clause-served g c = λ s stands.
     c.in-Ok-true.ensures.accepted in
     let next = (bounds_of c.args.tables.now).file in
     let broke = subst (λ (bs : List ℕ). Stretch b d
-    (GoesSomeOn rules fault next (at per false bs) s false)) c.new.ensures
+    (GoesSomeOn talk_rules fault next (at per false bs) s false)) c.new.ensures
     (c.in-Err-served.ensures.ended s
     (stands_kept a b c.in-Ok-true.ensures.call.keeps c.args.tables.now s stands)) in
     stretch_hung a b d e (told_count a.beside) (told_count d.beside)
-    (GoesSomeOn rules fault next (at per false []) s false) (ComesSomeOn rules per fault next s)
+    (GoesSomeOn talk_rules fault next (at per false []) s false) (ComesSomeOn talk_rules per fault next s)
     came.0 c.in-Ok-true.ensures.moments c.in-Ok-true.ensures.call.keeps
     (c.hang_up.ensures.hung (c.pulls-served.ensures.passes.talking ∙ came.1))
     c.hang_up.ensures.moments c.hang_up.ensures.call
@@ -107,12 +107,12 @@ returns-in-Ok-true-clause-served g c = λ s stands.
           entries = es ++ entry e.moment (told_count d.beside) hung_up ∷ [];
           told = ms;
         },
-        some_hung rules per s es ms b.moment (told_count a.beside) e.moment
+        some_hung talk_rules per s es ms b.moment (told_count a.beside) e.moment
             (told_count d.beside) fault next p.0,
         refl,
         refl,
       ),
-      left_hung rules lawful (at per false []) s a b d e (told_count a.beside) (told_count d.beside)
+      left_hung talk_rules lawful (at per false []) s a b d e (told_count a.beside) (told_count d.beside)
           c.in-Ok-true.ensures.call.keeps c.hang_up.ensures.call
           (λ trusted image is. stands_left a c.args.tables.now s stands image is)
           es ms within c.pulls-served.ensures.passes.later p.1,
@@ -131,10 +131,10 @@ returns-in-Ok-false-clause-served g c = λ s stands.
     record {
       to = s;
       stands = stands_kept a b c.in-Ok-false.ensures.call.keeps c.args.tables.now s stands;
-      calls = stretch_as a b {P = Timed before before (ComesOn rules c.args.per false s s)}
-          {Q = Counting next next (Timed before before (ComesOn rules c.args.per false s s))}
+      calls = stretch_as a b {P = KnowsLastMoment before before (ComesOn talk_rules c.args.per false s s)}
+          {Q = Counting next next (KnowsLastMoment before before (ComesOn talk_rules c.args.per false s s))}
           (λ es ms within x. (x, reach_least next ms))
-          (none_comes before rules lawful c.args.per s a b none.0 c.in-Ok-false.ensures.moments
+          (none_comes before talk_rules lawful c.args.per s a b none.0 c.in-Ok-false.ensures.moments
           c.in-Ok-false.ensures.call.keeps
           (λ trusted image is. stands_left a c.args.tables.now s stands image is));
     }
@@ -147,14 +147,14 @@ pulls-served-requires-clause-ready g c =
 
 pub pulls-served-requires-clause-rest : goal.pulls-served-requires-clause-rest
 pulls-served-requires-clause-rest g c =
-    subst (λ (bs : List ℕ). AtRest rules (at c.args.per false bs))
-    (sym c.new.ensures) (at_unread rules c.args.per false [] lawful.nothing)
+    subst (λ (bs : List ℕ). AtRest talk_rules (at c.args.per false bs))
+    (sym c.new.ensures) (at_unread talk_rules c.args.per false [] lawful.nothing)
 
 pub returns-clause-served : goal.returns-clause-served
 returns-clause-served g c = λ s stands.
     let state = g.S.Disk.state in
     let a = state c.args.shell.now in
-    wait_failed rules lawful c.args.per (bounds_of c.args.tables.now).file s a (state c.accept.new.self) c.in-Err.ensures.accepted.0
+    wait_failed talk_rules lawful c.args.per (bounds_of c.args.tables.now).file s a (state c.accept.new.self) c.in-Err.ensures.accepted.0
     c.in-Err.ensures.moments c.in-Err.ensures.call.keeps
     (λ trusted image is. stands_left a c.args.tables.now s stands image is)
 

@@ -2,12 +2,12 @@ use Rattle.std.proofs.Common.{◌≡◌, ◌<◌, ◌+◌, inl, inr, ℕ, List, 
 use Rattle.alt_machine.specs.State.{State}
 use Rattle.alt_shell.specs.Log.{Log}
 use Rattle.alt_talks.specs.Arrivals.{Came, NoneWill}
-use Rattle.alt_talks.specs.private.Rungs.{CameOne, after_between, Timed}
+use Rattle.alt_talks.specs.private.Rungs.{CameOne, after_between, KnowsLastMoment}
 use Rattle.alt_talks.specs.Own.{BetweenNot, own_between}
 use Rattle.alt_talks.specs.Runs.{LeadsOn}
 use Rattle.alt_talks.specs.TalkStops.{ServedOn, ServedSomeOn}
 use Rattle.alt_talks.specs.private.RungStops.{ComesOn, ComesSomeOn}
-use Rattle.alt_talks.specs.TalkRules.{rules}
+use Rattle.alt_talks.specs.TalkRules.{talk_rules}
 use Rattle.alt_talks.specs.Works.{Follows}
 use Rattle.alt_talks.proofs.Passing.{passes_none, passes_then, passes_back, passes_goes}
 use Rattle.alt_tables.specs.Stands.{Stands, bounds_of}
@@ -24,8 +24,8 @@ pub loop-served-init : goal.loop-served-init
 loop-served-init g c =
     let old = g.S.Disk.state c.args.shell.now in (
       λ s stands. reach_none old c.args.tables.now s
-          (λ t. Timed None None (SofarOn rules c.args.per 0 s t)) stands (
-            sofar_none_on rules lawful c.args.per old s
+          (λ t. KnowsLastMoment None None (SofarOn talk_rules c.args.per 0 s t)) stands (
+            sofar_none_on talk_rules lawful c.args.per old s
                 (λ trusted image is. stands_left old c.args.tables.now s stands image is),
             refl,
           ),
@@ -49,7 +49,7 @@ loop-served-preserved g c =
       λ s stands. sofar_followed per n (bounds_of c.args.tables.now).file a b d e c.loop-served.tables c.connection.new.tables s
           c.loop-served.last c.connection.new.last (inv.0 s stands)
           (λ t there. subst (λ (v : Bool). LeadsOn (bounds_of c.loop-served.tables).file b d c.connection.new.tables
-          (λ u. Timed c.loop-served.last c.connection.new.last (ComesOn rules per v t u)))
+          (λ u. KnowsLastMoment c.loop-served.last c.connection.new.last (ComesOn talk_rules per v t u)))
           c.in-Ok-true.field-0-test (c.in-Ok-true.ensures.served t there))
           (λ u there. by_next n (λ (k : ℕ). Follows d e u (own_between k c.connection.new.last u).atoms)
           (c.in-Ok.ensures.follows u there)) c.between.new.tables
@@ -95,7 +95,7 @@ returns-in-Err-between-clause-served g c = λ s stands.
     served_followed per n (bounds_of c.args.tables.now).file a b d e c.loop-served.tables c.connection.new.tables s
     c.loop-served.last c.connection.new.last (c.loop-served.invariant.0 s stands)
     (λ t there. subst (λ (v : Bool). LeadsOn (bounds_of c.loop-served.tables).file b d c.connection.new.tables
-    (λ u. Timed c.loop-served.last c.connection.new.last (ComesOn rules per v t u)))
+    (λ u. KnowsLastMoment c.loop-served.last c.connection.new.last (ComesOn talk_rules per v t u)))
     c.in-Ok-true.field-0-test (c.in-Ok-true.ensures.served t there))
     (λ u there. by_next n (λ (k : ℕ). Follows d e u (own_between k c.connection.new.last u).atoms)
     (c.in-Err-between.ensures.follows u there)) c.args.count c.in-Err-between.fault few
@@ -138,13 +138,13 @@ returns-in-Ok-false-clause-served g c = λ s stands.
     let n = c.loop-served.served in
     let few : n < c.args.count = grind arith in
     reach_then a b d (bounds_of c.args.tables.now).file c.loop-served.tables c.connection.new.tables
-    (λ t. Timed None c.loop-served.last (SofarOn rules per n s t))
-    (λ t u. Timed c.loop-served.last c.connection.new.last
-    (ComesOn rules per c.in-Ok-false.field-0 t u))
-    (λ u. ServedOn rules per c.args.count s u)
+    (λ t. KnowsLastMoment None c.loop-served.last (SofarOn talk_rules per n s t))
+    (λ t u. KnowsLastMoment c.loop-served.last c.connection.new.last
+    (ComesOn talk_rules per c.in-Ok-false.field-0 t u))
+    (λ u. ServedOn talk_rules per c.args.count s u)
     (λ (t u : State) (es fs : Log) (ms ns : List ℕ) meet x y.
-    served_fewer_on rules lawful per a b d s t n es fs ms ns meet x.0 c.args.count u few
-    (subst (λ (v : Bool). ComesOn rules per v t u b d fs ns) c.in-Ok-false.field-0-test y.0))
+    served_fewer_on talk_rules lawful per a b d s t n es fs ms ns meet x.0 c.args.count u few
+    (subst (λ (v : Bool). ComesOn talk_rules per v t u b d fs ns) c.in-Ok-false.field-0-test y.0))
     (c.loop-served.invariant.0 s stands) c.in-Ok-false.ensures.served
 
 pub returns-in-Err-clause-served : goal.returns-in-Err-clause-served
@@ -159,12 +159,12 @@ returns-in-Err-clause-served g c = λ s stands.
     let next = (bounds_of c.args.tables.now).file in
     let few : n < c.args.count = grind arith in
     reach_break a b d next c.loop-served.tables
-    (λ t. Timed None c.loop-served.last (SofarOn rules per n s t))
-    (λ k t. ComesSomeOn rules per fault k t)
-    (ServedSomeOn rules per c.args.count fault next s)
-    (λ k l t es ms le x. comes_wider rules fault b d k l t es ms le per x)
+    (λ t. KnowsLastMoment None c.loop-served.last (SofarOn talk_rules per n s t))
+    (λ k t. ComesSomeOn talk_rules per fault k t)
+    (ServedSomeOn talk_rules per c.args.count fault next s)
+    (λ k l t es ms le x. comes_wider talk_rules fault b d k l t es ms le per x)
     (λ (t : State) (es fs : Log) (ms ns : List ℕ) meet x y.
-    served_some_on rules lawful per a b d s t n es fs ms ns meet x.0 c.args.count fault next few y)
+    served_some_on talk_rules lawful per a b d s t n es fs ms ns meet x.0 c.args.count fault next few y)
     (c.loop-served.invariant.0 s stands) c.in-Err.ensures.served
 
 pub returns-clause-served : goal.returns-clause-served
@@ -175,11 +175,11 @@ returns-clause-served g c = λ s stands.
     let per = c.args.per in
     let n = c.loop-served.served in
     let all : n ≡ c.args.count = grind arith in
-    reach_as a b (bounds_of c.args.tables.now).file c.loop-served.tables (λ t. Timed None c.loop-served.last (SofarOn rules per n s t))
-    (λ t. ServedOn rules per c.args.count s t)
+    reach_as a b (bounds_of c.args.tables.now).file c.loop-served.tables (λ t. KnowsLastMoment None c.loop-served.last (SofarOn talk_rules per n s t))
+    (λ t. ServedOn talk_rules per c.args.count s t)
     (λ (t : State) (es : Log) (ms : List ℕ) x.
-    subst (λ (k : ℕ). ServedOn rules per k s t a b es ms) all
-    (served_all_on rules lawful per a b n s t es ms x.0))
+    subst (λ (k : ℕ). ServedOn talk_rules per k s t a b es ms) all
+    (served_all_on talk_rules lawful per a b n s t es ms x.0))
     (c.loop-served.invariant.0 s stands)
 
 pub connection-requires-clause-ready : goal.connection-requires-clause-ready

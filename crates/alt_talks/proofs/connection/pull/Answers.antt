@@ -3,11 +3,11 @@ use Rattle.alt_shell.specs.Log.{Log, Grows, entry, took, told_count}
 use Rattle.alt_tables.proofs.Left.{stands_left}
 use Rattle.alt_tables.specs.Stands.{bounds_of}
 use Rattle.alt_talks.specs.Runs.{Counting, LeadsOn, Stretch}
-use Rattle.alt_talks.specs.private.Rungs.{Timed}
+use Rattle.alt_talks.specs.private.Rungs.{KnowsLastMoment}
 use Rattle.alt_talks.specs.Stops.{AreWithin}
-use Rattle.alt_talks.specs.TalkRules.{rules}
+use Rattle.alt_talks.specs.TalkRules.{talk_rules}
 use Rattle.alt_talks.specs.private.RungStops.{MovesAllOn, MovesSomeOn, GoesOn, GoesSomeOn}
-use Rattle.alt_talks.specs.private.InHand.{place_of}
+use Rattle.alt_talks.specs.private.InHand.{place_of_talk}
 use Rattle.alt_talks.specs.Talks.{at}
 use Rattle.alt_talks.specs.declared.fault.RunFault.TheVariants.{NoMemory}
 use Rattle.alt_talks.proofs.Stopping.{ready_kept, stands_kept}
@@ -27,8 +27,8 @@ returns-in-Ok-at_hand-clause-turned g c = λ s stands rest.
     let a = state c.args.shell.now in
     let b = state c.take.new.self in
     let d = state c.at_hand.new.shell in
-    let p = place_of c.args.talk.now in
-    let q = place_of c.at_hand.new.talk in
+    let p = place_of_talk c.args.talk.now in
+    let q = place_of_talk c.at_hand.new.talk in
     let m = c.args.talk.now.mute in
     let n = c.at_hand.new.talk.mute in
     let bytes = take c.in-Ok.count c.take.new.buf in
@@ -41,22 +41,22 @@ returns-in-Ok-at_hand-clause-turned g c = λ s stands rest.
     let next = (bounds_of c.args.tables.now).file in
     let k = (bounds_of c.at_hand.new.tables).file in
     let went = subst (λ (bs : List ℕ). LeadsOn next b d c.at_hand.new.tables
-    (λ t. Timed before last (MovesAllOn rules (at p.left p.greeted bs) s m q t n)))
+    (λ t. KnowsLastMoment before last (MovesAllOn talk_rules (at p.left p.greeted bs) s m q t n)))
     c.in-Ok-extend.ensures.more
     (c.in-Ok-at_hand.ensures.moved s (stands_kept a b keeps c.args.tables.now s stands)) in
     record {
       to = went.to;
       stands = went.stands;
       calls = took_then a b d (entry b.moment clocked (took bytes))
-          (Counting next k (Timed before last
-          (MovesAllOn rules (at p.left p.greeted (p.bytes ++ bytes)) s m q went.to n)))
-          (Counting next k (Timed before last (GoesOn rules true p s m q went.to n)))
+          (Counting next k (KnowsLastMoment before last
+          (MovesAllOn talk_rules (at p.left p.greeted (p.bytes ++ bytes)) s m q went.to n)))
+          (Counting next k (KnowsLastMoment before last (GoesOn talk_rules true p s m q went.to n)))
           c.in-Ok.ensures.taken c.in-Ok.ensures.moments keeps.later (omega arith) keeps
           (λ (es : Log) (ms : List ℕ) (within : AreWithin b.moment d.moment es) x. (
             (
-              goes_taken_on rules p s a b d bytes clocked keeps
+              goes_taken_on talk_rules p s a b d bytes clocked keeps
                   (λ trusted image is. stands_left a c.args.tables.now s stands image is)
-                  lawful m (idle_start rules p s m rest c.requires.going c.requires.heard) q went.to n es
+                  lawful m (idle_start talk_rules p s m rest c.requires.going c.requires.heard) q went.to n es
                   ms within some x.0.0,
               x.0.1,
             ),
@@ -71,7 +71,7 @@ returns-in-Err-at_hand-clause-turned g c = λ s stands rest.
     let a = state c.args.shell.now in
     let b = state c.take.new.self in
     let d = state c.at_hand.new.shell in
-    let p = place_of c.args.talk.now in
+    let p = place_of_talk c.args.talk.now in
     let m = c.args.talk.now.mute in
     let fault = c.in-Err-at_hand.fault in
     let bytes = take c.in-Ok.count c.take.new.buf in
@@ -79,17 +79,17 @@ returns-in-Err-at_hand-clause-turned g c = λ s stands rest.
     let keeps = c.in-Ok.ensures.call.keeps in
     let next = (bounds_of c.args.tables.now).file in
     let went = subst (λ (bs : List ℕ). Stretch b d
-    (MovesSomeOn rules fault next (at p.left p.greeted bs) s m))
+    (MovesSomeOn talk_rules fault next (at p.left p.greeted bs) s m))
     c.in-Ok-extend.ensures.more
     (c.in-Err-at_hand.ensures.moved s (stands_kept a b keeps c.args.tables.now s stands)) in
     took_then a b d (entry b.moment clocked (took bytes))
-    (MovesSomeOn rules fault next (at p.left p.greeted (p.bytes ++ bytes)) s m)
-    (GoesSomeOn rules fault next p s m)
+    (MovesSomeOn talk_rules fault next (at p.left p.greeted (p.bytes ++ bytes)) s m)
+    (GoesSomeOn talk_rules fault next p s m)
     c.in-Ok.ensures.taken c.in-Ok.ensures.moments keeps.later (omega arith) keeps
     (λ (es : Log) (ms : List ℕ) (within : AreWithin b.moment d.moment es) x.
-    goes_some_taken_on rules p s a b d bytes clocked keeps
+    goes_some_taken_on talk_rules p s a b d bytes clocked keeps
     (λ trusted image is. stands_left a c.args.tables.now s stands image is)
-    lawful m (idle_start rules p s m rest c.requires.going c.requires.heard) fault next es ms within x)
+    lawful m (idle_start talk_rules p s m rest c.requires.going c.requires.heard) fault next es ms within x)
     went
 
 pub returns-in-Err-clause-turned : goal.returns-in-Err-clause-turned
@@ -97,7 +97,7 @@ returns-in-Err-clause-turned g c = λ s stands rest.
     let state = g.S.Disk.state in
     let a = state c.args.shell.now in
     let b = state c.take.new.self in
-    let p = place_of c.args.talk.now in
+    let p = place_of_talk c.args.talk.now in
     let m = c.args.talk.now.mute in
     let keeps = c.in-Err.ensures.call.keeps in
     let l = c.args.talk.now.last in
@@ -105,11 +105,11 @@ returns-in-Err-clause-turned g c = λ s stands rest.
     record {
       to = s;
       stands = stands_kept a b keeps c.args.tables.now s stands;
-      calls = stretch_as a b {P = Timed l l (GoesOn rules false p s m p s m)}
-          {Q = Counting next next (Timed l l (GoesOn rules false p s m p s m))}
+      calls = stretch_as a b {P = KnowsLastMoment l l (GoesOn talk_rules false p s m p s m)}
+          {Q = Counting next next (KnowsLastMoment l l (GoesOn talk_rules false p s m p s m))}
           (λ es ms within x. (x, reach_least next ms))
-          (goes_missed_on l rules lawful p s m rest
-          (idle_start rules p s m rest c.requires.going c.requires.heard) a b c.requires.talking c.requires.taking
+          (goes_missed_on l talk_rules lawful p s m rest
+          (idle_start talk_rules p s m rest c.requires.going c.requires.heard) a b c.requires.talking c.requires.taking
           c.in-Err.ensures.taken c.in-Err.ensures.moments keeps
           (λ trusted image is. stands_left a c.args.tables.now s stands image is));
     }
@@ -119,7 +119,7 @@ returns-then-count-eq0-clause-turned g c = λ s stands rest.
     let state = g.S.Disk.state in
     let a = state c.args.shell.now in
     let b = state c.take.new.self in
-    let p = place_of c.args.talk.now in
+    let p = place_of_talk c.args.talk.now in
     let m = c.args.talk.now.mute in
     let keeps = c.in-Ok.ensures.call.keeps in
     let l = c.args.talk.now.last in
@@ -128,16 +128,16 @@ returns-then-count-eq0-clause-turned g c = λ s stands rest.
     record {
       to = s;
       stands = stands_kept a b keeps c.args.tables.now s stands;
-      calls = stretch_one a b (Counting next next (Timed l l (GoesOn rules false p s m p s m)))
+      calls = stretch_one a b (Counting next next (KnowsLastMoment l l (GoesOn talk_rules false p s m p s m)))
           (entry b.moment (told_count a.beside) (took []) ∷ [])
           (subst (λ (bs : List ℕ). Grows a.beside b.beside
           (entry b.moment (told_count a.beside) (took bs) ∷ [])) none c.in-Ok.ensures.taken)
           c.in-Ok.ensures.moments (keeps.later, omega arith, tt) keeps (
             (
               (
-                goes_end rules p s m rest b.moment (told_count a.beside)
-                    (idle_start rules p s m rest c.requires.going c.requires.heard),
-                left_silent rules lawful p s a b
+                goes_end talk_rules p s m rest b.moment (told_count a.beside)
+                    (idle_start talk_rules p s m rest c.requires.going c.requires.heard),
+                left_silent talk_rules lawful p s a b
                     (entry b.moment (told_count a.beside) (took []) ∷ []) [] keeps refl
                     (λ trusted image is. stands_left a c.args.tables.now s stands image is),
               ),
@@ -152,17 +152,17 @@ returns-in-Err-extend-clause-turned g c = λ s stands rest.
     let state = g.S.Disk.state in
     let a = state c.args.shell.now in
     let b = state c.take.new.self in
-    let p = place_of c.args.talk.now in
+    let p = place_of_talk c.args.talk.now in
     let m = c.args.talk.now.mute in
     let keeps = c.in-Ok.ensures.call.keeps in
     let bytes = take c.in-Ok.count c.take.new.buf in
     let next = (bounds_of c.args.tables.now).file in
-    stretch_one a b (GoesSomeOn rules NoMemory next p s m)
+    stretch_one a b (GoesSomeOn talk_rules NoMemory next p s m)
     (entry b.moment (told_count a.beside) (took bytes) ∷ [])
     c.in-Ok.ensures.taken c.in-Ok.ensures.moments (keeps.later, omega arith, tt) keeps (
-      goes_some_none rules p s m bytes b.moment (told_count a.beside)
-          (idle_start rules p s m rest c.requires.going c.requires.heard) next,
-      left_silent rules lawful p s a b (entry b.moment (told_count a.beside) (took bytes) ∷ []) []
+      goes_some_none talk_rules p s m bytes b.moment (told_count a.beside)
+          (idle_start talk_rules p s m rest c.requires.going c.requires.heard) next,
+      left_silent talk_rules lawful p s a b (entry b.moment (told_count a.beside) (took bytes) ∷ []) []
           keeps refl
           (λ trusted image is. stands_left a c.args.tables.now s stands image is),
     )

@@ -2,10 +2,10 @@ use Rattle.std.proofs.Common.{◌≡◌, ◌<◌, ◌++◌, inl, inr, ℕ, List,
 use Rattle.alt_machine.specs.State.{State}
 use Rattle.alt_shell.specs.Log.{Log}
 use Rattle.alt_tables.specs.Stands.{bounds_of}
-use Rattle.alt_talks.specs.private.Rungs.{Timed}
+use Rattle.alt_talks.specs.private.Rungs.{KnowsLastMoment}
 use Rattle.alt_talks.specs.private.RungStops.{GoesOn, GoesSomeOn, EndsOn}
-use Rattle.alt_talks.specs.TalkRules.{rules}
-use Rattle.alt_talks.specs.private.InHand.{place_of}
+use Rattle.alt_talks.specs.TalkRules.{talk_rules}
+use Rattle.alt_talks.specs.private.InHand.{place_of_talk}
 use Rattle.alt_talks.proofs.Passing.{passes_none, passes_then, passes_back}
 use Rattle.alt_talks.proofs.TalkLaws.{lawful}
 use Rattle.alt_tables.proofs.Left.{stands_left}
@@ -20,11 +20,11 @@ use Rattle.alt_talks.proofs.connection.pulls.Goals as goal
 pub pulls-init : goal.pulls-init
 pulls-init g c =
     let old = g.S.Disk.state c.args.shell.now in
-    let p = place_of c.args.talk.now in
+    let p = place_of_talk c.args.talk.now in
     let m = c.args.talk.now.mute in (
       λ s stands rest. reach_none old c.args.tables.now s
-          (λ t. Timed c.args.talk.now.last c.args.talk.now.last (GoesOn rules true p s m p t m)) stands (
-            goes_start_on rules lawful old p s m rest
+          (λ t. KnowsLastMoment c.args.talk.now.last c.args.talk.now.last (GoesOn talk_rules true p s m p t m)) stands (
+            goes_start_on talk_rules lawful old p s m rest
                 (λ trusted image is. stands_left old c.args.tables.now s stands image is),
             refl,
           ),
@@ -40,9 +40,9 @@ pulls-preserved g c =
     let a = state c.args.shell.now in
     let b = state c.pulls.shell in
     let d = state c.pull.new.shell in
-    let p = place_of c.args.talk.now in
-    let q = place_of c.pulls.talk in
-    let v = place_of c.pull.new.talk in
+    let p = place_of_talk c.args.talk.now in
+    let q = place_of_talk c.pulls.talk in
+    let v = place_of_talk c.pull.new.talk in
     let m = c.args.talk.now.mute in
     let n = c.pulls.talk.mute in
     let o = c.pull.new.talk.mute in
@@ -54,16 +54,16 @@ pulls-preserved g c =
     let inv = c.pulls.invariant in (
       λ s stands rest.
           let front = inv.0 s stands rest in
-          let here = goes_rests rules lawful true p q s front.to m n front.calls.entries
+          let here = goes_rests talk_rules lawful true p q s front.to m n front.calls.entries
           front.calls.told front.calls.holds.0.0.0 in
           reach_then a b d (bounds_of c.args.tables.now).file c.pulls.tables c.pull.new.tables
-          (λ t. Timed first next (GoesOn rules true p s m q t n))
-          (λ t u. Timed next last (GoesOn rules x q t n v u o))
-          (λ u. Timed first last (GoesOn rules true p s m v u o))
+          (λ t. KnowsLastMoment first next (GoesOn talk_rules true p s m q t n))
+          (λ t u. KnowsLastMoment next last (GoesOn talk_rules x q t n v u o))
+          (λ u. KnowsLastMoment first last (GoesOn talk_rules true p s m v u o))
           (λ (t u : State) (es fs : Log) (ms ns : List ℕ) meet k l. (
-            subst (λ (y : Bool). GoesOn rules y p s m v u o a d (es ++ fs) (ms ++ ns))
+            subst (λ (y : Bool). GoesOn talk_rules y p s m v u o a d (es ++ fs) (ms ++ ns))
                 c.in-Ok-true.field-0-test
-                (goes_then_on rules lawful a b d x p q v s t u m n o es fs ms ns meet going k.0 l.0),
+                (goes_then_on talk_rules lawful a b d x p q v s t u m n o es fs ms ns meet going k.0 l.0),
             told_both first next last ms ns k.1 l.1,
           ))
           front (λ t there. c.in-Ok-true.ensures.turned t there here),
@@ -80,9 +80,9 @@ returns-in-Ok-false-clause-ended g c = λ s stands.
     let a = state c.args.shell.now in
     let b = state c.pulls.shell in
     let d = state c.pull.new.shell in
-    let p = place_of c.args.talk.now in
-    let q = place_of c.pulls.talk in
-    let v = place_of c.pull.new.talk in
+    let p = place_of_talk c.args.talk.now in
+    let q = place_of_talk c.pulls.talk in
+    let v = place_of_talk c.pull.new.talk in
     let m = c.args.talk.now.mute in
     let n = c.pulls.talk.mute in
     let o = c.pull.new.talk.mute in
@@ -92,14 +92,14 @@ returns-in-Ok-false-clause-ended g c = λ s stands.
     let x = c.in-Ok-false.field-0 in
     let going : 0 < c.pulls.talk.left = grind arith in
     let front = c.pulls.invariant.0 s stands rest in
-    let here = goes_rests rules lawful true p q s front.to m n front.calls.entries
+    let here = goes_rests talk_rules lawful true p q s front.to m n front.calls.entries
     front.calls.told front.calls.holds.0.0.0 in
     reach_then a b d (bounds_of c.args.tables.now).file c.pulls.tables c.pull.new.tables
-    (λ t. Timed first next (GoesOn rules true p s m q t n))
-    (λ t u. Timed next last (GoesOn rules x q t n v u o))
-    (λ u. Timed first last (EndsOn rules p s m v u o))
+    (λ t. KnowsLastMoment first next (GoesOn talk_rules true p s m q t n))
+    (λ t u. KnowsLastMoment next last (GoesOn talk_rules x q t n v u o))
+    (λ u. KnowsLastMoment first last (EndsOn talk_rules p s m v u o))
     (λ (t u : State) (es fs : Log) (ms ns : List ℕ) meet k l.
-    let went = goes_then_on rules lawful a b d x p q v s t u m n o es fs ms ns meet going k.0 l.0 in (
+    let went = goes_then_on talk_rules lawful a b d x p q v s t u m n o es fs ms ns meet going k.0 l.0 in (
       (record { more = x; goes = went.0; cause = inl c.in-Ok-false.field-0-test }, went.1),
       told_both first next last ms ns k.1 l.1,
     ))
@@ -112,39 +112,39 @@ returns-in-Err-clause-ended g c = λ s stands.
     let a = state c.args.shell.now in
     let b = state c.pulls.shell in
     let d = state c.pull.new.shell in
-    let p = place_of c.args.talk.now in
-    let q = place_of c.pulls.talk in
+    let p = place_of_talk c.args.talk.now in
+    let q = place_of_talk c.pulls.talk in
     let m = c.args.talk.now.mute in
     let n = c.pulls.talk.mute in
     let fault = c.in-Err.fault in
     let next = (bounds_of c.args.tables.now).file in
     let going : 0 < c.pulls.talk.left = grind arith in
     let front = c.pulls.invariant.0 s stands rest in
-    let here = goes_rests rules lawful true p q s front.to m n front.calls.entries
+    let here = goes_rests talk_rules lawful true p q s front.to m n front.calls.entries
     front.calls.told front.calls.holds.0.0.0 in
     reach_break a b d next c.pulls.tables
-    (λ t. Timed c.args.talk.now.last c.pulls.talk.last (GoesOn rules true p s m q t n))
-    (λ k t. GoesSomeOn rules fault k q t n)
-    (GoesSomeOn rules fault next p s m)
-    (λ k l t es ms le x. goes_wider rules fault b d k l t es ms le q n x)
+    (λ t. KnowsLastMoment c.args.talk.now.last c.pulls.talk.last (GoesOn talk_rules true p s m q t n))
+    (λ k t. GoesSomeOn talk_rules fault k q t n)
+    (GoesSomeOn talk_rules fault next p s m)
+    (λ k l t es ms le x. goes_wider talk_rules fault b d k l t es ms le q n x)
     (λ (t : State) (es fs : Log) (ms ns : List ℕ) meet k l.
-    goes_break_on rules lawful a b d fault next p q s t m n es fs ms ns meet going k.0 l)
+    goes_break_on talk_rules lawful a b d fault next p q s t m n es fs ms ns meet going k.0 l)
     front (λ t there. c.in-Err.ensures.turned t there here)
 
 pub returns-then-talk-eq0-clause-ended : goal.returns-then-talk-eq0-clause-ended
 returns-then-talk-eq0-clause-ended g c = λ s stands.
     let rest = c.requires.rest in
     let state = g.S.Disk.state in
-    let p = place_of c.args.talk.now in
-    let q = place_of c.pulls.talk in
+    let p = place_of_talk c.args.talk.now in
+    let q = place_of_talk c.pulls.talk in
     let m = c.args.talk.now.mute in
     let n = c.pulls.talk.mute in
     let first = c.args.talk.now.last in
     let next = c.pulls.talk.last in
     let none : c.pulls.talk.left ≡ 0 = grind arith in
     reach_as (state c.args.shell.now) (state c.pulls.shell) (bounds_of c.args.tables.now).file c.pulls.tables
-    (λ t. Timed first next (GoesOn rules true p s m q t n))
-    (λ t. Timed first next (EndsOn rules p s m q t n))
+    (λ t. KnowsLastMoment first next (GoesOn talk_rules true p s m q t n))
+    (λ t. KnowsLastMoment first next (EndsOn talk_rules p s m q t n))
     (λ (t : State) (es : Log) (ms : List ℕ) x.
     ((record { more = true; goes = x.0.0; cause = inr (inr none) }, x.0.1), x.1))
     (c.pulls.invariant.0 s stands rest)
@@ -153,15 +153,15 @@ pub returns-then-talk-clause-ended : goal.returns-then-talk-clause-ended
 returns-then-talk-clause-ended g c = λ s stands.
     let rest = c.requires.rest in
     let state = g.S.Disk.state in
-    let p = place_of c.args.talk.now in
-    let q = place_of c.pulls.talk in
+    let p = place_of_talk c.args.talk.now in
+    let q = place_of_talk c.pulls.talk in
     let m = c.args.talk.now.mute in
     let n = c.pulls.talk.mute in
     let first = c.args.talk.now.last in
     let next = c.pulls.talk.last in
     reach_as (state c.args.shell.now) (state c.pulls.shell) (bounds_of c.args.tables.now).file c.pulls.tables
-    (λ t. Timed first next (GoesOn rules true p s m q t n))
-    (λ t. Timed first next (EndsOn rules p s m q t n))
+    (λ t. KnowsLastMoment first next (GoesOn talk_rules true p s m q t n))
+    (λ t. KnowsLastMoment first next (EndsOn talk_rules p s m q t n))
     (λ (t : State) (es : Log) (ms : List ℕ) x.
     ((record { more = true; goes = x.0.0; cause = inr (inl c.if-talk.true) }, x.0.1), x.1))
     (c.pulls.invariant.0 s stands rest)

@@ -8,7 +8,7 @@ use Rattle.alt_machine.specs.State.{State}
 use Rattle.alt_tables.proofs.OpeningOneState.{one_state_of_image}
 use Rattle.alt_tables.specs.Merged.{IsMergedFor}
 use Rattle.alt_tables.specs.FilesLeft.{most_files}
-use Rattle.alt_tables.specs.Stands.{bounds_of, limits_of}
+use Rattle.alt_tables.specs.Stands.{bounds_of, limits_of_tables}
 use Rattle.alt_tables.proofs.Left.{stands_read}
 use Rattle.alt_talks.specs.Works.{AfterWork}
 use Rattle.alt_talks.proofs.FileFaults.{file_told}
@@ -22,7 +22,7 @@ returns-in-Ok-clause-entries g c = by c.args.task refl
         c.in-Ok.ensures.goes trusted
 
     by : (t : Task) → c.args.task ≡ t
-        → AfterWork t (limits_of c.args.tables.now).flush (g.D.Disk.state c.work.new.disk)
+        → AfterWork t (limits_of_tables c.args.tables.now).flush (g.D.Disk.state c.work.new.disk)
     by Step is = λ some trusted n entries. c.in-Ok.ensures.step is some (before trusted) n entries
     by MergeAll is = λ trusted r files. let given = c.requires.ready (before trusted) in
         let same = one_state_of_image (g.D.Disk.state c.work.new.disk).file given.0 r

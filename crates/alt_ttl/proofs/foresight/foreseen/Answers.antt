@@ -6,7 +6,7 @@ use Rattle.alt_machine.specs.Expiry.{expiring}
 use Rattle.alt_request.proofs.TablesForeseen.{foresees_on}
 use Rattle.alt_request.proofs.TablesLooking.{fails_then, only_then, ready_only}
 use Rattle.alt_request.specs.TablesStands.{catalog_of, due_of}
-use Rattle.alt_ttl.specs.private.Searched.{AreNamed}
+use Rattle.alt_ttl.specs.private.Searched.{StandingTablesAreThere}
 use Rattle.alt_ttl.proofs.Ripening.{exchanged, none_expiring, some_of}
 use Rattle.alt_ttl.proofs.foresight.foreseen.Goals as goal
 
@@ -17,7 +17,7 @@ returns-then-due_none-clause-standings g c s stands = c.new.ensures.items
 
 pub returns-then-due_none-clause-named : goal.returns-then-due_none-clause-named
 returns-then-due_none-clause-named g c =
-    subst (AreNamed (catalog_of c.args.tables.now)) (sym c.new.ensures.items) tt
+    subst (StandingTablesAreThere (catalog_of c.args.tables.now)) (sym c.new.ensures.items) tt
 
 pub ripe-requires-clause-ready : goal.ripe-requires-clause-ready
 ripe-requires-clause-ready g c = ready_only c.taken.ensures.only c.requires.ready

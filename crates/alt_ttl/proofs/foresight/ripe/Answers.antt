@@ -7,8 +7,8 @@ use Rattle.alt_machine.specs.State.{Texts}
 use Rattle.alt_schema.specs.declared.schema.TableSchema.{TableSchema}
 use Rattle.alt_request.proofs.TablesLooking.{fails_then, fails_told, only_nothing, only_then, ready_only}
 use Rattle.alt_request.specs.TablesStands.{catalog_of}
-use Rattle.alt_ttl.specs.private.Searched.{AreNamed}
-use Rattle.alt_ttl.proofs.Ordered.{left_behind, left_first}
+use Rattle.alt_ttl.specs.private.Searched.{StandingTablesAreThere}
+use Rattle.alt_ttl.proofs.LeftBehind.{left_behind, left_first}
 use Rattle.alt_ttl.proofs.Ripening.{put_few, put_named, ripe_all, ripe_full, ripe_step, some_then}
 use Rattle.alt_ttl.proofs.foresight.ripe.Goals as goal
 
@@ -18,7 +18,7 @@ places-init g c = record {
       c.new-out.ensures.items ∙ left_first (all_expired s c.args.moment);
   known = λ s stands knows. knows;
   few = omega (arith, ap length c.new-out.ensures.items);
-  named = subst (AreNamed (catalog_of c.args.tables.now)) (sym c.new-out.ensures.items) tt;
+  named = subst (StandingTablesAreThere (catalog_of c.args.tables.now)) (sym c.new-out.ensures.items) tt;
   ripe = c.requires.ripe;
   only = only_nothing (g.D.Disk.state c.args.disk.now) c.args.tables.now;
 }

@@ -7,8 +7,8 @@ use Rattle.alt_machine.specs.State.{State}
 use Rattle.alt_request.specs.TablesForeseen.{Foresees}
 use Rattle.alt_request.specs.TablesLooking.{OnlyReads}
 use Rattle.alt_request.specs.TablesStands.{Stands, catalog_of}
-use Rattle.alt_ttl.specs.private.Searched.{AreNamed}
-use Rattle.alt_ttl.proofs.Ordered.{left_behind}
+use Rattle.alt_ttl.specs.private.Searched.{StandingTablesAreThere}
+use Rattle.alt_ttl.proofs.LeftBehind.{left_behind}
 use Rattle.alt_ttl.proofs.foresight.ripe.Given as goal
 
 abbrev pub invariant-places : goal.invariant-places
@@ -18,7 +18,7 @@ invariant-places g l = record {
   known : (s : State) → Stands (g.D.Disk.state l.fn.disk) l.fn.tables s → Foresees s.tables l.fn.due
       → Foresees s.tables l.due;
   few : length l.out.items ≤ MOST_EXPIRED;
-  named : AreNamed (catalog_of l.fn.tables) l.out.items;
+  named : StandingTablesAreThere (catalog_of l.fn.tables) l.out.items;
   ripe : IsRipe l.moment l.due;
   only : OnlyReads (g.D.Disk.state l.fn.disk) (g.D.Disk.state l.disk) l.fn.tables l.tables;
 }

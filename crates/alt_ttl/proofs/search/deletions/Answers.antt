@@ -6,14 +6,14 @@ use Rattle.alt_schema.specs.declared.schema.TableSchema.{TableSchema}
 use Rattle.alt_request.proofs.TablesLooking.{fails_then, only_then, ready_only}
 use Rattle.alt_request.specs.TablesSeveral.{AreAllApart, Every, MayWrite}
 use Rattle.alt_request.specs.TablesStands.{catalog_of}
-use Rattle.alt_ttl.specs.private.Searched.{AreNamed, has_twice}
+use Rattle.alt_ttl.specs.private.Searched.{StandingTablesAreThere, has_twice}
 use Rattle.alt_ttl.proofs.Founds.{all_apart, may_go}
 use Rattle.alt_ttl.proofs.search.deletions.Goals as goal
 
 pub find_all-requires : goal.find_all-requires
 find_all-requires g c = record {
   ready = ready_only c.in-Ok.ensures.only c.requires.ready;
-  named = subst (λ (k : Texts TableSchema). AreNamed k c.in-Ok.standings.items)
+  named = subst (λ (k : Texts TableSchema). StandingTablesAreThere k c.in-Ok.standings.items)
       (sym c.in-Ok.ensures.only.catalog.catalog) c.in-Ok.ensures.named;
 }
 

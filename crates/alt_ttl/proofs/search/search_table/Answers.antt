@@ -8,7 +8,7 @@ use Rattle.alt_ops_query.proofs.Described.{stored_at}
 use Rattle.alt_schema.specs.declared.schema.TableSchema.{TableSchema}
 use Rattle.alt_request.proofs.TablesLooking.{only_nothing, only_then, ready_only}
 use Rattle.alt_request.specs.TablesStands.{catalog_of}
-use Rattle.alt_ttl.specs.private.Searched.{AreNamed, left_in, left_of}
+use Rattle.alt_ttl.specs.private.Searched.{StandingTablesAreThere, left_in, standings_left}
 use Rattle.alt_ttl.proofs.Fronts.{take_whole}
 use Rattle.alt_ttl.proofs.Searching.{left_first, none_expired}
 use Rattle.alt_ttl.proofs.search.search_table.Goals as goal
@@ -42,7 +42,7 @@ search_page-requires g c =
       there = subst (λ (k : Texts TableSchema). map.contains_key k c.args.name.now ≡ true)
           (sym so.only.catalog.catalog) c.requires.there;
       few = so.few;
-      named = subst (λ (k : Texts TableSchema). AreNamed k c.pages.out.items)
+      named = subst (λ (k : Texts TableSchema). StandingTablesAreThere k c.pages.out.items)
           (sym so.only.catalog.catalog) so.named;
     }
 
@@ -50,13 +50,13 @@ pub pages-preserved : goal.pages-preserved
 pages-preserved g c =
     let so = c.pages.invariant in record {
       left = λ s t stands at.
-          subst (λ o. left_of c.args.name.now t c.args.moment c.search_page.new.out.items o
+          subst (λ o. standings_left c.args.name.now t c.args.moment c.search_page.new.out.items o
           ≡ left_in c.args.name.now t c.args.moment c.pages.out.items c.pages.from)
           c.in-Ok-Some.field-0-is
           (c.in-Ok-Some.ensures.left s t ((so.only.stays s).0 stands) at)
           ∙ so.left s t stands at;
       few = c.in-Ok-Some.ensures.few;
-      named = subst (λ (k : Texts TableSchema). AreNamed k c.search_page.new.out.items)
+      named = subst (λ (k : Texts TableSchema). StandingTablesAreThere k c.search_page.new.out.items)
           so.only.catalog.catalog c.in-Ok-Some.ensures.named;
       only = only_then so.only c.search_page.ensures.only;
     }
@@ -64,7 +64,7 @@ pages-preserved g c =
 pub returns-in-Ok-None-clause-found : goal.returns-in-Ok-None-clause-found
 returns-in-Ok-None-clause-found g c s t stands at =
     let so = c.pages.invariant in
-    subst (λ o. left_of c.args.name.now t c.args.moment c.search_page.new.out.items o
+    subst (λ o. standings_left c.args.name.now t c.args.moment c.search_page.new.out.items o
     ≡ left_in c.args.name.now t c.args.moment c.pages.out.items c.pages.from)
     c.in-Ok-None.field-0-is (c.in-Ok-None.ensures.left s t ((so.only.stays s).0 stands) at)
     ∙ so.left s t stands at

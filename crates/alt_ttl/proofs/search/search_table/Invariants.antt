@@ -6,7 +6,7 @@ use Rattle.alt_machine.specs.Expiry.{expired_in}
 use Rattle.alt_machine.specs.State.{State, Table}
 use Rattle.alt_request.specs.TablesLooking.{OnlyReads}
 use Rattle.alt_request.specs.TablesStands.{Stands, catalog_of}
-use Rattle.alt_ttl.specs.private.Searched.{AreNamed, left_in}
+use Rattle.alt_ttl.specs.private.Searched.{StandingTablesAreThere, left_in}
 use Rattle.alt_ttl.proofs.search.search_table.Given as goal
 
 abbrev pub invariant-pages : goal.invariant-pages
@@ -15,6 +15,6 @@ invariant-pages g l = record {
       → map.get s.tables l.name ≡ Some t → left_in l.name t l.moment l.out.items l.from
       ≡ take MOST_EXPIRED (l.fn.out.items ++ expired_in l.moment l.name t);
   few : length l.out.items ≤ MOST_EXPIRED;
-  named : AreNamed (catalog_of l.fn.tables) l.out.items;
+  named : StandingTablesAreThere (catalog_of l.fn.tables) l.out.items;
   only : OnlyReads (g.D.Disk.state l.fn.disk) (g.D.Disk.state l.disk) l.fn.tables l.tables;
 }

@@ -10,7 +10,7 @@ use Rattle.alt_schema.specs.declared.schema.TableSchema.{TableSchema}
 use Rattle.alt_request.proofs.TablesLooking.{only_nothing, only_then, ready_only}
 use Rattle.alt_request.specs.TablesSeveral.{Every}
 use Rattle.alt_request.specs.TablesStands.{catalog_of}
-use Rattle.alt_ttl.specs.private.Searched.{AreNamed}
+use Rattle.alt_ttl.specs.private.Searched.{StandingTablesAreThere}
 use Rattle.alt_ttl.proofs.Fronts.{take_step, take_whole}
 use Rattle.alt_ttl.proofs.Searching.{IsThere, expired_at, expired_of, found_all, is_there, names_there}
 use Rattle.alt_ttl.proofs.search.searched.Goals as goal
@@ -30,7 +30,7 @@ loop-name-init g c = record {
       (sym (c.into_iter-name-iterator.ensures.into_iter_gives.0 ∙ c.in_ok-names.ensures.names))
       (names_there (catalog_of c.args.tables.now));
   few = omega (arith, ap length c.new-out.ensures.items);
-  named = subst (AreNamed (catalog_of c.args.tables.now)) (sym c.new-out.ensures.items) tt;
+  named = subst (StandingTablesAreThere (catalog_of c.args.tables.now)) (sym c.new-out.ensures.items) tt;
   only = only_nothing (g.D.Disk.state c.args.disk.now) c.args.tables.now;
 }
 
@@ -45,7 +45,7 @@ search_table-requires g c =
       there = subst (λ (k : Texts TableSchema). There k c.as_str.result.now) (sym so.only.catalog.catalog)
           (subst (There (catalog_of c.args.tables.now)) (sym c.as_str.ensures.same) there.0);
       few = so.few;
-      named = subst (λ (k : Texts TableSchema). AreNamed k c.loop-name.out.items)
+      named = subst (λ (k : Texts TableSchema). StandingTablesAreThere k c.loop-name.out.items)
           (sym so.only.catalog.catalog) so.named;
     }
 
@@ -72,7 +72,7 @@ loop-name-preserved g c =
           (sym c.in-Some.ensures.steps.0) ∙ so.left s stands;
       there = there.1;
       few = c.in-Ok.ensures.few;
-      named = subst (λ (k : Texts TableSchema). AreNamed k c.search_table.new.out.items)
+      named = subst (λ (k : Texts TableSchema). StandingTablesAreThere k c.search_table.new.out.items)
           so.only.catalog.catalog c.in-Ok.ensures.named;
       only = only_then so.only c.search_table.ensures.only;
     }

@@ -8,7 +8,7 @@ use Rattle.alt_machine.specs.State.{State}
 use Rattle.alt_request.specs.TablesLooking.{OnlyReads}
 use Rattle.alt_request.specs.TablesSeveral.{Every}
 use Rattle.alt_request.specs.TablesStands.{Stands, catalog_of}
-use Rattle.alt_ttl.specs.private.Searched.{AreNamed}
+use Rattle.alt_ttl.specs.private.Searched.{StandingTablesAreThere}
 use Rattle.alt_ttl.proofs.Searching.{expired_of}
 use Rattle.alt_ttl.proofs.search.searched.Given as goal
 
@@ -19,6 +19,6 @@ invariant-loop-name g l = record {
   there : Every (λ name. map.contains_key (catalog_of l.fn.tables) name ≡ true)
       (into_iter_items l.name-iterator);
   few : length l.out.items ≤ MOST_EXPIRED;
-  named : AreNamed (catalog_of l.fn.tables) l.out.items;
+  named : StandingTablesAreThere (catalog_of l.fn.tables) l.out.items;
   only : OnlyReads (g.D.Disk.state l.fn.disk) (g.D.Disk.state l.disk) l.fn.tables l.tables;
 }

@@ -7,7 +7,7 @@ use Rattle.alt_machine.specs.Walks.{items_between}
 use Rattle.alt_ops_query.proofs.Described.{described, stored_at}
 use Rattle.alt_schema.specs.declared.schema.TableSchema.{TableSchema}
 use Rattle.alt_request.specs.TablesSeveral.{Every}
-use Rattle.alt_ttl.specs.private.Foresight.{ForeseesPlaced, LeadsOn}
+use Rattle.alt_ttl.specs.private.Foresight.{ForeseesPlaced, ForeseesFromNext}
 use Rattle.alt_ttl.proofs.Searching.{page_none}
 use Rattle.alt_ttl.proofs.Surveying.{surveyed_ended, surveyed_last, surveyed_on}
 use Rattle.alt_value.specs.Tree.{Pair}
@@ -41,7 +41,7 @@ returns-in-Some-last-clause-known g c s t stands at =
     let name = c.args.name.now in
     let items : List (List Pair) = c.rows.new.out.items in
     let list : List (List Pair) = items_between t None c.args.from None true in
-    subst (λ (p : List ℕ). LeadsOn name t c.args.from c.note_items.new.due (Some p))
+    subst (λ (p : List ℕ). ForeseesFromNext name t c.args.from c.note_items.new.due (Some p))
     (sym (c.in_ok-behind-in-Some-last.ensures
     ∙ ap (λ (p : List ℕ). p ++ 0 ∷ []) c.as_slice-in-Some-last.ensures.same))
     (surveyed_on name t (stored_at a c.args.tables.now s stands name t at None (λ d e. tt))

@@ -6,7 +6,7 @@ use Rattle.alt_ops_query.proofs.Described.{stored_at}
 use Rattle.alt_schema.specs.declared.schema.TableSchema.{TableSchema}
 use Rattle.alt_request.proofs.TablesLooking.{only_nothing, only_then, ready_only}
 use Rattle.alt_request.proofs.TablesStanding.{known}
-use Rattle.alt_ttl.specs.private.Foresight.{ForeseesRest, LeadsOn}
+use Rattle.alt_ttl.specs.private.Foresight.{ForeseesRest, ForeseesFromNext}
 use Rattle.alt_ttl.proofs.Surveying.{rest_all, table_untimed}
 use Rattle.alt_ttl.proofs.survey.survey_table.Goals as goal
 
@@ -31,7 +31,7 @@ pages-preserved g c =
     let so = c.pages.invariant in record {
       known = λ s t stands at later keeps h. so.known s t stands at later
           (λ moment spot knows. keeps moment spot (c.survey_page.ensures.keeps moment spot knows))
-          (subst (LeadsOn c.args.name.now t c.pages.from c.survey_page.new.due)
+          (subst (ForeseesFromNext c.args.name.now t c.pages.from c.survey_page.new.due)
           c.in-Ok-Some.field-0-is
           (c.in-Ok-Some.ensures.known s t ((so.only.stays s).0 stands) at) later keeps h);
       keeps = λ moment spot knows. c.survey_page.ensures.keeps moment spot
@@ -45,7 +45,7 @@ returns-in-Ok-None-clause-known g c s t stands at =
     rest_all c.args.name.now t (stored_at (g.D.Disk.state c.args.disk.now) c.args.tables.now s stands
     c.args.name.now t at None (λ d e. tt)) c.survey_page.new.due
     (so.known s t stands at c.survey_page.new.due c.survey_page.ensures.keeps
-    (subst (LeadsOn c.args.name.now t c.pages.from c.survey_page.new.due) c.in-Ok-None.field-0-is
+    (subst (ForeseesFromNext c.args.name.now t c.pages.from c.survey_page.new.due) c.in-Ok-None.field-0-is
     (c.in-Ok-None.ensures.known s t ((so.only.stays s).0 stands) at)))
 
 pub returns-in-Ok-None-clause-keeps : goal.returns-in-Ok-None-clause-keeps

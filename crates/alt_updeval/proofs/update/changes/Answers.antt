@@ -4,7 +4,7 @@ use Rattle.std.specs.Vec.Iter.{into_iter_len}
 use Rattle.std.proofs.lemmas.Iterator.Adapters.{YieldsList-from_vec}
 use Rattle.std.proofs.lemmas.Iterator.Consumers.{YieldsList-turn, YieldsList-end}
 use Rattle.std.proofs.lemmas.Option.{slice_get_read}
-use Rattle.alt_updeval.specs.Shown.{shown_at}
+use Rattle.alt_updeval.specs.Shown.{attribute_edit}
 use denote.Ref.{Bor}
 use Rattle.alt_updeval.proofs.All.{Rest, ChangesSoFar, group_is, change_more, change_all, named_more, names_rise}
 use Rattle.alt_updeval.proofs.update.changes.Goals as goal
@@ -16,7 +16,7 @@ map_same (x ∷ xs) = ap (λ l. x ∷ l) (map_same xs)
 pub loop-name-preserved : goal.loop-name-preserved
 loop-name-preserved g c =
     let item = g.V.AttrView.attribute c.args.view.now in
-    let es = map shown_at c.args.all.items in
+    let es = map attribute_edit c.args.all.items in
     let v = c.in_ok-items.items in
     let x : Bor (List ℕ) × Vec Rest Global = (c.in-Some.name, c.in-Some.rests) in
     let given = c.into_iter-name-iterator.ensures.into_iter_gives in
@@ -41,7 +41,7 @@ loop-name-preserved g c =
 pub returns-clause-after : goal.returns-clause-after
 returns-clause-after g c =
     let item = g.V.AttrView.attribute c.args.view.now in
-    let es = map shown_at c.args.all.items in
+    let es = map attribute_edit c.args.all.items in
     let v = c.in_ok-items.items in
     let given = c.into_iter-name-iterator.ensures.into_iter_gives in
     let count : into_iter_len c.into_iter-name-iterator.result
@@ -57,7 +57,7 @@ returns-clause-after g c =
 pub returns-clause-rising : goal.returns-clause-rising
 returns-clause-rising g c =
     let item = g.V.AttrView.attribute c.args.view.now in
-    let es = map shown_at c.args.all.items in
+    let es = map attribute_edit c.args.all.items in
     let v = c.in_ok-items.items in
     let given = c.into_iter-name-iterator.ensures.into_iter_gives in
     let count : into_iter_len c.into_iter-name-iterator.result

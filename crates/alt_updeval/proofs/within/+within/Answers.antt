@@ -6,7 +6,7 @@ use Rattle.alt_value.specs.Item.{at_name}
 use Rattle.alt_value.specs.Stands.{tree_of}
 use Rattle.alt_value.specs.Tree.{Tree}
 use Rattle.alt_expr.specs.declared.path.PathPart.TheVariants.{Name}
-use Rattle.alt_expr.specs.Updated.{Edit, under, put_here, past, changed}
+use Rattle.alt_expr.specs.Updated.{Edit, under, put_here, elements_past_end, changed}
 use Rattle.alt_updeval.specs.Shown.{made_tree, way_of, ways_in, new_at, put_if}
 use Rattle.alt_updeval.proofs.Here.{list_is}
 use Rattle.alt_updeval.proofs.Maps.{one_more, map-from}
@@ -40,7 +40,7 @@ changed_list-returns t c =
     list_all es c.args.list.now c.loop-i.i-counter c.loop-i.out c.push_past.new.out
     (omega arith) c.loop-i.invariant
     (c.in_ok-push_past.ensures
-    ∙ ap (λ n. c.loop-i.out ++ map (λ (p : ℕ × Tree). p.1) (past n es)) c.len.ensures.count)
+    ∙ ap (λ n. c.loop-i.out ++ map (λ (p : ℕ × Tree). p.1) (elements_past_end n es)) c.len.ensures.count)
 
 pub changed-returns-in_ok-changed_list-in-L : goal.changed-returns-in_ok-changed_list-in-L
 changed-returns-in_ok-changed_list-in-L t c =

@@ -2,9 +2,9 @@
 use Rattle.std.proofs.Common.{◌≡◌, sym, ap, subst, ◌∙◌, ◌∷◌, length, map, arith}
 use Rattle.std.specs.List.{All}
 use Rattle.std.specs.Vec.Iter.{into_iter_items}
-use Rattle.alt_value.specs.Item.{with_pair, with_pairs}
+use Rattle.alt_value.specs.Item.{with_pairs}
 use Rattle.alt_value.specs.Named.{IsNamed}
-use Rattle.alt_value.specs.Stands.{tree_of, pair_of}
+use Rattle.alt_value.specs.Stands.{pair_of}
 use Rattle.alt_value.proofs.InTurn.{named-behind}
 use Rattle.alt_value.proofs.building.item_of_pairs.Goals as goal
 
@@ -16,8 +16,7 @@ loop-pair-preserved c =
     let steps : into_iter_items at.pair-iterator ≡ x ∷ rest = c.in-Some.ensures.steps.0 in
     record {
       left =
-          ap (with_pairs (map pair_of rest)) (c.in_ok-put.ensures.ok
-          ∙ ap (λ n. with_pair n (tree_of x.value) at.item) c.as_str.ensures.same)
+          ap (with_pairs (map pair_of rest)) c.in_ok-put_owned.ensures.ok
           ∙ ap (λ es. with_pairs (map pair_of es) at.item) (sym steps) ∙ at.invariant.left;
       named = named-behind x rest (subst (All IsNamed) steps at.invariant.named);
       count =

@@ -3,7 +3,7 @@ use Rattle.std.proofs.Common.{◌≡◌, ◌++◌, ℕ, List, [], option_map, Ve
 use Rattle.std.specs.Prelude.{unwrap_or}
 use Rattle.alt_cells.specs.declared.batch.RowChange.{RowChange}
 use Rattle.alt_views.specs.Batches.{AreNew}
-use Rattle.alt_views.specs.IndexRows.{changes_in, moved_changes}
+use Rattle.alt_views.specs.IndexRows.{built_row_changes, moved_changes}
 use Rattle.alt_views.proofs.Alike.{nothing_changes}
 use Rattle.alt_views.proofs.Beside.{told}
 use Rattle.alt_views.proofs.changes.change_index.Goals as goal
@@ -16,12 +16,12 @@ returns-then-not-may_change c =
     let new = option_map (λ i. i.now) c.args.new in
     let names = option_map (λ (v : Vec (Bor (List ℕ)) Global). told v.items) c.args.names.now in
     let batch = c.args.batch.now in
-    let stays : changes_in d old new own ≡ [] =
+    let stays : built_row_changes d old new own ≡ [] =
     nothing_changes d own names old new c.requires.names (sym c.if-not-may_change.ensures.kept) in
     record {
       changes = λ i at. sym (append-nil batch)
           ∙ ap (λ (cs : List RowChange). batch ++ cs) (sym stays)
-          ∙ ap (λ x. batch ++ changes_in d old new x)
+          ∙ ap (λ x. batch ++ built_row_changes d old new x)
           (ap (λ o. unwrap_or o own) (c.index_at-index.ensures.index ∙ at));
     }
 

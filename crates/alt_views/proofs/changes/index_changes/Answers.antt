@@ -3,13 +3,13 @@ use Rattle.std.proofs.Common.{◌<◌, List, length, option_map, sym, ap, subst,
 use Rattle.alt_schema.specs.Indexes.{indexes}
 use Rattle.alt_cells.specs.declared.batch.RowChange.{RowChange}
 use Rattle.alt_views.specs.Batches.{AreNew}
-use Rattle.alt_views.specs.IndexRows.{changes_in}
+use Rattle.alt_views.specs.IndexRows.{built_row_changes}
 use Rattle.alt_views.proofs.Batched.{batch_more, found, next_new}
 use Rattle.alt_views.proofs.changes.index_changes.Goals as goal
 
 pub change_index-requires-clause-rows : goal.change_index-requires-clause-rows
 change_index-requires-clause-rows c = λ i at.
-    subst (λ (batch : List RowChange). AreNew batch (changes_in c.args.schema.now
+    subst (λ (batch : List RowChange). AreNew batch (built_row_changes c.args.schema.now
     (option_map (λ i. i.now) c.args.old) (option_map (λ i. i.now) c.args.new) i))
     (sym c.loop-number.invariant)
     (next_new c.args.schema.now (option_map (λ i. i.now) c.args.old)

@@ -3,7 +3,8 @@ use Rattle.std.proofs.Common.{◌<◌, length, sym, ◌∙◌, arith, eqb-true}
 use Rattle.std.proofs.lemmas.Bool.Decides.{nat_tests}
 use Rattle.std.proofs.lemmas.Result.{err_from_is_err_and}
 use Rattle.alt_writes.specs.Reading.{IsNoGroup, writes_of}
-use Rattle.alt_writes.proofs.ReadLaws.{none_map, no_group-count, no_group-empty, no_group-writes, no_group-behind, group_read}
+use Rattle.alt_writes.proofs.ReadLaws.{none_map}
+use Rattle.alt_writes.proofs.EntryReads.{no_group-count, no_group-empty, no_group-writes, no_group-behind, group_read}
 use Rattle.alt_writes.proofs.read.read_group.Goals as goal
 
 pub returns-in_err-count-clause-none : goal.returns-in_err-count-clause-none

@@ -3,7 +3,8 @@ use Rattle.std.proofs.Common.{◌<◌, length, sym, ◌∙◌, arith, eqb-true}
 use Rattle.std.proofs.lemmas.Bool.Decides.{nat_tests}
 use Rattle.alt_writes.specs.Bytes.{write_bytes}
 use Rattle.alt_writes.specs.Reading.{IsNoWrite, write_of}
-use Rattle.alt_writes.proofs.ReadLaws.{none_map, none_whole, none_behind, whole}
+use Rattle.alt_writes.proofs.ReadLaws.{none_map}
+use Rattle.alt_writes.proofs.EntryReads.{none_whole, none_behind, whole}
 use Rattle.alt_writes.proofs.read.read_write.Goals as goal
 
 pub returns-in-Err-clause-none : goal.returns-in-Err-clause-none

@@ -2,7 +2,8 @@
 use Rattle.std.proofs.Common.{arith}
 use Rattle.std.proofs.lemmas.Result.{err_from_is_err_and}
 use Rattle.alt_writes.specs.Reading.{NoWrite}
-use Rattle.alt_writes.proofs.ReadLaws.{none_map, no_write-number, no_write-early, no_write-last, no_write-count, no_write-changes, write_read}
+use Rattle.alt_writes.proofs.ReadLaws.{none_map}
+use Rattle.alt_writes.proofs.EntryReads.{no_write-number, no_write-early, no_write-last, no_write-count, no_write-changes, write_read}
 use Rattle.alt_writes.proofs.read.take_write.Goals as goal
 
 pub returns-in_err-number-clause-none : goal.returns-in_err-number-clause-none

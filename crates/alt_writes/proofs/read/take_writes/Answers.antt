@@ -4,7 +4,8 @@ use Rattle.alt_writes.specs.Bytes.{writes_bytes, AllHeld}
 use Rattle.alt_writes.specs.Reading.{NoWrite, NoWrites, write_of, writes_of}
 use Rattle.alt_writes.specs.Writes.{AreRising, Write, past}
 use Rattle.alt_writes.proofs.PushLaws.{held-push, past-push, rising-push}
-use Rattle.alt_writes.proofs.ReadLaws.{none_map, no_writes, reads_push, writes_push}
+use Rattle.alt_writes.proofs.ReadLaws.{none_map}
+use Rattle.alt_writes.proofs.EntryReads.{no_writes, reads_push, writes_push}
 use Rattle.alt_writes.proofs.read.take_writes.Goals as goal
 
 pub returns-in-Err-clause-none : goal.returns-in-Err-clause-none

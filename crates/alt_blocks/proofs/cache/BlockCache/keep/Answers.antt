@@ -2,14 +2,14 @@
 use Rattle.std.proofs.Common.{◌≡◌, ◌≤◌, ap, subst, arith, ℕ, List, length, take, inl, ◌⊎◌, Contains}
 use Rattle.std.proofs.lemmas.List.{length-take}
 use Rattle.alt_blocks.specs.declared.cache.TheConstants.{LONGEST_KEPT}
-use Rattle.alt_blocks.specs.Places.{Place}
+use Rattle.alt_blocks.specs.Places.{ReadPlace}
 use Rattle.alt_blocks.proofs.Agreeing.{adds_put}
 use Rattle.alt_blocks.proofs.Bounded.{short_put}
 use Rattle.alt_blocks.proofs.cache.BlockCache.keep.Goals as goal
 
 pub invariant_of-self : goal.invariant_of-self
 invariant_of-self c =
-    let place : Place = (c.args.f, c.args.at, length c.args.buf.now) in
+    let place : ReadPlace = (c.args.f, c.args.at, length c.args.buf.now) in
     let is : c.in-Ok.bytes ≡ take c.args.count c.args.buf.now = c.in-Ok.ensures.copied in
     let one : length c.in-Ok.bytes ≤ LONGEST_KEPT =
     omega
@@ -23,11 +23,11 @@ invariant_of-self c =
 
 pub returns-in-Ok-put : goal.returns-in-Ok-put
 returns-in-Ok-put c =
-    let place : Place = (c.args.f, c.args.at, length c.args.buf.now) in
+    let place : ReadPlace = (c.args.f, c.args.at, length c.args.buf.now) in
     let added = adds_put c.args.self.now.places c.put.new.self.entries place c.in-Ok.bytes
     (ap (λ l. l.entries) c.in-Ok-put.ensures.entries) in
     record {
-      adds = subst (λ (kept : List ℕ). (p : Place) (b : List ℕ)
+      adds = subst (λ (kept : List ℕ). (p : ReadPlace) (b : List ℕ)
           → Contains c.put.new.self.entries (p, b)
           → Contains c.args.self.now.places.entries (p, b) ⊎ ((p ≡ place) × (b ≡ kept)))
           c.in-Ok.ensures.copied added;
@@ -35,6 +35,6 @@ returns-in-Ok-put c =
 
 pub returns-in-Ok : goal.returns-in-Ok
 returns-in-Ok c = record {
-  adds = λ p b kept. inl (subst (λ (l : List (Place × List ℕ)). Contains l (p, b))
+  adds = λ p b kept. inl (subst (λ (l : List (ReadPlace × List ℕ)). Contains l (p, b))
       (ap (λ l. l.entries) c.in-Err-put.ensures.err) kept);
 }

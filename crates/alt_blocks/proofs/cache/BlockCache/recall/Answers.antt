@@ -1,7 +1,7 @@
 -- What was kept is given.
 use Rattle.std.proofs.Common.{ap, sym, ◌∙◌, length, take, min, List, ℕ}
 use Rattle.alt_disk.specs.Disk.{contents}
-use Rattle.alt_blocks.specs.Places.{Place, same_place}
+use Rattle.alt_blocks.specs.Places.{ReadPlace, same_place}
 use Rattle.alt_blocks.proofs.Agreeing.{found, within_promoted, read_given}
 use Rattle.alt_blocks.proofs.Bounded.{short_promoted}
 use Rattle.alt_blocks.proofs.cache.BlockCache.recall.Goals as goal
@@ -22,7 +22,7 @@ returns-in-Some-clause-within c =
 
 pub returns-in-Some-clause-hit : goal.returns-in-Some-clause-hit
 returns-in-Some-clause-hit c = λ s h.
-    let place : Place = (c.args.f, c.args.at, length c.args.buf.now) in
+    let place : ReadPlace = (c.args.f, c.args.at, length c.args.buf.now) in
     let bytes = c.in-Some.bytes.now in
     let is = h place bytes (found c.args.self.now place bytes (sym c.in-Some.ensures)) in
     let same = c.as_slice.ensures.same in

@@ -1,7 +1,7 @@
 -- From the cache, or from the disk.
 use Rattle.std.proofs.Common.{◌≡◌, ◌∙◌, sym, ap, subst, arith, take, drop, length, Bool, ℕ, IsTrue}
 use Rattle.alt_disk.specs.Disk.{DiskState, contents, bytes_or_none}
-use Rattle.alt_blocks.specs.Places.{Place, Adds}
+use Rattle.alt_blocks.specs.Places.{ReadPlace, CacheAddsPlace}
 use Rattle.alt_blocks.proofs.Agreeing.{agrees_on, agrees_within, agrees_adds, adds_within, given_read}
 use Rattle.alt_blocks.proofs.cached.CachedDisk.read.Goals as goal
 
@@ -40,7 +40,7 @@ invariant_of-self-in-None g c =
           sym (ap bytes_or_none ((c.read.ensures.same told_s).file f)) in
           let long : length c.recall.new.buf ≡ length c.read.new.buf =
           omega (arith, c.read.auto.buf) in
-          let place : Place = (f, at, length c.read.new.buf) in
+          let place : ReadPlace = (f, at, length c.read.new.buf) in
           agrees_adds t c.recall.new.self c.keep.new.self place
           (take c.in_ok-count-in-None.count c.read.new.buf) c.keep.ensures.adds
           (given_read (contents s f) c.recall.new.buf c.read.new.buf at c.in_ok-count-in-None.count
@@ -62,7 +62,7 @@ returns-in_ok-count-in-None-clause-adds g c =
     let long : length c.recall.new.buf ≡ length c.args.buf.now = omega (arith, c.recall.auto.buf) in
     let size : length c.read.new.buf ≡ length c.args.buf.now =
     omega (arith, c.read.auto.buf, long) in
-    subst (λ (n : ℕ). Adds c.args.self.now.cache.now c.keep.new.self (c.args.f, c.args.at, n)
+    subst (λ (n : ℕ). CacheAddsPlace c.args.self.now.cache.now c.keep.new.self (c.args.f, c.args.at, n)
     (take c.in_ok-count-in-None.count c.read.new.buf)) size
     (adds_within c.args.self.now.cache.now c.recall.new.self c.keep.new.self
     (c.args.f, c.args.at, length c.read.new.buf)

@@ -5,7 +5,7 @@ use Rattle.std.proofs.lemmas.Result.{IfOk-weaker, IfErr-weaker, err_from_is_err_
 use Rattle.alt_disk.proofs.Runs.{tells_of, trusted_on, trusted_back}
 use Rattle.alt_cells.specs.Walks.{HasCause}
 use Rattle.alt_cells.proofs.Keeping.{cause_then}
-use Rattle.alt_compact.specs.Jobs.{IsUnderWay, Takes, Took, Says}
+use Rattle.alt_compact.specs.Jobs.{IsUnderWay, TakesRows, Took, StepSays}
 use Rattle.alt_compact.proofs.Taking.{moves_quiet, moves_on, under_read, step_more, step_end}
 use Rattle.alt_compact.proofs.job.Job.step.Goals as goal
 
@@ -24,7 +24,7 @@ loop-i-init g c =
       well = c.start.ensures.well (ap Rattle.alt_cells.specs.Walks.answered_by c.in_ok-start.was);
       so_far = λ t taken left under.
           let tells = tells_of (state c.args.disk.now) t in
-          subst (λ l. Takes s.holds s.reads s.left w.written w.writes (state c.start.new.disk)
+          subst (λ l. TakesRows s.holds s.reads s.left w.written w.writes (state c.start.new.disk)
           c.args.self.now c.start.new.source c.args.into.now l left) (sym (append-nil taken))
           (record {
             under = under_read s.holds s.reads s.left w.written w.writes
@@ -68,7 +68,7 @@ returns-then-not-branch-clause-taken g c t taken left under =
     step_end s.holds s.reads s.left w.written w.writes g.met.S.RowSource.holds_on
     g.met.S.RowSource.left_on g.met.W.RowWriter.written_on (state c.take_one.new.disk)
     c.take_one.new.self c.take_one.new.source c.take_one.new.into taken left c.loop-i.i c.args.rows le
-    (subst (Took (Takes s.holds s.reads s.left w.written w.writes (state c.take_one.new.disk)
+    (subst (Took (TakesRows s.holds s.reads s.left w.written w.writes (state c.take_one.new.disk)
     c.take_one.new.self c.take_one.new.source c.take_one.new.into) (taken ++ take c.loop-i.i left)
     (drop c.loop-i.i left)) c.if-not-branch.true
     (c.in_ok-take_one.ensures.took now (taken ++ take c.loop-i.i left) (drop c.loop-i.i left) takes))
@@ -94,12 +94,12 @@ loop-i-preserved g c =
           g.met.S.RowSource.holds_on g.met.S.RowSource.left_on g.met.W.RowWriter.written_on
           (state c.take_one.new.disk) c.take_one.new.self c.take_one.new.source
           c.take_one.new.into taken left c.loop-i.i
-          (subst (Took (Takes s.holds s.reads s.left w.written w.writes (state c.take_one.new.disk)
+          (subst (Took (TakesRows s.holds s.reads s.left w.written w.writes (state c.take_one.new.disk)
           c.take_one.new.self c.take_one.new.source c.take_one.new.into)
           (taken ++ take c.loop-i.i left) (drop c.loop-i.i left)) c.if-not-branch.false
           (c.in_ok-take_one.ensures.took now (taken ++ take c.loop-i.i left)
           (drop c.loop-i.i left) takes)) in
-          subst (λ n. Takes s.holds s.reads s.left w.written w.writes (state c.take_one.new.disk)
+          subst (λ n. TakesRows s.holds s.reads s.left w.written w.writes (state c.take_one.new.disk)
           c.take_one.new.self c.take_one.new.source c.take_one.new.into (taken ++ take n left)
           (drop n left)) (sym (add-one c.loop-i.i)) more;
     }
@@ -123,7 +123,7 @@ returns-clause-taken g c t taken left under =
           (state c.rest.new.disk) c.loop-i.self c.loop-i.source c.rest.new.source c.loop-i.into
           (taken ++ take c.loop-i.i left) (drop c.loop-i.i left) tells c.rest.ensures.keeps
           takes.under),
-      subst (λ n. Says stepped (drop n left)) end says,
+      subst (λ n. StepSays stepped (drop n left)) end says,
     )) (c.rest.ensures.says tells (drop c.loop-i.i left) takes.next)
 
 pub returns-clause-sound : goal.returns-clause-sound

@@ -1,7 +1,7 @@
 use Rattle.std.proofs.Common.{◌≡◌, ◌++◌, take, drop}
 use Rattle.alt_disk.specs.Disk.{IsTrusted}
 use Rattle.alt_cells.specs.Walks.{RowList}
-use Rattle.alt_compact.specs.Jobs.{IsUnderWay, Takes, Moves}
+use Rattle.alt_compact.specs.Jobs.{IsUnderWay, TakesRows, MovesOnlyTouched}
 use Rattle.alt_compact.proofs.job.Job.step.Given as goal
 
 abbrev pub invariant-loop-i : goal.invariant-loop-i
@@ -10,7 +10,7 @@ invariant-loop-i g l =
     let s = g.S.RowSource in
     let w = g.W.RowWriter in
     record {
-      moves : Moves (w.writes l.fn.into) (state l.fn.disk) (state l.disk);
+      moves : MovesOnlyTouched (w.writes l.fn.into) (state l.fn.disk) (state l.disk);
       reads : s.reads l.source ≡ s.reads l.fn.source;
       files : w.writes l.into ≡ w.writes l.fn.into;
       purge : l.self.purge ≡ l.fn.self.purge;
@@ -18,6 +18,6 @@ invariant-loop-i g l =
       so_far : IsTrusted (state l.fn.disk) → (taken left : RowList)
           → IsUnderWay s.holds s.reads w.written w.writes (state l.fn.disk) l.fn.self l.fn.source
           l.fn.into taken left
-          → Takes s.holds s.reads s.left w.written w.writes (state l.disk) l.self l.source
+          → TakesRows s.holds s.reads s.left w.written w.writes (state l.disk) l.self l.source
           l.into (taken ++ take l.i left) (drop l.i left);
     }

@@ -1,7 +1,7 @@
 use Rattle.std.proofs.Common.{◌≡◌, ℕ, List, Option, Some, None, refl, sym, ◌∙◌, ap, subst}
 use Rattle.alt_disk.specs.Fates.{Fits}
 use Rattle.alt_disk.specs.Memory.{Track, at_moment}
-use Rattle.alt_disk.specs.Stopped.{files_at, choice_at, picked_image, settled, settled_fates}
+use Rattle.alt_disk.specs.Stopped.{files_at_stop, choice_at, picked_image, settled, settled_fates}
 use Rattle.alt_disk.specs.declared.made.Made.{Made}
 use Rattle.alt_disk.proofs.MemoryCalls.{now_whole}
 use Rattle.alt_disk.proofs.PickedFits.{picked_fits, choice_bytes, fitting_bytes}
@@ -25,7 +25,7 @@ returns-clause-picked c f =
 
 pub returns-clause-image : goal.returns-clause-image
 returns-clause-image c f =
-    let files : ℕ → Track = files_at c.args.self.now c.args.moment in
+    let files : ℕ → Track = files_at_stop c.args.self.now c.args.moment in
     subst (λ (file : Option (List ℕ)). Fits (files f).fates file) (sym (returns-clause-picked c f))
     (picked_fits (files f) (choice_at files f c.args.choice.now)
     (choice_bytes files f c.args.choice.now

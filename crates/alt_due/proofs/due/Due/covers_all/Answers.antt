@@ -1,7 +1,7 @@
 -- It covers a moment at each place where there is no end.
 use Rattle.std.proofs.Common.{[], sym, ◌∙◌, true≢false}
 use Rattle.std.specs.Cmp.{first_so}
-use Rattle.alt_due.specs.Due.{is_before, is_within}
+use Rattle.alt_due.specs.Due.{is_before, suffices_at}
 use Rattle.alt_due.specs.Order.{spot_of}
 use Rattle.alt_due.proofs.Nothing.{covered_all, covered_endless}
 use Rattle.alt_due.proofs.due.Due.covers_all.Goals as goal
@@ -11,7 +11,7 @@ returns-then-is_none c =
     let due = c.args.self.now in
     let some = spot_of [] [] in (
       λ t. covered_all due c.args.moment c.if-is_none.ensures (sym c.covers.ensures ∙ t),
-      λ all. c.covers.ensures ∙ first_so (is_within due c.args.moment) (is_before due.end some) (all some),
+      λ all. c.covers.ensures ∙ first_so (suffices_at due c.args.moment) (is_before due.end some) (all some),
     )
 
 pub returns-else-is_none : goal.returns-else-is_none

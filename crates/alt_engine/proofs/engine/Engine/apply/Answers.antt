@@ -1,12 +1,12 @@
 -- A merge under way is carried on.
 use Rattle.std.proofs.Common.{◌≡◌, ℕ}
 use Rattle.alt_disk.specs.Disk.{DiskState, IsTrusted}
-use Rattle.alt_merging.specs.HandCarrying.{Carries}
-use Rattle.alt_merging.specs.HandInHand.{Stands as HandStands}
+use Rattle.alt_merging.specs.HandCarrying.{CarriesFamily}
+use Rattle.alt_merging.specs.HandInHand.{HandStandsForLayout as HandStands}
 use Rattle.alt_merging.specs.HandMerging.{files_at}
 use Rattle.alt_layout.specs.Layout.{Layout}
 use Rattle.alt_merging.proofs.HandCarryLaws.{on_ok_both}
-use Rattle.alt_merging.specs.Mergings.{family_of}
+use Rattle.alt_merging.specs.Mergings.{family_of_merging}
 use Rattle.alt_engine.proofs.EngineLaws.{few_on, going_carried}
 use Rattle.alt_engine.proofs.engine.Engine.apply.Goals as goal
 
@@ -20,11 +20,11 @@ returns-clause-ok g c =
     let e = c.args.self.now in
     let f = c.apply.new.self in
     on_ok_both c.apply.result (λ ok (rest : (IsTrusted a → (l : Layout) → HandStands a e.hand l
-    → (family : ℕ) → Carries a b e.hand f family) × ((family : ℕ)
+    → (family : ℕ) → CarriesFamily a b e.hand f family) × ((family : ℕ)
     → files_at f family ≡ files_at e.hand family)) trusted l stands. record {
       hand = ok trusted l stands.hand;
       merging = going_carried a b e.hand f e.merging
-          (λ j is. rest.0 trusted l stands.hand (family_of j)) stands.merging;
+          (λ j is. rest.0 trusted l stands.hand (family_of_merging j)) stands.merging;
       few = λ none. few_on e.hand f c.apply.ensures.limits rest.1 (stands.few none);
     }) c.apply.ensures.ok
     (on_ok_both c.apply.result (λ carries files. (carries, files)) c.apply.ensures.carries

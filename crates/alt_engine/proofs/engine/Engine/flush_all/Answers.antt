@@ -6,7 +6,7 @@ use Rattle.alt_merging.specs.HandDeclaredHand.{Hand}
 use Rattle.alt_merging.proofs.HandAddingLaws.{no_version}
 use Rattle.alt_merging.proofs.HandEndLaws.{works_same, works_still}
 use Rattle.alt_merging.proofs.HandWorkLaws.{worked_in, works_of}
-use Rattle.alt_merging.specs.Mergings.{family_of}
+use Rattle.alt_merging.specs.Mergings.{family_of_merging}
 use Rattle.alt_engine.proofs.EngineLaws.{going_carried}
 use Rattle.alt_engine.proofs.Taking.{taken_all}
 use Rattle.alt_engine.proofs.engine.Engine.flush_all.Goals as goal
@@ -40,7 +40,7 @@ returns-clause-ok g c trusted l stands =
       record {
         hand = m.1;
         merging = going_carried a b e.hand f e.merging (λ j is. c.in_ok-flush_all.ensures.carries
-            trusted l stands.hand (family_of j) (c.requires.keeps j is)) stands.merging;
+            trusted l stands.hand (family_of_merging j) (c.requires.keeps j is)) stands.merging;
         few = c.any_many-self.ensures;
       },
       works_of c.args.live.now l m.0 m.2,

@@ -2,10 +2,10 @@
 use Rattle.std.proofs.Common.{drop, refl, sym, subst, rules, ◌∙◌}
 use Rattle.alt_disk.specs.Disk.{DiskState}
 use Rattle.alt_disk.proofs.Runs.{trusted_back, trusted_on}
-use Rattle.alt_compact.specs.Jobs.{Says}
+use Rattle.alt_compact.specs.Jobs.{StepSays}
 use Rattle.alt_compact.specs.declared.job.Stepped.{Stepped}
 use Rattle.alt_merging.proofs.HandEndLaws.{works_same}
-use Rattle.alt_merging.specs.Mergings.{GivesWay, MergingStands, family_of, taken_of}
+use Rattle.alt_merging.specs.Mergings.{GivesWay, MergingStands, family_of_merging, taken_of}
 use Rattle.alt_merging.proofs.StepLaws.{has_works, then_works}
 use Rattle.alt_merging.specs.HandMerging.{version_in}
 use Rattle.alt_merging.proofs.HandAddingLaws.{last_or}
@@ -43,7 +43,7 @@ end-requires-clause-job g c told =
     let given = c.requires.ready trusted in
     let at = c.in_ok-step.ensures.taken trusted given.0 given.2 given.1 given.3 in
     subst (MergingStands b c.args.self.now.hand c.step.new.self)
-    (subst (λ (s : Stepped). Says s (drop 256 given.1)) c.in-Done.is at.1) at.0
+    (subst (λ (s : Stepped). StepSays s (drop 256 given.1)) c.in-Done.is at.1) at.0
 
 pub returns-in_err-end-in-Done-clause-any_moment : goal.returns-in_err-end-in-Done-clause-any_moment
 returns-in_err-end-in-Done-clause-any_moment g c trusted l stands =
@@ -78,7 +78,7 @@ returns-in-More-clause-went g c it trusted l stands = record {
   is = refl;
   further = λ left standing.
       let at = c.in_ok-step.ensures.taken trusted l stands left standing in
-      (at.0, subst (λ (s : Stepped). Says s (drop 256 left)) c.in-More.is at.1);
+      (at.0, subst (λ (s : Stepped). StepSays s (drop 256 left)) c.in-More.is at.1);
   next_file = refl;
 }
 
@@ -120,8 +120,8 @@ returns-in_ok-end-in-Done-clause-done g c it trusted l stands =
       none = c.requires.none;
       last = λ left standing.
           let at = c.in_ok-step.ensures.taken trusted l stands left standing in
-          subst (λ (s : Stepped). Says s (drop 256 left)) c.in-Done.is at.1;
-      gives = subst (GivesWay z e c.end.new.hand (family_of c.args.merging)) c.step.ensures.files
+          subst (λ (s : Stepped). StepSays s (drop 256 left)) c.in-Done.is at.1;
+      gives = subst (GivesWay z e c.end.new.hand (family_of_merging c.args.merging)) c.step.ensures.files
           (subst (λ k. GivesWay z e c.end.new.hand k (taken_of c.step.new.self)) c.step.ensures.family
           (c.in_ok-end-in-Done.ensures.files (trusted_on a b c.step.ensures.goes trusted) l
           (c.step.ensures.ok trusted l stands given.1 given.3)));

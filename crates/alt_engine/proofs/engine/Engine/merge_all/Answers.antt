@@ -2,7 +2,7 @@
 use Rattle.std.proofs.Common.{rules, ◌≡◌, ◌<◌, ◌∙◌, sym, ap, subst, arith}
 use Rattle.alt_disk.specs.Disk.{DiskState}
 use Rattle.alt_disk.proofs.Runs.{trusted_back, trusted_on}
-use Rattle.alt_merging.specs.HandAdding.{Adds, LeavesOut}
+use Rattle.alt_merging.specs.HandAdding.{AddsVersion, LeavesOut}
 use Rattle.alt_merging.specs.HandMerging.{HasMany, files_at}
 use Rattle.alt_merging.specs.Merged.{AreMerged}
 use Rattle.alt_merging.specs.HandDeclaredHand.{Hand}
@@ -188,11 +188,11 @@ returns-clause-adds g c done trusted l stands =
     (c.in_ok-merged.ensures.adds more told first.0 first.1)
     (let next = c.in_ok-ended.ensures.next_file in omega (arith, next))
     (c.in_ok-merged.ensures.missing told first.0 first.1))
-    (λ none. subst (λ (h : Hand). Adds d e h) (sym (c.in_ok-merged.ensures.idle_hand none))
-    (subst (λ (s : DiskState). Adds s e k) (sym (c.in_ok-merged.ensures.idle_disk none))
+    (λ none. subst (λ (h : Hand). AddsVersion d e h) (sym (c.in_ok-merged.ensures.idle_hand none))
+    (subst (λ (s : DiskState). AddsVersion s e k) (sym (c.in_ok-merged.ensures.idle_disk none))
     (c.in_ok-ended.ensures.adds on trusted))))
     (λ off. by_flag c.in_ok-merged.merged
-    (λ more. subst (λ (h : Hand). Adds d h f)
+    (λ more. subst (λ (h : Hand). AddsVersion d h f)
     (ap (λ (x : Engine). x.hand) (c.in_ok-ended.ensures.same off).1.1)
     (c.in_ok-merged.ensures.adds more told first.0 first.1))
     (λ none. (let no : ⊥ = search rules in absurd no)))

@@ -4,24 +4,23 @@ use Rattle.std.proofs.lemmas.Result.{IfOk-weaker, on_ok_weaker}
 use Rattle.alt_disk.specs.Disk.{DiskState}
 use Rattle.alt_disk.specs.Runs.{Spans}
 use Rattle.alt_disk.proofs.Runs.{trusted_back, trusted_on}
-use Rattle.alt_merging.specs.HandInHand.{Stands as HandStands}
+use Rattle.alt_merging.specs.HandInHand.{HandStandsForLayout as HandStands}
 use Rattle.alt_merging.specs.HandMerging.{HasMany, version_in}
-use Rattle.alt_merging.specs.HandWorking.{IsCalm, IsShort, WorksIn}
+use Rattle.alt_merging.specs.HandWorking.{IsCalm, LogIsShort, WorksIn}
 use Rattle.alt_merging.specs.HandDeclaredHand.{Hand}
-use Rattle.alt_merging.specs.HandAdding.{Adds, HasLast, HasOneOf, LeavesOut, MakesNone}
+use Rattle.alt_merging.specs.HandAdding.{AddsVersion, HasLast, HasOneOf, LeavesOut, MakesNone}
 use Rattle.alt_merging.specs.HandInHand.{next_file_of}
 use Rattle.alt_merging.proofs.HandAddingLaws.{last_or}
 use Rattle.alt_manifest.specs.declared.version.Version.{Version}
 use Rattle.alt_merging.proofs.HandEndLaws.{works_same}
 use Rattle.alt_merging.proofs.HandWorkLaws.{worked_in, works_of}
-use Rattle.alt_merging.specs.Mergings.{MergingStands, family_of}
+use Rattle.alt_merging.specs.Mergings.{MergingStands, family_of_merging}
 use Rattle.alt_merging.proofs.StepLaws.{has_works}
-use Rattle.alt_engine.specs.InHand.{IsGoing, Stands, merge_of}
+use Rattle.alt_engine.specs.InHand.{IsGoing, StandsForLayout, merge_of}
 use Rattle.alt_engine.specs.declared.engine.Engine.{Engine}
 use Rattle.alt_engine.proofs.EngineLaws.{going_carried}
 use Rattle.alt_engine.proofs.Stepping.{at_both, back_both, begins_at, ended_back, furthered_back, outside_need, taken_stands}
 use Rattle.alt_engine.proofs.Taking.{taken_due}
-use Rattle.alt_engine.proofs.Turning.{no_job}
 use Rattle.alt_engine.proofs.engine.Engine.step.Goals as goal
 
 pub flush_due-requires-clause-ready : goal.flush_due-requires-clause-ready
@@ -44,7 +43,7 @@ returns-then-flushed-clause-ok g c trusted l stands =
       record {
         hand = m.1;
         merging = going_carried a b e.hand f e.merging (λ j is. c.in_ok-flushed.ensures.carries
-            trusted l stands.hand (family_of j) (c.requires.keeps j is)) stands.merging;
+            trusted l stands.hand (family_of_merging j) (c.requires.keeps j is)) stands.merging;
         few = c.any_many-self.ensures;
       },
       works_of c.args.live.now l m.0 m.2,
@@ -108,7 +107,7 @@ begin-requires-clause-ready g c back =
     let given = c.requires.ready trusted in
     let l = given.0 in let stands = given.1 in
     let x : Engine = record e { hand = f; merging = c.take.new.self } in
-    let at : Stands b x l = record {
+    let at : StandsForLayout b x l = record {
       hand = at_both (λ s h. HandStands s h l) a b e.hand f p q stands.hand;
       merging = subst (IsGoing b f) (sym c.take.ensures.after) tt;
       few = λ none family many. stands.few none family (subst (λ (h : Hand). HasMany h family) q many);
@@ -139,7 +138,7 @@ returns-in-Some-clause-went g c = IfOk-weaker c.go_on.result _ _ (λ w h it trus
     let q : f ≡ e.hand = c.in_ok-flushed.ensures.idle_hand c.if-flushed.false in
     let told = trusted_on a b c.flush_due.ensures.goes trusted in
     let idle = c.in_ok-flushed.ensures.idle c.if-flushed.false in
-    let calm : IsShort e.hand × IsCalm live e.hand = (idle.0, idle.1 trusted l stands.hand) in
+    let calm : LogIsShort e.hand × IsCalm live e.hand = (idle.0, idle.1 trusted l stands.hand) in
     let is : merge_of e ≡ Some c.in-Some.merging = search rules in
     let at = at_both (λ s h. HandStands s h l) a b e.hand f p q stands.hand in (
       calm,
@@ -162,7 +161,7 @@ returns-in-Some-clause-done g c = IfOk-weaker c.go_on.result _ _ (λ w h it trus
     let q : f ≡ e.hand = c.in_ok-flushed.ensures.idle_hand c.if-flushed.false in
     let told = trusted_on a b c.flush_due.ensures.goes trusted in
     let idle = c.in_ok-flushed.ensures.idle c.if-flushed.false in
-    let calm : IsShort e.hand × IsCalm live e.hand = (idle.0, idle.1 trusted l stands.hand) in
+    let calm : LogIsShort e.hand × IsCalm live e.hand = (idle.0, idle.1 trusted l stands.hand) in
     let is : merge_of e ≡ Some c.in-Some.merging = search rules in
     let at = at_both (λ s h. HandStands s h l) a b e.hand f p q stands.hand in
     inr (
@@ -200,7 +199,7 @@ returns-in-None-clause-ok g c = on_ok_weaker c.begin.result (λ ok trusted l sta
     let q : f ≡ e.hand = c.in_ok-flushed.ensures.idle_hand c.if-flushed.false in
     let told = trusted_on a b c.flush_due.ensures.goes trusted in
     let x : Engine = record e { hand = f; merging = c.take.new.self } in
-    let at : Stands b x l = record {
+    let at : StandsForLayout b x l = record {
       hand = at_both (λ s h. HandStands s h l) a b e.hand f p q stands.hand;
       merging = subst (IsGoing b f) (sym c.take.ensures.after) tt;
       few = λ none family many. stands.few none family (subst (λ (h : Hand). HasMany h family) q many);
@@ -218,10 +217,10 @@ returns-in-None-clause-idle g c = IfOk-weaker c.begin.result _ _ (λ w h it trus
     let q : f ≡ e.hand = c.in_ok-flushed.ensures.idle_hand c.if-flushed.false in
     let told = trusted_on a b c.flush_due.ensures.goes trusted in
     let idle = c.in_ok-flushed.ensures.idle c.if-flushed.false in
-    let calm : IsShort e.hand × IsCalm live e.hand = (idle.0, idle.1 trusted l stands.hand) in
+    let calm : LogIsShort e.hand × IsCalm live e.hand = (idle.0, idle.1 trusted l stands.hand) in
     let none : merge_of e ≡ None = search rules in
     let x : Engine = record e { hand = f; merging = c.take.new.self } in
-    let at : Stands b x l = record {
+    let at : StandsForLayout b x l = record {
       hand = at_both (λ s h. HandStands s h l) a b e.hand f p q stands.hand;
       merging = subst (IsGoing b f) (sym c.take.ensures.after) tt;
       few = λ none family many. stands.few none family (subst (λ (h : Hand). HasMany h family) q many);
@@ -246,7 +245,7 @@ returns-in-None-clause-went g c = IfOk-weaker c.begin.result _ _ (λ w h it trus
     let q : f ≡ e.hand = c.in_ok-flushed.ensures.idle_hand c.if-flushed.false in
     let told = trusted_on a b c.flush_due.ensures.goes trusted in
     let idle = c.in_ok-flushed.ensures.idle c.if-flushed.false in
-    let calm : IsShort e.hand × IsCalm live e.hand = (idle.0, idle.1 trusted l stands.hand) in
+    let calm : LogIsShort e.hand × IsCalm live e.hand = (idle.0, idle.1 trusted l stands.hand) in
     let none : merge_of e ≡ None = search rules in
     (calm, inl (begins_at live e (record e { hand = f; merging = c.take.new.self }) c.begin.new.self q none (h it))))
     c.begin.ensures.went
@@ -262,7 +261,7 @@ returns-in-None-clause-any_moment g c trusted l stands =
     let q : f ≡ e.hand = c.in_ok-flushed.ensures.idle_hand c.if-flushed.false in
     let told = trusted_on a b c.flush_due.ensures.goes trusted in
     let x : Engine = record e { hand = f; merging = c.take.new.self } in
-    let at : Stands b x l = record {
+    let at : StandsForLayout b x l = record {
       hand = at_both (λ s h. HandStands s h l) a b e.hand f p q stands.hand;
       merging = subst (IsGoing b f) (sym c.take.ensures.after) tt;
       few = λ none family many. stands.few none family (subst (λ (h : Hand). HasMany h family) q many);
@@ -314,7 +313,7 @@ returns-in-Some-clause-adds g c = IfOk-weaker c.go_on.result _ _ (λ w h it trus
     let p : b ≡ a = c.in_ok-flushed.ensures.idle_disk c.if-flushed.false in
     let q : f ≡ e.hand = c.in_ok-flushed.ensures.idle_hand c.if-flushed.false in
     let told = trusted_on a b c.flush_due.ensures.goes trusted in
-    subst (λ (k : Hand). Adds (g.D.Disk.state c.go_on.new.disk) k c.go_on.new.self.hand) q (h it told))
+    subst (λ (k : Hand). AddsVersion (g.D.Disk.state c.go_on.new.disk) k c.go_on.new.self.hand) q (h it told))
     c.go_on.ensures.adds
 
 pub returns-in-Some-clause-missing : goal.returns-in-Some-clause-missing
@@ -378,7 +377,7 @@ returns-in-None-clause-one_version g c trusted l stands =
     let q : f ≡ e.hand = c.in_ok-flushed.ensures.idle_hand c.if-flushed.false in
     let told = trusted_on a b c.flush_due.ensures.goes trusted in
     let x : Engine = record e { hand = f; merging = c.take.new.self } in
-    let at : Stands b x l = record {
+    let at : StandsForLayout b x l = record {
       hand = at_both (λ s h. HandStands s h l) a b e.hand f p q stands.hand;
       merging = subst (IsGoing b f) (sym c.take.ensures.after) tt;
       few = λ none family many. stands.few none family (subst (λ (h : Hand). HasMany h family) q many);

@@ -6,21 +6,21 @@ use Rattle.alt_disk.specs.Disk.{DiskState, IsTrusted}
 use Rattle.alt_disk.proofs.Runs.{trusted_back, trusted_on}
 use Rattle.alt_disk.specs.Runs.{Spans}
 use Rattle.alt_manifest.specs.declared.version.Version.{Version}
-use Rattle.alt_merging.specs.HandAdding.{Adds, HasLast, HasOneOf, IsOverNewLog, LeavesOut}
+use Rattle.alt_merging.specs.HandAdding.{AddsVersion, HasLast, HasOneOf, IsOverNewLog, LeavesOut}
 use Rattle.alt_merging.specs.HandInHand.{length_of, next_file_of}
 use Rattle.alt_merging.specs.HandMerging.{HasMany, files_at, memory_at, version_in}
-use Rattle.alt_merging.specs.HandWorking.{AreAllFlushed, IsCalm, IsFlushDone, IsLong, IsShort}
+use Rattle.alt_merging.specs.HandWorking.{AreAllFlushed, IsCalm, IsFlushDone, IsLong, LogIsShort}
 use Rattle.alt_merging.specs.HandDeclaredHand.{Hand}
 use Rattle.alt_merging.proofs.HandAddingLaws.{last_or}
 use Rattle.alt_merging.proofs.HandCarryLaws.{on_ok_both}
 use Rattle.alt_merging.proofs.HandWorkLaws.{no_entries, step_short}
 use Rattle.alt_merging.specs.Merged.{AreMerged}
-use Rattle.alt_merging.specs.Mergings.{file_of}
+use Rattle.alt_merging.specs.Mergings.{file_of_merging}
 use Rattle.alt_merging.proofs.EachLaws.{merged_on}
 use Rattle.alt_merging.proofs.StepLaws.{has_works, then_works}
-use Rattle.alt_engine.specs.InHand.{Stands, hand_of, merge_of}
+use Rattle.alt_engine.specs.InHand.{StandsForLayout, hand_of, merge_of}
 use Rattle.alt_engine.specs.Versions.{IsAfter}
-use Rattle.alt_engine.specs.Working.{AllMerged, Begins, Did, Ends, GoesOn, IsIdle}
+use Rattle.alt_engine.specs.Working.{AllMerged, BeginsMerge, Did, EndsMerge, FurthersMerge, IsIdle}
 use Rattle.alt_engine.specs.declared.engine.Engine.{Engine}
 use Rattle.alt_engine.specs.declared.work.Task.{Task}
 use Rattle.alt_engine.proofs.Turning.{all_merged, begins_back, busy_all, busy_by, did_flush, ends_back, first_lives, flush_busy, flushed, free_back, free_none, free_on, goes_back, idle_all, job_back, job_below, keeps_after, makes_back, merged_back, merged_forth, no_job, none_after, none_free}
@@ -63,7 +63,7 @@ returns-in-Step-clause-ok g c = on_ok_weaker c.step.result (λ ok trusted l stan
     let turned = c.in_ok-give_up.ensures.turned in
     let same : hand_of f ≡ hand_of e = c.give_up.ensures.hand in
     let told = trusted_on a b c.give_up.ensures.goes trusted in
-    let at : Stands b f l = c.in_ok-give_up.ensures.ok trusted l stands in
+    let at : StandsForLayout b f l = c.in_ok-give_up.ensures.ok trusted l stands in
     ok told l at) c.step.ensures.ok
 
 pub returns-in-Step-clause-any_moment : goal.returns-in-Step-clause-any_moment
@@ -76,7 +76,7 @@ returns-in-Step-clause-any_moment g c trusted l stands =
     let turned = c.in_ok-give_up.ensures.turned in
     let same : hand_of f ≡ hand_of e = c.give_up.ensures.hand in
     let told = trusted_on a b c.give_up.ensures.goes trusted in
-    let at : Stands b f l = c.in_ok-give_up.ensures.ok trusted l stands in
+    let at : StandsForLayout b f l = c.in_ok-give_up.ensures.ok trusted l stands in
     then_works a b (g.D.Disk.state c.step.new.disk) live l (c.give_up.ensures.any_moment trusted l stands)
     (c.step.ensures.any_moment told l at)
 
@@ -90,7 +90,7 @@ returns-in-FlushAll-clause-ok g c = on_ok_weaker c.flush_all.result (λ ok trust
     let turned = c.in_ok-give_up.ensures.turned in
     let same : hand_of f ≡ hand_of e = c.give_up.ensures.hand in
     let told = trusted_on a b c.give_up.ensures.goes trusted in
-    let at : Stands b f l = c.in_ok-give_up.ensures.ok trusted l stands in
+    let at : StandsForLayout b f l = c.in_ok-give_up.ensures.ok trusted l stands in
     ok told l at) c.flush_all.ensures.ok
 
 pub returns-in-FlushAll-clause-any_moment : goal.returns-in-FlushAll-clause-any_moment
@@ -103,7 +103,7 @@ returns-in-FlushAll-clause-any_moment g c trusted l stands =
     let turned = c.in_ok-give_up.ensures.turned in
     let same : hand_of f ≡ hand_of e = c.give_up.ensures.hand in
     let told = trusted_on a b c.give_up.ensures.goes trusted in
-    let at : Stands b f l = c.in_ok-give_up.ensures.ok trusted l stands in
+    let at : StandsForLayout b f l = c.in_ok-give_up.ensures.ok trusted l stands in
     then_works a b (g.D.Disk.state c.flush_all.new.disk) live l (c.give_up.ensures.any_moment trusted l stands)
     (c.flush_all.ensures.any_moment told l at)
 
@@ -117,7 +117,7 @@ returns-in-MergeAll-clause-ok g c = on_ok_weaker c.merge_all.result (λ ok trust
     let turned = c.in_ok-give_up.ensures.turned in
     let same : hand_of f ≡ hand_of e = c.give_up.ensures.hand in
     let told = trusted_on a b c.give_up.ensures.goes trusted in
-    let at : Stands b f l = c.in_ok-give_up.ensures.ok trusted l stands in
+    let at : StandsForLayout b f l = c.in_ok-give_up.ensures.ok trusted l stands in
     ok told l at) c.merge_all.ensures.ok
 
 pub returns-in-MergeAll-clause-any_moment : goal.returns-in-MergeAll-clause-any_moment
@@ -130,7 +130,7 @@ returns-in-MergeAll-clause-any_moment g c trusted l stands =
     let turned = c.in_ok-give_up.ensures.turned in
     let same : hand_of f ≡ hand_of e = c.give_up.ensures.hand in
     let told = trusted_on a b c.give_up.ensures.goes trusted in
-    let at : Stands b f l = c.in_ok-give_up.ensures.ok trusted l stands in
+    let at : StandsForLayout b f l = c.in_ok-give_up.ensures.ok trusted l stands in
     then_works a b (g.D.Disk.state c.merge_all.new.disk) live l (c.give_up.ensures.any_moment trusted l stands)
     (c.merge_all.ensures.any_moment told l at)
 
@@ -144,9 +144,9 @@ returns-in-Step-clause-idle g c = IfOk-weaker c.step.result _ _ (λ w h it trust
     let turned = c.in_ok-give_up.ensures.turned in
     let same : hand_of f ≡ hand_of e = c.give_up.ensures.hand in
     let told = trusted_on a b c.give_up.ensures.goes trusted in
-    let at : Stands b f l = c.in_ok-give_up.ensures.ok trusted l stands in
+    let at : StandsForLayout b f l = c.in_ok-give_up.ensures.ok trusted l stands in
     let got = h it told l at in
-    let calm = subst (λ (h : Hand). IsShort h × IsCalm live h) same got.0 in
+    let calm = subst (λ (h : Hand). LogIsShort h × IsCalm live h) same got.0 in
     subst (λ (t : Task). IsIdle t a live e) (sym c.in-Step.is) (
       flushed a live e l stands calm,
       (
@@ -167,13 +167,13 @@ returns-in-Step-clause-busy g c = busy_by c.step.result
     let turned = c.in_ok-give_up.ensures.turned in
     let same : hand_of f ≡ hand_of e = c.give_up.ensures.hand in
     let told = trusted_on a b c.give_up.ensures.goes trusted in
-    let at : Stands b f l = c.in_ok-give_up.ensures.ok trusted l stands in
+    let at : StandsForLayout b f l = c.in_ok-give_up.ensures.ok trusted l stands in
     let none = subst (λ (t : Task). IsIdle t a live e) c.in-Step.is idle in
     ⊎_elim
-    (λ (begins : Begins live f c.step.new.self). none.1.1 begins.family
+    (λ (begins : BeginsMerge live f c.step.new.self). none.1.1 begins.family
     (first_lives live (hand_of f) begins.family begins.first)
     (subst (λ (k : Hand). HasMany k begins.family) same begins.first.many))
-    (λ (goes : GoesOn b (g.D.Disk.state c.step.new.disk) live f c.step.new.self).
+    (λ (goes : FurthersMerge b (g.D.Disk.state c.step.new.disk) live f c.step.new.self).
     free_on a b live e f turned same none.1.0 goes.0 goes.1) (went told l at).1)
     (λ done trusted l stands idle.
     let a : DiskState = g.D.Disk.state c.args.disk.now in
@@ -184,14 +184,14 @@ returns-in-Step-clause-busy g c = busy_by c.step.result
     let turned = c.in_ok-give_up.ensures.turned in
     let same : hand_of f ≡ hand_of e = c.give_up.ensures.hand in
     let told = trusted_on a b c.give_up.ensures.goes trusted in
-    let at : Stands b f l = c.in_ok-give_up.ensures.ok trusted l stands in
+    let at : StandsForLayout b f l = c.in_ok-give_up.ensures.ok trusted l stands in
     let none = subst (λ (t : Task). IsIdle t a live e) c.in-Step.is idle in
     ⊎_elim
     (λ (flush : IsFlushDone live (hand_of f) (hand_of c.step.new.self)).
     flush_busy a live e l stands (hand_of c.step.new.self)
     (subst (λ (k : Hand). IsFlushDone live k (hand_of c.step.new.self)) same flush) none.0)
-    (λ (ends : (IsShort (hand_of f) × IsCalm live (hand_of f))
-    × Ends b (g.D.Disk.state c.step.new.disk) live f c.step.new.self).
+    (λ (ends : (LogIsShort (hand_of f) × IsCalm live (hand_of f))
+    × EndsMerge b (g.D.Disk.state c.step.new.disk) live f c.step.new.self).
     free_on a b live e f turned same none.1.0 ends.1.0 ends.1.1) (done told l at))
     c.step.ensures.went c.step.ensures.done
 
@@ -205,17 +205,17 @@ returns-in-Step-clause-went g c = IfOk-weaker c.step.result _ _ (λ w h it trust
     let turned = c.in_ok-give_up.ensures.turned in
     let same : hand_of f ≡ hand_of e = c.give_up.ensures.hand in
     let told = trusted_on a b c.give_up.ensures.goes trusted in
-    let at : Stands b f l = c.in_ok-give_up.ensures.ok trusted l stands in
+    let at : StandsForLayout b f l = c.in_ok-give_up.ensures.ok trusted l stands in
     let got = h it told l at in
-    let calm = subst (λ (h : Hand). IsShort h × IsCalm live h) same got.0 in
+    let calm = subst (λ (h : Hand). LogIsShort h × IsCalm live h) same got.0 in
     let d : DiskState = g.D.Disk.state c.step.new.disk in (
       c.in-Step.is,
       (
         flushed a live e l stands calm,
         ⊎_elim
-            (λ (begins : Begins live f c.step.new.self).
+            (λ (begins : BeginsMerge live f c.step.new.self).
             inl (begins_back a b live e f turned same c.step.new.self begins))
-            (λ (goes : GoesOn b d live f c.step.new.self).
+            (λ (goes : FurthersMerge b d live f c.step.new.self).
             inr (goes_back a b live e f turned same d c.step.new.self goes)) got.1,
       ),
     )) c.step.ensures.went
@@ -230,22 +230,22 @@ returns-in-Step-clause-done g c = IfOk-weaker c.step.result _ _ (λ w h it trust
     let turned = c.in_ok-give_up.ensures.turned in
     let same : hand_of f ≡ hand_of e = c.give_up.ensures.hand in
     let told = trusted_on a b c.give_up.ensures.goes trusted in
-    let at : Stands b f l = c.in_ok-give_up.ensures.ok trusted l stands in
+    let at : StandsForLayout b f l = c.in_ok-give_up.ensures.ok trusted l stands in
     let d : DiskState = g.D.Disk.state c.step.new.disk in
     let new : Engine = c.step.new.self in
     subst (λ (t : Task). Did t a d live e new) (sym c.in-Step.is) (⊎_elim
     (λ (flush : IsFlushDone live (hand_of f) (hand_of new)). did_flush a live e l stands d new
     (subst (λ (k : Hand). IsFlushDone live k (hand_of new)) same flush))
-    (λ (ends : (IsShort (hand_of f) × IsCalm live (hand_of f)) × Ends b d live f new).
+    (λ (ends : (LogIsShort (hand_of f) × IsCalm live (hand_of f)) × EndsMerge b d live f new).
     inr (inr (
-      flushed a live e l stands (subst (λ (h : Hand). IsShort h × IsCalm live h) same ends.0),
+      flushed a live e l stands (subst (λ (h : Hand). LogIsShort h × IsCalm live h) same ends.0),
       ends_back a b live e f turned same d new ends.1,
     ))) (h it told l at))) c.step.ensures.done
 
 pub returns-in-Step-clause-step : goal.returns-in-Step-clause-step
 returns-in-Step-clause-step g c it some = on_ok_both c.step.result
     (λ ok (bytes : (length_of (hand_of c.step.new.self) ≡ 0)
-    ⊎ (IsShort (hand_of c.give_up.new.self)
+    ⊎ (LogIsShort (hand_of c.give_up.new.self)
     × (length_of (hand_of c.step.new.self) ≡ length_of (hand_of c.give_up.new.self)))) trusted.
     let given = c.requires.ready trusted in let l = given.0 in let stands = given.1 in
     let a : DiskState = g.D.Disk.state c.args.disk.now in
@@ -256,11 +256,11 @@ returns-in-Step-clause-step g c it some = on_ok_both c.step.result
     let turned = c.in_ok-give_up.ensures.turned in
     let same : hand_of f ≡ hand_of e = c.give_up.ensures.hand in
     let told = trusted_on a b c.give_up.ensures.goes trusted in
-    let at : Stands b f l = c.in_ok-give_up.ensures.ok trusted l stands in
+    let at : StandsForLayout b f l = c.in_ok-give_up.ensures.ok trusted l stands in
     let m = ok told l at in
     step_short (g.D.Disk.state c.step.new.disk) (hand_of e) (hand_of c.step.new.self) m.0 some m.1.hand
     (subst (λ (h : Hand). (length_of (hand_of c.step.new.self) ≡ 0)
-    ⊎ (IsShort h × (length_of (hand_of c.step.new.self) ≡ length_of h))) same bytes))
+    ⊎ (LogIsShort h × (length_of (hand_of c.step.new.self) ≡ length_of h))) same bytes))
     c.step.ensures.ok c.step.ensures.length
 
 pub returns-in-FlushAll-clause-idle : goal.returns-in-FlushAll-clause-idle
@@ -273,7 +273,7 @@ returns-in-FlushAll-clause-idle g c = IfOk-weaker c.flush_all.result _ _ (λ w h
     let turned = c.in_ok-give_up.ensures.turned in
     let same : hand_of f ≡ hand_of e = c.give_up.ensures.hand in
     let told = trusted_on a b c.give_up.ensures.goes trusted in
-    let at : Stands b f l = c.in_ok-give_up.ensures.ok trusted l stands in
+    let at : StandsForLayout b f l = c.in_ok-give_up.ensures.ok trusted l stands in
     subst (λ (t : Task). IsIdle t a live e) (sym c.in-FlushAll.is)
     (idle_all a live e l stands (subst (λ (k : Hand). length_of k ≡ 0) same (h it))))
     c.flush_all.ensures.idle
@@ -288,7 +288,7 @@ returns-in-FlushAll-clause-busy g c = IfOk-weaker c.flush_all.result _ _ (λ w h
     let turned = c.in_ok-give_up.ensures.turned in
     let same : hand_of f ≡ hand_of e = c.give_up.ensures.hand in
     let told = trusted_on a b c.give_up.ensures.goes trusted in
-    let at : Stands b f l = c.in_ok-give_up.ensures.ok trusted l stands in
+    let at : StandsForLayout b f l = c.in_ok-give_up.ensures.ok trusted l stands in
     busy_all a live e l stands
     (λ none. h no (subst (λ (k : Hand). length_of k ≡ 0) (sym same) none))
     (subst (λ (t : Task). IsIdle t a live e) c.in-FlushAll.is idle)) c.flush_all.ensures.busy
@@ -305,7 +305,7 @@ returns-in-FlushAll-clause-flush_all g c it = on_ok_both c.flush_all.result
     let turned = c.in_ok-give_up.ensures.turned in
     let same : hand_of f ≡ hand_of e = c.give_up.ensures.hand in
     let told = trusted_on a b c.give_up.ensures.goes trusted in
-    let at : Stands b f l = c.in_ok-give_up.ensures.ok trusted l stands in
+    let at : StandsForLayout b f l = c.in_ok-give_up.ensures.ok trusted l stands in
     let m = ok told l at in
     no_entries (g.D.Disk.state c.flush_all.new.disk) (hand_of c.flush_all.new.self) m.0 m.1.hand none)
     c.flush_all.ensures.ok c.flush_all.ensures.length
@@ -320,7 +320,7 @@ returns-in-MergeAll-clause-idle g c = IfOk-weaker c.merge_all.result _ _ (λ w h
     let turned = c.in_ok-give_up.ensures.turned in
     let same : hand_of f ≡ hand_of e = c.give_up.ensures.hand in
     let told = trusted_on a b c.give_up.ensures.goes trusted in
-    let at : Stands b f l = c.in_ok-give_up.ensures.ok trusted l stands in
+    let at : StandsForLayout b f l = c.in_ok-give_up.ensures.ok trusted l stands in
     let got = h it told in
     subst (λ (t : Task). IsIdle t a live e) (sym c.in-MergeAll.is) (
       free_back a b live e f turned same (free_none live f got.0),
@@ -338,7 +338,7 @@ returns-in-MergeAll-clause-busy g c = IfOk-weaker c.merge_all.result _ _ (λ w h
     let turned = c.in_ok-give_up.ensures.turned in
     let same : hand_of f ≡ hand_of e = c.give_up.ensures.hand in
     let told = trusted_on a b c.give_up.ensures.goes trusted in
-    let at : Stands b f l = c.in_ok-give_up.ensures.ok trusted l stands in
+    let at : StandsForLayout b f l = c.in_ok-give_up.ensures.ok trusted l stands in
     let none = subst (λ (t : Task). IsIdle t a live e) c.in-MergeAll.is idle in
     h no told (none_free live f (keeps_after a b live e f turned same)
     (free_on a b live e f turned same none.0))
@@ -359,7 +359,7 @@ returns-in-MergeAll-clause-merge_all g c it = on_ok_both c.merge_all.result
     let turned = c.in_ok-give_up.ensures.turned in
     let same : hand_of f ≡ hand_of e = c.give_up.ensures.hand in
     let told = trusted_on a b c.give_up.ensures.goes trusted in
-    let at : Stands b f l = c.in_ok-give_up.ensures.ok trusted l stands in
+    let at : StandsForLayout b f l = c.in_ok-give_up.ensures.ok trusted l stands in
     let m = ok told l at in
     all_merged (g.D.Disk.state c.merge_all.new.disk) live (hand_of c.merge_all.new.self) m.0 m.1.hand
     (merged told)) c.merge_all.ensures.ok c.merge_all.ensures.merged
@@ -374,10 +374,10 @@ returns-in-Step-clause-given_up g c = on_ok_weaker c.step.result (λ missing tru
     let turned = c.in_ok-give_up.ensures.turned in
     let same : hand_of f ≡ hand_of e = c.give_up.ensures.hand in
     let told = trusted_on a b c.give_up.ensures.goes trusted in
-    let at : Stands b f l = c.in_ok-give_up.ensures.ok trusted l stands in
+    let at : StandsForLayout b f l = c.in_ok-give_up.ensures.ok trusted l stands in
     let none = none_after a b live e f turned j is dead in
-    missing told l at (file_of j) (λ k there. absurd (no_job (merge_of f) k none there))
-    (subst (λ (h : Hand). file_of j < next_file_of h) (sym same) (job_below a e j l stands is))
+    missing told l at (file_of_merging j) (λ k there. absurd (no_job (merge_of f) k none there))
+    (subst (λ (h : Hand). file_of_merging j < next_file_of h) (sym same) (job_below a e j l stands is))
     (c.in_ok-give_up.ensures.gone trusted j is dead)) c.step.ensures.missing
 
 pub returns-in-Step-clause-next_file : goal.returns-in-Step-clause-next_file
@@ -392,7 +392,7 @@ returns-in-Step-clause-next_file g c = once_done c.step.result
     let turned = c.in_ok-give_up.ensures.turned in
     let same : hand_of f ≡ hand_of e = c.give_up.ensures.hand in
     let told = trusted_on a b c.give_up.ensures.goes trusted in
-    let at : Stands b f l = c.in_ok-give_up.ensures.ok trusted l stands in
+    let at : StandsForLayout b f l = c.in_ok-give_up.ensures.ok trusted l stands in
     let m = ok told l at in
     next_read (g.D.Disk.state c.step.new.disk) (hand_of f) (hand_of c.step.new.self) m.0 m.1.hand (adds told) w has)
     c.step.ensures.ok c.step.ensures.adds c.step.ensures.adds
@@ -409,10 +409,10 @@ returns-in-Step-clause-removed g c = once_done c.step.result
     let turned = c.in_ok-give_up.ensures.turned in
     let same : hand_of f ≡ hand_of e = c.give_up.ensures.hand in
     let told = trusted_on a b c.give_up.ensures.goes trusted in
-    let at : Stands b f l = c.in_ok-give_up.ensures.ok trusted l stands in
+    let at : StandsForLayout b f l = c.in_ok-give_up.ensures.ok trusted l stands in
     let m = ok told l at in
     removed_read a (g.D.Disk.state c.step.new.disk) (hand_of e) (hand_of c.step.new.self) l m.0 stands.hand m.1.hand v w has_v has_w
-    (subst (λ (h : Hand). Adds (g.D.Disk.state c.step.new.disk) h (hand_of c.step.new.self)) same (adds told)))
+    (subst (λ (h : Hand). AddsVersion (g.D.Disk.state c.step.new.disk) h (hand_of c.step.new.self)) same (adds told)))
     c.step.ensures.ok c.step.ensures.adds c.step.ensures.adds
 
 pub returns-in-FlushAll-clause-given_up : goal.returns-in-FlushAll-clause-given_up
@@ -425,10 +425,10 @@ returns-in-FlushAll-clause-given_up g c = on_ok_weaker c.flush_all.result (λ mi
     let turned = c.in_ok-give_up.ensures.turned in
     let same : hand_of f ≡ hand_of e = c.give_up.ensures.hand in
     let told = trusted_on a b c.give_up.ensures.goes trusted in
-    let at : Stands b f l = c.in_ok-give_up.ensures.ok trusted l stands in
+    let at : StandsForLayout b f l = c.in_ok-give_up.ensures.ok trusted l stands in
     let none = none_after a b live e f turned j is dead in
-    missing told l at (file_of j)
-    (subst (λ (h : Hand). file_of j < next_file_of h) (sym same) (job_below a e j l stands is))
+    missing told l at (file_of_merging j)
+    (subst (λ (h : Hand). file_of_merging j < next_file_of h) (sym same) (job_below a e j l stands is))
     (c.in_ok-give_up.ensures.gone trusted j is dead)) c.flush_all.ensures.missing
 
 pub returns-in-FlushAll-clause-next_file : goal.returns-in-FlushAll-clause-next_file
@@ -443,7 +443,7 @@ returns-in-FlushAll-clause-next_file g c = once_done c.flush_all.result
     let turned = c.in_ok-give_up.ensures.turned in
     let same : hand_of f ≡ hand_of e = c.give_up.ensures.hand in
     let told = trusted_on a b c.give_up.ensures.goes trusted in
-    let at : Stands b f l = c.in_ok-give_up.ensures.ok trusted l stands in
+    let at : StandsForLayout b f l = c.in_ok-give_up.ensures.ok trusted l stands in
     let m = ok told l at in
     next_read (g.D.Disk.state c.flush_all.new.disk) (hand_of f) (hand_of c.flush_all.new.self) m.0 m.1.hand (adds told) w has)
     c.flush_all.ensures.ok c.flush_all.ensures.adds c.flush_all.ensures.adds
@@ -460,10 +460,10 @@ returns-in-FlushAll-clause-removed g c = once_done c.flush_all.result
     let turned = c.in_ok-give_up.ensures.turned in
     let same : hand_of f ≡ hand_of e = c.give_up.ensures.hand in
     let told = trusted_on a b c.give_up.ensures.goes trusted in
-    let at : Stands b f l = c.in_ok-give_up.ensures.ok trusted l stands in
+    let at : StandsForLayout b f l = c.in_ok-give_up.ensures.ok trusted l stands in
     let m = ok told l at in
     removed_read a (g.D.Disk.state c.flush_all.new.disk) (hand_of e) (hand_of c.flush_all.new.self) l m.0 stands.hand m.1.hand v w has_v has_w
-    (subst (λ (h : Hand). Adds (g.D.Disk.state c.flush_all.new.disk) h (hand_of c.flush_all.new.self)) same (adds told)))
+    (subst (λ (h : Hand). AddsVersion (g.D.Disk.state c.flush_all.new.disk) h (hand_of c.flush_all.new.self)) same (adds told)))
     c.flush_all.ensures.ok c.flush_all.ensures.adds c.flush_all.ensures.adds
 
 pub returns-in-MergeAll-clause-given_up : goal.returns-in-MergeAll-clause-given_up
@@ -476,10 +476,10 @@ returns-in-MergeAll-clause-given_up g c = on_ok_weaker c.merge_all.result (λ mi
     let turned = c.in_ok-give_up.ensures.turned in
     let same : hand_of f ≡ hand_of e = c.give_up.ensures.hand in
     let told = trusted_on a b c.give_up.ensures.goes trusted in
-    let at : Stands b f l = c.in_ok-give_up.ensures.ok trusted l stands in
+    let at : StandsForLayout b f l = c.in_ok-give_up.ensures.ok trusted l stands in
     let none = none_after a b live e f turned j is dead in
-    missing told l at (file_of j) (λ k there. absurd (no_job (merge_of f) k none there))
-    (subst (λ (h : Hand). file_of j < next_file_of h) (sym same) (job_below a e j l stands is))
+    missing told l at (file_of_merging j) (λ k there. absurd (no_job (merge_of f) k none there))
+    (subst (λ (h : Hand). file_of_merging j < next_file_of h) (sym same) (job_below a e j l stands is))
     (c.in_ok-give_up.ensures.gone trusted j is dead)) c.merge_all.ensures.missing
 
 pub returns-in-MergeAll-clause-next_file : goal.returns-in-MergeAll-clause-next_file
@@ -494,7 +494,7 @@ returns-in-MergeAll-clause-next_file g c = once_done c.merge_all.result
     let turned = c.in_ok-give_up.ensures.turned in
     let same : hand_of f ≡ hand_of e = c.give_up.ensures.hand in
     let told = trusted_on a b c.give_up.ensures.goes trusted in
-    let at : Stands b f l = c.in_ok-give_up.ensures.ok trusted l stands in
+    let at : StandsForLayout b f l = c.in_ok-give_up.ensures.ok trusted l stands in
     let m = ok told l at in
     next_read (g.D.Disk.state c.merge_all.new.disk) (hand_of f) (hand_of c.merge_all.new.self) m.0 m.1.hand (adds told l at) w has)
     c.merge_all.ensures.ok c.merge_all.ensures.adds c.merge_all.ensures.adds
@@ -511,10 +511,10 @@ returns-in-MergeAll-clause-removed g c = once_done c.merge_all.result
     let turned = c.in_ok-give_up.ensures.turned in
     let same : hand_of f ≡ hand_of e = c.give_up.ensures.hand in
     let told = trusted_on a b c.give_up.ensures.goes trusted in
-    let at : Stands b f l = c.in_ok-give_up.ensures.ok trusted l stands in
+    let at : StandsForLayout b f l = c.in_ok-give_up.ensures.ok trusted l stands in
     let m = ok told l at in
     removed_read a (g.D.Disk.state c.merge_all.new.disk) (hand_of e) (hand_of c.merge_all.new.self) l m.0 stands.hand m.1.hand v w has_v has_w
-    (subst (λ (h : Hand). Adds (g.D.Disk.state c.merge_all.new.disk) h (hand_of c.merge_all.new.self)) same (adds told l at)))
+    (subst (λ (h : Hand). AddsVersion (g.D.Disk.state c.merge_all.new.disk) h (hand_of c.merge_all.new.self)) same (adds told l at)))
     c.merge_all.ensures.ok c.merge_all.ensures.adds c.merge_all.ensures.adds
 
 pub returns-in-Step-clause-version : goal.returns-in-Step-clause-version
@@ -528,16 +528,16 @@ returns-in-Step-clause-version g c = once_done_with c.step.result
     let turned = c.in_ok-give_up.ensures.turned in
     let same : hand_of f ≡ hand_of e = c.give_up.ensures.hand in
     let told = trusted_on a b c.give_up.ensures.goes trusted in
-    let at : Stands b f l = c.in_ok-give_up.ensures.ok trusted l stands in
+    let at : StandsForLayout b f l = c.in_ok-give_up.ensures.ok trusted l stands in
     let m = ok told l at in
     let d : DiskState = g.D.Disk.state c.step.new.disk in
     let n : Hand = hand_of c.step.new.self in
     subst (λ (t : Task). IsAfter t a d live e) (sym c.in-Step.is)
     (after_step a d live e n l m.0 stands.hand m.1.hand
-    (subst (λ (h : Hand). (length_of n ≡ 0) ⊎ (IsShort h × (length_of n ≡ length_of h))) same bytes)
+    (subst (λ (h : Hand). (length_of n ≡ 0) ⊎ (LogIsShort h × (length_of n ≡ length_of h))) same bytes)
     (subst (λ (h : Hand). (IsLong h × AreAllFlushed live h n × IsOverNewLog live h n)
-    ⊎ (IsShort h × LeavesOut live h n)) same (version told l at))
-    (subst (λ (h : Hand). Adds d h n) same (adds told))))
+    ⊎ (LogIsShort h × LeavesOut live h n)) same (version told l at))
+    (subst (λ (h : Hand). AddsVersion d h n) same (adds told))))
     c.step.ensures.ok c.step.ensures.length c.step.ensures.version
     c.step.ensures.adds
 
@@ -552,7 +552,7 @@ returns-in-FlushAll-clause-version g c = once_done_with c.flush_all.result
     let turned = c.in_ok-give_up.ensures.turned in
     let same : hand_of f ≡ hand_of e = c.give_up.ensures.hand in
     let told = trusted_on a b c.give_up.ensures.goes trusted in
-    let at : Stands b f l = c.in_ok-give_up.ensures.ok trusted l stands in
+    let at : StandsForLayout b f l = c.in_ok-give_up.ensures.ok trusted l stands in
     let m = ok told l at in
     let d : DiskState = g.D.Disk.state c.flush_all.new.disk in
     let n : Hand = hand_of c.flush_all.new.self in
@@ -560,7 +560,7 @@ returns-in-FlushAll-clause-version g c = once_done_with c.flush_all.result
     (version told l at) in
     subst (λ (t : Task). IsAfter t a d live e) (sym c.in-FlushAll.is) (λ v w has_v has_w.
     new_log_read a d (hand_of e) n l m.0 stands.hand m.1.hand v w has_v has_w live all.0 all.1
-    (subst (λ (h : Hand). Adds d h n) same (adds told)) bytes))
+    (subst (λ (h : Hand). AddsVersion d h n) same (adds told)) bytes))
     c.flush_all.ensures.ok c.flush_all.ensures.length
     c.flush_all.ensures.new_log c.flush_all.ensures.adds
 
@@ -575,7 +575,7 @@ returns-in-MergeAll-clause-version g c = once_done c.merge_all.result
     let turned = c.in_ok-give_up.ensures.turned in
     let same : hand_of f ≡ hand_of e = c.give_up.ensures.hand in
     let told = trusted_on a b c.give_up.ensures.goes trusted in
-    let at : Stands b f l = c.in_ok-give_up.ensures.ok trusted l stands in
+    let at : StandsForLayout b f l = c.in_ok-give_up.ensures.ok trusted l stands in
     let m = ok told l at in
     let d : DiskState = g.D.Disk.state c.merge_all.new.disk in
     let n : Hand = hand_of c.merge_all.new.self in
@@ -607,7 +607,7 @@ returns-in-Step-clause-one_version g c it trusted v has =
     let turned = c.in_ok-give_up.ensures.turned in
     let same : hand_of f ≡ hand_of e = c.give_up.ensures.hand in
     let told = trusted_on a b c.give_up.ensures.goes trusted in
-    let at : Stands b f l = c.in_ok-give_up.ensures.ok trusted l stands in
+    let at : StandsForLayout b f l = c.in_ok-give_up.ensures.ok trusted l stands in
     let d : DiskState = g.D.Disk.state c.step.new.disk in
     let later = subst (λ (h : Hand). (w : Version) × Spans b d (λ k. Unit {0}) (HasOneOf (version_in h) w))
     same (c.step.ensures.one_version told l at) in
@@ -628,7 +628,7 @@ returns-in-FlushAll-clause-one_version g c it trusted v has =
     let turned = c.in_ok-give_up.ensures.turned in
     let same : hand_of f ≡ hand_of e = c.give_up.ensures.hand in
     let told = trusted_on a b c.give_up.ensures.goes trusted in
-    let at : Stands b f l = c.in_ok-give_up.ensures.ok trusted l stands in
+    let at : StandsForLayout b f l = c.in_ok-give_up.ensures.ok trusted l stands in
     let d : DiskState = g.D.Disk.state c.flush_all.new.disk in
     let later = subst (λ (h : Hand). (w : Version) × Spans b d (λ k. Unit {0}) (HasOneOf (version_in h) w))
     same (c.flush_all.ensures.one_version told l at) in
@@ -658,7 +658,7 @@ returns-in-MergeAll-clause-kept g c it = on_ok_weaker c.merge_all.result
     let turned = c.in_ok-give_up.ensures.turned in
     let same : hand_of f ≡ hand_of e = c.give_up.ensures.hand in
     let told = trusted_on a b c.give_up.ensures.goes trusted in
-    let at : Stands b f l = c.in_ok-give_up.ensures.ok trusted l stands in
+    let at : StandsForLayout b f l = c.in_ok-give_up.ensures.ok trusted l stands in
     let hand = ap (λ (h : Hand). files_at h family) same in
     kept told l at family lives (subst (AreMerged b) (sym hand)
     (merged_on a b (files_at (hand_of e) family) (c.give_up.ensures.still trusted l stands family) merged))
@@ -689,7 +689,7 @@ returns-in-Step-clause-missing g c = on_ok_weaker c.step.result (λ missing trus
     let turned = c.in_ok-give_up.ensures.turned in
     let same : hand_of f ≡ hand_of e = c.give_up.ensures.hand in
     let told = trusted_on a b c.give_up.ensures.goes trusted in
-    let at : Stands b f l = c.in_ok-give_up.ensures.ok trusted l stands in
+    let at : StandsForLayout b f l = c.in_ok-give_up.ensures.ok trusted l stands in
     makes_back a b live e f turned same (g.D.Disk.state c.step.new.disk) keeps (missing told l at))
     c.step.ensures.missing
 
@@ -703,7 +703,7 @@ returns-in-FlushAll-clause-missing g c = on_ok_weaker c.flush_all.result (λ mis
     let turned = c.in_ok-give_up.ensures.turned in
     let same : hand_of f ≡ hand_of e = c.give_up.ensures.hand in
     let told = trusted_on a b c.give_up.ensures.goes trusted in
-    let at : Stands b f l = c.in_ok-give_up.ensures.ok trusted l stands in
+    let at : StandsForLayout b f l = c.in_ok-give_up.ensures.ok trusted l stands in
     makes_back a b live e f turned same (g.D.Disk.state c.flush_all.new.disk) keeps (λ k other. missing told l at k))
     c.flush_all.ensures.missing
 
@@ -717,6 +717,6 @@ returns-in-MergeAll-clause-missing g c = on_ok_weaker c.merge_all.result (λ mis
     let turned = c.in_ok-give_up.ensures.turned in
     let same : hand_of f ≡ hand_of e = c.give_up.ensures.hand in
     let told = trusted_on a b c.give_up.ensures.goes trusted in
-    let at : Stands b f l = c.in_ok-give_up.ensures.ok trusted l stands in
+    let at : StandsForLayout b f l = c.in_ok-give_up.ensures.ok trusted l stands in
     makes_back a b live e f turned same (g.D.Disk.state c.merge_all.new.disk) keeps (missing told l at))
     c.merge_all.ensures.missing

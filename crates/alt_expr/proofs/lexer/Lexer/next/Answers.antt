@@ -1,10 +1,11 @@
 -- The lexer stands behind the longest token, and the text that is left stays a back of the whole.
 use Rattle.std.proofs.Common.{◌≡◌, refl, sym, subst, ◌∙◌, ap, take, drop, Some, None, arith}
-use Rattle.alt_expr.specs.Spelling.{skip, Stands, NoneStands}
+use Rattle.alt_expr.specs.Spelling.{skip, TokenStands, NoneStands}
 use Rattle.alt_expr.specs.Look.{found, kind_tok, LooksFit}
 use Rattle.alt_expr.specs.Tokens.{tok_of}
 use Rattle.alt_expr.specs.Spelling.{is_blank}
-use Rattle.alt_expr.proofs.Longest.{stands_of, none_of, found_cut, fits_nine, prefix_fits, not_empty}
+use Rattle.alt_expr.proofs.Longest.{stands_of, none_of, fits_nine, prefix_fits, not_empty}
+use Rattle.alt_expr.proofs.AsciiCuts.{found_cut}
 use Rattle.alt_expr.proofs.Suffix.{IsBack, back_of_back}
 use Rattle.alt_expr.proofs.lexer.Lexer.next.Goals as goal
 
@@ -66,4 +67,4 @@ returns-clause-found c =
     let s = stands_of text c.in-Some.kind c.in-Some.len is in
     let tok : kind_tok c.in-Some.kind (take c.in-Some.len text) ≡ tok_of c.token_of.result =
     ap (kind_tok c.in-Some.kind) (sym c.split_at.ensures.front) ∙ sym c.token_of.ensures in
-    (c.in-Some.len, subst (λ t. Stands t c.in-Some.len (tok_of c.token_of.result)) here (subst (Stands text c.in-Some.len) tok s), c.split_at.ensures.back ∙ ap (drop c.in-Some.len) here)
+    (c.in-Some.len, subst (λ t. TokenStands t c.in-Some.len (tok_of c.token_of.result)) here (subst (TokenStands text c.in-Some.len) tok s), c.split_at.ensures.back ∙ ap (drop c.in-Some.len) here)

@@ -1,5 +1,5 @@
 -- The bit at the place is set, and no other.
-use Rattle.std.proofs.Common.{◌≡◌, ◌∙◌, ◌/◌, ◌%◌, ◌<◌, sym, length, arith}
+use Rattle.std.proofs.Common.{◌∙◌, sym, arith}
 use Rattle.alt_filter.proofs.Bits.{set_there, set_elsewhere}
 use Rattle.alt_filter.proofs.filter.Filter.set.Goals as goal
 

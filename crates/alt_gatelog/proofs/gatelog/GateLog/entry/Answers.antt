@@ -3,7 +3,7 @@ use Rattle.std.proofs.lemmas.Grind.{get_or_default_zero}
 use Rattle.std.proofs.lemmas.List.{length-take, take_all, take_at}
 use Rattle.std.proofs.Math.ListN.{replicate}
 use Rattle.alt_disk.specs.Disk.{DiskState, ReadCall, contents}
-use Rattle.alt_gatelog.specs.InHand.{bytes_place, file_of, length_of, place_of}
+use Rattle.alt_gatelog.specs.InHand.{bytes_place, file_of_gate_log, length_of_entry, place_of_gate}
 use Rattle.alt_gatelog.proofs.Places.{EntryAt, place_is, next_is, entry_is, count_all, read_entry, read_behind}
 use Rattle.alt_gatelog.proofs.gatelog.GateLog.entry.Goals as goal
 
@@ -128,10 +128,10 @@ returns-then-count-length-clause-given g c =
     let start = c.len-start.result in
     let n = c.saturating_sub-length.result in
     let less : i < length log.places.items = omega (arith, c.requires) in
-    let place : at ≡ place_of log i =
+    let place : at ≡ place_of_gate log i =
     c.index-at.ensures ∙ get_or_default_zero log.places.items i at less in
     let behind : at + 9 ≡ bytes_place log i = ap (λ (p : ℕ). p + 9) place in
-    let many : n ≡ length_of log i = c.saturating_sub-length.ensures
+    let many : n ≡ length_of_entry log i = c.saturating_sub-length.ensures
     ∙ (λ j. c.next_gate-next.ensures.next j - behind j) in
     let long : length whole ≡ start + n = omega
     (arith, c.deref_mut.ensures.len, c.in_ok-resize.ensures.len) in
@@ -157,13 +157,13 @@ returns-then-count-length-clause-given g c =
           (omega (arith, size, same, long)) (omega (arith, same, long));
       read = record {
         size = size ∙ many;
-        read = subst (λ (m : ℕ). ReadCall s new (file_of log) (bytes_place log i) m true)
+        read = subst (λ (m : ℕ). ReadCall s new (file_of_gate_log log) (bytes_place log i) m true)
             (asked ∙ many)
-            (subst (λ (p : ℕ). ReadCall s new (file_of log) p (length part) true) behind
+            (subst (λ (p : ℕ). ReadCall s new (file_of_gate_log log) p (length part) true) behind
             c.in-Ok.ensures.call);
         there = λ told.
             sym (take_all c.in-Ok.count buf (omega (arith, size, all)))
             ∙ (c.in-Ok.ensures.bytes told).front
-            ∙ (λ j. take ((all ∙ many) j) (drop (behind j) (contents s (file_of log))));
+            ∙ (λ j. take ((all ∙ many) j) (drop (behind j) (contents s (file_of_gate_log log))));
       };
     }

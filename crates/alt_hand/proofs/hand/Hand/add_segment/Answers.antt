@@ -6,7 +6,7 @@ use Rattle.alt_flush.specs.Drafts.{From}
 use Rattle.alt_gatelog.specs.InHand.{IsFramed}
 use Rattle.alt_manifest.specs.Versions.{version_bytes}
 use Rattle.alt_manifest.specs.declared.version.Version.{Version}
-use Rattle.alt_hand.specs.Drafting.{with_rows}
+use Rattle.alt_hand.specs.Drafting.{with_memory_rows}
 use Rattle.alt_hand.specs.InHand.{files_made}
 use Rattle.alt_hand.proofs.RenewLaws.{keeping, ready_by, renew_carries, renew_images, renewed}
 use Rattle.alt_hand.proofs.hand.Hand.add_segment.Goals as goal
@@ -22,7 +22,7 @@ add-requires-clause-reads g c at_end =
     let d : DiskState = g.D.Disk.state c.make.new.disk in
     let trusted = trusted_back a d c.in_ok-log.ensures.goes at_end in
     let given = c.requires.stands trusted in
-    (ready_by a d (with_rows c.args.self.now given.0 given.1) given.2 given.3 c.args.draft
+    (ready_by a d (with_memory_rows c.args.self.now given.0 given.1) given.2 given.3 c.args.draft
     c.requires.draft c.in_ok-log.log (omega (arith, c.requires.file))
     (c.in_ok-log.ensures.any_moment trusted) c.in_ok-log.ensures.file
     (c.in_ok-log.ensures.made trusted)).manifest.reads
@@ -33,7 +33,7 @@ add-requires-clause-version g c at_end =
     let d : DiskState = g.D.Disk.state c.make.new.disk in
     let trusted = trusted_back a d c.in_ok-log.ensures.goes at_end in
     let given = c.requires.stands trusted in
-    (ready_by a d (with_rows c.args.self.now given.0 given.1) given.2 given.3 c.args.draft
+    (ready_by a d (with_memory_rows c.args.self.now given.0 given.1) given.2 given.3 c.args.draft
     c.requires.draft c.in_ok-log.log (omega (arith, c.requires.file))
     (c.in_ok-log.ensures.any_moment trusted) c.in_ok-log.ensures.file
     (c.in_ok-log.ensures.made trusted)).makes.drafted.is
@@ -47,7 +47,7 @@ pub returns-in_err-log-clause-any_moment : goal.returns-in_err-log-clause-any_mo
 returns-in_err-log-clause-any_moment g c trusted families full l stands =
     let a : DiskState = g.D.Disk.state c.args.disk.now in
     let b : DiskState = g.D.Disk.state c.make.new.disk in
-    let e = with_rows c.args.self.now families full in
+    let e = with_memory_rows c.args.self.now families full in
     keeping a b e l stands (run_spans a b e.next_file (λ t left. Unit {0}) (From e.next_file)
     (λ t image. Unit {0}) (c.in_err-log.ensures.any_moment trusted) (omega arith)
     (λ t image here others. tt))
@@ -57,7 +57,7 @@ returns-in-Ok-clause-ok g c trusted families full l stands =
     let a : DiskState = g.D.Disk.state c.args.disk.now in
     let d : DiskState = g.D.Disk.state c.make.new.disk in
     let z : DiskState = g.D.Disk.state c.add.new.disk in
-    let e = with_rows c.args.self.now families full in
+    let e = with_memory_rows c.args.self.now families full in
     let run = c.in_ok-log.ensures.any_moment trusted in
     let made = c.in_ok-log.ensures.made trusted in
     let told = trusted_on a d c.in_ok-log.ensures.goes trusted in
@@ -114,7 +114,7 @@ returns-in-Ok-clause-carries g c trusted families full l stands =
     let a : DiskState = g.D.Disk.state c.args.disk.now in
     let d : DiskState = g.D.Disk.state c.make.new.disk in
     let z : DiskState = g.D.Disk.state c.add.new.disk in
-    let e = with_rows c.args.self.now families full in
+    let e = with_memory_rows c.args.self.now families full in
     let run = c.in_ok-log.ensures.any_moment trusted in
     let made = c.in_ok-log.ensures.made trusted in
     let told = trusted_on a d c.in_ok-log.ensures.goes trusted in
@@ -129,7 +129,7 @@ pub returns-in-Ok-clause-any_moment : goal.returns-in-Ok-clause-any_moment
 returns-in-Ok-clause-any_moment g c trusted families full l stands =
     let a : DiskState = g.D.Disk.state c.args.disk.now in
     let d : DiskState = g.D.Disk.state c.make.new.disk in
-    let e = with_rows c.args.self.now families full in
+    let e = with_memory_rows c.args.self.now families full in
     let run = c.in_ok-log.ensures.any_moment trusted in
     let made = c.in_ok-log.ensures.made trusted in
     let told = trusted_on a d c.in_ok-log.ensures.goes trusted in
@@ -143,7 +143,7 @@ pub returns-in-Err-clause-any_moment : goal.returns-in-Err-clause-any_moment
 returns-in-Err-clause-any_moment g c trusted families full l stands =
     let a : DiskState = g.D.Disk.state c.args.disk.now in
     let d : DiskState = g.D.Disk.state c.make.new.disk in
-    let e = with_rows c.args.self.now families full in
+    let e = with_memory_rows c.args.self.now families full in
     let run = c.in_ok-log.ensures.any_moment trusted in
     let made = c.in_ok-log.ensures.made trusted in
     let told = trusted_on a d c.in_ok-log.ensures.goes trusted in

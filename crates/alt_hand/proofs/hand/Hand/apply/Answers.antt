@@ -5,7 +5,7 @@ use Rattle.alt_disk.specs.Disk.{IsTrusted}
 use Rattle.alt_disk.specs.Runs.{Spans}
 use Rattle.alt_layout.specs.Layout.{Layout}
 use Rattle.alt_layout.specs.Writes.{with_writes}
-use Rattle.alt_hand.specs.InHand.{BeforeOrAll, IsSpentBy, Stands, batch_writes, next_of}
+use Rattle.alt_hand.specs.InHand.{BeforeOrAll, IsSpentBy, HandStandsForLayout, batch_writes, next_of}
 use Rattle.alt_drafts.specs.declared.fault.EngineFault.TheVariants.{Spent}
 use Rattle.alt_hand.proofs.hand.Hand.apply.Goals as goal
 
@@ -17,8 +17,8 @@ apply_all-requires-clause-some g c =
 pub returns-clause-ok : goal.returns-clause-ok
 returns-clause-ok g c = subst (λ (bs : List (List RowChange)). OnOk c.apply_all.result
     (IsTrusted (g.D.Disk.state c.args.disk.now) → (l : Layout)
-    → Stands (g.D.Disk.state c.args.disk.now) c.args.self.now l
-    → Stands (g.D.Disk.state c.apply_all.new.disk) c.apply_all.new.self
+    → HandStandsForLayout (g.D.Disk.state c.args.disk.now) c.args.self.now l
+    → HandStandsForLayout (g.D.Disk.state c.apply_all.new.disk) c.apply_all.new.self
     (with_writes l (batch_writes l bs)))) c.from_ref.ensures.value c.apply_all.ensures.ok
 
 pub returns-clause-next : goal.returns-clause-next
@@ -29,7 +29,7 @@ returns-clause-next g c = subst (λ (bs : List (List RowChange)). OnOk c.apply_a
 pub returns-clause-any_moment : goal.returns-clause-any_moment
 returns-clause-any_moment g c = subst (λ (bs : List (List RowChange)).
     IsTrusted (g.D.Disk.state c.args.disk.now) → (l : Layout)
-    → Stands (g.D.Disk.state c.args.disk.now) c.args.self.now l
+    → HandStandsForLayout (g.D.Disk.state c.args.disk.now) c.args.self.now l
     → Spans (g.D.Disk.state c.args.disk.now) (g.D.Disk.state c.apply_all.new.disk) (λ f. Unit {0})
     (BeforeOrAll l bs)) c.from_ref.ensures.value c.apply_all.ensures.any_moment
 

@@ -4,7 +4,7 @@ use Rattle.std.specs.Prelude.{◌⊎◌, IsErrOf}
 use Rattle.alt_faults.proofs.Telling.{outside-tells}
 use Rattle.alt_gatelog.specs.declared.form.Form.{Form}
 use Rattle.alt_gatelog.specs.declared.form.Form.TheVariants.{One, Two}
-use Rattle.alt_hand.specs.Drafting.{IsUnspent}
+use Rattle.alt_hand.specs.Drafting.{EngineFaultIsOutside}
 use Rattle.alt_hand.specs.Faults.{told_by_engine}
 use Rattle.alt_hand.specs.InHand.{IsSpentBy, WantsFile, WantsNumber, last_form_of, next_file_of, next_of}
 use Rattle.alt_drafts.specs.declared.fault.EngineFault.{EngineFault}
@@ -44,11 +44,11 @@ file_is e count n few one wants = ⊎_elim
     file_of_one (last_form_of e) (next_file_of e) n one file.1) wants
 
 -- a fault that is unspent tells no number
-never : (r : Result ℕ EngineFault) (n : ℕ) → IfErr r IsUnspent → IsErrOf r (Spent n) → ⊥
-never r n unspent is = subst (λ (x : Result ℕ EngineFault). IfErr x IsUnspent) is unspent
+never : (r : Result ℕ EngineFault) (n : ℕ) → IfErr r EngineFaultIsOutside → IsErrOf r (Spent n) → ⊥
+never r n unspent is = subst (λ (x : Result ℕ EngineFault). IfErr x EngineFaultIsOutside) is unspent
 
 -- so it tells none that is wanting
-none_told : (r : Result ℕ EngineFault) (e : Hand) (count : ℕ) → IfErr r IsUnspent
+none_told : (r : Result ℕ EngineFault) (e : Hand) (count : ℕ) → IfErr r EngineFaultIsOutside
     → IfErr r (IsSpentBy e count)
 none_told (Ok x) e count unspent = tt
 none_told (Err f) e count unspent = outside-tells (λ number. WantsNumber (next_of e) count number

@@ -6,11 +6,11 @@ use Rattle.alt_disk.specs.Disk.{DiskState}
 use Rattle.alt_disk.specs.Runs.{Spans}
 use Rattle.alt_disk.proofs.Runs.{trusted_back, trusted_on}
 use Rattle.alt_flush.specs.Drafts.{From, over_new_log, renumbered}
-use Rattle.alt_gatelog.specs.InHand.{file_of as log_file, form_of}
+use Rattle.alt_gatelog.specs.InHand.{file_of_gate_log as log_file, form_of}
 use Rattle.alt_flush.proofs.RemoveLaws.{none_removed}
 use Rattle.alt_manifest.specs.InHand.{version_of}
 use Rattle.alt_manifest.specs.declared.version.Version.{Version}
-use Rattle.alt_hand.specs.Drafting.{IsFlushed, IsReady, IsSpentFor, files_needed}
+use Rattle.alt_hand.specs.Drafting.{MemoryIsFlushed, DraftIsReady, IsSpentFor, files_needed}
 use Rattle.std.specs.BTreeMap.{get}
 use Rattle.std.specs.FinMap.{empty}
 use Rattle.std.specs.Ordering.{nat_cmp}
@@ -219,7 +219,7 @@ publish-requires g c = record {
       (λ f there. (c.in_ok-flushed.ensures.flushed f there).rows) c.in_ok-flushed.ensures.others
       (c.in_ok-alive.ensures.rest family) in (
         begins.0,
-        subst (λ (u : Version). IsReady d (record e {
+        subst (λ (u : Version). DraftIsReady d (record e {
           log = c.in_ok-log.log;
           length = 0;
           families = c.flush_each.new.families;
@@ -260,7 +260,7 @@ returns-clause-ok g c = on_ok_weaker c.publish.result (λ all trusted l stands.
     (c.in_ok-alive.ensures.rest family) in (
       begins.0,
       all (trusted_on b d c.in_ok-log.ensures.goes told) begins.0
-          (subst (λ (u : Version). IsReady d (record e {
+          (subst (λ (u : Version). DraftIsReady d (record e {
             log = c.in_ok-log.log;
             length = 0;
             families = c.flush_each.new.families;
@@ -293,9 +293,9 @@ returns-clause-flushed g c =
     let draft = ap (λ (v : Version). v.next_file) c.in_ok-draft.ensures in
     let made = c.publish.ensures.file in
     on_ok_weaker c.publish.result (λ well. record {
-      lives = λ family there. subst (λ (fs : Families). IsFlushed (get nat_cmp e.families family)
+      lives = λ family there. subst (λ (fs : Families). MemoryIsFlushed (get nat_cmp e.families family)
           (get nat_cmp fs family)) (sym still)
-          (subst (λ o. IsFlushed o (get nat_cmp after family))
+          (subst (λ o. MemoryIsFlushed o (get nat_cmp after family))
           (c.in_ok-alive.ensures.lives family there) (c.in_ok-flushed.ensures.flushed family there));
       others = λ family. inr (ap (λ (fs : Families). rows_in (get nat_cmp fs family)) still
           ∙ none family);
@@ -333,7 +333,7 @@ returns-clause-any_moment g c trusted l stands =
     (making a d e l live stands spans)
     (c.publish.ensures.any_moment (trusted_on b d c.in_ok-log.ensures.goes told) l begins.0
     (lying a d e l live stands spans)
-    (subst (λ (u : Version). IsReady d (record e {
+    (subst (λ (u : Version). DraftIsReady d (record e {
       log = c.in_ok-log.log;
       length = 0;
       families = c.flush_each.new.families;
@@ -374,11 +374,11 @@ returns-clause-carries g c = on_ok_both c.publish.result
     (λ f there. (c.in_ok-flushed.ensures.flushed f there).rows) c.in_ok-flushed.ensures.others
     (c.in_ok-alive.ensures.rest family) in
     let makes = c.in_ok-flushed.ensures.makes trusted stands.reads.parts begins.0 begins.1 in
-    let ready : IsReady d (record e {
+    let ready : DraftIsReady d (record e {
       log = c.in_ok-log.log;
       length = 0;
       families = c.flush_each.new.families;
-    }) c.in_ok-draft.draft begins.0 = subst (λ (u : Version). IsReady d (record e {
+    }) c.in_ok-draft.draft begins.0 = subst (λ (u : Version). DraftIsReady d (record e {
       log = c.in_ok-log.log;
       length = 0;
       families = c.flush_each.new.families;
@@ -513,11 +513,11 @@ returns-clause-missing g c = on_ok_weaker c.publish.result (λ missing trusted l
     (c.in_ok-alive.ensures.rest family) in
     let made_told = trusted_on b d c.in_ok-log.ensures.goes told in
     let makes = c.in_ok-flushed.ensures.makes trusted stands.reads.parts begins.0 begins.1 in
-    let ready : IsReady d (record e {
+    let ready : DraftIsReady d (record e {
       log = c.in_ok-log.log;
       length = 0;
       families = c.flush_each.new.families;
-    }) c.in_ok-draft.draft begins.0 = subst (λ (u : Version). IsReady d (record e {
+    }) c.in_ok-draft.draft begins.0 = subst (λ (u : Version). DraftIsReady d (record e {
       log = c.in_ok-log.log;
       length = 0;
       families = c.flush_each.new.families;
@@ -636,11 +636,11 @@ returns-clause-one_version g c trusted l stands =
     (c.in_ok-alive.ensures.rest family) in
     let made_told = trusted_on b d c.in_ok-log.ensures.goes told in
     let makes = c.in_ok-flushed.ensures.makes trusted stands.reads.parts begins.0 begins.1 in
-    let ready : IsReady d (record e {
+    let ready : DraftIsReady d (record e {
       log = c.in_ok-log.log;
       length = 0;
       families = c.flush_each.new.families;
-    }) c.in_ok-draft.draft begins.0 = subst (λ (u : Version). IsReady d (record e {
+    }) c.in_ok-draft.draft begins.0 = subst (λ (u : Version). DraftIsReady d (record e {
       log = c.in_ok-log.log;
       length = 0;
       families = c.flush_each.new.families;

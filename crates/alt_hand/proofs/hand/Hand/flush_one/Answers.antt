@@ -10,7 +10,7 @@ use Rattle.alt_manifest.specs.InHand.{version_of}
 use Rattle.alt_manifest.specs.Versions.{IsIn}
 use Rattle.alt_manifest.specs.declared.version.Version.{Version}
 use Rattle.alt_hand.specs.Merging.{version_in}
-use Rattle.alt_hand.specs.Drafting.{IsFlushed, files_for}
+use Rattle.alt_hand.specs.Drafting.{MemoryIsFlushed, files_for}
 use Rattle.std.specs.BTreeMap.{get}
 use Rattle.std.specs.FinMap.{entries}
 use Rattle.std.specs.Ordering.{nat_cmp}
@@ -157,9 +157,9 @@ returns-clause-flushed g c =
     ≡ files_for (entries (rows_in (get nat_cmp e.families family))) =
     ap (λ o. files_for (entries (rows_in o))) own in
     on_ok_weaker c.publish.result (λ well. record {
-      it = subst (λ (fs : Families). IsFlushed (get nat_cmp e.families family)
+      it = subst (λ (fs : Families). MemoryIsFlushed (get nat_cmp e.families family)
           (get nat_cmp fs family)) (sym still)
-          (subst (λ o. IsFlushed o (get nat_cmp after family)) own c.in_ok-draft.ensures.flushed);
+          (subst (λ o. MemoryIsFlushed o (get nat_cmp after family)) own c.in_ok-draft.ensures.flushed);
       lives = λ other there apart. ap (λ (fs : Families). get nat_cmp fs other) still
           ∙ c.in_ok-draft.ensures.others other apart ∙ c.in_ok-alive.ensures.lives other there;
       others = λ other. one_empty last after alive live family other still c.requires.live

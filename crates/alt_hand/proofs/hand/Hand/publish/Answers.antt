@@ -7,7 +7,7 @@ use Rattle.alt_flush.specs.Drafts.{IsLeftOver}
 use Rattle.alt_manifest.specs.InHand.{OldOrNew, version_of}
 use Rattle.alt_manifest.specs.declared.version.Version.{Version}
 use Rattle.alt_hand.specs.declared.hand.Hand.{Hand}
-use Rattle.alt_hand.specs.InHand.{Stands}
+use Rattle.alt_hand.specs.InHand.{HandStandsForLayout}
 use Rattle.alt_hand.proofs.AddingLaws.{added_last, adding_last}
 use Rattle.alt_hand.proofs.PublishLaws.{published, publishing, removed, removing, then_second}
 use Rattle.alt_hand.proofs.hand.Hand.publish.Goals as goal
@@ -27,7 +27,7 @@ returns-in-Ok-clause-ok g c trusted m ready =
       next_file = c.args.draft.next_file;
       full = c.has_full-self.result;
     } in
-    let stands : Stands b e m = published a b c.args.self.now c.args.draft m c.append.new.self
+    let stands : HandStandsForLayout b e m = published a b c.args.self.now c.args.draft m c.append.new.self
     (OldOrNew (version_of c.args.self.now.manifest) c.args.draft) ready
     (c.append.ensures.any_moment trusted ready.manifest) c.append.ensures.file
     c.in_ok-append.ensures.version (c.in_ok-append.ensures.ok trusted)
@@ -52,7 +52,7 @@ returns-in-Ok-clause-any_moment g c trusted l m lying ready =
       full = c.has_full-self.result;
     } in
     let run = c.append.ensures.any_moment trusted ready.manifest in
-    let stands : Stands b e m = published a b c.args.self.now c.args.draft m c.append.new.self
+    let stands : HandStandsForLayout b e m = published a b c.args.self.now c.args.draft m c.append.new.self
     (OldOrNew (version_of c.args.self.now.manifest) c.args.draft) ready run c.append.ensures.file
     c.in_ok-append.ensures.version (c.in_ok-append.ensures.ok trusted)
     c.has_full-self.result c.has_full-self.ensures in
@@ -73,7 +73,7 @@ returns-in-Err-clause-any_moment g c trusted l m lying ready =
       full = c.has_full-self.result;
     } in
     let run = c.append.ensures.any_moment trusted ready.manifest in
-    let stands : Stands b e m = published a b c.args.self.now c.args.draft m c.append.new.self
+    let stands : HandStandsForLayout b e m = published a b c.args.self.now c.args.draft m c.append.new.self
     (OldOrNew (version_of c.args.self.now.manifest) c.args.draft) ready run c.append.ensures.file
     c.in_ok-append.ensures.version (c.in_ok-append.ensures.ok trusted)
     c.has_full-self.result c.has_full-self.ensures in

@@ -14,7 +14,7 @@ use Rattle.alt_manifest.specs.Versions.{HasVersion}
 use Rattle.alt_manifest.specs.declared.version.Version.{Version}
 use Rattle.alt_recovery.specs.Others.{IsOther, next_past}
 use Rattle.alt_hand.specs.Found.{Found, version_in}
-use Rattle.alt_hand.specs.InHand.{Reads, Stands, next_file_of}
+use Rattle.alt_hand.specs.InHand.{HandReadsLayout, HandStandsForLayout, next_file_of}
 use Rattle.alt_hand.specs.Recovery.{ExplainsStore, IsNextFile, LeavesStore, LeftLike}
 use Rattle.alt_hand.specs.Syncing.{AllSynced}
 use Rattle.alt_hand.specs.declared.hand.Hand.{Hand}
@@ -39,8 +39,8 @@ returns-in-Ok-read_store-clause-ok g c =
     let n : DiskState = g.D.Disk.state c.keep_named.new.disk in
     let old = c.in-Ok-read_store.engine in
     IfOk-weaker c.keep_named.result
-    (λ (e : Hand). IsTrue d.tells → (l : Layout) → Found d old l → Reads n e l)
-    (λ (e : Hand). IsTrue a.tells → (l : Layout) × IsLayout a.file l × Reads n e l)
+    (λ (e : Hand). IsTrue d.tells → (l : Layout) → Found d old l → HandReadsLayout n e l)
+    (λ (e : Hand). IsTrue a.tells → (l : Layout) × IsLayout a.file l × HandReadsLayout n e l)
     (λ e reads told.
     let told_b = tells_on a b c.sync_all.ensures.goes told in
     let found = c.in-Ok-read_store.ensures.ok told_b in (
@@ -73,7 +73,7 @@ returns-in-Ok-read_store-clause-stands g c =
     let a : DiskState = g.D.Disk.state c.args.disk.now in
     let n : DiskState = g.D.Disk.state c.keep_named.new.disk in
     ok_if c.keep_named.result (IsTrusted a → AllSynced n)
-    (λ (e : Hand). IsTrusted a → (l : Layout) → Reads n e l → Stands n e l)
+    (λ (e : Hand). IsTrusted a → (l : Layout) → HandReadsLayout n e l → HandStandsForLayout n e l)
     (λ e all trusted l reads. synced_stands n e l (all trusted) reads)
     (returns-in-Ok-read_store-clause-synced g c)
 

@@ -9,7 +9,7 @@ use Rattle.alt_gatelog.specs.declared.form.Form.{Form}
 use Rattle.alt_manifest.specs.Versions.{version_bytes}
 use Rattle.alt_manifest.specs.declared.version.Version.{Version}
 use Rattle.alt_hand.specs.Adding.{IsBehind, IsSegmentMore}
-use Rattle.alt_hand.specs.Drafting.{IsPrepared, with_rows}
+use Rattle.alt_hand.specs.Drafting.{IsPrepared, with_memory_rows}
 use Rattle.alt_hand.specs.InHand.{files_made}
 use Rattle.alt_hand.specs.Merging.{version_in}
 use Rattle.alt_hand.proofs.CarryLaws.{carries_none}
@@ -64,10 +64,10 @@ returns-in-None-clause-segment g c =
 
 pub returns-in-None-clause-carries : goal.returns-in-None-clause-carries
 returns-in-None-clause-carries g c trusted families full l stands family =
-    carries_none (g.D.Disk.state c.args.disk.now) (with_rows c.args.self.now families full) family
+    carries_none (g.D.Disk.state c.args.disk.now) (with_memory_rows c.args.self.now families full) family
 
 pub returns-in-None-clause-any_moment : goal.returns-in-None-clause-any_moment
 returns-in-None-clause-any_moment g c trusted families full l stands =
     let a : DiskState = g.D.Disk.state c.args.disk.now in
-    let e = with_rows c.args.self.now families full in
+    let e = with_memory_rows c.args.self.now families full in
     keeping a a e l stands (none_removed a (From e.next_file))

@@ -4,8 +4,8 @@ use Rattle.alt_memtable.specs.Rows.{most_bytes}
 use Rattle.alt_disk.specs.Disk.{DiskState}
 use Rattle.alt_disk.proofs.Runs.{trusted_back, trusted_on}
 use Rattle.alt_gatelog.specs.InHand.{IsFramed, form_of}
-use Rattle.alt_hand.specs.Drafting.{with_rows}
-use Rattle.alt_hand.specs.InHand.{Stands}
+use Rattle.alt_hand.specs.Drafting.{with_memory_rows}
+use Rattle.alt_hand.specs.InHand.{HandStandsForLayout}
 use Rattle.alt_hand.specs.Merging.{files_at}
 use Rattle.alt_hand.specs.declared.hand.Hand.{Hand}
 use Rattle.alt_hand.proofs.ApplyLaws.{applied, applied_carries, at_rest, behind_on, behind_two, entry_is, kept, log_stands, stands_prepared, write_moments}
@@ -47,7 +47,7 @@ add-requires-clause-reads g c at_end =
     let f = c.prepare.new.self in
     let trusted = trusted_back a (g.D.Disk.state c.renew.new.disk) c.renew.ensures.goes at_end in
     let given = c.requires.stands trusted in
-    let last : Stands (g.D.Disk.state c.renew.new.disk) (with_rows c.renew.new.self f.families f.full)
+    let last : HandStandsForLayout (g.D.Disk.state c.renew.new.disk) (with_memory_rows c.renew.new.self f.families f.full)
     given.0 = c.in_ok-renew.ensures.ok trusted f.families f.full given.0
     (stands_prepared a c.args.self.now f given.0 c.prepare.ensures.same given.1) in
     (last.reads.log.entries, last.reads.log.reads)
@@ -70,17 +70,17 @@ returns-in-Err-clause-any_moment g c trusted l stands =
     let group = c.in_ok-group.group.items in
     let told = trusted_on a b c.renew.ensures.goes trusted in
     let first = stands_prepared a c.args.self.now f l c.prepare.ensures.same stands in
-    let last : Stands b (with_rows k f.families f.full) l =
+    let last : HandStandsForLayout b (with_memory_rows k f.families f.full) l =
     c.in_ok-renew.ensures.ok trusted f.families f.full l first in
     let entry = entry_is (form_of k.log) group c.args.self.now.next l.next_number c.args.batches.now
-    (behind_two (form_of f.log) (with_rows f c.put_batches.new.families c.full_after-self.result) k
+    (behind_two (form_of f.log) (with_memory_rows f c.put_batches.new.families c.full_after-self.result) k
     c.in_ok-renew.ensures.segment) stands.reads.next c.in_ok-group.ensures.bytes
     c.in_ok-group.ensures.held in
     let framed : IsFramed c.as_slice-2.result.now group =
     subst (λ (x : List ℕ). IsFramed x group) (sym c.as_slice-2.ensures.value)
     (subst (IsFramed c.in_ok-entry.entry.items) c.as_slice.ensures.value c.in_ok-entry.ensures) in
     let run = c.add.ensures.any_moment told last.reads.log.entries group framed
-    (log_stands b (with_rows k f.families f.full) l last) in
+    (log_stands b (with_memory_rows k f.families f.full) l last) in
     let keeps = c.renew.ensures.any_moment trusted f.families f.full l first in
     write_moments a b d f k l c.args.batches.now c.put_batches.new.families c.full_after-self.result
     first last keeps c.renew.ensures.others group entry run
@@ -95,17 +95,17 @@ returns-clause-any_moment g c trusted l stands =
     let group = c.in_ok-group.group.items in
     let told = trusted_on a b c.renew.ensures.goes trusted in
     let first = stands_prepared a c.args.self.now f l c.prepare.ensures.same stands in
-    let last : Stands b (with_rows k f.families f.full) l =
+    let last : HandStandsForLayout b (with_memory_rows k f.families f.full) l =
     c.in_ok-renew.ensures.ok trusted f.families f.full l first in
     let entry = entry_is (form_of k.log) group c.args.self.now.next l.next_number c.args.batches.now
-    (behind_two (form_of f.log) (with_rows f c.put_batches.new.families c.full_after-self.result) k
+    (behind_two (form_of f.log) (with_memory_rows f c.put_batches.new.families c.full_after-self.result) k
     c.in_ok-renew.ensures.segment) stands.reads.next c.in_ok-group.ensures.bytes
     c.in_ok-group.ensures.held in
     let framed : IsFramed c.as_slice-2.result.now group =
     subst (λ (x : List ℕ). IsFramed x group) (sym c.as_slice-2.ensures.value)
     (subst (IsFramed c.in_ok-entry.entry.items) c.as_slice.ensures.value c.in_ok-entry.ensures) in
     let run = c.add.ensures.any_moment told last.reads.log.entries group framed
-    (log_stands b (with_rows k f.families f.full) l last) in
+    (log_stands b (with_memory_rows k f.families f.full) l last) in
     let keeps = c.renew.ensures.any_moment trusted f.families f.full l first in
     write_moments a b d f k l c.args.batches.now c.put_batches.new.families c.full_after-self.result
     first last keeps c.renew.ensures.others group entry run
@@ -120,17 +120,17 @@ returns-clause-ok g c trusted l stands =
     let group = c.in_ok-group.group.items in
     let told = trusted_on a b c.renew.ensures.goes trusted in
     let first = stands_prepared a c.args.self.now f l c.prepare.ensures.same stands in
-    let last : Stands b (with_rows k f.families f.full) l =
+    let last : HandStandsForLayout b (with_memory_rows k f.families f.full) l =
     c.in_ok-renew.ensures.ok trusted f.families f.full l first in
     let entry = entry_is (form_of k.log) group c.args.self.now.next l.next_number c.args.batches.now
-    (behind_two (form_of f.log) (with_rows f c.put_batches.new.families c.full_after-self.result) k
+    (behind_two (form_of f.log) (with_memory_rows f c.put_batches.new.families c.full_after-self.result) k
     c.in_ok-renew.ensures.segment) stands.reads.next c.in_ok-group.ensures.bytes
     c.in_ok-group.ensures.held in
     let framed : IsFramed c.as_slice-2.result.now group =
     subst (λ (x : List ℕ). IsFramed x group) (sym c.as_slice-2.ensures.value)
     (subst (IsFramed c.in_ok-entry.entry.items) c.as_slice.ensures.value c.in_ok-entry.ensures) in
     let run = c.add.ensures.any_moment told last.reads.log.entries group framed
-    (log_stands b (with_rows k f.families f.full) l last) in
+    (log_stands b (with_memory_rows k f.families f.full) l last) in
     let keeps = c.renew.ensures.any_moment trusted f.families f.full l first in
     applied a b d f k l c.args.batches.now c.put_batches.new.families c.full_after-self.result first
     last keeps c.renew.ensures.others group entry run c.add.new.self c.with_more-self.result
@@ -153,17 +153,17 @@ returns-clause-carries g c trusted l stands family =
     let group = c.in_ok-group.group.items in
     let told = trusted_on a b c.renew.ensures.goes trusted in
     let first = stands_prepared a c.args.self.now f l c.prepare.ensures.same stands in
-    let last : Stands b (with_rows k f.families f.full) l =
+    let last : HandStandsForLayout b (with_memory_rows k f.families f.full) l =
     c.in_ok-renew.ensures.ok trusted f.families f.full l first in
     let entry = entry_is (form_of k.log) group c.args.self.now.next l.next_number c.args.batches.now
-    (behind_two (form_of f.log) (with_rows f c.put_batches.new.families c.full_after-self.result) k
+    (behind_two (form_of f.log) (with_memory_rows f c.put_batches.new.families c.full_after-self.result) k
     c.in_ok-renew.ensures.segment) stands.reads.next c.in_ok-group.ensures.bytes
     c.in_ok-group.ensures.held in
     let framed : IsFramed c.as_slice-2.result.now group =
     subst (λ (x : List ℕ). IsFramed x group) (sym c.as_slice-2.ensures.value)
     (subst (IsFramed c.in_ok-entry.entry.items) c.as_slice.ensures.value c.in_ok-entry.ensures) in
     let run = c.add.ensures.any_moment told last.reads.log.entries group framed
-    (log_stands b (with_rows k f.families f.full) l last) in
+    (log_stands b (with_memory_rows k f.families f.full) l last) in
     let keeps = c.renew.ensures.any_moment trusted f.families f.full l first in
     carries_on a a d c.args.self.now f (record k {
       log = c.add.new.self;
@@ -190,7 +190,7 @@ returns-clause-segment g c =
       log = c.add.new.self;
       length = c.with_more-self.result;
       next = k.next + length c.args.batches.now;
-    }) c.prepare.ensures.same (with_rows f c.put_batches.new.families c.full_after-self.result)
+    }) c.prepare.ensures.same (with_memory_rows f c.put_batches.new.families c.full_after-self.result)
     refl refl refl refl refl refl refl c.add.ensures.file c.add.ensures.form
     c.in_ok-renew.ensures.segment
 

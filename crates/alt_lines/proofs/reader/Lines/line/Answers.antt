@@ -1,6 +1,6 @@
 use Rattle.std.proofs.Common.{◌≡◌, ◌≤◌, ◌+◌, ◌-◌, ℕ, suc, List, length, take, drop, cond, sym, ap, subst, ◌∙◌, arith}
 use Rattle.std.proofs.lemmas.List.{length-drop, take_rest, drop-drop}
-use Rattle.alt_lines.specs.Feeds.{AllPlain, EndsAt}
+use Rattle.alt_lines.specs.Feeds.{AllPlain, FirstLineFeedStandsAt}
 use Rattle.alt_lines.specs.Lines.{too_long, read_line}
 use Rattle.alt_lines.specs.Reader.{unread}
 use Rattle.alt_lines.specs.Unread.{TakesLine}
@@ -43,10 +43,10 @@ returns-in-Some-clause-some c =
     let few = length-drop self.start bytes in
     let order = self.in_order in
     let within = self.within in
-    let ends : EndsAt line (n + place) =
+    let ends : FirstLineFeedStandsAt line (n + place) =
     EndsAt-behind line n place (omega (arith, few))
     (AllPlain-between bytes self.start self.seen within self.searched)
-    (subst (λ (l : List ℕ). EndsAt l place) back c.in-Some.ensures) in
+    (subst (λ (l : List ℕ). FirstLineFeedStandsAt l place) back c.in-Some.ensures) in
     let end : n + place ≡ (self.seen + place) - self.start = omega arith in
     let next : self.start + suc (n + place) ≡ (self.seen + place) + 1 = omega arith in
     let rest : drop (suc (n + place)) line ≡ drop ((self.seen + place) + 1) bytes =

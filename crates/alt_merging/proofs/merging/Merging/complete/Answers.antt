@@ -5,7 +5,7 @@ use Rattle.alt_disk.specs.Disk.{DiskState}
 use Rattle.alt_disk.proofs.Runs.{trusted_back, trusted_on}
 use Rattle.alt_hand.specs.Merging.{files_at}
 use Rattle.alt_hand.proofs.CarryDrafts.{still_then}
-use Rattle.alt_merging.specs.Mergings.{GivesWay, family_of, taken_of}
+use Rattle.alt_merging.specs.Mergings.{GivesWay, family_of_merging, taken_of}
 use Rattle.alt_merging.proofs.StepLaws.{has_works, then_works}
 use Rattle.alt_merging.proofs.merging.Merging.complete.Goals as goal
 
@@ -31,7 +31,7 @@ returns-clause-files g c = on_ok_weaker c.end.result (λ all trusted l stands.
     let z : DiskState = g.D.Disk.state c.end.new.disk in
     let at = all (trusted_on (g.D.Disk.state c.args.disk.now) (g.D.Disk.state c.exhaust.new.disk)
     c.exhaust.ensures.goes trusted) l (c.exhaust.ensures.ok trusted l stands) in
-    subst (GivesWay z c.args.hand.now c.end.new.hand (family_of c.args.self)) c.exhaust.ensures.taken
+    subst (GivesWay z c.args.hand.now c.end.new.hand (family_of_merging c.args.self)) c.exhaust.ensures.taken
     (subst (λ k. GivesWay z c.args.hand.now c.end.new.hand k (taken_of c.exhaust.new.self))
     c.exhaust.ensures.family at)) c.end.ensures.files
 

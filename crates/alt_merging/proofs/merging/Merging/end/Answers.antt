@@ -7,11 +7,11 @@ use Rattle.alt_disk.specs.Runs.{Run, Spans}
 use Rattle.alt_disk.proofs.Runs.{trusted_back, trusted_on}
 use Rattle.alt_layout.specs.Moments.{IsIt}
 use Rattle.alt_cells.specs.Walks.{Anything as AnyImage}
-use Rattle.alt_rowfile.specs.Sinks.{Anything}
+use Rattle.alt_rowfile.specs.Sinks.{AnyFileContents}
 use Rattle.alt_layout.specs.Layout.{Layout}
 use Rattle.alt_merge.specs.Merges.{all_rows}
 use Rattle.alt_rowfile.specs.InHand.{file_of as row_file}
-use Rattle.alt_hand.specs.InHand.{Stands}
+use Rattle.alt_hand.specs.InHand.{HandStandsForLayout}
 use Rattle.alt_hand.specs.Merging.{files_at}
 use Rattle.alt_hand.proofs.CarryDrafts.{still_then}
 use Rattle.alt_hand.proofs.CarryLaws.{on_ok_both}
@@ -42,7 +42,7 @@ end_merge-requires g c =
           let job = c.requires.job (back told) in (
             ready.0,
             hand_stays a b e ready.0 ready.1 old.family old.taken job.number old.file job.merging
-                (run_it a b old.file Anything (subst (λ k. Run a b k Anything) job.output
+                (run_it a b old.file AnyFileContents (subst (λ k. Run a b k AnyFileContents) job.output
                 (c.in_ok-made.ensures.any_moment (back told)))),
           );
       merging = λ told.
@@ -50,14 +50,14 @@ end_merge-requires g c =
           let job = c.requires.job (back told) in (
             job.number,
             merging_on a b e ready.0 ready.1 old.family old.taken job.number old.file job.merging
-                (run_it a b old.file Anything (subst (λ k. Run a b k Anything) job.output
+                (run_it a b old.file AnyFileContents (subst (λ k. Run a b k AnyFileContents) job.output
                 (c.in_ok-made.ensures.any_moment (back told)))),
           );
       made = λ told.
           let ready = c.requires.ready (back told) in
           let job = c.requires.job (back told) in
-          made_of a b e ready.0 ready.1 old job (run_it a b old.file Anything
-          (subst (λ k. Run a b k Anything) job.output (c.in_ok-made.ensures.any_moment (back told))))
+          made_of a b e ready.0 ready.1 old job (run_it a b old.file AnyFileContents
+          (subst (λ k. Run a b k AnyFileContents) job.output (c.in_ok-made.ensures.any_moment (back told))))
           c.in_ok-made.made (c.in_ok-made.ensures.finished (back told)
           (take old.taken (files_at e old.family)) job.done job.stands);
       file = λ told. c.in_ok-made.ensures.output ∙ (c.requires.job (back told)).output;
@@ -72,7 +72,7 @@ returns-in_err-made-clause-any_moment g c trusted l stands =
     let job = c.requires.job trusted in
     has_works a b c.args.live.now l
     (images_stay a b c.args.hand.now l stands old.family old.taken job.number old.file job.merging
-    (run_it a b old.file Anything (subst (λ k. Run a b k Anything) job.output
+    (run_it a b old.file AnyFileContents (subst (λ k. Run a b k AnyFileContents) job.output
     (c.in_err-made.ensures.any_moment trusted))))
 
 pub returns-clause-any_moment : goal.returns-clause-any_moment
@@ -83,7 +83,7 @@ returns-clause-any_moment g c trusted l stands =
     let old = c.args.self in
     let job = c.requires.job trusted in
     let spans : Spans a b (IsIt old.file) AnyImage =
-    run_it a b old.file Anything (subst (λ k. Run a b k Anything) job.output
+    run_it a b old.file AnyFileContents (subst (λ k. Run a b k AnyFileContents) job.output
     (c.in_ok-made.ensures.any_moment trusted)) in
     then_works a b (g.D.Disk.state c.end_merge.new.disk) c.args.live.now l
     (images_stay a b e l stands old.family old.taken job.number old.file job.merging spans)
@@ -98,13 +98,13 @@ returns-clause-ok g c = on_ok_weaker c.end_merge.result (λ all trusted l stands
     let job = c.requires.job trusted in
     all (trusted_on a b c.in_ok-made.ensures.goes trusted) l
     (hand_stays a b c.args.hand.now l stands old.family old.taken job.number old.file job.merging
-    (run_it a b old.file Anything (subst (λ k. Run a b k Anything) job.output
+    (run_it a b old.file AnyFileContents (subst (λ k. Run a b k AnyFileContents) job.output
     (c.in_ok-made.ensures.any_moment trusted))))) c.end_merge.ensures.ok
 
 pub returns-clause-files : goal.returns-clause-files
 returns-clause-files g c = on_ok_both c.end_merge.result
     (λ all (made : IsTrusted (g.D.Disk.state c.finish.new.disk) → (l : Layout)
-    → Stands (g.D.Disk.state c.finish.new.disk) c.args.hand.now l
+    → HandStandsForLayout (g.D.Disk.state c.finish.new.disk) c.args.hand.now l
     → (g.D.Disk.state c.end_merge.new.disk).file (row_file c.in_ok-made.made)
     ≡ (g.D.Disk.state c.finish.new.disk).file (row_file c.in_ok-made.made)) trusted l stands.
     let a : DiskState = g.D.Disk.state c.args.disk.now in
@@ -115,7 +115,7 @@ returns-clause-files g c = on_ok_both c.end_merge.result
     let job = c.requires.job trusted in
     let told = trusted_on a b c.in_ok-made.ensures.goes trusted in
     let spans : Spans a b (IsIt old.file) AnyImage =
-    run_it a b old.file Anything (subst (λ k. Run a b k Anything) job.output
+    run_it a b old.file AnyFileContents (subst (λ k. Run a b k AnyFileContents) job.output
     (c.in_ok-made.ensures.any_moment trusted)) in
     let of = made_of a b e l stands old job spans c.in_ok-made.made
     (c.in_ok-made.ensures.finished trusted (take old.taken (files_at e old.family)) job.done job.stands)
@@ -136,7 +136,7 @@ returns-clause-still g c = on_ok_weaker c.end_merge.result (λ all trusted l sta
     let old = c.args.self in
     let job = c.requires.job trusted in
     let spans : Spans a b (IsIt old.file) AnyImage =
-    run_it a b old.file Anything (subst (λ k. Run a b k Anything) job.output
+    run_it a b old.file AnyFileContents (subst (λ k. Run a b k AnyFileContents) job.output
     (c.in_ok-made.ensures.any_moment trusted)) in
     still_then a b z (files_at e other)
     (files_stay a b e l stands old.family old.taken job.number old.file job.merging spans other)
@@ -156,7 +156,7 @@ returns-clause-missing g c = on_ok_weaker c.end_merge.result (λ all trusted l s
     let old = c.args.self in
     let job = c.requires.job trusted in
     let spans : Spans a b (IsIt old.file) AnyImage =
-    run_it a b old.file Anything (subst (λ k. Run a b k Anything) job.output
+    run_it a b old.file AnyFileContents (subst (λ k. Run a b k AnyFileContents) job.output
     (c.in_ok-made.ensures.any_moment trusted)) in
     all (trusted_on a b c.in_ok-made.ensures.goes trusted) l
     (hand_stays a b c.args.hand.now l stands old.family old.taken job.number old.file job.merging spans)
@@ -172,7 +172,7 @@ returns-in_err-made-clause-one_version g c trusted l stands =
       version_in e,
       last_or a b (version_in e) (version_in e)
           (last_stays a b e l stands old.family old.taken job.number old.file job.merging
-          (run_it a b old.file Anything (subst (λ k. Run a b k Anything) job.output
+          (run_it a b old.file AnyFileContents (subst (λ k. Run a b k AnyFileContents) job.output
           (c.in_err-made.ensures.any_moment trusted)))),
     )
 
@@ -185,7 +185,7 @@ returns-clause-one_version g c trusted l stands =
     let old = c.args.self in
     let job = c.requires.job trusted in
     let spans : Spans a b (IsIt old.file) AnyImage =
-    run_it a b old.file Anything (subst (λ k. Run a b k Anything) job.output
+    run_it a b old.file AnyFileContents (subst (λ k. Run a b k AnyFileContents) job.output
     (c.in_ok-made.ensures.any_moment trusted)) in
     let later = c.end_merge.ensures.one_version (trusted_on a b c.in_ok-made.ensures.goes trusted) l
     (hand_stays a b e l stands old.family old.taken job.number old.file job.merging spans) in (

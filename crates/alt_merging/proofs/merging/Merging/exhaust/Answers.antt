@@ -1,6 +1,6 @@
 -- Step by step.
 use Rattle.std.proofs.Common.{drop, subst, ◌∙◌, refl}
-use Rattle.alt_compact.specs.Jobs.{Says}
+use Rattle.alt_compact.specs.Jobs.{StepSays}
 use Rattle.alt_compact.specs.declared.job.Stepped.{Stepped}
 use Rattle.alt_disk.specs.Disk.{DiskState, IsTrusted}
 use Rattle.alt_disk.proofs.Calls.{goes_on, goes_refl}
@@ -104,7 +104,7 @@ returns-in-Ok-Done-clause-all g c trusted =
     let at = c.in-Ok-Done.ensures.taken told given.0 (c.steps.invariant.ok trusted given.0 given.2) now.0
     now.1 in
     subst (MergingStands (g.D.Disk.state c.step.new.disk) c.args.hand.now c.step.new.self)
-    (subst (λ (s : Stepped). Says s (drop 256 now.0)) c.in-Ok-Done.field-0-is at.1) at.0
+    (subst (λ (s : Stepped). StepSays s (drop 256 now.0)) c.in-Ok-Done.field-0-is at.1) at.0
 
 pub returns-in-Err-clause-sound : goal.returns-in-Err-clause-sound
 returns-in-Err-clause-sound g c trusted =

@@ -1,7 +1,7 @@
 -- Its file is taken and made.
 use Rattle.std.proofs.Common.{◌≡◌, length, sym, ap, subst, ◌∙◌, arith}
 use Rattle.alt_disk.specs.Disk.{DiskState}
-use Rattle.alt_rowfile.specs.Sinks.{Anything}
+use Rattle.alt_rowfile.specs.Sinks.{AnyFileContents}
 use Rattle.alt_layout.specs.Families.{flushed_of}
 use Rattle.alt_hand.specs.Merging.{IsMerging, files_at, version_in}
 use Rattle.alt_merging.proofs.StepLaws.{begins, files_stay, hand_stays, has_still, images_stay, last_stays, last_still, run_it}
@@ -32,7 +32,7 @@ returns-in_err-merge-clause-any_moment g c trusted l stands =
     (c.in_ok-file.ensures.merging a l c.args.family stands c.requires.some) in
     images_stay a b c.take_file.new.self l (c.in_ok-file.ensures.stands a l stands) c.args.family n
     number c.in_ok-file.file merging
-    (run_it a b c.in_ok-file.file Anything (c.start.ensures.any_moment trusted))
+    (run_it a b c.in_ok-file.file AnyFileContents (c.start.ensures.any_moment trusted))
 
 pub returns-clause-ok : goal.returns-clause-ok
 returns-clause-ok g c trusted l stands =
@@ -45,7 +45,7 @@ returns-clause-ok g c trusted l stands =
     (c.in_ok-file.ensures.merging a l c.args.family stands c.requires.some) in
     hand_stays a b c.take_file.new.self l (c.in_ok-file.ensures.stands a l stands) c.args.family n
     number c.in_ok-file.file merging
-    (run_it a b c.in_ok-file.file Anything (c.start.ensures.any_moment trusted))
+    (run_it a b c.in_ok-file.file AnyFileContents (c.start.ensures.any_moment trusted))
 
 pub returns-clause-any_moment : goal.returns-clause-any_moment
 returns-clause-any_moment g c trusted l stands =
@@ -58,7 +58,7 @@ returns-clause-any_moment g c trusted l stands =
     (c.in_ok-file.ensures.merging a l c.args.family stands c.requires.some) in
     images_stay a b c.take_file.new.self l (c.in_ok-file.ensures.stands a l stands) c.args.family n
     number c.in_ok-file.file merging
-    (run_it a b c.in_ok-file.file Anything (c.start.ensures.any_moment trusted))
+    (run_it a b c.in_ok-file.file AnyFileContents (c.start.ensures.any_moment trusted))
 
 pub returns-clause-job : goal.returns-clause-job
 returns-clause-job g c trusted l stands =
@@ -74,7 +74,7 @@ returns-clause-job g c trusted l stands =
     let at : IsMerging a e c.args.family (length c.files-taken.result.now) number c.in_ok-file.file =
     subst (λ k. IsMerging a e c.args.family k number c.in_ok-file.file) (sym count) merging in
     begins a b e l (c.in_ok-file.ensures.stands a l stands) c.args.family (length c.files-taken.result.now) number
-    c.in_ok-file.file at (run_it a b c.in_ok-file.file Anything (c.start.ensures.any_moment trusted))
+    c.in_ok-file.file at (run_it a b c.in_ok-file.file AnyFileContents (c.start.ensures.any_moment trusted))
     c.in_ok-merge.merge c.in_ok-merge.ensures.output c.in_ok-merge.ensures.purge
     (c.in_ok-merge.ensures.begun trusted)
 
@@ -94,7 +94,7 @@ returns-in_err-merge-clause-still g c trusted l stands other =
     subst (AreStill a b) (c.take_file.ensures.files other)
     (files_stay a b c.take_file.new.self l (c.in_ok-file.ensures.stands a l stands) c.args.family n
     number c.in_ok-file.file merging
-    (run_it a b c.in_ok-file.file Anything (c.start.ensures.any_moment trusted)) other)
+    (run_it a b c.in_ok-file.file AnyFileContents (c.start.ensures.any_moment trusted)) other)
 
 pub returns-clause-still : goal.returns-clause-still
 returns-clause-still g c trusted l stands other =
@@ -108,7 +108,7 @@ returns-clause-still g c trusted l stands other =
     subst (AreStill a b) (c.take_file.ensures.files other)
     (files_stay a b c.take_file.new.self l (c.in_ok-file.ensures.stands a l stands) c.args.family n
     number c.in_ok-file.file merging
-    (run_it a b c.in_ok-file.file Anything (c.start.ensures.any_moment trusted)) other)
+    (run_it a b c.in_ok-file.file AnyFileContents (c.start.ensures.any_moment trusted)) other)
 
 pub returns-in_err-file-clause-last : goal.returns-in_err-file-clause-last
 returns-in_err-file-clause-last g c trusted l stands =
@@ -126,7 +126,7 @@ returns-in_err-merge-clause-last g c trusted l stands =
     subst (λ (v : Version). Spans a b (λ f. Unit {0}) (HasLast v)) c.take_file.ensures.version
     (last_stays a b c.take_file.new.self l (c.in_ok-file.ensures.stands a l stands) c.args.family n
     number c.in_ok-file.file merging
-    (run_it a b c.in_ok-file.file Anything (c.start.ensures.any_moment trusted)))
+    (run_it a b c.in_ok-file.file AnyFileContents (c.start.ensures.any_moment trusted)))
 
 pub returns-clause-last : goal.returns-clause-last
 returns-clause-last g c trusted l stands =
@@ -140,7 +140,7 @@ returns-clause-last g c trusted l stands =
     subst (λ (v : Version). Spans a b (λ f. Unit {0}) (HasLast v)) c.take_file.ensures.version
     (last_stays a b c.take_file.new.self l (c.in_ok-file.ensures.stands a l stands) c.args.family n
     number c.in_ok-file.file merging
-    (run_it a b c.in_ok-file.file Anything (c.start.ensures.any_moment trusted)))
+    (run_it a b c.in_ok-file.file AnyFileContents (c.start.ensures.any_moment trusted)))
 
 pub returns-in_err-merge-clause-missing : goal.returns-in_err-merge-clause-missing
 returns-in_err-merge-clause-missing g c trusted f low none =

@@ -1,7 +1,7 @@
 -- So many more items neither reach the limit nor fill what is left of the bytes.
 use Rattle.std.proofs.Common.{◌≡◌, arith, sym, ap, subst, ◌∙◌, ◌+◌, ◌-◌, ◌/◌, ◌<◌, ◌++◌, inl, inr, length, length-append, sum_by, Option, Some, ℕ, IfSome}
 use Rattle.std.proofs.lemmas.List.Sums.{sum_by-append}
-use Rattle.alt_expr.specs.Pages.{reaches}
+use Rattle.alt_expr.specs.Pages.{reaches_limit}
 use Rattle.alt_paging.proofs.PageLaws.{ends_early-full, ends_early-more, reaches-length, sum_by-large}
 use Rattle.alt_paging.proofs.Sizes.{by_least, no_room, room_left}
 use Rattle.alt_paging.specs.declared.ask.PageAsk.{PageAsk}
@@ -47,7 +47,7 @@ returns-in-Some-clause-greatest c ask items more was large all =
       no_room c.args.self.now.left c.args.largest (length more) (sum_by item_size items)
           c.requires.largest (c.args.self.now.going c.requires.open) was.left bytes_left,
     )))
-    (λ items_left. inl (ap (λ (o : Option ℕ). reaches o (items ++ more)) limit
+    (λ items_left. inl (ap (λ (o : Option ℕ). reaches_limit o (items ++ more)) limit
     ∙ reaches-length most (items ++ more) (omega (arith, count, items_left, scanned, below)))))
 
 pub returns-in-None-clause-greatest : goal.returns-in-None-clause-greatest

@@ -2,7 +2,7 @@
 use Rattle.std.proofs.Common.{◌≡◌, ◌<◌, ◌+◌, ◌-◌, refl, arith, subst, length, get_or, ℕ, List, [], ◌∷◌}
 use Rattle.std.proofs.lemmas.List.{get_or_read}
 use Rattle.alt_rowblocks.specs.declared.hand.Hand.{Hand}
-use Rattle.alt_rowblocks.specs.Format.{entry_bytes, IsHeldEntry}
+use Rattle.alt_rowblocks.specs.Format.{row_entry_bytes, IsHeldEntry}
 use Rattle.alt_rowblocks.specs.Holding.{StandAt}
 use Rattle.alt_rowblocks.proofs.TakenLaws.{none_before, taken_before}
 use Rattle.alt_rowblocks.proofs.HandLaws.{before_last, before_stands, before_next}
@@ -61,4 +61,4 @@ returns-in-Ok-Some-clause-given c =
     (get_or_read hand.before.items n place less c.index-place.ensures place)
     c.truncate.ensures.items refl
     (subst (λ (l : List ℕ). IsHeldEntry c.in-Ok-Some.entry
-    × StandAt entry_bytes l (place ∷ []) (c.in-Ok-Some.entry ∷ [])) c.deref.ensures.value there)
+    × StandAt row_entry_bytes l (place ∷ []) (c.in-Ok-Some.entry ∷ [])) c.deref.ensures.value there)

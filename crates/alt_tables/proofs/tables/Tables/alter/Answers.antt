@@ -15,7 +15,8 @@ use Rattle.alt_tables.specs.Stands.{Stands, bounds_of, catalog_of}
 use Rattle.alt_rowchanges.specs.declared.faults.TableFault.TheVariants.{Spent}
 use Rattle.alt_tables.proofs.Altered.{alter_enough, alter_family, alter_number, alter_stands, alter_turned, is_free, own_families, same_name}
 use Rattle.alt_tables.proofs.Holding.{leaves_quiet}
-use Rattle.alt_tables.proofs.Making.{broke, one_made, spent, spent_file}
+use Rattle.alt_tables.proofs.Making.{broke, spent, spent_file}
+use Rattle.alt_tables.proofs.TableMaking.{one_made}
 use Rattle.alt_tables.proofs.Standing.{known}
 use Rattle.alt_tables.proofs.tables.Tables.alter.Goals as goal
 

@@ -13,7 +13,7 @@ use Rattle.alt_schema.specs.declared.schema.TableSchema.{TableSchema}
 use Rattle.alt_tables.specs.Stands.{Stands, catalog_of}
 use Rattle.alt_tables.proofs.BuildStands.{batch_of, later_is, step_stands, step_turned}
 use Rattle.alt_tables.proofs.Holding.{leaves_quiet}
-use Rattle.alt_tables.proofs.Making.{one_made}
+use Rattle.alt_tables.proofs.TableMaking.{one_made}
 use Rattle.alt_tables.proofs.tables.Tables.build_read.Goals as goal
 
 pub returns-in_err-built-clause-disk : goal.returns-in_err-built-clause-disk

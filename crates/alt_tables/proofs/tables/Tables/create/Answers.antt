@@ -10,7 +10,8 @@ use Rattle.alt_tables.specs.Faults.{BreakOff}
 use Rattle.alt_tables.specs.Stands.{Stands, bounds_of}
 use Rattle.alt_rowchanges.specs.declared.faults.TableFault.TheVariants.{Spent}
 use Rattle.alt_tables.proofs.Holding.{leaves_quiet}
-use Rattle.alt_tables.proofs.Making.{broke, not_lacking, one_made, spent, spent_file, table_lacked, table_stands, table_turned, want_told}
+use Rattle.alt_tables.proofs.Making.{broke, spent, spent_file, want_told}
+use Rattle.alt_tables.proofs.TableMaking.{not_lacking, one_made, table_lacked, table_stands, table_turned}
 use Rattle.alt_tables.proofs.tables.Tables.create.Goals as goal
 
 pub returns-then-number-ge-NUMBERS_END-clause-disk :

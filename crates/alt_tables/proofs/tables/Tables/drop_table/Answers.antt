@@ -8,11 +8,12 @@ use Rattle.alt_machine.specs.State.{Texts}
 use Rattle.alt_machine.specs.Wanted.{number_lack}
 use Rattle.alt_schema.specs.declared.schema.TableSchema.{TableSchema}
 use Rattle.std.specs.FinMap as map
-use Rattle.alt_rowchanges.specs.OpeningTrimmed.{without}
+use Rattle.alt_rowchanges.specs.OpeningTrimmed.{without_table_number}
 use Rattle.alt_rowchanges.specs.Fronts.{without_front}
 use Rattle.alt_tables.specs.Stands.{Stands, bounds_of}
 use Rattle.alt_tables.proofs.Holding.{leaves_quiet}
-use Rattle.alt_tables.proofs.Making.{broke, drop_stands, drop_turned, one_made, spent, spent_file}
+use Rattle.alt_tables.proofs.Making.{broke, spent, spent_file}
+use Rattle.alt_tables.proofs.TableMaking.{drop_stands, drop_turned, one_made}
 use Rattle.alt_tables.proofs.tables.Tables.drop_table.Goals as goal
 
 pub returns-then-number-ge-NUMBERS_END-clause-disk :
@@ -76,7 +77,7 @@ returns-in-Ok-clause-writes g c s stands =
     (c.remove.ensures.rest
     ∙ ap (λ (m : Texts TableSchema). map.remove m c.args.name.now) c.make.ensures.kept.0)
     c.in_ok-live.ensures c.make.ensures.kept.2
-    (c.forget.ensures ∙ ap (λ known. without c.args.name.now known.items) c.make.ensures.kept.3)
+    (c.forget.ensures ∙ ap (λ known. without_table_number c.args.name.now known.items) c.make.ensures.kept.3)
     (c.forget_front.ensures
     ∙ ap (λ known. without_front c.args.name.now known.items) c.make.ensures.kept.4)
     c.make.ensures.kept.5 c.make.ensures.kept.7 c.make.ensures.kept.6 c.in-Ok.ensures.next c.in_ok-batch.batch c.in_ok-batch.ensures.changes

@@ -4,7 +4,7 @@ use Rattle.std.specs.FinMap as map
 use Rattle.alt_machine.specs.State.{Texts}
 use Rattle.alt_rowchanges.specs.OpeningTrimmed.{IsRenumbered}
 use Rattle.alt_schema.specs.declared.schema.TableSchema.{TableSchema}
-use Rattle.alt_tables.specs.Stands.{catalog_of, fronts_of, number_of, trimmed_of}
+use Rattle.alt_tables.specs.Stands.{catalog_of, fronts_of, next_write_of_tables, trimmed_of}
 use Rattle.alt_tables.specs.declared.several.Noted.{Noted}
 use Rattle.alt_tables.specs.private.Staging.{AreNotes}
 use Rattle.alt_rowchanges.specs.Trims.{IsNoted}
@@ -35,7 +35,7 @@ know-requires c =
       there = ap (λ (k : Texts TableSchema). map.contains_key k c.as_str.result.now)
           c.loop-note.invariant.kept.1
           ∙ ap (map.contains_key (catalog_of c.args.self.now)) c.as_str.ensures.same
-          ∙ there (catalog_of c.args.self.now) (number_of c.args.self.now) c.args.notes.items
+          ∙ there (catalog_of c.args.self.now) (next_write_of_tables c.args.self.now) c.args.notes.items
           c.pop.new.self.items known.back c.loop-note.notes.items c.in-Some.note c.requires.notes
           known.whole c.in-Some.ensures.items;
     }
@@ -61,7 +61,7 @@ loop-note-preserved c =
     let known = c.loop-note.invariant.known in
     let catalog : Texts TableSchema = catalog_of c.args.self.now in
     let x : Noted = c.in-Some.note in
-    let (d, at) = described_by catalog x.table (there catalog (number_of c.args.self.now)
+    let (d, at) = described_by catalog x.table (there catalog (next_write_of_tables c.args.self.now)
     c.args.notes.items c.pop.new.self.items known.back c.loop-note.notes.items x c.requires.notes
     known.whole c.in-Some.ensures.items) in
     record {

@@ -3,7 +3,7 @@ use Rattle.std.proofs.Common.{ap, ◌∙◌, arith}
 use Rattle.alt_disk.proofs.Runs.{tells_of}
 use Rattle.alt_faults.proofs.Telling.{memory-outside}
 use Rattle.alt_rowchanges.specs.Faults.{told_by_tables}
-use Rattle.alt_rowchanges.specs.Trims.{behind}
+use Rattle.alt_rowchanges.specs.Trims.{number_behind_second}
 use Rattle.alt_rowchanges.proofs.LeftoverRows.{lowest_none, range_none}
 use Rattle.alt_tables.proofs.Pages.{engine_fault}
 use Rattle.alt_tables.proofs.TrimSteps.{page_lowest, page_numbers, page_range}
@@ -39,7 +39,7 @@ returns-in-Ok-numbers_of-clause-lowest g c s name t l stands at stream rows some
     c.new-page.result.items c.rows.new.out.items c.new-page.ensures.items c.in-Ok-rows.ensures.rows
     l rows above c.in-Ok-numbers_of.numbers c.in-Ok-numbers_of.ensures.numbers
     c.in-Ok-numbers_of.ensures.two c.behind-from.result
-    (c.behind-from.ensures ∙ ap (behind c.args.number) c.as_slice.ensures.value)
+    (c.behind-from.ensures ∙ ap (number_behind_second c.args.number) c.as_slice.ensures.value)
 
 pub returns-in-Ok-numbers_of-clause-lowest_from : goal.returns-in-Ok-numbers_of-clause-lowest_from
 returns-in-Ok-numbers_of-clause-lowest_from g c s name t l stands at stream rows some =
@@ -49,7 +49,7 @@ returns-in-Ok-numbers_of-clause-lowest_from g c s name t l stands at stream rows
     c.new-page.result.items c.rows.new.out.items c.new-page.ensures.items c.in-Ok-rows.ensures.rows
     l rows c.in-Ok-numbers_of.numbers c.in-Ok-numbers_of.ensures.numbers
     c.in-Ok-numbers_of.ensures.two c.behind-from.result
-    (c.behind-from.ensures ∙ ap (behind c.args.number) c.as_slice.ensures.value)
+    (c.behind-from.ensures ∙ ap (number_behind_second c.args.number) c.as_slice.ensures.value)
 
 pub returns-clause-fault : goal.returns-clause-fault
 returns-clause-fault g c s name t stands at stream some =

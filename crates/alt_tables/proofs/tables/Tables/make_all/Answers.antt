@@ -1,6 +1,6 @@
 -- Writes of the state are one entry of the engine.
 use Rattle.std.proofs.Common.{refl, sym, ap, subst, length, Err, arith}
-use Rattle.alt_rowchanges.specs.OpeningEngineInHand.{Stands as EngineStands}
+use Rattle.alt_rowchanges.specs.OpeningEngineInHand.{StandsForLayout as EngineStands}
 use Rattle.alt_tables.proofs.Batches.{with_batches-writes}
 use Rattle.alt_tables.proofs.Holding.{all_hold, all_images, found_fault, memory_wanted, same_Err}
 use Rattle.alt_tables.proofs.tables.Tables.make_all.Goals as goal

@@ -6,7 +6,7 @@ use Rattle.alt_machine.specs.Sources.{index_at}
 use Rattle.alt_machine.specs.Walks.{items_between}
 use Rattle.alt_schema.specs.Indexes.{indexes}
 use Rattle.alt_tables.proofs.Standing.{known}
-use Rattle.alt_tables.specs.Reading.{HasRowFiles, family_read, places_between, walk_reads}
+use Rattle.alt_tables.specs.Reading.{HasRowFiles, family_read, places_between, most_walk_reads}
 use Rattle.alt_views.specs.Readable.{CanRead}
 use Rattle.alt_tables.proofs.tables.Tables.rows.Goals as goal
 
@@ -61,7 +61,7 @@ returns-in-Some-clause-reads g c s t maps stands at =
     let (i, is) = get-within (indexes t.description) c.in-Some.number within in
     subst (λ o. HasRowFiles a.file (family_read t.description o) maps
     → OnOk c.index_rows.result (b.reads ≤ a.reads
-    + walk_reads c.args.forward c.args.range.now.from c.args.range.now.to c.args.most
+    + most_walk_reads c.args.forward c.args.range.now.from c.args.range.now.to c.args.most
     (places_between t o c.args.range.now.from c.args.range.now.to c.args.forward) maps))
     (sym is ∙ ap (index_at t.description) (sym c.in-Some.is))
     (c.index_rows.ensures.reads s t i maps stands at is)
@@ -72,7 +72,7 @@ returns-in-None-clause-reads g c s t maps stands at =
     let b = g.D.Disk.state c.table_rows.new.disk in
     subst (λ o. HasRowFiles a.file (family_read t.description o) maps
     → OnOk c.table_rows.result (b.reads ≤ a.reads
-    + walk_reads c.args.forward c.args.range.now.from c.args.range.now.to c.args.most
+    + most_walk_reads c.args.forward c.args.range.now.from c.args.range.now.to c.args.most
     (places_between t o c.args.range.now.from c.args.range.now.to c.args.forward) maps))
     (ap (index_at t.description) (sym c.in-None.is))
     (c.table_rows.ensures.reads s t maps stands at)

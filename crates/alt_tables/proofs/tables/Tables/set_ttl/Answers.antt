@@ -12,9 +12,10 @@ use Rattle.alt_schema.specs.declared.schema.TableSchema.{TableSchema}
 use Rattle.alt_due.specs.declared.due.Due.{Due}
 use Rattle.alt_rowchanges.specs.RowChanges.{time_changes}
 use Rattle.alt_tables.specs.Stands.{Stands, bounds_of}
-use Rattle.alt_tables.specs.private.Foretold.{IsTold}
+use Rattle.alt_tables.specs.private.Foretold.{TimeToLiveIsTold}
 use Rattle.alt_tables.proofs.Holding.{leaves_quiet}
-use Rattle.alt_tables.proofs.Making.{broke, one_made, spent_file}
+use Rattle.alt_tables.proofs.Making.{broke, spent_file}
+use Rattle.alt_tables.proofs.TableMaking.{one_made}
 use Rattle.alt_tables.proofs.Timed.{given_time, time_stands, time_turned}
 use Rattle.alt_tables.proofs.tables.Tables.set_ttl.Goals as goal
 
@@ -88,9 +89,9 @@ returns-in-Ok-clause-writes g c s t stands at =
     (map.get m c.args.table.now) m) c.make.ensures.kept.0)
     c.in_ok-ttl.ensures.copied (sym c.in-Some-get.ensures.table))
     c.make.ensures.kept.1 c.make.ensures.kept.2 c.make.ensures.kept.3 c.make.ensures.kept.4
-    (subst (λ (o : Option (List ℕ)). IsTold o c.args.self.now.due c.forget_for.new.due)
+    (subst (λ (o : Option (List ℕ)). TimeToLiveIsTold o c.args.self.now.due c.forget_for.new.due)
     c.in_ok-ttl.ensures.copied
-    (subst (λ (e : Due). IsTold c.in_ok-ttl.ttl e c.forget_for.new.due) c.make.ensures.kept.5
+    (subst (λ (e : Due). TimeToLiveIsTold c.in_ok-ttl.ttl e c.forget_for.new.due) c.make.ensures.kept.5
     c.forget_for.ensures))
     c.make.ensures.kept.7 c.make.ensures.kept.6 c.in-Ok.ensures.next c.in-Ok.ensures.distinct
     (c.in-Ok.ensures.rows stands.rows.trusted stands.rows.layout stands.rows.is))

@@ -7,7 +7,7 @@ use Rattle.alt_disk.specs.Disk.{DiskState}
 use Rattle.alt_machine.specs.State.{Texts}
 use Rattle.alt_schema.specs.declared.schema.TableSchema.{TableSchema}
 use Rattle.alt_tables.specs.Several.{MayWrite, written_at}
-use Rattle.alt_tables.specs.Stands.{catalog_of, number_of}
+use Rattle.alt_tables.specs.Stands.{catalog_of, next_write_of_tables}
 use Rattle.alt_tables.specs.declared.several.ItemChange.{ItemChange}
 use Rattle.alt_tables.specs.declared.several.Staged.{Staged}
 use Rattle.alt_tables.specs.declared.tables.Tables.{Tables}
@@ -67,7 +67,7 @@ stage-requires-clause-notes g c =
     subst (λ cs. IsStaging a old m now c.args.moment c.args.by all cs staged)
     c.in-Some.ensures.steps.0 c.loop-change.invariant in
     subst (λ n. AreNotes (catalog_of now) n staged.notes.items) (sym so.keeps.number)
-    (subst (λ (k : Texts TableSchema). AreNotes k (number_of old) staged.notes.items)
+    (subst (λ (k : Texts TableSchema). AreNotes k (next_write_of_tables old) staged.notes.items)
     (sym so.keeps.catalog) so.notes)
 
 pub stage-requires-clause-room : goal.stage-requires-clause-room

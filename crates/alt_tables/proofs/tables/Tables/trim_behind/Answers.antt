@@ -6,7 +6,7 @@ use Rattle.alt_disk.specs.Disk.{DiskState}
 use Rattle.alt_layout.specs.Layout.{Layout}
 use Rattle.alt_machine.specs.State.{Table}
 use Rattle.alt_tables.specs.Several.{with_batches}
-use Rattle.alt_tables.specs.Stands.{catalog_of, number_of}
+use Rattle.alt_tables.specs.Stands.{catalog_of, next_write_of_tables}
 use Rattle.alt_tables.specs.declared.several.Noted.{Noted}
 use Rattle.alt_tables.specs.declared.tables.Tables.{Tables}
 use Rattle.alt_tables.specs.private.Staging.{IsTouched}
@@ -18,7 +18,7 @@ use Rattle.alt_tables.proofs.tables.Tables.trim_behind.Goals as goal
 
 pub trim_again-requires-clause-last : goal.trim_again-requires-clause-last
 trim_again-requires-clause-last g c =
-    (note_is (catalog_of c.args.self.now) (number_of c.args.self.now) c.args.table.now
+    (note_is (catalog_of c.args.self.now) (next_write_of_tables c.args.self.now) c.args.table.now
     c.args.notes.now c.in-Some.last.now c.requires.notes (sym c.in-Some.ensures)).1
 
 pub returns-in-Ok-clause-trim : goal.returns-in-Ok-clause-trim

@@ -21,11 +21,11 @@ use Rattle.alt_tables.specs.Found.{number_taken}
 use Rattle.alt_tables.specs.Images.{Leaves}
 use Rattle.alt_rowchanges.specs.Leftovers.{leftovers, lowest_left}
 use Rattle.alt_rowchanges.specs.RowChanges.{changed_rows, write_changes}
-use Rattle.alt_tables.specs.Stands.{HasRows, Reads, Stands, bounds_of, catalog_of, due_of, number_of, trimmed_of}
+use Rattle.alt_tables.specs.Stands.{HasRows, Reads, Stands, bounds_of, catalog_of, due_of, next_write_of_tables, trimmed_of}
 use Rattle.alt_rowchanges.specs.declared.faults.TableFault.TheVariants.{Spent}
 use Rattle.alt_tables.specs.declared.tables.Tables.{Tables}
 use Rattle.alt_rowchanges.specs.declared.trimming.Trim.{Trim}
-use Rattle.alt_rowchanges.specs.Trims.{IsWithin}
+use Rattle.alt_rowchanges.specs.Trims.{TrimIsWithin}
 use Rattle.alt_tables.specs.private.Written.{IsWrittenAs}
 use Rattle.alt_tables.proofs.Holding.{leaves_quiet}
 use Rattle.alt_tables.proofs.Left.{leaves_after, leaves_reads}
@@ -169,11 +169,11 @@ write_trimmed-requires-clause-trim g c s t l stands at rows =
 
 pub write_trimmed-requires-clause-within : goal.write_trimmed-requires-clause-within
 write_trimmed-requires-clause-within g c d there has =
-    subst (λ (known : _). IsWithin (number_at c.args.table.now known) (number_of c.foretell.new.self)
+    subst (λ (known : _). TrimIsWithin (number_at c.args.table.now known) (next_write_of_tables c.foretell.new.self)
     c.in-Ok.trim) (ap (λ v. v.items) (sym (keeps_on (g.D.Disk.state c.args.disk.now) (g.D.Disk.state c.trim.new.disk)
     c.args.self.now c.trim.new.self c.foretell.new.self c.trim.ensures.keeps
     c.foretell.ensures.keeps).trimmed))
-    (subst (λ n. IsWithin (number_at c.args.table.now (trimmed_of c.args.self.now)) n c.in-Ok.trim)
+    (subst (λ n. TrimIsWithin (number_at c.args.table.now (trimmed_of c.args.self.now)) n c.in-Ok.trim)
     (sym (keeps_on (g.D.Disk.state c.args.disk.now) (g.D.Disk.state c.trim.new.disk)
     c.args.self.now c.trim.new.self c.foretell.new.self c.trim.ensures.keeps
     c.foretell.ensures.keeps).number)
@@ -213,7 +213,7 @@ returns-clause-writes g c s t stands at =
 pub returns-clause-number : goal.returns-clause-number
 returns-clause-number g c s t stands at =
     subst (λ (ts : List State). IfOk c.write_trimmed.result
-    (λ n. n ≡ number_taken (number_of c.args.self.now) ts))
+    (λ n. n ≡ number_taken (next_write_of_tables c.args.self.now) ts))
     (sym (item_differs (g.D.Disk.state c.args.disk.now) c.args.self.now s t stands
     c.args.moment User c.args.table.now c.args.found.place c.args.found.item c.args.new at
     (c.requires.found s stands t at) (sym c.if-same.ensures)))
@@ -254,8 +254,8 @@ returns-clause-rows g c =
     let changes : TableSchema → ℕ → ℕ → List RowChange = λ d number before. write_changes d number
     c.args.moment User c.args.found.place c.args.found.item c.args.new before r.number
     r.leftovers.items in
-    let in_old : (d : TableSchema) → changes d (number_of mid) (number_at name (trimmed_of mid))
-    ≡ changes d (number_of old) (number_at name (trimmed_of old)) =
+    let in_old : (d : TableSchema) → changes d (next_write_of_tables mid) (number_at name (trimmed_of mid))
+    ≡ changes d (next_write_of_tables old) (number_at name (trimmed_of old)) =
     λ d i. changes d ((keeps_on (g.D.Disk.state c.args.disk.now) (g.D.Disk.state c.trim.new.disk)
     c.args.self.now c.trim.new.self c.foretell.new.self c.trim.ensures.keeps
     c.foretell.ensures.keeps).number i)
@@ -264,10 +264,10 @@ returns-clause-rows g c =
     c.foretell.ensures.keeps).trimmed i).items) in
     ok_both (λ (n : Option ℕ). IsTrusted m → (d : TableSchema) (l : Layout)
     → map.get (catalog_of mid) name ≡ Some d → HasRows m mid l
-    → IsWrittenAs b new l (changes d (number_of mid) (number_at name (trimmed_of mid))))
+    → IsWrittenAs b new l (changes d (next_write_of_tables mid) (number_at name (trimmed_of mid))))
     (λ (n : Option ℕ). IsSome n → IsTrusted a → (d : TableSchema) (l : Layout)
     → map.get (catalog_of old) name ≡ Some d → HasRows a old l
-    → HasRows b new (changed_rows l (write_changes d (number_of old) c.args.moment
+    → HasRows b new (changed_rows l (write_changes d (next_write_of_tables old) c.args.moment
     User c.args.found.place c.args.found.item c.args.new (number_at name (trimmed_of old))
     (number_at name (trimmed_of new)) (lowest_left l d (number_at name (trimmed_of new))))))
     (number_at name (trimmed_of new) ≡ r.number)
@@ -304,8 +304,8 @@ returns-clause-leftovers g c =
     let changes : TableSchema → ℕ → ℕ → List RowChange = λ d number before. write_changes d number
     c.args.moment User c.args.found.place c.args.found.item c.args.new before r.number
     r.leftovers.items in
-    let in_old : (d : TableSchema) → changes d (number_of mid) (number_at name (trimmed_of mid))
-    ≡ changes d (number_of old) (number_at name (trimmed_of old)) =
+    let in_old : (d : TableSchema) → changes d (next_write_of_tables mid) (number_at name (trimmed_of mid))
+    ≡ changes d (next_write_of_tables old) (number_at name (trimmed_of old)) =
     λ d i. changes d ((keeps_on (g.D.Disk.state c.args.disk.now) (g.D.Disk.state c.trim.new.disk)
     c.args.self.now c.trim.new.self c.foretell.new.self c.trim.ensures.keeps
     c.foretell.ensures.keeps).number i)
@@ -314,7 +314,7 @@ returns-clause-leftovers g c =
     c.foretell.ensures.keeps).trimmed i).items) in
     ok_both (λ (n : Option ℕ). IsTrusted m → (d : TableSchema) (l : Layout)
     → map.get (catalog_of mid) name ≡ Some d → HasRows m mid l
-    → IsWrittenAs b new l (changes d (number_of mid) (number_at name (trimmed_of mid))))
+    → IsWrittenAs b new l (changes d (next_write_of_tables mid) (number_at name (trimmed_of mid))))
     (λ (n : Option ℕ). IsSome n → IsTrusted a → (d : TableSchema) (family : ℕ) (l x : Layout)
     → map.get (catalog_of old) name ≡ Some d → d.stream_family ≡ Some family → HasRows a old l
     → HasRows b new x → leftovers x family (number_at name (trimmed_of new))
@@ -324,7 +324,7 @@ returns-clause-leftovers g c =
     (λ n rows after some trusted d family l x there_d stream rows_l rows_x.
     let (s, stands) = c.requires.ready trusted in
     let (t, at, same) = there a old s name d stands there_d in
-    let written : IsWrittenAs b new l (changes d (number_of old) (number_at name (trimmed_of old))) =
+    let written : IsWrittenAs b new l (changes d (next_write_of_tables old) (number_at name (trimmed_of old))) =
     subst (IsWrittenAs b new l) (in_old d)
     (rows (trusted_on a m (keeps_on (g.D.Disk.state c.args.disk.now) (g.D.Disk.state c.trim.new.disk)
     c.args.self.now c.trim.new.self c.foretell.new.self c.trim.ensures.keeps

@@ -5,7 +5,7 @@ use Rattle.std.specs.Prelude.{not}
 use Rattle.alt_cells.specs.declared.batch.RowChange.{RowChange}
 use Rattle.alt_disk.specs.Disk.{DiskState}
 use Rattle.alt_disk.proofs.Runs.{quiet_start, trusted_back, trusted_on}
-use Rattle.alt_rowchanges.specs.OpeningEngineInHand.{Bounds, bounds_of as engine_bounds}
+use Rattle.alt_rowchanges.specs.OpeningEngineInHand.{Bounds, bounds_of_engine as engine_bounds}
 use Rattle.alt_layout.specs.Layout.{Layout}
 use Rattle.alt_machine.specs.declared.TheConstants.{NUMBERS_END}
 use Rattle.alt_machine.specs.Ops.BatchWriteItem.{writes_of_all_by}
@@ -14,7 +14,7 @@ use Rattle.alt_machine.specs.Same.{is_same}
 use Rattle.alt_machine.specs.State.{State}
 use Rattle.alt_tables.specs.Faults.{AreAllMade}
 use Rattle.alt_tables.specs.Several.{TurnsAll, batches_of, with_batches, written_at}
-use Rattle.alt_tables.specs.Stands.{HasRows, Stands, catalog_of, number_of}
+use Rattle.alt_tables.specs.Stands.{HasRows, Stands, catalog_of, next_write_of_tables}
 use Rattle.alt_tables.specs.declared.several.ItemChange.{ItemChange}
 use Rattle.alt_tables.specs.declared.tables.Tables.{Tables}
 use Rattle.alt_tables.specs.private.Staging.{IsStaged, differing_of}
@@ -279,7 +279,7 @@ returns-in-Ok-make_all-clause-writes g c s stands =
           c.in-Ok.ensures.foretold (c.make_all.ensures.kept.5 ∙ c.know_all.ensures.kept.4)
           c.in-Ok.ensures.fits (c.make_all.ensures.kept.7 ∙ c.know_all.ensures.kept.6)
           (c.make_all.ensures.kept.6 ∙ c.know_all.ensures.kept.5)
-          (subst (λ bs. number_of new ≡ number_of known + length bs) given
+          (subst (λ bs. next_write_of_tables new ≡ next_write_of_tables known + length bs) given
           c.in-Ok-make_all.ensures.next));
       enough = let low = under (c.next_number.result + c.len-count.result) c.saturating_add.result
           c.saturating_add.ensures c.if-saturating_add-gt-NUMBERS_END.false in

@@ -19,7 +19,7 @@ use Rattle.alt_tables.specs.Found.{number_taken}
 use Rattle.alt_rowchanges.specs.OpeningTrimmed.{number_at}
 use Rattle.alt_tables.specs.Images.{Leaves}
 use Rattle.alt_rowchanges.specs.Leftovers.{lowest_left}
-use Rattle.alt_tables.specs.Stands.{HasRows, Stands, bounds_of, catalog_of, number_of, trimmed_of}
+use Rattle.alt_tables.specs.Stands.{HasRows, Stands, bounds_of, catalog_of, next_write_of_tables, trimmed_of}
 use Rattle.alt_tables.proofs.Holding.{leaves_quiet}
 use Rattle.alt_tables.proofs.Standing.{known, one_place}
 use Rattle.alt_tables.proofs.tables.Tables.write_item.Goals as goal
@@ -60,7 +60,7 @@ returns-clause-number g c s t place stands at here =
     let same = one_place (place_of t.description c.args.key.now) c.in-Ok.place place
     (c.in-Ok.ensures.place t.description described) here in
     subst (λ (ts : List State). IfOk c.write.result (λ n. n
-    ≡ number_taken (number_of c.args.self.now) ts))
+    ≡ number_taken (next_write_of_tables c.args.self.now) ts))
     (λ i. item_writes s c.args.moment c.args.table.now t (same i) (c.in-Ok-copy_of-2.ensures i))
     (c.write.ensures.number s t stands at)
 
@@ -102,7 +102,7 @@ returns-clause-rows g c =
     let new : Tables = c.write.new.self in
     let name : List ℕ = c.args.table.now in
     let changes : TableSchema → List ℕ → Option (List Pair) → Option (List Pair) → Layout
-    → List RowChange = λ d place was to l. write_changes d (number_of old) c.args.moment User place
+    → List RowChange = λ d place was to l. write_changes d (next_write_of_tables old) c.args.moment User place
     was to
     (number_at name (trimmed_of old)) (number_at name (trimmed_of new))
     (lowest_left l d (number_at name (trimmed_of new))) in

@@ -2,7 +2,7 @@
 use Rattle.std.proofs.Common.{subst, sym, List, map as each}
 use Rattle.alt_disk.proofs.Runs.{quiet_start}
 use Rattle.alt_codec.specs.declared.writer.Writer.TheVariants.{User}
-use Rattle.alt_machine.specs.Ops.BatchWriteItem.{Written, writes_of_all_by}
+use Rattle.alt_machine.specs.Ops.BatchWriteItem.{PlacedWrite, writes_of_all_by}
 use Rattle.alt_machine.specs.Outcomes.{together}
 use Rattle.alt_tables.specs.Several.{Every, MayWrite, written_in}
 use Rattle.alt_tables.specs.Stands.{catalog_of}
@@ -19,6 +19,6 @@ returns-in-Err-clause-disk g c s stands =
 
 pub write_all-requires-clause-may : goal.write_all-requires-clause-may
 write_all-requires-clause-may g c =
-    subst (λ (ws : List Written). Every (MayWrite (catalog_of c.args.self.now)) ws)
+    subst (λ (ws : List PlacedWrite). Every (MayWrite (catalog_of c.args.self.now)) ws)
     (sym c.in-Ok.ensures.written)
     (all_may (catalog_of c.args.self.now) c.args.writes.now c.requires.may)

@@ -5,19 +5,20 @@ use Rattle.std.proofs.lemmas.Slice.Eq.{bytes_eq-Decides}
 use Rattle.alt_changes.specs.TrimRows.{trim_changes}
 use Rattle.alt_codec.specs.declared.writer.Writer.TheVariants.{User}
 use Rattle.alt_disk.proofs.Runs.{quiet_start}
-use Rattle.alt_rowchanges.specs.OpeningEngineInHand.{Stands as EngineStands, bounds_of as engine_bounds, next_of}
+use Rattle.alt_rowchanges.specs.OpeningEngineInHand.{StandsForLayout as EngineStands, bounds_of_engine as engine_bounds, next_write_of_engine}
 use Rattle.alt_rowchanges.specs.OpeningEngineDeclaredEngine.{Engine}
 use Rattle.alt_machine.specs.Outcomes.{a_number}
 use Rattle.alt_machine.specs.Writes.{after_item}
 use Rattle.alt_machine.proofs.Lacks.{has_number}
-use Rattle.alt_rowchanges.specs.OpeningOpened.{Holds}
+use Rattle.alt_rowchanges.specs.OpeningOpened.{EngineHoldsState}
 use Rattle.alt_rowchanges.specs.OpeningTrimmed.{IsRenumbered, number_at}
 use Rattle.alt_rowchanges.specs.RowChanges.{write_changes}
 use Rattle.alt_tables.specs.Stands.{Stands, bounds_of, fronts_of, trimmed_of}
-use Rattle.alt_rowchanges.specs.Trims.{IsNoted, IsWithin}
+use Rattle.alt_rowchanges.specs.Trims.{IsNoted, TrimIsWithin}
 use Rattle.alt_tables.specs.private.Written.{IsWrittenAs}
 use Rattle.alt_tables.proofs.Holding.{leaves_quiet}
-use Rattle.alt_tables.proofs.Making.{broke, item_stands, item_turned, one_made, want_told}
+use Rattle.alt_tables.proofs.Making.{broke, item_stands, item_turned, want_told}
+use Rattle.alt_tables.proofs.TableMaking.{one_made}
 use Rattle.alt_rowchanges.proofs.CanTrim.{can_trim}
 use Rattle.alt_tables.proofs.tables.Tables.write_trimmed.Goals as goal
 
@@ -72,9 +73,9 @@ put_trim-requires g c = record {
   rows = λ family stream. can_trim c.in-Some.schema.now c.in-Some.ensures.families
       c.next_number-number.result c.args.moment User c.args.found.place c.args.found.item c.args.new
       c.in_ok-batch.batch c.in_ok-batch.ensures.changes c.trimmed-before.result c.args.trim
-      (subst (λ n. IsWithin n c.next_number-number.result c.args.trim)
+      (subst (λ n. TrimIsWithin n c.next_number-number.result c.args.trim)
       (sym c.trimmed-before.ensures.trimmed)
-      (subst (λ n. IsWithin (number_at c.args.table.now (trimmed_of c.args.self.now)) n c.args.trim)
+      (subst (λ n. TrimIsWithin (number_at c.args.table.now (trimmed_of c.args.self.now)) n c.args.trim)
       (sym c.next_number-number.ensures.next)
       (c.requires.within c.in-Some.schema.now (sym c.in-Some.ensures.table)
       (subst IsSome (sym stream) refl))))
@@ -89,7 +90,7 @@ pub make-requires-clause-ready : goal.make-requires-clause-ready
 make-requires-clause-ready g c trusted =
     let (s, stands) = c.requires.ready trusted in (
       s,
-      subst (λ (e : Engine). Holds (g.D.Disk.state c.args.disk.now) e s)
+      subst (λ (e : Engine). EngineHoldsState (g.D.Disk.state c.args.disk.now) e s)
           (sym c.know.ensures.kept.0) stands.rows,
     )
 
@@ -121,7 +122,7 @@ returns-in-Ok-clause-writes g c s t stands at =
     c.requires.differ
     (g.D.Disk.state c.make.new.disk) c.make.new.self (c.in-Ok.ensures.ok s
     (after_item s c.args.moment c.args.table.now t c.args.found.place c.args.new)
-    (subst (λ (e : Engine). Holds (g.D.Disk.state c.args.disk.now) e s)
+    (subst (λ (e : Engine). EngineHoldsState (g.D.Disk.state c.args.disk.now) e s)
     (sym c.know.ensures.kept.0) stands.rows) turned) turned.valid
     (c.in-Ok.ensures.rows stands.rows.trusted stands.rows.layout
     (subst (λ (e : Engine). EngineStands (g.D.Disk.state c.args.disk.now) e stands.rows.layout)
@@ -137,14 +138,14 @@ returns-in-Ok-clause-writes g c s t stands at =
     c.requires.foretold (c.make.ensures.kept.5 ∙ c.know.ensures.kept.4)
     c.requires.fits (c.make.ensures.kept.7 ∙ c.know.ensures.kept.6)
     (c.make.ensures.kept.6 ∙ c.know.ensures.kept.5)
-    (c.in-Ok.ensures.next ∙ ap (λ (e : Engine). next_of e + 1) c.know.ensures.kept.0))
+    (c.in-Ok.ensures.next ∙ ap (λ (e : Engine). next_write_of_engine e + 1) c.know.ensures.kept.0))
     (has_number s.next_number (omega (arith, stands.number, c.requires.room)))
 
 pub returns-in-Ok-clause-disk : goal.returns-in-Ok-clause-disk
 returns-in-Ok-clause-disk g c s t stands at =
     c.make.ensures.disk s
     (after_item s c.args.moment c.args.table.now t c.args.found.place c.args.new)
-    (subst (λ (e : Engine). Holds (g.D.Disk.state c.args.disk.now) e s)
+    (subst (λ (e : Engine). EngineHoldsState (g.D.Disk.state c.args.disk.now) e s)
     (sym c.know.ensures.kept.0) stands.rows) stands.valid
     (item_turned (g.D.Disk.state c.args.disk.now) c.args.self.now s t stands c.args.moment
     User c.args.table.now c.args.found.place c.args.found.item c.args.new at
@@ -170,7 +171,7 @@ pub returns-clause-disk : goal.returns-clause-disk
 returns-clause-disk g c s t stands at =
     c.make.ensures.disk s
     (after_item s c.args.moment c.args.table.now t c.args.found.place c.args.new)
-    (subst (λ (e : Engine). Holds (g.D.Disk.state c.args.disk.now) e s)
+    (subst (λ (e : Engine). EngineHoldsState (g.D.Disk.state c.args.disk.now) e s)
     (sym c.know.ensures.kept.0) stands.rows) stands.valid
     (item_turned (g.D.Disk.state c.args.disk.now) c.args.self.now s t stands c.args.moment
     User c.args.table.now c.args.found.place c.args.found.item c.args.new at

@@ -1,5 +1,4 @@
 use Rattle.std.proofs.Common.{◌∷◌, ◌++◌, [], List, ℕ}
-use Rattle.alt_gatelog.specs.InHand.{Reads}
 use Rattle.tests_store.proofs.tests.gatelog.log_with.Goals as goal
 
 pub append-requires-2 : goal.append-requires-2

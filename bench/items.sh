@@ -39,9 +39,9 @@ timed() { # WHAT LINES FILE
   awk -v k="$1" -v n="$2" -v a="$start" -v b="$end" 'BEGIN { printf "%s: %d lines in %.2f s, %d lines a second\n", k, n, b - a, n / (b - a) }'
   if [ -x /usr/bin/time ]; then empty; /usr/bin/time -f "$1: %M KB at most" "$program" "$store" 0 replay 65536 4 <"$3" >/dev/null; fi
 }
-counted() { # FILE
+counted() { # FILE; nothing is flushed, since what is counted are the requests
   empty
-  valgrind --tool=callgrind --callgrind-out-file="$out/counted.callgrind" "$program" "$store" 0 replay 65536 4 <"$1" 2>&1 >/dev/null | awk '/Collected/ { print $4 }'
+  valgrind --tool=callgrind --callgrind-out-file="$out/counted.callgrind" "$program" "$store" 0 replay 1073741824 4 <"$1" 2>&1 >/dev/null | awk '/Collected/ { print $4 }'
 }
 { tables 1; puts "$lines"; } >"$out/puts.lines"
 timed "put 337 bytes under a new key" "$lines" "$out/puts.lines"
